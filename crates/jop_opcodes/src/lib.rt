@@ -1,0 +1,43 @@
+//! The opcodes of the Java virtual machine and the forms of its instructions
+//! (JVM Specification SE 8, chapter 6).
+#![tactic(auto)]
+
+mod decoder;
+mod instruction;
+pub mod laws;
+mod table;
+
+ghost use Rattle.std.specs.Prelude.{◌≡◌};
+ghost use Rattle.jop_opcodes.specs.Row.{row_of};
+
+pub use decoder::{decode, length};
+pub use instruction::{DecodeFault, Instr};
+pub use table::Kind;
+use table::entry_of;
+
+/// The mnemonic of an opcode, and `none` for a byte that is no opcode.
+#[tactic(auto, unfolding(crate::specs::Entry::entry_row))]
+pub fn name(op: u8) -> &'static str
+    ensures { result.now ≡ (row_of op).mnemonic }
+{
+    entry_of(op).name
+}
+
+/// Where control goes after an opcode, and [`Kind::Plain`] for a byte that is no opcode.
+#[tactic(auto, unfolding(crate::specs::Entry::entry_row))]
+pub fn kind(op: u8) -> Kind
+    ensures { result ≡ (row_of op).kind }
+{
+    entry_of(op).kind
+}
+
+/// Whether an opcode may raise. A byte that is no opcode does not.
+#[tactic(auto, unfolding(crate::specs::Entry::entry_row))]
+pub fn raises(op: u8) -> bool
+    ensures { result ≡ (row_of op).raises }
+{
+    entry_of(op).raises
+}
+
+#[cfg(test)]
+mod tests;

@@ -1,0 +1,26 @@
+//! Numbers and lines in texts.
+#![tactic(auto)]
+
+mod memory;
+mod number;
+mod pieces;
+
+ghost use Rattle.std.specs.Prelude.{◌≡◌};
+ghost use Rattle.jop_text.specs.Line.{lines_of, AreLines};
+
+pub use memory::NoMemory;
+pub use number::{put_u64, read_u64};
+pub use pieces::Lines;
+
+/// The lines of a text, without their line feeds.
+///
+/// A piece that ends with a line feed is a line, and so is a last piece that is not empty and has none.
+pub fn lines<'a>(text: &'a [u8]) -> Lines<'a>
+    ensures lines { result ≡ lines_of text.now }
+    ensures pieces { AreLines text.now result }
+{
+    Lines::new(text)
+}
+
+#[cfg(test)]
+mod tests;
