@@ -1,0 +1,13 @@
+pub mod Rotation
+pub mod Parts
+pub mod Held
+pub mod Fitting
+pub mod Stale
+pub mod Stores
+pub mod Rings
+pub mod Loads
+pub mod Finds
+pub mod Lookups
+pub mod Fresh
+pub mod Longest
+pub mod Occupied

@@ -1,0 +1,4 @@
+pub mod Contents
+pub mod Ring
+pub mod Meaning
+pub mod Laws
