@@ -1,0 +1,113 @@
+-- One cycle of the machine.
+use Rattle.std.specs.Prelude.{ℕ, ◌+◌, ◌-◌, ◌*◌, ◌%◌, ◌^◌, Bool, true, false, ◌==◌, ◌&&◌, ◌||◌, nat_lt, if◌then◌else◌, List, [], ◌∷◌, Some, None, slice_index}
+use Rattle.std.specs.declared.option.Option.{Option}
+use Rattle.micro_isa.specs.declared.Body.{Body}
+use Rattle.micro_isa.specs.declared.Body.TheVariants.{Plain, Stm, Ldm, Ldi, Bz, Bnz, Jmp}
+use Rattle.micro_isa.specs.declared.Micro.{Micro}
+use Rattle.micro_isa.specs.declared.operation.Operation.{Operation}
+use Rattle.micro_isa.specs.declared.operation.Operation.TheVariants.{Wait, Stout}
+use Rattle.micro_isa.specs.Operations.{operation_of}
+use Rattle.micro_isa.specs.Words.{micro_of}
+use Rattle.microcode_rom.specs.declared.TheConstants.{WORDS, ENTRIES, RAISE}
+use Rattle.memory_timing.specs.Port.{ticked}
+use Rattle.jop_core.specs.declared.halt.Halt.{Halt}
+use Rattle.jop_core.specs.declared.halt.Halt.TheVariants.{Running, Ended, Uncaught}
+use Rattle.jop_core.specs.State.{State}
+use Rattle.jop_core.specs.Operations.{pushed, popped, stored, word_at, operated}
+
+-- the byte of the current method at jpc; past its words it is 0
+abbrev pub byte_at : State → ℕ
+byte_at s = slice_index s.code s.jpc
+
+-- where the row of an opcode begins
+abbrev pub entry_of : ℕ → ℕ
+entry_of op = slice_index ENTRIES op
+
+-- the next address
+abbrev pub advanced : State → State
+advanced s = record s { mpc = (s.mpc + 1) % 2048 }
+
+-- a branch of the microcode, and the stall of one that is taken
+abbrev pub branched : Bool → ℕ → State → State
+branched true to s = record s { mpc = to; stall = 2 }
+branched false to s = advanced s
+
+-- the flag opd: the byte at jpc is shifted into the operand register
+abbrev pub with_opd : Bool → State → State
+with_opd true s = record s { operand = (s.operand * 2 ^ 8 + byte_at s) % 2 ^ 32; jpc = (s.jpc + 1) % 2 ^ 16 }
+with_opd false s = s
+
+-- the flag nxt: the byte at jpc is the next opcode, and its row the next to run
+abbrev pub with_nxt : Bool → State → State
+with_nxt true s = record s { operand = 0; opcode = byte_at s; jpc = (s.jpc + 1) % 2 ^ 16; mpc = entry_of (byte_at s) }
+with_nxt false s = advanced s
+
+abbrev pub with_flags : Micro → State → State
+with_flags m s = with_nxt m.nxt (with_opd m.opd s)
+
+-- what a microinstruction does
+abbrev pub performed : Micro → State → State
+performed m s =
+    elim m.body [
+      | Plain code ↦ with_flags m (operated (operation_of code) s)
+      | Stm place ↦ with_flags m (stored place s)
+      | Ldm place ↦ with_flags m (pushed (word_at s place) s)
+      | Ldi number ↦ with_flags m (pushed (word_at s (32 + number)) s)
+      | Bz to ↦ branched (s.a == 0) to (popped s)
+      | Bnz to ↦ branched (nat_lt 0 s.a) to (popped s)
+      | Jmp to ↦ branched true to s
+    ]
+
+abbrev pub is_wait : Operation → Bool
+is_wait Wait = true
+is_wait _ = false
+
+abbrev pub body_waits : Body → Bool
+body_waits (Plain code) = is_wait (operation_of code)
+body_waits _ = false
+
+-- a wait at a port that isn't ready does nothing at all
+abbrev pub waits : Micro → State → Bool
+waits m s = body_waits m.body && nat_lt 0 s.port.count
+
+abbrev pub ran : Option Micro → State → State
+ran None s = s
+ran (Some m) s = if waits m s then s else performed m s
+
+-- the microinstruction at mpc
+abbrev pub micro_at : State → Option Micro
+micro_at s = micro_of (slice_index WORDS s.mpc)
+
+-- the clock rises, and a port that is busy comes nearer to ready
+abbrev pub counted : State → State
+counted s = record s { clock = s.clock + 1; port = ticked s.port }
+
+-- a cycle of a machine that hasn't halted: a pending stall falls, and without one a microinstruction runs
+unfoldable pub cycle_of : State → State
+cycle_of s = if nat_lt 0 s.stall then record (counted s) { stall = s.stall - 1 } else ran (micro_at s) (counted s)
+
+abbrev pub is_stout : Operation → Bool
+is_stout Stout = true
+is_stout _ = false
+
+abbrev pub body_outputs : Body → Bool
+body_outputs (Plain code) = is_stout (operation_of code)
+body_outputs _ = false
+
+-- the low byte of A, where it is put out
+abbrev pub puts : Option Micro → ℕ → List ℕ
+puts None a = []
+puts (Some m) a = if body_outputs m.body then a % 2 ^ 8 ∷ [] else []
+
+-- the byte that the cycle puts out, if it puts one
+unfoldable pub output_of : State → List ℕ
+output_of s = if nat_lt 0 s.stall then [] else puts (micro_at s) s.a
+
+abbrev pub is_running : Halt → Bool
+is_running Running = true
+is_running Ended = false
+is_running Uncaught = false
+
+-- about to run the first microinstruction of a bytecode or of the raise routine, or halted
+abbrev pub at_boundary : State → Bool
+at_boundary s = if is_running s.halt then s.stall == 0 && (s.mpc == entry_of s.opcode || s.mpc == RAISE) else true

@@ -1,0 +1,11 @@
+pub mod State
+pub mod Operations
+pub mod Cycle
+pub mod Reset
+pub mod Shapes
+pub mod Bare
+pub mod Scan
+pub mod Told
+pub mod Ticked
+pub mod Cycles
+pub mod Watched

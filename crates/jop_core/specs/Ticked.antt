@@ -1,0 +1,35 @@
+-- What one call of `cycle` does.
+use Rattle.std.specs.Prelude.{◌≡◌, ◌≢◌, ℕ, List, [], ◌∷◌, Ok, Err}
+use Rattle.std.specs.declared.result.Result.{Result}
+use Rattle.jop_outside.specs.Outside.{Rose}
+use Rattle.jop_core.specs.declared.halt.Halt.TheVariants.{Running}
+use Rattle.jop_core.specs.declared.tick.Tick.{Tick}
+use Rattle.jop_core.specs.declared.tick.Tick.TheVariants.{Went, Halted, ReadFault, WriteFault, SeenFault}
+use Rattle.jop_core.specs.State.{State, seen_of}
+use Rattle.jop_core.specs.Cycle.{cycle_of, output_of}
+use Rattle.jop_core.specs.Told.{Told, Note, Wrote, Saw, Passed, CountsRise, OnlyWrites}
+
+abbrev pub writes_of : List ℕ → List Note
+writes_of [] = []
+writes_of (byte ∷ bytes) = Wrote byte ∷ writes_of bytes
+
+-- what a device notes of a cycle: the state before it, then the byte that it puts out
+abbrev pub notes_of : State → List Note
+notes_of s = Saw (seen_of s) ∷ writes_of (output_of s)
+
+-- a device was given a byte, or there was none
+abbrev pub PutOut : {T E : Type 0} → Told → Told → List ℕ → Result T E → Type 0
+PutOut told told' out (Ok x) = Passed told told' out [] (writes_of out) × OnlyWrites told told'
+PutOut told told' out (Err e) = Passed told told' [] [] [] × OnlyWrites told told' × (out ≢ []) × Rose told.write_faults told'.write_faults
+
+-- Where the machine had not halted, the device is handed the state and then given the byte. After a fault only the device has changed.
+abbrev pub Ticked : State → State → Told → Told → Tick → Type 0
+Ticked old new told told' Went =
+    (old.halt ≡ Running) × (new ≡ cycle_of old) × Passed told told' (output_of old) (seen_of old ∷ []) (notes_of old) × CountsRise told told'
+Ticked old new told told' Halted = (old.halt ≢ Running) × (new ≡ old) × (told' ≡ told)
+Ticked old new told told' ReadFault =
+    (old.halt ≡ Running) × (new ≡ old) × Passed told told' [] (seen_of old ∷ []) (Saw (seen_of old) ∷ []) × CountsRise told told' × Rose told.read_faults told'.read_faults
+Ticked old new told told' WriteFault =
+    (old.halt ≡ Running) × (new ≡ old) × Passed told told' [] (seen_of old ∷ []) (Saw (seen_of old) ∷ []) × CountsRise told told' × (output_of old ≢ []) × Rose told.write_faults told'.write_faults
+Ticked old new told told' SeenFault =
+    (old.halt ≡ Running) × (new ≡ old) × Passed told told' [] [] [] × CountsRise told told' × Rose told.seen_faults told'.seen_faults

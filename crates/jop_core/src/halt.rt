@@ -1,0 +1,11 @@
+//! Whether the machine has halted.
+
+/// Whether the machine has halted, and how.
+#[derive(Clone, Copy, Debug, PartialEq, Eq)]
+pub enum Halt {
+    Running,
+    /// The program returned from boot.
+    Ended,
+    /// An object was raised that nothing caught.
+    Uncaught,
+}

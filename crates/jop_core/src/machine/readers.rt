@@ -1,0 +1,91 @@
+//! What can be read of a machine.
+ghost use Rattle.std.specs.Prelude.{◌≡◌};
+
+use crate::halt::Halt;
+use crate::machine::Machine;
+
+impl<const N: usize> Machine<N> {
+    /// The top word of the stack.
+    pub fn a(&self) -> u32
+        ensures { result ≡ self.now.a }
+    {
+        self.a
+    }
+
+    /// The word below the top.
+    pub fn b(&self) -> u32
+        ensures { result ≡ self.now.b }
+    {
+        self.b
+    }
+
+    /// The on-chip place of the word below these two.
+    pub fn sp(&self) -> u32
+        ensures { result ≡ self.now.sp }
+    {
+        self.sp
+    }
+
+    /// The on-chip place of the top frame's locals.
+    pub fn vp(&self) -> u32
+        ensures { result ≡ self.now.vp }
+    {
+        self.vp
+    }
+
+    /// The place in the method of the next byte.
+    pub fn jpc(&self) -> u16
+        ensures { result ≡ self.now.jpc }
+    {
+        self.jpc
+    }
+
+    /// The address of the next word of the ROM.
+    pub fn mpc(&self) -> u16
+        ensures { result ≡ self.now.mpc }
+    {
+        self.mpc
+    }
+
+    /// The current opcode.
+    pub fn opcode(&self) -> u8
+        ensures { result ≡ self.now.opcode }
+    {
+        self.opcode
+    }
+
+    /// The place of the current method in memory.
+    pub fn method(&self) -> u32
+        ensures { result ≡ self.now.method }
+    {
+        self.method
+    }
+
+    /// The cycles done so far.
+    pub fn clock(&self) -> u64
+        ensures { result ≡ self.now.clock }
+    {
+        self.clock
+    }
+
+    /// The look-ups of the method cache that found their method.
+    pub fn hits(&self) -> u64
+        ensures { result ≡ self.now.hits }
+    {
+        self.hits
+    }
+
+    /// The look-ups of the method cache that did not.
+    pub fn misses(&self) -> u64
+        ensures { result ≡ self.now.misses }
+    {
+        self.misses
+    }
+
+    /// Whether the machine has halted.
+    pub fn halt(&self) -> Halt
+        ensures { result ≡ self.now.halt }
+    {
+        self.halt
+    }
+}
