@@ -1,0 +1,11 @@
+pub mod FrameWords
+pub mod Joined
+pub mod BuiltRows
+pub mod Ints
+pub mod AtWords
+pub mod CodeBytes
+pub mod StandsFor
+pub mod Rows
+pub mod WholeRun
+pub mod Cycling
+pub mod ImageRuns

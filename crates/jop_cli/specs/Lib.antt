@@ -1,0 +1,9 @@
+pub mod Bytecode
+pub mod Built
+pub mod Run
+pub mod Wired
+pub mod Command
+pub mod Line
+pub mod Phase
+pub mod Answer
+pub mod Status

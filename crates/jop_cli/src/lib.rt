@@ -1,0 +1,15 @@
+//! The program: what it does with the words of its command line.
+#![tactic(auto)]
+
+mod built;
+mod devices;
+mod lines;
+mod outcome;
+mod run;
+#[cfg(test)]
+mod tests;
+mod top;
+mod words;
+
+pub use outcome::{Outcome, Refusal};
+pub use top::jop;

@@ -1,0 +1,66 @@
+//! How a call of the program ends.
+
+/// Why a command was refused.
+#[derive(Clone, Copy, Debug, PartialEq, Eq)]
+pub enum Refusal {
+    /// The words give no command. The number is that of the first word at which none can go on, or the
+    /// number of words where they end early.
+    Usage(u32),
+    /// The files of the command are too long: the word of the file at which they are, and the sum of the
+    /// lengths so far in bytes.
+    TooBig(u32, u128),
+    /// The file is in no image grammar.
+    BadImage,
+    /// The image is of a kind that can't be run yet.
+    NotBuilt,
+}
+
+/// How a call of the program ends.
+#[derive(Clone, Copy, Debug, PartialEq, Eq)]
+pub enum Outcome {
+    /// The program of the image returned from boot.
+    Ended,
+    /// The command was refused.
+    Refused(Refusal),
+    /// A file or the input failed.
+    ReadFault,
+    /// The output failed.
+    WriteFault,
+    /// There was no memory.
+    NoMemory,
+}
+
+impl Outcome {
+    ghost use Rattle.std.specs.Prelude.{◌≡◌};
+    ghost use Rattle.jop_cli.specs.Status.{status_of};
+
+    /// The status that the process ends with.
+    pub fn status(self) -> u8
+        ensures { result ≡ status_of self }
+    {
+        match self {
+            Outcome::Ended => 0,
+            Outcome::Refused(_) => 2,
+            Outcome::ReadFault | Outcome::WriteFault => 4,
+            Outcome::NoMemory => 5,
+        }
+    }
+}
+
+/// The counts of a machine that a line shows.
+#[derive(Clone, Copy, Debug, PartialEq, Eq)]
+pub(crate) struct Counts {
+    pub clock: u64,
+    pub hits: u64,
+    pub misses: u64,
+}
+
+/// An outcome with what its line shows.
+#[derive(Clone, Copy, Debug, PartialEq, Eq)]
+pub(crate) enum Ending {
+    Ended(Counts),
+    Refused(Refusal),
+    ReadFault,
+    WriteFault,
+    NoMemory,
+}

@@ -1,0 +1,164 @@
+//! The top call.
+ghost use Rattle.std.specs.Prelude.{◌≡◌, ◌<◌, ◌≤◌, ◌^◌, ◌↔◌, length, IfOk, IfErr, IsTrue};
+ghost use Rattle.jop_outside.specs.Outside.{IsWhole, OnlyWord};
+ghost use Rattle.jop_core.specs.Bare.{IsImage, IsBare};
+ghost use Rattle.jop_cli.specs.Command.{texts};
+ghost use Rattle.jop_cli.specs.Built.{IsBuilt};
+ghost use Rattle.jop_cli.specs.Phase.{LoadFault, ImageFault, Ran};
+ghost use Rattle.jop_cli.specs.Answer.{world, Executed, Answered, Said, IsFault, outcome_of};
+
+use crate::built::is_built;
+use crate::lines::{put_line, put_text};
+use crate::outcome::{Counts, Ending, Outcome, Refusal};
+use crate::run::{RunEnd, run};
+use crate::words::read_words;
+use jop_core::{Bare, BareFault, Config, Machine, Watch, read_bare};
+use jop_outside::{Files, LONGEST_FILE, ReadAll, Sink, Source, read_all};
+use std::alloc::Global;
+
+// The bytes of a word's file.
+fn load<F: Files>(alloc: Global, files: &mut F, word: u32) -> Result<Vec<u8>, Ending>
+    requires { word < F.words files.old }
+    ensures whole { IfOk result (λ bytes. IsWhole (F.told files.old word) bytes.items) }
+    ensures short { IfOk result (λ bytes. length bytes.items ≤ LONGEST_FILE) }
+    ensures fault { IfErr result (LoadFault word (F.told files.old word) (F.faults files.old word) (F.faults files.new word)) }
+    ensures later { F.faults files.old word ≤ F.faults files.new word }
+    ensures rest { OnlyWord (F.words files.old) (F.words files.new) (F.told files.old) (F.told files.new)
+        (F.faults files.old) (F.faults files.new) word }
+{
+    match read_all(alloc, files, word, LONGEST_FILE) {
+        Ok(bytes) => Ok(bytes),
+        Err(ReadAll::TooBig(length)) => {
+            Err(Ending::Refused(Refusal::TooBig(word, length as u128)))
+        }
+        Err(ReadAll::ReadFault) => Err(Ending::ReadFault),
+        Err(ReadAll::NoMemory) => Err(Ending::NoMemory),
+    }
+}
+
+// The image that the bytes are, where it can be run.
+fn image_of(alloc: Global, bytes: &[u8]) -> Result<Bare, Ending>
+    ensures bare { IfOk result (IsBare bytes.now) }
+    ensures built { IfOk result IsBuilt }
+    ensures fault { IfErr result (ImageFault bytes.now) }
+{
+    if bytes.starts_with(b"JOPI") {
+        return Err(Ending::Refused(Refusal::NotBuilt));
+    }
+    match read_bare(alloc, bytes) {
+        Ok(bare) => {
+            if is_built(bare.code()) {
+                Ok(bare)
+            } else {
+                Err(Ending::Refused(Refusal::NotBuilt))
+            }
+        }
+        Err(BareFault::Bad) => Err(Ending::Refused(Refusal::BadImage)),
+        Err(BareFault::NoMemory) => Err(Ending::NoMemory),
+    }
+}
+
+// Runs an image from reset.
+fn run_image<O: Sink>(alloc: Global, bare: &Bare, out: &mut O) -> Ending
+    requires grammar { IsImage bare.now }
+    requires built { IsBuilt bare.now }
+    ensures { Ran bare.now (O.held out.old) (O.held out.new) (O.faults out.old) (O.faults out.new) result }
+{
+    let Ok(mut machine) = Machine::<1024>::bare(alloc, bare, Config::default()) else {
+        return Ending::NoMemory;
+    };
+    match run(&mut machine, out) {
+        RunEnd::Ended => Ending::Ended(Counts {
+            clock: machine.clock(),
+            hits: machine.hits(),
+            misses: machine.misses(),
+        }),
+        RunEnd::WriteFault => Ending::WriteFault,
+        RunEnd::ReadFault | RunEnd::SeenFault => unreachable!(),
+    }
+}
+
+// Does the command of the words, but for its line.
+fn execute<F: Files, O: Sink>(alloc: Global, words: &[&str], files: &mut F, out: &mut O) -> Ending
+    requires words { length words.now ≡ F.words files.old }
+    requires few { length words.now < 2 ^ 32 }
+    ensures { Executed (texts words.now)
+        (world (F.words files.old) (F.told files.old) (F.faults files.old) (O.held out.old) (O.faults out.old))
+        (world (F.words files.new) (F.told files.new) (F.faults files.new) (O.held out.new) (O.faults out.new)) result }
+{
+    let word = match read_words(words) {
+        Ok(word) => word,
+        Err(k) => return Ending::Refused(Refusal::Usage(k)),
+    };
+    let bytes = match load(alloc, files, word) {
+        Ok(bytes) => bytes,
+        Err(ending) => return ending,
+    };
+    let bare = match image_of(alloc, &bytes) {
+        Ok(bare) => bare,
+        Err(ending) => return ending,
+    };
+    run_image(alloc, &bare, out)
+}
+
+// Puts the line of an ending, and gives the outcome.
+fn say<E: Sink>(err: &mut E, words: &[&str], ending: Ending) -> Outcome
+    ensures { Said (texts words.now) ending (E.held err.old) (E.held err.new) (E.faults err.old) (E.faults err.new) result }
+{
+    if let Err(_) = put_line(err, words, ending) {
+        if !is_fault(ending) {
+            let _ = put_text(err, b"write fault\n");
+            return Outcome::WriteFault;
+        }
+    }
+    outcome_for(ending)
+}
+
+// Whether the line of an ending replaces no answer.
+fn is_fault(ending: Ending) -> bool
+    ensures { IsTrue result ↔ IsFault ending }
+{
+    match ending {
+        Ending::Ended(_) | Ending::Refused(_) => false,
+        Ending::ReadFault | Ending::WriteFault | Ending::NoMemory => true,
+    }
+}
+
+fn outcome_for(ending: Ending) -> Outcome
+    ensures { result ≡ outcome_of ending }
+{
+    match ending {
+        Ending::Ended(_) => Outcome::Ended,
+        Ending::Refused(refusal) => Outcome::Refused(refusal),
+        Ending::ReadFault => Outcome::ReadFault,
+        Ending::WriteFault => Outcome::WriteFault,
+        Ending::NoMemory => Outcome::NoMemory,
+    }
+}
+
+/// Does all that the program does, and puts one line that says how it ended into `err`.
+///
+/// Word k names file k. `run` of an image puts the program's output into `out`.
+pub fn jop<F: Files, S: Source, O: Sink, E: Sink, V: Watch>(
+    alloc: Global,
+    words: &[&str],
+    files: &mut F,
+    input: &mut S,
+    out: &mut O,
+    err: &mut E,
+    watch: &mut V,
+) -> Outcome
+    requires words { length words.now ≡ F.words files.old }
+    requires few { length words.now < 2 ^ 32 }
+    ensures answered { Answered (texts words.now)
+        (world (F.words files.old) (F.told files.old) (F.faults files.old) (O.held out.old) (O.faults out.old))
+        (world (F.words files.new) (F.told files.new) (F.faults files.new) (O.held out.new) (O.faults out.new))
+        (E.held err.old) (E.held err.new) (E.faults err.old) (E.faults err.new) result }
+    ensures input { input.new ≡ input.old }
+    ensures watch { watch.new ≡ watch.old }
+{
+    let _ = input;
+    let _ = watch;
+    let ending = execute(alloc, words, files, out);
+    say(err, words, ending)
+}
