@@ -206,6 +206,14 @@ impl Memory {
         &self.words[start..start + n as usize]
     }
 
+    /// The cycles that a read waits.
+    pub fn read_wait(&self) -> u32
+        ensures wait { result ≡ self.now.read }
+        ensures range { IsInRange self.now }
+    {
+        self.read
+    }
+
     /// How many words there are.
     pub fn word_count(&self) -> u32
         ensures count { result ≡ length self.now.words }

@@ -1,5 +1,11 @@
 -- What holds of the tables of the microcode.
-use Rattle.std.specs.Prelude.{ℕ, ◌+◌, List, [], ◌∷◌, Bool, true, ◌&&◌, ◌==◌, is_some, IsTrue}
+use Rattle.std.specs.Prelude.{ℕ, ◌+◌, List, [], ◌∷◌, Bool, true, false, ◌&&◌, ◌==◌, nat_le, if◌then◌else◌, is_some, option_and_then, Some, None, IsTrue}
+use Rattle.std.specs.Option.{option_map_or}
+use Rattle.std.specs.declared.option.Option.{Option}
+use Rattle.micro_isa.specs.declared.Body.{Body}
+use Rattle.micro_isa.specs.declared.Body.TheVariants.{Plain, Stm, Ldm, Ldi, Bz, Bnz, Jmp}
+use Rattle.micro_isa.specs.declared.Micro.{Micro}
+use Rattle.micro_isa.specs.declared.Turns.{Turns}
 use Rattle.micro_isa.specs.Words.{micro_of}
 
 abbrev pub all_micros : List ℕ → Bool
@@ -17,3 +23,32 @@ rows_follow place ((address, words) ∷ rows) = address == place && rows_follow 
 -- each row begins where the one before it ends, the first at a place
 abbrev pub RowsFollow : ℕ → List (ℕ × ℕ) → Type 0
 RowsFollow place rows = IsTrue (rows_follow place rows)
+
+-- the turns of the branch at an address, if it has any
+abbrev pub turns_in : ℕ → List (ℕ × Turns) → Option Turns
+turns_in address [] = None
+turns_in address ((at, turns) ∷ branches) = if at == address then Some turns else turns_in address branches
+
+-- where a microinstruction branches to, if it does
+abbrev pub target_of : Body → Option ℕ
+target_of (Plain code) = None
+target_of (Stm place) = None
+target_of (Ldm place) = None
+target_of (Ldi number) = None
+target_of (Bz to) = Some to
+target_of (Bnz to) = Some to
+target_of (Jmp to) = Some to
+
+abbrev pub has_turns : (address : ℕ) → Option Micro → List (ℕ × Turns) → Bool
+has_turns address m branches =
+    let target = option_and_then (λ (micro : Micro). target_of micro.body) m in
+    let back = option_map_or (λ to. nat_le to address) target false in
+    if back then is_some (turns_in address branches) else true
+
+abbrev pub have_turns : (address : ℕ) → List ℕ → List (ℕ × Turns) → Bool
+have_turns address [] branches = true
+have_turns address (word ∷ words) branches = has_turns address (micro_of word) branches && have_turns (address + 1) words branches
+
+-- each branch to its own or an earlier address has turns
+abbrev pub BranchesHaveTurns : List ℕ → List (ℕ × Turns) → Type 0
+BranchesHaveTurns words branches = IsTrue (have_turns 0 words branches)

@@ -3,12 +3,13 @@
 #![tactic(auto)]
 
 ghost use Rattle.std.specs.Prelude.{◌≡◌, ◌<◌, slice_index};
-ghost use Rattle.microcode_rom.specs.Tables.{AreMicros, RowsFollow};
+ghost use Rattle.microcode_rom.specs.Tables.{AreMicros, RowsFollow, BranchesHaveTurns, turns_in};
 
-use micro_isa::Operation;
+use micro_isa::{Operation, Turns};
 
 // A constant has its number and its value. A row has the address of its first word, what leads
-// there (the dispatch of an opcode, or a raise) and its words, the last of which leads on.
+// there (the dispatch of an opcode, or a raise) and its words, the last of which leads on. A branch to
+// its own or an earlier address has its turns.
 macro_rules! microcode {
     ($reader:ident $($argument:tt)*) => {
         $reader! {
@@ -34,6 +35,7 @@ macro_rules! microcode {
                 // return, from boot alone yet
                 5: entry 177 = [Hltb];
             }
+            turns {}
         }
     };
 }
@@ -57,6 +59,7 @@ macro_rules! words {
     (
         constants { $($number:literal: $value:literal,)* }
         rows { $($address:literal: $kind:ident $($opcode:literal)? = $([$($part:tt)*])*;)* }
+        turns { $($turn:tt)* }
     ) => {
         [$($(word!($($part)*)),*),*]
     };
@@ -67,6 +70,7 @@ macro_rules! bounds {
     (
         constants { $($number:literal: $value:literal,)* }
         rows { $($address:literal: $kind:ident $($opcode:literal)? = $([$($part:tt)*])*;)* }
+        turns { $($turn:tt)* }
     ) => {
         [$(($address, [$(word!($($part)*)),*].len() as u16)),*]
     };
@@ -77,6 +81,7 @@ macro_rules! entry_of {
         $op:literal
         constants { $($number:literal: $value:literal,)* }
         rows { $($address:literal: $kind:ident $($opcode:literal)? = $([$($part:tt)*])*;)* }
+        turns { $($turn:tt)* }
     ) => {
         $($(($op == $opcode) as u16 * $address +)?)* 0
     };
@@ -95,6 +100,7 @@ macro_rules! raise_address {
     (
         constants { $($number:literal: $value:literal,)* }
         rows { $($address:literal: $kind:ident $($opcode:literal)? = $([$($part:tt)*])*;)* }
+        turns { $($turn:tt)* }
     ) => {
         $(if_raise!($kind $address) +)* 0
     };
@@ -105,8 +111,19 @@ macro_rules! constant_of {
         $k:literal
         constants { $($number:literal: $value:literal,)* }
         rows { $($row:tt)* }
+        turns { $($turn:tt)* }
     ) => {
         $(($k == $number) as u32 * $value +)* 0
+    };
+}
+
+macro_rules! branches {
+    (
+        constants { $($constant:tt)* }
+        rows { $($row:tt)* }
+        turns { $($address:literal: $turns:expr,)* }
+    ) => {
+        [$(($address, $turns)),*]
     };
 }
 
@@ -122,6 +139,9 @@ pub static WORDS: [u16; 6] = microcode!(words);
 
 /// The address and the number of words of each row.
 pub static ROWS: [(u16, u16); 5] = microcode!(bounds);
+
+/// The branches to their own or an earlier address, with their turns.
+pub static TURNS: [(u16, Turns); 0] = microcode!(branches);
 
 /// Where the raise routine begins.
 pub const RAISE: u16 = microcode!(raise_address);
@@ -186,6 +206,17 @@ pub fn raise_entry() -> u16
     RAISE
 }
 
+/// How often the branch at an address is taken within one bytecode, at most, if it goes to its own or an
+/// earlier address.
+pub fn turns(address: u16) -> Option<Turns>
+    ensures { result ≡ turns_in address TURNS }
+{
+    TURNS
+        .iter()
+        .find(|branch| branch.0 == address)
+        .map(|branch| branch.1)
+}
+
 /// The constant of a number below 32.
 pub fn constant(k: u8) -> u32
     requires { k < 32 }
@@ -194,9 +225,10 @@ pub fn constant(k: u8) -> u32
     CONSTANTS[k as usize]
 }
 
-/// What holds of the list: each word is a microinstruction's, and each row begins where the one
-/// before it ends.
+/// What holds of the list: each word is a microinstruction's, each row begins where the one before it
+/// ends, and each branch to its own or an earlier address has turns.
 pub fn is_laid_out()
     ensures words { AreMicros WORDS }
     ensures rows { RowsFollow 0 ROWS }
+    ensures turns { BranchesHaveTurns WORDS TURNS }
 {}
