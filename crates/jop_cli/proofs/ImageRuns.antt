@@ -17,16 +17,16 @@ use Rattle.jop_cli.specs.Wired.{wired}
 use Rattle.jop_cli.specs.Run.{HaltsAfter, HaltsSoon, Cycled, Broke, AreCounts, RunsToEnd, RunsInPart}
 use Rattle.jop_cli.proofs.WholeRun.{whole_run, halts_soon, HaltsAfter-unique, below_or_from}
 
-pub soon_from_reset : (image : Image) (config : Config) (m : machine.State) → m ≡ bare_reset 1024 image config → IsImage image → IsBuilt image → (m.clock ≡ 0) × HaltsSoon m
-soon_from_reset image config m is grammar built =
+pub soon_from_reset : (image : Image) (config : Config) (m : machine.State) → IsDefault config → m ≡ bare_reset 1024 image config → IsImage image → IsBuilt image → (m.clock ≡ 0) × HaltsSoon m
+soon_from_reset image config m setting is grammar built =
     let P : machine.State → Type 0 = HaltsSoon in
-    (ap (λ (s : machine.State). s.clock) is, subst P (sym is) (halts_soon image config grammar built))
+    (ap (λ (s : machine.State). s.clock) is, subst P (sym is) (halts_soon image config setting grammar built))
 
 pub ran_to_end : (image : Image) (config : Config) (m new : machine.State) (held held' : Option (List ℕ)) (faults faults' : ℕ) (counts : Counts) (cycles : ℕ)
     → m ≡ bare_reset 1024 image config → IsImage image → IsBuilt image → IsDefault config
     → HaltsAfter cycles m → Cycled cycles m new (wired held faults) (wired held' faults') → AreCounts counts new → RunsToEnd image held held' counts
 ran_to_end image config m new held held' faults faults' counts cycles is grammar built setting halts cycled counted =
-    let run = whole_run image config grammar built in
+    let run = whole_run image config setting grammar built in
     let H : machine.State → Type 0 = λ s. HaltsAfter cycles s in
     let here : HaltsAfter cycles (bare_reset 1024 image config) = subst H is halts in
     let same : cycles ≡ run.cycles = HaltsAfter-unique cycles run.cycles (bare_reset 1024 image config) here run.halts in
@@ -45,9 +45,9 @@ ran_to_end image config m new held held' faults faults' counts cycles is grammar
     }
 
 pub ran_in_part : (image : Image) (config : Config) (m : machine.State) (held held' : Option (List ℕ)) (faults faults' : ℕ) (cycles : ℕ)
-    → m ≡ bare_reset 1024 image config → IsImage image → IsBuilt image → Broke cycles m (wired held faults) (wired held' faults') → RunsInPart image held held'
-ran_in_part image config m held held' faults faults' cycles is grammar built broke =
-    let run = whole_run image config grammar built in
+    → IsDefault config → m ≡ bare_reset 1024 image config → IsImage image → IsBuilt image → Broke cycles m (wired held faults) (wired held' faults') → RunsInPart image held held'
+ran_in_part image config m held held' faults faults' cycles setting is grammar built broke =
+    let run = whole_run image config setting grammar built in
     let reset : machine.State = bare_reset 1024 image config in
     let G : List ℕ → Type 0 = λ bytes. Grew held held' bytes in
     ⊎_elim

@@ -7,7 +7,7 @@ use Rattle.jop_core.specs.declared.halt.Halt.TheVariants.{Running}
 use Rattle.jop_core.specs.Bare.{Image, IsImage, Instruction, StayWithin, spelled, return_code}
 use Rattle.jop_core.specs.State as machine
 use Rattle.jop_core.specs.Operations.{pushed, popped}
-use Rattle.jop_core.specs.Cycle.{counted, with_opd, with_nxt, entry_of}
+use Rattle.jop_core.specs.Cycle.{counted, with_opd, with_nxt, entry_of, code_byte}
 use Rattle.jop_cli.specs.Bytecode.{State, signed_byte, low_byte, step, impdep2, opcode_at}
 use Rattle.jop_cli.proofs.FrameWords.{words_of, words-pushed, words-popped, place_below}
 use Rattle.jop_cli.proofs.Ints.{int_word, IsInt, IsInt-signed_byte}
@@ -24,7 +24,7 @@ tail_of is = spelled is ++ return_code ∷ []
 pub record StandsFor (image : Image) (m : machine.State) (s : State) (is : List Instruction) : Type 0 where
   pub halt : m.halt ≡ Running
   pub stall : m.stall ≡ 0
-  pub code : m.code ≡ image.code
+  pub code : (k : ℕ) → code_byte m k ≡ slice_index image.code k
   pub size : 256 ≤ length m.stack
   pub vp : m.vp ≡ 64
   pub sp : m.sp ≡ 66 + image.max_locals + length s.operands
@@ -43,8 +43,8 @@ pub record StandsFor (image : Image) (m : machine.State) (s : State) (is : List 
 jpc_on : (j k : ℕ) → j ≡ k → k ≤ 4096 → (j + 1) % 2 ^ 16 ≡ k + 1
 jpc_on j k is small = ap (λ m. (m + 1) % 2 ^ 16) is ∙ mod-eq_of_lt (omega (arith, small))
 
-pub byte_is : (image : Image) (m : machine.State) (place pc : ℕ) → m.code ≡ image.code → place ≡ pc → slice_index m.code place ≡ slice_index image.code pc
-byte_is image m place pc code at = ap (λ k. slice_index m.code k) at ∙ ap (λ (t : List ℕ). slice_index t pc) code
+pub byte_is : (image : Image) (m : machine.State) (place pc : ℕ) → ((k : ℕ) → code_byte m k ≡ slice_index image.code k) → place ≡ pc → code_byte m place ≡ slice_index image.code pc
+byte_is image m place pc code at = ap (code_byte m) at ∙ code pc
 
 -- a place from which code is left lies within it
 pub end_of : (image : Image) → IsImage image → (pc : ℕ) (is : List Instruction) → drop pc image.code ≡ tail_of is → pc ≤ 4096
@@ -82,7 +82,7 @@ stands-pushed image grammar m s i b is old op one within room =
     let second = byte_at-drop image.code (s.pc + 1) b (tail_of is) (first.behind ∙ ap (λ (xs : List ℕ). xs ++ spelled is ++ return_code ∷ []) one) in
     let two : s.pc + 1 + 1 ≡ s.pc + 2 = omega arith in
     let next : (m.jpc + 1) % 2 ^ 16 ≡ s.pc + 2 = jpc_on m.jpc (s.pc + 1) old.jpc (omega (arith, second.within, grammar.short)) ∙ two in
-    let byte : slice_index m.code ((m.jpc + 1) % 2 ^ 16) ≡ slice_index image.code (s.pc + 2) = byte_is image m ((m.jpc + 1) % 2 ^ 16) (s.pc + 2) old.code next in
+    let byte : code_byte m ((m.jpc + 1) % 2 ^ 16) ≡ slice_index image.code (s.pc + 2) = byte_is image m ((m.jpc + 1) % 2 ^ 16) (s.pc + 2) old.code next in
     let high : m.sp + 1 < length m.stack = omega (arith, old.sp, old.size, grammar.frame, room) in
     let place : (m.sp + 1) % length m.stack ≡ m.sp + 1 = mod-eq_of_lt high in
     let behind : drop (s.pc + 2) image.code ≡ tail_of is = ap (λ k. drop k image.code) (sym two) ∙ second.behind in
@@ -123,7 +123,7 @@ pub stands-put : (image : Image) → IsImage image → (m : machine.State) (s : 
 stands-put image grammar m s i x xs is old op none top within =
     let first = byte_at-drop image.code s.pc i.opcode (i.operands ++ spelled is ++ return_code ∷ []) old.rest in
     let behind : drop (s.pc + 1) image.code ≡ tail_of is = first.behind ∙ ap (λ (ys : List ℕ). ys ++ spelled is ++ return_code ∷ []) none in
-    let byte : slice_index m.code m.jpc ≡ slice_index image.code (s.pc + 1) = byte_is image m m.jpc (s.pc + 1) old.code old.jpc in
+    let byte : code_byte m m.jpc ≡ slice_index image.code (s.pc + 1) = byte_is image m m.jpc (s.pc + 1) old.code old.jpc in
     let count : length s.operands ≡ suc (length xs) = ap length top in
     let high : m.sp < length m.stack = omega (arith, old.sp, old.size, grammar.frame, old.depth) in
     let lower : (m.sp + (length m.stack - 1)) % length m.stack ≡ m.sp - 1 = place_below m.sp (length m.stack) (omega (arith, old.sp)) high in

@@ -1,5 +1,5 @@
 -- The run of a bare image on the clocked machine.
-use Rattle.std.specs.Prelude.{◌≡◌, ℕ, ◌<◌, ◌≤◌, true, List, ◌++◌}
+use Rattle.std.specs.Prelude.{◌≡◌, ℕ, ◌<◌, ◌≤◌, true, false, List, ◌++◌}
 use Rattle.std.specs.declared.option.Option.{Option}
 use Rattle.jop_outside.specs.Outside.{Grew, Rose}
 use Rattle.memory_timing.specs.declared.Config.{Config}
@@ -9,6 +9,7 @@ use Rattle.jop_core.specs.Bare.{Image}
 use Rattle.jop_core.specs.Reset.{bare_reset}
 use Rattle.jop_core.specs.State as machine
 use Rattle.jop_core.specs.Told.{Told, Passed, CountsRise}
+use Rattle.jop_core.specs.Cycle.{asks_input}
 use Rattle.jop_core.specs.Cycles.{state_after, output_over, seen_over, notes_over}
 use Rattle.jop_cli.specs.declared.outcome.Counts.{Counts}
 use Rattle.jop_cli.specs.declared.run.RunEnd.{RunEnd}
@@ -29,6 +30,8 @@ pub record HaltsSoon (s : machine.State) : Type 0 where
   pub cycles : ℕ
   pub few : cycles ≤ most_cycles
   pub halts : HaltsAfter cycles s
+  -- and none of its cycles asks for input
+  pub quiet : (k : ℕ) → k < cycles → asks_input (state_after k s) ≡ false
 
 -- so many cycles were done from old to new, and the device was given what they put out and the states before them
 pub record Cycled (cycles : ℕ) (old new : machine.State) (told told' : Told) : Type 0 where

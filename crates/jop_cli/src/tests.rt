@@ -1,4 +1,7 @@
-//! What no clause says: that there is an answer with ample memory, and each printed line.
+//! What no clause says: that there is an answer with ample memory, each printed line, and the machine's
+//! registers against tables that were worked out by hand.
+
+mod machine;
 
 use crate::{Outcome, Refusal, jop};
 use jop_core::NoWatch;

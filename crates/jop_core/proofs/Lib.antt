@@ -1,6 +1,7 @@
 pub mod Tells
 pub mod OneCycle
 pub mod ManyCycles
-pub mod BareWords
+pub mod ResetWords
+pub mod Packs
 pub mod Scanned
 pub mod BareFiles

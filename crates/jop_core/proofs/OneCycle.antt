@@ -1,55 +1,110 @@
 -- What a cycle is where the word of the ROM is known.
-use Rattle.std.proofs.Common.{◌≡◌, ◌≢◌, ℕ, ◌≤◌, ◌∙◌, refl, sym, ap, false, nat_lt, subst, arith, List, [], ◌∷◌}
+use Rattle.std.proofs.Common.{◌≡◌, ◌≢◌, ℕ, ◌≤◌, ◌%◌, ◌^◌, ◌∙◌, refl, sym, ap, Bool, true, false, cond, nat_lt, subst, arith, List, [], ◌∷◌, Some, None}
 use Rattle.std.specs.Prelude.{slice_index}
 use Rattle.std.specs.declared.option.Option.{Option}
+use Rattle.micro_isa.specs.declared.Body.{Body}
+use Rattle.micro_isa.specs.declared.Body.TheVariants.{Plain, Stm, Ldm, Ldi, Bz, Bnz, Jmp}
 use Rattle.micro_isa.specs.declared.Micro.{Micro}
+use Rattle.micro_isa.specs.declared.operation.Operation.{Operation}
+use Rattle.micro_isa.specs.declared.operation.Operation.TheVariants.{Ldin}
+use Rattle.micro_isa.specs.Operations.{operation_of}
 use Rattle.micro_isa.specs.Words.{micro_of}
 use Rattle.microcode_rom.specs.declared.TheConstants.{WORDS}
 use Rattle.jop_outside.specs.Outside.{Rose}
 use Rattle.jop_core.specs.declared.halt.Halt.TheVariants.{Running}
-use Rattle.jop_core.specs.declared.tick.Tick.TheVariants.{Went, WriteFault}
+use Rattle.jop_core.specs.declared.tick.Tick.TheVariants.{Went, ReadFault, WriteFault}
 use Rattle.jop_core.specs.declared.seen.Seen.{Seen}
 use Rattle.jop_core.specs.State.{State, seen_of}
-use Rattle.jop_core.specs.Told.{Told, Saw, Passed, OnlySees, OnlyWrites}
+use Rattle.jop_core.specs.Told.{Told, Saw, Passed, Exchanged, CountsRise, OnlyReads, OnlySees, OnlyWrites}
 use Rattle.jop_core.specs.Ticked.{Ticked, writes_of, notes_of}
-use Rattle.jop_core.proofs.Tells.{Passed-trans}
-use Rattle.jop_core.specs.Cycle.{cycle_of, output_of, ran, counted, puts}
+use Rattle.jop_core.proofs.Tells.{Passed-trans, Passed-quiet, Exchanged-after, Exchanged-before}
+use Rattle.jop_core.specs.Cycle.{cycle_of, asks_input, output_of, ran, counted, asks, body_asks, is_ldin, puts, body_outputs, is_stout}
 
 not_stalled : (s : State) → s.stall ≤ 0 → nat_lt 0 s.stall ≡ false
 not_stalled s none = let P : ℕ → Type 0 = λ k. nat_lt 0 k ≡ false in let zero : 0 ≡ s.stall = omega arith in subst P zero refl
 
-pub cycle_of-here : (s : State) (word : ℕ) (m : Option Micro) → s.stall ≤ 0 → word ≡ slice_index WORDS s.mpc → m ≡ micro_of word → cycle_of s ≡ ran m (counted s)
+pub cycle_of-here : (s : State) (word : ℕ) (m : Option Micro) (input : Option ℕ) → s.stall ≤ 0 → word ≡ slice_index WORDS s.mpc → m ≡ micro_of word
+    → cycle_of input s ≡ ran input m (counted s)
 unfolding cycle_of
-cycle_of-here s word m none at is = rw (not_stalled s none, is, at) refl
+cycle_of-here s word m input none at is = rw (not_stalled s none, is, at) refl
 
-pub output_of-here : (s : State) (word : ℕ) (m : Option Micro) (a : ℕ) → s.stall ≤ 0 → word ≡ slice_index WORDS s.mpc → m ≡ micro_of word → a ≡ s.a → output_of s ≡ puts m a
+pub output_of-here : (s : State) (word : ℕ) (m : Option Micro) (a : ℕ) → s.stall ≤ 0 → word ≡ slice_index WORDS s.mpc → m ≡ micro_of word → a ≡ s.a
+    → output_of s ≡ puts m a
 unfolding output_of
 output_of-here s word m a none at is top = rw (not_stalled s none, is, at, top) refl
 
--- a cycle that was done: the state was handed over, and then the byte was put out
-pub Ticked-went : (old new : State) (out : List ℕ) (at : Seen) (t0 t1 t2 : Told) → old.halt ≡ Running → new ≡ cycle_of old → output_of old ≡ out → at ≡ seen_of old
-    → Passed t0 t1 [] (at ∷ []) (Saw at ∷ []) → OnlySees t0 t1
-    → Passed t1 t2 out [] (writes_of out) → OnlyWrites t1 t2 → Ticked old new t0 t2 Went
-Ticked-went old new out at t0 t1 t2 running is outputs at_is seen sees put writes = (
-  running,
-  is,
-  Passed-trans t0 t1 t2 [] out (output_of old) (at ∷ []) [] (seen_of old ∷ []) (Saw at ∷ []) (writes_of out) (notes_of old) seen put outputs
-      (ap (λ (x : Seen). x ∷ []) (sym at_is))
-      (ap (λ bytes. Saw (seen_of old) ∷ writes_of bytes) outputs ∙ ap (λ (x : Seen). Saw x ∷ writes_of out) (sym at_is)),
-  record { reads = omega arith; writes = omega arith; sees = omega arith },
-)
+pub asks_input-here : (s : State) (word : ℕ) (m : Option Micro) → s.stall ≤ 0 → word ≡ slice_index WORDS s.mpc → m ≡ micro_of word → asks_input s ≡ asks m
+unfolding asks_input
+asks_input-here s word m none at is = rw (not_stalled s none, is, at) refl
 
--- a cycle whose byte could not be put out
-pub Ticked-refused : (old : State) (out : List ℕ) (at : Seen) (t0 t1 t2 : Told) → old.halt ≡ Running → output_of old ≡ out → at ≡ seen_of old
-    → Passed t0 t1 [] (at ∷ []) (Saw at ∷ []) → OnlySees t0 t1
-    → Passed t1 t2 [] [] [] → OnlyWrites t1 t2 → out ≢ [] → Rose t1.write_faults t2.write_faults → Ticked old old t0 t2 WriteFault
-Ticked-refused old out at t0 t1 t2 running outputs at_is seen sees put writes some rose = (
+-- the state was handed over, and then a byte was asked for where the microinstruction asks for one
+pub record Begun (old : State) (asked : Bool) (input : Option ℕ) (t0 t2 : Told) : Type 0 where
+  pub exchanged : Exchanged t0 t2 asked input [] (seen_of old ∷ []) (Saw (seen_of old) ∷ [])
+  pub counts : CountsRise t0 t2
+
+pub begun : (old : State) (at : Seen) (asked : Bool) (input : Option ℕ) (t0 t1 t2 : Told) → at ≡ seen_of old
+    → Passed t0 t1 [] (at ∷ []) (Saw at ∷ []) → OnlySees t0 t1 → Exchanged t1 t2 asked input [] [] [] → OnlyReads t1 t2 → Begun old asked input t0 t2
+begun old at asked input t0 t1 t2 at_is seen sees took reads = record {
+  exchanged = Exchanged-after t0 t1 t2 asked input [] [] [] (at ∷ []) [] (seen_of old ∷ []) (Saw at ∷ []) [] (Saw (seen_of old) ∷ []) seen took refl
+      (ap (λ (x : Seen). x ∷ []) (sym at_is)) (ap (λ (x : Seen). Saw x ∷ []) (sym at_is));
+  counts = record { reads = omega arith; writes = omega arith; sees = omega arith };
+}
+
+-- a cycle that was done: then the byte was put out
+pub Ticked-went : (old new : State) (input : Option ℕ) (asked : Bool) (out : List ℕ) (t0 t1 t2 : Told) → old.halt ≡ Running → new ≡ cycle_of input old
+    → asks_input old ≡ asked → output_of old ≡ out → Begun old asked input t0 t1 → Passed t1 t2 out [] (writes_of out) → OnlyWrites t1 t2 → Ticked old new t0 t2 Went
+Ticked-went old new input asked out t0 t1 t2 running is asks_is outputs start put writes =
+    let A : Bool → Type 0 = λ b. Exchanged t0 t2 b input (output_of old) (seen_of old ∷ []) (notes_of old) in (
+      running,
+      input,
+      is,
+      subst A (sym asks_is)
+          (Exchanged-before t0 t1 t2 asked input [] out (output_of old) (seen_of old ∷ []) [] (seen_of old ∷ []) (Saw (seen_of old) ∷ []) (writes_of out) (notes_of old)
+          start.exchanged put outputs refl (ap (λ bytes. Saw (seen_of old) ∷ writes_of bytes) outputs)),
+      record { reads = omega (arith, start.counts.reads); writes = omega (arith, start.counts.writes); sees = omega (arith, start.counts.sees) },
+    )
+
+-- a cycle whose byte could not be put out: a microinstruction that puts one out asks for none
+pub Ticked-refused : (old : State) (input : Option ℕ) (asked : Bool) (out : List ℕ) (t0 t1 t2 : Told) → old.halt ≡ Running → asked ≡ false → output_of old ≡ out
+    → Begun old asked input t0 t1 → Passed t1 t2 [] [] [] → OnlyWrites t1 t2 → out ≢ [] → Rose t1.write_faults t2.write_faults → Ticked old old t0 t2 WriteFault
+Ticked-refused old input asked out t0 t1 t2 running quiet outputs start put writes some rose =
+    let A : Bool → Type 0 = λ b. Exchanged t0 t1 b input [] (seen_of old ∷ []) (Saw (seen_of old) ∷ []) in
+    let passed = Passed-quiet t0 t1 input [] (seen_of old ∷ []) (Saw (seen_of old) ∷ []) (subst A quiet start.exchanged) in (
+      running,
+      refl,
+      Passed-trans t0 t1 t2 [] [] [] (seen_of old ∷ []) [] (seen_of old ∷ []) (Saw (seen_of old) ∷ []) [] (Saw (seen_of old) ∷ []) passed put refl refl refl,
+      record { reads = omega (arith, start.counts.reads); writes = omega (arith, start.counts.writes); sees = omega (arith, start.counts.sees) },
+      (λ none. some (sym outputs ∙ none)),
+      omega (arith, rose, start.counts.writes),
+    )
+
+-- a cycle whose input failed
+pub Ticked-unread : (old : State) (asked : Bool) (at : Seen) (t0 t1 t2 : Told) → old.halt ≡ Running → asks_input old ≡ asked → at ≡ seen_of old
+    → Passed t0 t1 [] (at ∷ []) (Saw at ∷ []) → OnlySees t0 t1 → Passed t1 t2 [] [] [] → OnlyReads t1 t2 → asked ≡ true → Rose t1.read_faults t2.read_faults → Ticked old old t0 t2 ReadFault
+Ticked-unread old asked at t0 t1 t2 running asks_is at_is seen sees passed reads asking rose = (
   running,
   refl,
-  Passed-trans t0 t1 t2 [] [] [] (at ∷ []) [] (seen_of old ∷ []) (Saw at ∷ []) [] (Saw (seen_of old) ∷ []) seen put refl
-      (ap (λ (x : Seen). x ∷ []) (sym at_is))
-      (ap (λ (x : Seen). Saw x ∷ []) (sym at_is)),
+  Passed-trans t0 t1 t2 [] [] [] (at ∷ []) [] (seen_of old ∷ []) (Saw at ∷ []) [] (Saw (seen_of old) ∷ []) seen passed refl
+      (ap (λ (x : Seen). x ∷ []) (sym at_is)) (ap (λ (x : Seen). Saw x ∷ []) (sym at_is)),
   record { reads = omega arith; writes = omega arith; sees = omega arith },
-  (λ none. some (sym outputs ∙ none)),
+  asks_is ∙ asking,
   omega (arith, rose),
 )
+
+-- what puts a byte out asks for none
+operation-asks : (op : Operation) (a : ℕ) → cond (is_stout op) (a % 2 ^ 8 ∷ []) [] ≢ [] → is_ldin op ≡ false
+operation-asks Ldin a some = absurd (some refl)
+operation-asks op a some = refl
+
+body-asks : (body : Body) (a : ℕ) → cond (body_outputs body) (a % 2 ^ 8 ∷ []) [] ≢ [] → body_asks body ≡ false
+body-asks (Plain code) a some = operation-asks (operation_of code) a some
+body-asks (Stm k) a some = refl
+body-asks (Ldm k) a some = refl
+body-asks (Ldi k) a some = refl
+body-asks (Bz to) a some = refl
+body-asks (Bnz to) a some = refl
+body-asks (Jmp to) a some = refl
+
+pub asks-puts : (m : Option Micro) (a : ℕ) → puts m a ≢ [] → asks m ≡ false
+asks-puts None a some = refl
+asks-puts (Some m) a some = body-asks m.body a some

@@ -1,8 +1,9 @@
 -- How what a device tells goes on over several calls.
-use Rattle.std.proofs.Common.{◌≡◌, ℕ, List, [], ◌++◌, refl, ◌∙◌, arith}
+use Rattle.std.proofs.Common.{◌≡◌, ℕ, Bool, false, List, [], ◌++◌, refl, sym, subst, ◌∙◌, arith}
+use Rattle.std.specs.declared.option.Option.{Option}
 use Rattle.jop_outside.proofs.Told.{Grew-refl, Grew-trans}
 use Rattle.jop_core.specs.declared.seen.Seen.{Seen}
-use Rattle.jop_core.specs.Told.{Told, Note, Passed, CountsRise}
+use Rattle.jop_core.specs.Told.{Told, Note, Passed, Exchanged, GivesWhere, CountsRise}
 
 pub Passed-refl : (told : Told) → Passed told told [] [] []
 Passed-refl told = record { left = refl; held = Grew-refl told.held; noted = Grew-refl told.noted; handed = Grew-refl told.handed }
@@ -22,3 +23,34 @@ CountsRise-refl told = record { reads = omega arith; writes = omega arith; sees 
 
 pub CountsRise-trans : (t0 t1 t2 : Told) → CountsRise t0 t1 → CountsRise t1 t2 → CountsRise t0 t2
 CountsRise-trans t0 t1 t2 first second = record { reads = omega arith; writes = omega arith; sees = omega arith }
+
+-- what is given is what is left, where what was left before is known
+GivesWhere-left : (asked : Bool) (l0 l1 l2 : Option (List ℕ)) (byte : Option ℕ) → l1 ≡ l0 → GivesWhere asked l1 l2 byte → GivesWhere asked l0 l2 byte
+GivesWhere-left asked l0 l1 l2 byte same gives = let P : Option (List ℕ) → Type 0 = λ l. GivesWhere asked l l2 byte in subst P same gives
+
+GivesWhere-right : (asked : Bool) (l0 l1 l2 : Option (List ℕ)) (byte : Option ℕ) → l2 ≡ l1 → GivesWhere asked l0 l1 byte → GivesWhere asked l0 l2 byte
+GivesWhere-right asked l0 l1 l2 byte same gives = let P : Option (List ℕ) → Type 0 = λ l. GivesWhere asked l0 l byte in subst P (sym same) gives
+
+pub Exchanged-after : (t0 t1 t2 : Told) (asked : Bool) (byte : Option ℕ) (out0 out1 out : List ℕ) (seen0 seen1 seen : List Seen) (notes0 notes1 notes : List Note)
+    → Passed t0 t1 out0 seen0 notes0 → Exchanged t1 t2 asked byte out1 seen1 notes1
+    → out ≡ out0 ++ out1 → seen ≡ seen0 ++ seen1 → notes ≡ notes0 ++ notes1 → Exchanged t0 t2 asked byte out seen notes
+Exchanged-after t0 t1 t2 asked byte out0 out1 out seen0 seen1 seen notes0 notes1 notes first second outs seens all = record {
+  left = GivesWhere-left asked t0.left t1.left t2.left byte first.left second.left;
+  held = Grew-trans _ _ _ out0 out1 out first.held second.held outs;
+  noted = Grew-trans _ _ _ notes0 notes1 notes first.noted second.noted all;
+  handed = Grew-trans _ _ _ seen0 seen1 seen first.handed second.handed seens;
+}
+
+pub Exchanged-before : (t0 t1 t2 : Told) (asked : Bool) (byte : Option ℕ) (out0 out1 out : List ℕ) (seen0 seen1 seen : List Seen) (notes0 notes1 notes : List Note)
+    → Exchanged t0 t1 asked byte out0 seen0 notes0 → Passed t1 t2 out1 seen1 notes1
+    → out ≡ out0 ++ out1 → seen ≡ seen0 ++ seen1 → notes ≡ notes0 ++ notes1 → Exchanged t0 t2 asked byte out seen notes
+Exchanged-before t0 t1 t2 asked byte out0 out1 out seen0 seen1 seen notes0 notes1 notes first second outs seens all = record {
+  left = GivesWhere-right asked t0.left t1.left t2.left byte second.left first.left;
+  held = Grew-trans _ _ _ out0 out1 out first.held second.held outs;
+  noted = Grew-trans _ _ _ notes0 notes1 notes first.noted second.noted all;
+  handed = Grew-trans _ _ _ seen0 seen1 seen first.handed second.handed seens;
+}
+
+-- where no byte was asked for, nothing was taken
+pub Passed-quiet : (old new : Told) (byte : Option ℕ) (out : List ℕ) (seen : List Seen) (notes : List Note) → Exchanged old new false byte out seen notes → Passed old new out seen notes
+Passed-quiet old new byte out seen notes all = record { left = all.left.0; held = all.held; noted = all.noted; handed = all.handed }

@@ -1,23 +1,32 @@
 -- One cycle of the machine.
-use Rattle.std.specs.Prelude.{ℕ, ◌+◌, ◌-◌, ◌*◌, ◌%◌, ◌^◌, Bool, true, false, ◌==◌, ◌&&◌, ◌||◌, nat_lt, if◌then◌else◌, List, [], ◌∷◌, Some, None, slice_index}
+use Rattle.std.specs.Prelude.{ℕ, ◌+◌, ◌-◌, ◌*◌, ◌/◌, ◌%◌, ◌^◌, Bool, true, false, ◌==◌, ◌&&◌, ◌||◌, nat_lt, if◌then◌else◌, List, [], ◌∷◌, Some, None, slice_index}
 use Rattle.std.specs.declared.option.Option.{Option}
 use Rattle.micro_isa.specs.declared.Body.{Body}
 use Rattle.micro_isa.specs.declared.Body.TheVariants.{Plain, Stm, Ldm, Ldi, Bz, Bnz, Jmp}
 use Rattle.micro_isa.specs.declared.Micro.{Micro}
 use Rattle.micro_isa.specs.declared.operation.Operation.{Operation}
-use Rattle.micro_isa.specs.declared.operation.Operation.TheVariants.{Wait, Stout}
+use Rattle.micro_isa.specs.declared.operation.Operation.TheVariants.{Wait, Ldin, Stout}
 use Rattle.micro_isa.specs.Operations.{operation_of}
 use Rattle.micro_isa.specs.Words.{micro_of}
 use Rattle.microcode_rom.specs.declared.TheConstants.{WORDS, ENTRIES, RAISE}
 use Rattle.memory_timing.specs.Port.{ticked}
+use Rattle.method_cache.specs.Contents.{word_of}
 use Rattle.jop_core.specs.declared.halt.Halt.{Halt}
 use Rattle.jop_core.specs.declared.halt.Halt.TheVariants.{Running, Ended, Uncaught}
 use Rattle.jop_core.specs.State.{State}
 use Rattle.jop_core.specs.Operations.{pushed, popped, stored, word_at, operated}
 
--- the byte of the current method at jpc; past its words it is 0
+-- a byte of a word, the high one first
+abbrev pub byte_of : ℕ → ℕ → ℕ
+byte_of word k = word / 2 ^ (8 * (3 - k)) % 2 ^ 8
+
+-- a byte of the current method; past its words, and where the cache doesn't hold it, it is 0
+abbrev pub code_byte : State → ℕ → ℕ
+code_byte s place = byte_of (word_of s.method (place / 4) s.cache) (place % 4)
+
+-- the byte at jpc
 abbrev pub byte_at : State → ℕ
-byte_at s = slice_index s.code s.jpc
+byte_at s = code_byte s s.jpc
 
 -- where the row of an opcode begins
 abbrev pub entry_of : ℕ → ℕ
@@ -46,10 +55,10 @@ abbrev pub with_flags : Micro → State → State
 with_flags m s = with_nxt m.nxt (with_opd m.opd s)
 
 -- what a microinstruction does
-abbrev pub performed : Micro → State → State
-performed m s =
+abbrev pub performed : (input : Option ℕ) → Micro → State → State
+performed input m s =
     elim m.body [
-      | Plain code ↦ with_flags m (operated (operation_of code) s)
+      | Plain code ↦ with_flags m (operated input (operation_of code) s)
       | Stm place ↦ with_flags m (stored place s)
       | Ldm place ↦ with_flags m (pushed (word_at s place) s)
       | Ldi number ↦ with_flags m (pushed (word_at s (32 + number)) s)
@@ -70,9 +79,9 @@ body_waits _ = false
 abbrev pub waits : Micro → State → Bool
 waits m s = body_waits m.body && nat_lt 0 s.port.count
 
-abbrev pub ran : Option Micro → State → State
-ran None s = s
-ran (Some m) s = if waits m s then s else performed m s
+abbrev pub ran : (input : Option ℕ) → Option Micro → State → State
+ran input None s = s
+ran input (Some m) s = if waits m s then s else performed input m s
 
 -- the microinstruction at mpc
 abbrev pub micro_at : State → Option Micro
@@ -82,9 +91,25 @@ micro_at s = micro_of (slice_index WORDS s.mpc)
 abbrev pub counted : State → State
 counted s = record s { clock = s.clock + 1; port = ticked s.port }
 
--- a cycle of a machine that hasn't halted: a pending stall falls, and without one a microinstruction runs
-unfoldable pub cycle_of : State → State
-cycle_of s = if nat_lt 0 s.stall then record (counted s) { stall = s.stall - 1 } else ran (micro_at s) (counted s)
+-- A cycle of a machine that hasn't halted: a pending stall falls, and without one a microinstruction runs. The input is the answer to `ldin`.
+unfoldable pub cycle_of : (input : Option ℕ) → State → State
+cycle_of input s = if nat_lt 0 s.stall then record (counted s) { stall = s.stall - 1 } else ran input (micro_at s) (counted s)
+
+abbrev pub is_ldin : Operation → Bool
+is_ldin Ldin = true
+is_ldin _ = false
+
+abbrev pub body_asks : Body → Bool
+body_asks (Plain code) = is_ldin (operation_of code)
+body_asks _ = false
+
+abbrev pub asks : Option Micro → Bool
+asks None = false
+asks (Some m) = body_asks m.body
+
+-- whether the cycle asks for the next byte of the input
+unfoldable pub asks_input : State → Bool
+asks_input s = if nat_lt 0 s.stall then false else asks (micro_at s)
 
 abbrev pub is_stout : Operation → Bool
 is_stout Stout = true

@@ -1,5 +1,5 @@
--- Many cycles of a machine.
-use Rattle.std.specs.Prelude.{ℕ, zero, suc, List, [], ◌∷◌, ◌++◌}
+-- Many cycles of a machine, none of which is given input.
+use Rattle.std.specs.Prelude.{ℕ, zero, suc, List, [], ◌∷◌, ◌++◌, None}
 use Rattle.jop_core.specs.declared.seen.Seen.{Seen}
 use Rattle.jop_core.specs.State.{State, seen_of}
 use Rattle.jop_core.specs.Cycle.{cycle_of, output_of}
@@ -9,7 +9,7 @@ use Rattle.jop_core.specs.Ticked.{notes_of}
 -- the state after so many cycles
 unfoldable pub state_after : ℕ → State → State
 state_after zero s = s
-state_after (suc n) s = cycle_of (state_after n s)
+state_after (suc n) s = cycle_of None (state_after n s)
 
 -- what these cycles put out
 unfoldable pub output_over : ℕ → State → List ℕ

@@ -2,6 +2,7 @@ pub mod State
 pub mod Operations
 pub mod Cycle
 pub mod Reset
+pub mod Starts
 pub mod Shapes
 pub mod Bare
 pub mod Scan

@@ -1,8 +1,10 @@
 -- What the plain microinstructions do to the registers, the on-chip words and the memory.
-use Rattle.std.specs.Prelude.{ℕ, ◌+◌, ◌-◌, ◌*◌, ◌/◌, ◌%◌, ◌^◌, Bool, true, false, ◌==◌, ◌&&◌, ◌||◌, nat_lt, if◌then◌else◌, length, bit_and, bit_or, bit_xor, slice_set, slice_index}
+use Rattle.std.specs.Prelude.{ℕ, ◌+◌, ◌-◌, ◌*◌, ◌/◌, ◌%◌, ◌^◌, Bool, true, false, ◌==◌, ◌&&◌, ◌||◌, nat_lt, nat_le, if◌then◌else◌, List, length, bit_and, bit_or, bit_xor, slice_set, slice_index, slice_range, Some, None}
+use Rattle.std.specs.declared.option.Option.{Option}
 use Rattle.micro_isa.specs.declared.operation.Operation.{Operation}
 use Rattle.micro_isa.specs.declared.operation.Operation.TheVariants.{Nop, Pop, Dup, Add, Sub, And, Or, Xor, Shl, Shr, Ushr, Mul, Slt, Sltu, Ldo, Ldo8, Ldo16, Ldl, Stl, Ld0, Ld1, Ld2, Ld3, St0, St1, St2, St3, Ldvp, Stvp, Ldsp, Stsp, Ldjpc, Stjpc, Star, Ldmi, Stmi, Stmra, Stmwa, Stmwd, Wait, Ldmrd, Stbc, Jbr, Jbg, Ldin, Stout, Hltb, Hltu}
-use Rattle.memory_timing.specs.Port.{read_started, write_started}
+use Rattle.memory_timing.specs.Port.{Port, read_started, write_started}
+use Rattle.method_cache.specs.Contents.{can_load, is_cached, loaded}
 use Rattle.jop_core.specs.declared.halt.Halt.{Halt}
 use Rattle.jop_core.specs.declared.halt.Halt.TheVariants.{Ended, Uncaught}
 use Rattle.jop_core.specs.State.{State}
@@ -88,58 +90,96 @@ holds opcode b a =
     else if opcode == 164 then (if signed_lt a b then false else true)
     else false
 
+-- the next byte of the input, and all bits at its end
+abbrev pub input_word : Option ℕ → ℕ
+input_word None = 2 ^ 32 - 1
+input_word (Some byte) = byte
+
+-- a method at a place of memory: how many words of code it has, and where they begin behind its record and its exception table
+abbrev pub code_words : List ℕ → ℕ → ℕ
+code_words memory m = slice_index memory (m + 1) % 2 ^ 16
+
+abbrev pub code_place : List ℕ → ℕ → ℕ
+code_place memory m = m + 4 + 3 * slice_index memory (m + 3)
+
+-- it has code, which lies in memory and fits the cache
+abbrev pub can_switch : State → ℕ → Bool
+can_switch s m =
+    can_load (code_words s.port.words m) s.cache && nat_le (code_place s.port.words m + code_words s.port.words m) (length s.port.words)
+
+-- the words of its code
+abbrev pub code_of : State → ℕ → List ℕ
+code_of s m = slice_range s.port.words (code_place s.port.words m) (code_place s.port.words m + code_words s.port.words m)
+
+-- the cycles that a load of n words stalls
+abbrev pub load_stall : Port → ℕ → ℕ
+load_stall port n = 4 + n * (2 + port.read)
+
+-- a look-up of a method that the cache holds, and of one that it loads
+abbrev pub looked_up : (is_hit : Bool) → ℕ → State → State
+looked_up true m s = record s { method = m; hits = s.hits + 1 }
+looked_up false m s = record s {
+  method = m;
+  misses = s.misses + 1;
+  stall = load_stall s.port (code_words s.port.words m);
+  cache = loaded m (code_of s m) s.cache;
+}
+
+-- the method at A's place becomes the current one; a place of no method only pops
+abbrev pub switched : State → State
+switched s = if can_switch s s.a then looked_up (is_cached s.a s.cache) s.a (popped s) else popped s
+
 -- the machine halts where the top frame is boot's, whose locals begin at place 64
 abbrev pub halted_at_boot : Halt → State → State
 halted_at_boot halt s = if s.vp == 64 then record s { halt = halt } else s
 
--- The effect of an operation, apart from the flags of its word and the next address.
--- Not built yet, and in no row: stbc and ldin.
-abbrev pub operated : Operation → State → State
-operated Nop s = s
-operated Pop s = popped s
-operated Dup s = pushed s.a s
-operated Add s = after_binary Add s
-operated Sub s = after_binary Sub s
-operated And s = after_binary And s
-operated Or s = after_binary Or s
-operated Xor s = after_binary Xor s
-operated Shl s = after_binary Shl s
-operated Shr s = after_binary Shr s
-operated Ushr s = after_binary Ushr s
-operated Mul s = after_binary Mul s
-operated Slt s = after_binary Slt s
-operated Sltu s = after_binary Sltu s
-operated Ldo s = pushed s.operand s
-operated Ldo8 s = pushed (sign_extended8 s.operand) s
-operated Ldo16 s = pushed (sign_extended16 s.operand) s
-operated Ldl s = pushed (word_at s (s.vp + s.operand)) s
-operated Stl s = stored (s.vp + s.operand) s
-operated Ld0 s = pushed (word_at s s.vp) s
-operated Ld1 s = pushed (word_at s (s.vp + 1)) s
-operated Ld2 s = pushed (word_at s (s.vp + 2)) s
-operated Ld3 s = pushed (word_at s (s.vp + 3)) s
-operated St0 s = stored s.vp s
-operated St1 s = stored (s.vp + 1) s
-operated St2 s = stored (s.vp + 2) s
-operated St3 s = stored (s.vp + 3) s
-operated Ldvp s = pushed s.vp s
-operated Stvp s = record (popped s) { vp = place_of s s.a }
-operated Ldsp s = pushed s.sp s
-operated Stsp s = record (popped s) { sp = place_of s s.a }
-operated Ldjpc s = pushed s.jpc s
-operated Stjpc s = record (popped s) { jpc = s.a % 2 ^ 16 }
-operated Star s = record (popped s) { ar = place_of s s.a }
-operated Ldmi s = pushed (word_at s s.ar) s
-operated Stmi s = stored s.ar s
-operated Stmra s = record (popped s) { port = read_started s.a s.port }
-operated Stmwa s = record (popped s) { write_address = s.a }
-operated Stmwd s = record (popped s) { port = write_started s.write_address s.a s.port }
-operated Wait s = s
-operated Ldmrd s = pushed s.port.value s
-operated Stbc s = s
-operated Jbr s = if holds s.opcode s.b s.a then record (popped s) { jpc = branch_target s } else popped s
-operated Jbg s = record s { jpc = branch_target s }
-operated Ldin s = s
-operated Stout s = popped s
-operated Hltb s = halted_at_boot Ended s
-operated Hltu s = halted_at_boot Uncaught s
+-- The effect of an operation, apart from the flags of its word and the next address, where `ldin` is given this input.
+abbrev pub operated : (input : Option ℕ) → Operation → State → State
+operated input Nop s = s
+operated input Pop s = popped s
+operated input Dup s = pushed s.a s
+operated input Add s = after_binary Add s
+operated input Sub s = after_binary Sub s
+operated input And s = after_binary And s
+operated input Or s = after_binary Or s
+operated input Xor s = after_binary Xor s
+operated input Shl s = after_binary Shl s
+operated input Shr s = after_binary Shr s
+operated input Ushr s = after_binary Ushr s
+operated input Mul s = after_binary Mul s
+operated input Slt s = after_binary Slt s
+operated input Sltu s = after_binary Sltu s
+operated input Ldo s = pushed s.operand s
+operated input Ldo8 s = pushed (sign_extended8 s.operand) s
+operated input Ldo16 s = pushed (sign_extended16 s.operand) s
+operated input Ldl s = pushed (word_at s (s.vp + s.operand)) s
+operated input Stl s = stored (s.vp + s.operand) s
+operated input Ld0 s = pushed (word_at s s.vp) s
+operated input Ld1 s = pushed (word_at s (s.vp + 1)) s
+operated input Ld2 s = pushed (word_at s (s.vp + 2)) s
+operated input Ld3 s = pushed (word_at s (s.vp + 3)) s
+operated input St0 s = stored s.vp s
+operated input St1 s = stored (s.vp + 1) s
+operated input St2 s = stored (s.vp + 2) s
+operated input St3 s = stored (s.vp + 3) s
+operated input Ldvp s = pushed s.vp s
+operated input Stvp s = record (popped s) { vp = place_of s s.a }
+operated input Ldsp s = pushed s.sp s
+operated input Stsp s = record (popped s) { sp = place_of s s.a }
+operated input Ldjpc s = pushed s.jpc s
+operated input Stjpc s = record (popped s) { jpc = s.a % 2 ^ 16 }
+operated input Star s = record (popped s) { ar = place_of s s.a }
+operated input Ldmi s = pushed (word_at s s.ar) s
+operated input Stmi s = stored s.ar s
+operated input Stmra s = record (popped s) { port = read_started s.a s.port }
+operated input Stmwa s = record (popped s) { write_address = s.a }
+operated input Stmwd s = record (popped s) { port = write_started s.write_address s.a s.port }
+operated input Wait s = s
+operated input Ldmrd s = pushed s.port.value s
+operated input Stbc s = switched s
+operated input Jbr s = if holds s.opcode s.b s.a then record (popped s) { jpc = branch_target s } else popped s
+operated input Jbg s = record s { jpc = branch_target s }
+operated input Ldin s = pushed (input_word input) s
+operated input Stout s = popped s
+operated input Hltb s = halted_at_boot Ended s
+operated input Hltu s = halted_at_boot Uncaught s

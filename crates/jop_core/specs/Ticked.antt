@@ -1,13 +1,14 @@
 -- What one call of `cycle` does.
-use Rattle.std.specs.Prelude.{◌≡◌, ◌≢◌, ℕ, List, [], ◌∷◌, Ok, Err}
+use Rattle.std.specs.Prelude.{◌≡◌, ◌≢◌, ℕ, Bool, true, List, [], ◌∷◌, Ok, Err}
+use Rattle.std.specs.declared.option.Option.{Option}
 use Rattle.std.specs.declared.result.Result.{Result}
 use Rattle.jop_outside.specs.Outside.{Rose}
 use Rattle.jop_core.specs.declared.halt.Halt.TheVariants.{Running}
 use Rattle.jop_core.specs.declared.tick.Tick.{Tick}
 use Rattle.jop_core.specs.declared.tick.Tick.TheVariants.{Went, Halted, ReadFault, WriteFault, SeenFault}
 use Rattle.jop_core.specs.State.{State, seen_of}
-use Rattle.jop_core.specs.Cycle.{cycle_of, output_of}
-use Rattle.jop_core.specs.Told.{Told, Note, Wrote, Saw, Passed, CountsRise, OnlyWrites}
+use Rattle.jop_core.specs.Cycle.{cycle_of, asks_input, output_of}
+use Rattle.jop_core.specs.Told.{Told, Note, Wrote, Saw, Passed, Exchanged, CountsRise, OnlyReads, OnlyWrites}
 
 abbrev pub writes_of : List ℕ → List Note
 writes_of [] = []
@@ -22,13 +23,20 @@ abbrev pub PutOut : {T E : Type 0} → Told → Told → List ℕ → Result T E
 PutOut told told' out (Ok x) = Passed told told' out [] (writes_of out) × OnlyWrites told told'
 PutOut told told' out (Err e) = Passed told told' [] [] [] × OnlyWrites told told' × (out ≢ []) × Rose told.write_faults told'.write_faults
 
+-- a device was asked for a byte where the microinstruction asks for one
+abbrev pub AskedIn : {E : Type 0} → Told → Told → (asked : Bool) → Result (Option ℕ) E → Type 0
+AskedIn told told' asked (Ok byte) = Exchanged told told' asked byte [] [] [] × OnlyReads told told'
+AskedIn told told' asked (Err e) = Passed told told' [] [] [] × OnlyReads told told' × (asked ≡ true) × Rose told.read_faults told'.read_faults
+
 -- Where the machine had not halted, the device is handed the state and then given the byte. After a fault only the device has changed.
 abbrev pub Ticked : State → State → Told → Told → Tick → Type 0
 Ticked old new told told' Went =
-    (old.halt ≡ Running) × (new ≡ cycle_of old) × Passed told told' (output_of old) (seen_of old ∷ []) (notes_of old) × CountsRise told told'
+    (old.halt ≡ Running)
+    × (input : Option ℕ) × (new ≡ cycle_of input old)
+    × Exchanged told told' (asks_input old) input (output_of old) (seen_of old ∷ []) (notes_of old) × CountsRise told told'
 Ticked old new told told' Halted = (old.halt ≢ Running) × (new ≡ old) × (told' ≡ told)
 Ticked old new told told' ReadFault =
-    (old.halt ≡ Running) × (new ≡ old) × Passed told told' [] (seen_of old ∷ []) (Saw (seen_of old) ∷ []) × CountsRise told told' × Rose told.read_faults told'.read_faults
+    (old.halt ≡ Running) × (new ≡ old) × Passed told told' [] (seen_of old ∷ []) (Saw (seen_of old) ∷ []) × CountsRise told told' × (asks_input old ≡ true) × Rose told.read_faults told'.read_faults
 Ticked old new told told' WriteFault =
     (old.halt ≡ Running) × (new ≡ old) × Passed told told' [] (seen_of old ∷ []) (Saw (seen_of old) ∷ []) × CountsRise told told' × (output_of old ≢ []) × Rose told.write_faults told'.write_faults
 Ticked old new told told' SeenFault =

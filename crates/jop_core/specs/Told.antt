@@ -1,5 +1,5 @@
 -- What a device tells, and what each of its calls does to that.
-use Rattle.std.specs.Prelude.{◌≡◌, ℕ, ◌≤◌, List, [], ◌∷◌, Some, None, Ok, Err}
+use Rattle.std.specs.Prelude.{◌≡◌, ℕ, ◌≤◌, Bool, true, false, List, [], ◌∷◌, Some, None, Ok, Err}
 use Rattle.std.specs.declared.option.Option.{Option}
 use Rattle.std.specs.declared.result.Result.{Result}
 use Rattle.jop_outside.specs.Outside.{Grew, Rose}
@@ -64,6 +64,18 @@ pub record TookByte (old new : Told) (byte : Option ℕ) : Type 0 where
   pub held : Grew old.held new.held []
   pub noted : Grew old.noted new.noted []
   pub handed : Grew old.handed new.handed []
+
+-- where a byte was asked for it was given, and else nothing was
+abbrev pub GivesWhere : (asked : Bool) → Option (List ℕ) → Option (List ℕ) → Option ℕ → Type 0
+GivesWhere true old new byte = Gives old new byte
+GivesWhere false old new byte = (new ≡ old) × (byte ≡ None)
+
+-- A device gave a byte where one was asked for, was given these bytes and handed these states, and noted what it was given in this order.
+pub record Exchanged (old new : Told) (asked : Bool) (byte : Option ℕ) (out : List ℕ) (seen : List Seen) (notes : List Note) : Type 0 where
+  pub left : GivesWhere asked old.left new.left byte
+  pub held : Grew old.held new.held out
+  pub noted : Grew old.noted new.noted notes
+  pub handed : Grew old.handed new.handed seen
 
 -- what `input` does
 abbrev pub Inputs : {E : Type 0} → Told → Told → Result (Option ℕ) E → Type 0

@@ -15,7 +15,7 @@ mod watch;
 pub use bare::{Bare, BareFault, read_bare};
 pub use device::{DeviceFault, Devices};
 pub use halt::Halt;
-pub use machine::Machine;
+pub use machine::{Machine, can_start};
 pub use memory_timing::Config;
 pub use seen::Seen;
 pub use tick::Tick;

@@ -2,10 +2,12 @@
 ghost use Rattle.std.specs.Prelude.{◌≡◌, ◌<◌, ◌^◌, ◌+◌, ◌-◌, [], ◌∷◌, MatchOption};
 ghost use Rattle.std.specs.Option.{ForSome};
 ghost use Rattle.micro_isa.specs.Words.{IsMicro};
-ghost use Rattle.jop_core.specs.Cycle.{performed, waits, ran, puts, body_outputs, at_boundary};
-ghost use Rattle.jop_core.specs.Ticked.{Ticked, PutOut};
+ghost use Rattle.jop_core.specs.Cycle.{performed, waits, ran, asks, body_asks, puts, body_outputs, at_boundary};
+ghost use Rattle.jop_core.specs.State.{HasCounted};
+ghost use Rattle.jop_core.specs.Ticked.{Ticked, AskedIn, PutOut};
 
 mod control;
+mod lookup;
 mod operations;
 mod readers;
 mod reset;
@@ -16,8 +18,10 @@ use crate::halt::Halt;
 use crate::seen::Seen;
 use crate::tick::Tick;
 use memory_timing::Memory;
+use method_cache::MethodCache;
 use micro_isa::{Body, Micro, Operation, decode, operation_at};
 use microcode_rom::{RAISE, entry, rom};
+pub use reset::can_start;
 use stack_cache::StackCache;
 use std::marker::Model;
 
@@ -34,7 +38,7 @@ pub struct Machine<const N: usize> {
     operand: u32,
     opcode: u8,
     method: u32,
-    code: Vec<u8>,
+    cache: MethodCache,
     stall: u32,
     halt: Halt,
     stack: StackCache<N>,
@@ -61,7 +65,7 @@ impl<const N: usize> Model for Machine<N> {
       operand = m.operand;
       opcode = m.opcode;
       method = m.method;
-      code = m.code.items;
+      cache = m.cache;
       stall = m.stall;
       halt = m.halt;
       stack = m.stack;
@@ -83,7 +87,7 @@ impl<const N: usize> Model for Machine<N> {
       operand = m.operand;
       opcode = m.opcode;
       method = m.method;
-      code = m.code.items;
+      cache = m.cache;
       stall = m.stall;
       halt = m.halt;
       stack = m.stack;
@@ -96,15 +100,16 @@ impl<const N: usize> Model for Machine<N> {
 }
 
 impl<const N: usize> Machine<N> {
-    // What a microinstruction does.
-    fn perform(&mut self, m: Micro)
-        requires { IsMicro m }
-        ensures does { self.new ≡ performed m self.old }
+    // What a microinstruction does, where `ldin` is given this input.
+    fn perform(&mut self, m: Micro, input: Option<u8>)
+        requires micro { IsMicro m }
+        requires room { HasCounted self.old }
+        ensures does { self.new ≡ performed input m self.old }
         ensures clock { self.new.clock ≡ self.old.clock }
     {
         match m.body {
             Body::Plain(code) => {
-                self.operate(operation_at(code));
+                self.operate(operation_at(code), input);
                 self.follow_flags(m);
             }
             Body::Stm(place) => {
@@ -142,22 +147,23 @@ impl<const N: usize> Machine<N> {
         }
     }
 
-    // Runs the word of the ROM that this is, if it is one.
-    fn run(&mut self, m: Option<Micro>)
-        requires { ForSome m IsMicro }
-        ensures does { self.new ≡ ran m self.old }
+    // Runs the microinstruction of a word of the ROM, if it has one.
+    fn run(&mut self, m: Option<Micro>, input: Option<u8>)
+        requires micro { ForSome m IsMicro }
+        requires room { HasCounted self.old }
+        ensures does { self.new ≡ ran input m self.old }
         ensures clock { self.new.clock ≡ self.old.clock }
     {
         if let Some(m) = m
             && !self.waits_at(m)
         {
-            self.perform(m);
+            self.perform(m, input);
         }
     }
 
     /// One clock: hands the state to the device, and then does a cycle. A machine that has halted does
     /// nothing.
-    #[tactic(auto, unfolding(crate::specs::Cycle::cycle_of, crate::specs::Cycle::output_of))]
+    #[tactic(auto, unfolding(crate::specs::Cycle::cycle_of, crate::specs::Cycle::asks_input, crate::specs::Cycle::output_of))]
     pub fn cycle<D: Devices>(&mut self, device: &mut D) -> Tick
         requires { self.old.clock < 2 ^ 64 - 1 }
         ensures ticked { Ticked self.old self.new (D.told device.old) (D.told device.new) result }
@@ -176,11 +182,14 @@ impl<const N: usize> Machine<N> {
             return Tick::Went;
         }
         let m = decode(rom(self.mpc));
+        let Ok(input) = ask_in(device, m) else {
+            return Tick::ReadFault;
+        };
         if let Err(_) = put_out(device, m, self.a) {
             return Tick::WriteFault;
         }
         self.count();
-        self.run(m);
+        self.run(m, input);
         Tick::Went
     }
 
@@ -191,6 +200,28 @@ impl<const N: usize> Machine<N> {
     {
         self.halt != Halt::Running
             || self.stall == 0 && (self.mpc == entry(self.opcode) || self.mpc == RAISE)
+    }
+}
+
+// Asks for the next byte of the input, if a microinstruction does.
+fn ask_in<D: Devices>(device: &mut D, m: Option<Micro>) -> Result<Option<u8>, DeviceFault>
+    requires { ForSome m IsMicro }
+    ensures asked { AskedIn (D.told device.old) (D.told device.new) (asks m) result }
+    ensures names { D.names device.new ≡ D.names device.old }
+{
+    match m {
+        Some(m) if is_input(m) => device.input(),
+        _ => Ok(None),
+    }
+}
+
+fn is_input(m: Micro) -> bool
+    requires { IsMicro m }
+    ensures { result ≡ body_asks m.body }
+{
+    match m.body {
+        Body::Plain(code) => operation_at(code) == Operation::Ldin,
+        _ => false,
     }
 }
 

@@ -1,6 +1,7 @@
 //! The operations that have a code of their own.
 ghost use Rattle.std.specs.Prelude.{◌≡◌, ◌<◌};
-ghost use Rattle.jop_core.specs.Operations.{number_of, combined, after_binary, operated, halted_at_boot, branch_target, holds, sign_extended8, sign_extended16, is_negative, signed_lt, shifted_right};
+ghost use Rattle.jop_core.specs.State.{HasCounted};
+ghost use Rattle.jop_core.specs.Operations.{input_word, number_of, combined, after_binary, operated, halted_at_boot, branch_target, holds, sign_extended8, sign_extended16, is_negative, signed_lt, shifted_right};
 
 use crate::halt::Halt;
 use crate::machine::Machine;
@@ -20,16 +21,18 @@ impl<const N: usize> Machine<N> {
         self.a = combine(op, b, a);
     }
 
-    // What an operation does, apart from the flags of its word and the next address.
-    pub(super) fn operate(&mut self, op: Operation)
-        ensures does { self.new ≡ operated op self.old }
+    // What an operation does, apart from the flags of its word and the next address, where `ldin` is given
+    // this input.
+    pub(super) fn operate(&mut self, op: Operation, input: Option<u8>)
+        requires { HasCounted self.old }
+        ensures does { self.new ≡ operated input op self.old }
         ensures clock { self.new.clock ≡ self.old.clock }
     {
         let vp = self.vp as u64;
         let ar = self.ar as u64;
         let operand = self.operand;
         match op {
-            Operation::Nop | Operation::Wait | Operation::Stbc | Operation::Ldin => {}
+            Operation::Nop | Operation::Wait => {}
             Operation::Pop | Operation::Stout => {
                 let _ = self.pop();
             }
@@ -71,15 +74,17 @@ impl<const N: usize> Machine<N> {
             Operation::Stmwa => self.set_write_address(),
             Operation::Stmwd => self.start_write(),
             Operation::Ldmrd => self.push_value(),
+            Operation::Stbc => self.switch(),
             Operation::Jbr => self.branch_if(),
             Operation::Jbg => self.go_to_target(),
+            Operation::Ldin => self.push(word_of_input(input)),
             Operation::Hltb => self.halt_at_boot(Halt::Ended),
             Operation::Hltu => self.halt_at_boot(Halt::Uncaught),
         }
     }
 
     fn set_vp(&mut self)
-        ensures { self.new ≡ operated Operation.Stvp self.old }
+        ensures { self.new ≡ operated None Operation.Stvp self.old }
     {
         let top = self.pop();
         let place = self.place(top as u64);
@@ -87,7 +92,7 @@ impl<const N: usize> Machine<N> {
     }
 
     fn set_sp(&mut self)
-        ensures { self.new ≡ operated Operation.Stsp self.old }
+        ensures { self.new ≡ operated None Operation.Stsp self.old }
     {
         let top = self.pop();
         let place = self.place(top as u64);
@@ -95,14 +100,14 @@ impl<const N: usize> Machine<N> {
     }
 
     fn set_jpc(&mut self)
-        ensures { self.new ≡ operated Operation.Stjpc self.old }
+        ensures { self.new ≡ operated None Operation.Stjpc self.old }
     {
         let top = self.pop();
         self.jpc = (top % 65536) as u16;
     }
 
     fn set_ar(&mut self)
-        ensures { self.new ≡ operated Operation.Star self.old }
+        ensures { self.new ≡ operated None Operation.Star self.old }
     {
         let top = self.pop();
         let place = self.place(top as u64);
@@ -110,7 +115,7 @@ impl<const N: usize> Machine<N> {
     }
 
     fn start_read(&mut self)
-        ensures { self.new ≡ operated Operation.Stmra self.old }
+        ensures { self.new ≡ operated None Operation.Stmra self.old }
     {
         let top = self.pop();
         self.memory.start_read(top);
@@ -118,21 +123,21 @@ impl<const N: usize> Machine<N> {
 
     // Pushes what was read.
     fn push_value(&mut self)
-        ensures { self.new ≡ operated Operation.Ldmrd self.old }
+        ensures { self.new ≡ operated None Operation.Ldmrd self.old }
     {
         let value = self.memory.value();
         self.push(value);
     }
 
     fn set_write_address(&mut self)
-        ensures { self.new ≡ operated Operation.Stmwa self.old }
+        ensures { self.new ≡ operated None Operation.Stmwa self.old }
     {
         let top = self.pop();
         self.write_address = top;
     }
 
     fn start_write(&mut self)
-        ensures { self.new ≡ operated Operation.Stmwd self.old }
+        ensures { self.new ≡ operated None Operation.Stmwd self.old }
     {
         let top = self.pop();
         let address = self.write_address;
@@ -141,14 +146,14 @@ impl<const N: usize> Machine<N> {
 
     // Goes to the target of the current opcode.
     fn go_to_target(&mut self)
-        ensures { self.new ≡ operated Operation.Jbg self.old }
+        ensures { self.new ≡ operated None Operation.Jbg self.old }
     {
         let target = self.branch_target();
         self.jpc = target;
     }
 
     fn branch_if(&mut self)
-        ensures does { self.new ≡ operated Operation.Jbr self.old }
+        ensures does { self.new ≡ operated None Operation.Jbr self.old }
         ensures clock { self.new.clock ≡ self.old.clock }
     {
         let taken = holds_of(self.opcode, self.b, self.a);
@@ -173,6 +178,16 @@ impl<const N: usize> Machine<N> {
         if self.vp == BOOT_LOCALS {
             self.halt = halt;
         }
+    }
+}
+
+// The next byte of the input, and all bits at its end.
+fn word_of_input(input: Option<u8>) -> u32
+    ensures { result ≡ input_word input }
+{
+    match input {
+        Some(byte) => byte as u32,
+        None => u32::MAX,
     }
 }
 

@@ -1,5 +1,6 @@
 //! What can be read of a machine.
 ghost use Rattle.std.specs.Prelude.{◌≡◌};
+ghost use Rattle.jop_core.specs.Reset.{uncaught_of};
 
 use crate::halt::Halt;
 use crate::machine::Machine;
@@ -87,5 +88,18 @@ impl<const N: usize> Machine<N> {
         ensures { result ≡ self.now.halt }
     {
         self.halt
+    }
+
+    /// Where the machine has halted uncaught, the number of the class of the object that was raised: the
+    /// first word of the type that the object names.
+    pub fn uncaught(&self) -> Option<u32>
+        ensures { result ≡ uncaught_of self.now }
+    {
+        if self.halt == Halt::Uncaught {
+            let object = self.word(31);
+            Some(self.memory.peek(self.memory.peek(object)))
+        } else {
+            None
+        }
     }
 }

@@ -1,41 +1,94 @@
 //! Machines at reset.
-ghost use Rattle.std.specs.Prelude.{◌≡◌, ◌≤◌, IfOk, slice_index};
-ghost use Rattle.stack_cache.specs.Size.{IsSize, HoldsWords};
-ghost use Rattle.jop_core.specs.Bare.{frame_words};
-ghost use Rattle.jop_core.specs.Reset.{bare_reset, bare_words};
+ghost use Rattle.std.specs.Prelude.{◌≡◌, ◌↔◌, ◌<◌, ◌≤◌, length, IfOk, IsTrue, slice_index};
+ghost use Rattle.stack_cache.specs.Size.{IsSize};
+ghost use Rattle.method_cache.specs.Contents.{empty, can_load};
+ghost use Rattle.jop_core.specs.Reset.{reset_of, first_byte, bare_reset, linked_reset, CanStart, word_at_bytes, words_of_bytes};
+ghost use Rattle.jop_core.specs.Starts.{starts, IsLinkedBoot, first_words};
 
 use crate::bare::Bare;
 use crate::halt::Halt;
 use crate::machine::Machine;
 use jop_outside::NoMemory;
 use memory_timing::{Config, Memory};
+use method_cache::MethodCache;
 use microcode_rom::{constant, entry};
 use stack_cache::StackCache;
-use std::alloc::Global;
+use std::alloc::{AllocError, Global};
+
+// What a machine begins with, but for the words of its image and of its code.
+#[derive(Clone, Copy, Debug, PartialEq, Eq)]
+pub(crate) struct Boot {
+    // The place of boot's method, its locals, and the words of its frame.
+    pub place: u32,
+    pub max_locals: u16,
+    pub frame: u32,
+    // The places of boot's pool and of the raise list.
+    pub pool: u32,
+    pub raise_list: u32,
+}
 
 impl<const N: usize> Machine<N> {
-    /// A machine at reset over a bare image: boot's frame is on the stack, without operands. The only
-    /// error is that there was no memory.
+    /// A machine at reset over the words of a linked image. The only error is that there was no memory.
+    pub fn new(alloc: Global, image: &[u32], config: Config) -> Result<Self, NoMemory>
+        requires size { IsSize N }
+        requires start { CanStart image.now config }
+        ensures { IfOk result (λ m. m ≡ linked_reset N image.now config) }
+    {
+        let boot = boot_of(image);
+        let place = boot.place as usize;
+        let words = (image[place + 1] % 65536) as usize;
+        let code = place + 4 + 3 * image[place + 3] as usize;
+        Machine::begin(alloc, boot, image, &image[code..code + words], config)
+    }
+
+    /// A machine at reset over a bare image. The only error is that there was no memory.
     pub fn bare(alloc: Global, bare: &Bare, config: Config) -> Result<Self, NoMemory>
-        requires { IsSize N }
+        requires size { IsSize N }
+        requires blocks { IsTrue (can_load (length (words_of_bytes bare.now.code)) (empty config.blocks config.block_words)) }
         ensures { IfOk result (λ m. m ≡ bare_reset N bare.now config) }
     {
-        let code = bare.code().to_vec(alloc)?;
-        let opcode = first(&code);
-        let stack = bare_stack(alloc, bare, config)?;
-        let memory = Memory::new(alloc, config.memory, config.read, config.write)?;
+        let max_locals = bare.max_locals();
+        let boot = Boot {
+            place: 0,
+            max_locals,
+            frame: max_locals as u32 + 5 + bare.max_stack() as u32,
+            pool: 0,
+            raise_list: 0,
+        };
+        let code = pack(alloc, bare.code())?;
+        Machine::begin(alloc, boot, &[], &code, config)
+    }
+
+    // A machine at reset, whose boot method has this code.
+    fn begin(
+        alloc: Global,
+        boot: Boot,
+        image: &[u32],
+        code: &[u32],
+        config: Config,
+    ) -> Result<Self, NoMemory>
+        requires size { IsSize N }
+        requires memory { length image.now ≤ config.memory }
+        requires can { IsTrue (can_load (length code.now) (empty config.blocks config.block_words)) }
+        ensures { IfOk result (λ m. m ≡ reset_of N (starts boot image.now code.now) config) }
+    {
+        let mut cache = MethodCache::new(alloc, config.blocks, config.block_words)?;
+        cache.load(boot.place, code);
+        let memory = Memory::with_image(alloc, image, config.memory, config.read, config.write)?;
+        let stack = reset_stack(alloc, boot, image.len() as u32, config)?;
+        let opcode = first_of(code);
         Ok(Machine {
             a: 0,
             b: 0,
-            sp: 64 + bare.max_locals() as u32 + 2,
+            sp: (64 + boot.max_locals as u32 + 2) % N as u32,
             vp: 64,
             ar: 0,
             jpc: 1,
             mpc: entry(opcode),
             operand: 0,
             opcode,
-            method: 0,
-            code,
+            method: boot.place,
+            cache,
             stall: 0,
             halt: Halt::Running,
             stack,
@@ -48,27 +101,103 @@ impl<const N: usize> Machine<N> {
     }
 }
 
-fn first(code: &[u8]) -> u8
-    ensures { result ≡ slice_index code.now 0 }
+// What a linked machine begins with.
+fn boot_of(image: &[u32]) -> Boot
+    requires header { 16 ≤ length image.now }
+    requires boot { slice_index image.now 1 < length image.now }
+    ensures { IsLinkedBoot result image.now }
 {
-    code.first().copied().unwrap_or(0)
+    let place = image[1];
+    let limits = image[place as usize];
+    let max_locals = (limits / 65536) as u16;
+    Boot {
+        place,
+        max_locals,
+        frame: max_locals as u32 + 5 + limits % 65536,
+        pool: image[2],
+        raise_list: image[4],
+    }
 }
 
-// The on-chip words of a bare machine.
-fn bare_stack<const N: usize>(
+// The first byte of code that has a word.
+fn first_of(code: &[u32]) -> u8
+    requires { 0 < length code.now }
+    ensures { result ≡ first_byte code.now }
+{
+    (code[0] / 16_777_216) as u8
+}
+
+// The bytes as words, filled with zeros.
+fn pack(alloc: Global, bytes: &[u8]) -> Result<Vec<u32>, AllocError>
+    requires { length bytes.now ≤ 4096 }
+    ensures { IfOk result (λ words. words.items ≡ words_of_bytes bytes.now) }
+{
+    let mut words = Vec::new(alloc);
+    for k in 0..bytes.len().div_ceil(4) {
+        words.push(word_at(bytes, 4 * k))?;
+    }
+    Ok(words)
+}
+
+// Four bytes from a place on as a word, the high one first. Those past the end are 0.
+fn word_at(bytes: &[u8], k: usize) -> u32
+    requires { k ≤ 8192 }
+    ensures { result ≡ word_at_bytes bytes.now k }
+{
+    let high = byte_at(bytes, k) as u32 * 256 + byte_at(bytes, k + 1) as u32;
+    let low = byte_at(bytes, k + 2) as u32 * 256 + byte_at(bytes, k + 3) as u32;
+    high * 65536 + low
+}
+
+fn byte_at(bytes: &[u8], k: usize) -> u8
+    ensures { result ≡ slice_index bytes.now k }
+{
+    bytes.get(k).copied().unwrap_or(0)
+}
+
+// The on-chip words at reset, of an image of so many words.
+fn reset_stack<const N: usize>(
     alloc: Global,
-    bare: &Bare,
+    boot: Boot,
+    image_words: u32,
     config: Config,
-) -> Result<StackCache<N>, NoMemory>
+) -> Result<StackCache<N>, AllocError>
     requires { IsSize N }
-    ensures { IfOk result (λ s. s ≡ bare_words N config.memory bare.now) }
+    ensures { IfOk result (λ s. s ≡ first_words N config.memory boot image_words) }
 {
     let mut stack = StackCache::new(alloc)?;
+    stack.write(24, boot.pool);
+    stack.write(25, boot.place);
+    stack.write(26, image_words);
     stack.write(27, config.memory);
-    stack.write(28, bare.max_locals() as u32 + 5 + bare.max_stack() as u32);
+    stack.write(28, boot.frame);
     stack.write(29, stack.limit());
+    stack.write(30, boot.raise_list);
     for k in 0..32 {
         stack.write(32 + k as u32, constant(k));
     }
     Ok(stack)
+}
+
+/// Whether a machine can begin with these image words and settings: the test of what `Machine::new` requires.
+pub fn can_start(image: &[u32], config: Config) -> bool
+    ensures { IsTrue result ↔ CanStart image.now config }
+{
+    if image.len() < 16 || image.len() > config.memory as usize {
+        return false;
+    }
+    let place = image[1] as usize;
+    if place + 4 > image.len() {
+        return false;
+    }
+    let words = image[place + 1] % 65536;
+    let code = place + 4 + 3 * image[place + 3] as usize;
+    code + words as usize <= image.len() && is_loadable(words, config)
+}
+
+// Whether a method of so many words can be loaded into a cache with these settings.
+fn is_loadable(words: u32, config: Config) -> bool
+    ensures { result ≡ can_load words (empty config.blocks config.block_words) }
+{
+    words > 0 && words.div_ceil(config.block_words) <= config.blocks
 }

@@ -1,7 +1,7 @@
 //! The stack, the on-chip words and the bytes of the method.
 ghost use Rattle.std.specs.Prelude.{◌≡◌, ◌<◌, ◌%◌, length};
 ghost use Rattle.jop_core.specs.Operations.{pushed, popped, stored, word_at, place_of};
-ghost use Rattle.jop_core.specs.Cycle.{byte_at};
+ghost use Rattle.jop_core.specs.Cycle.{byte_of, byte_at};
 
 use crate::machine::Machine;
 
@@ -65,6 +65,15 @@ impl<const N: usize> Machine<N> {
     pub(super) fn byte(&self) -> u8
         ensures { result ≡ byte_at self.now }
     {
-        self.code.get(self.jpc as usize).copied().unwrap_or(0)
+        let place = self.jpc as u32;
+        byte_at_word(self.cache.word(self.method, place / 4), place % 4)
     }
+}
+
+// A byte of a word, the high one first.
+fn byte_at_word(word: u32, k: u32) -> u8
+    requires { k < 4 }
+    ensures { result ≡ byte_of word k }
+{
+    ((word >> (8 * (3 - k))) % 256) as u8
 }
