@@ -1,0 +1,5 @@
+pub mod TextLemmas
+pub mod PlaceLemmas
+pub mod TextLaws
+pub mod EntryLaws
+pub mod PoolLaws

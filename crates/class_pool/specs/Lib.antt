@@ -1,0 +1,5 @@
+pub mod Utf8
+pub mod Spelling
+pub mod Grammar
+pub mod Reading
+pub mod NumberLaws
