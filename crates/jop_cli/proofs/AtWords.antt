@@ -42,11 +42,11 @@ output-put s still at = puts_at s 3 still at
 abbrev pub ended : State → State
 ended s = advanced (record (counted s) { halt = Ended })
 
-pub cycle-return : (s : State) → s.stall ≡ 0 → s.mpc ≡ 5 → s.vp ≡ 64 → cycle_of None s ≡ ended s
-cycle-return s still at boot = at_word s 5 still at ∙ ap (λ b. advanced (cond b (record (counted s) { halt = Ended }) (counted s))) (eq-eqb s.vp 64 boot)
+pub cycle-return : (s : State) → s.stall ≡ 0 → s.mpc ≡ 26 → s.vp ≡ 64 → cycle_of None s ≡ ended s
+cycle-return s still at boot = at_word s 26 still at ∙ ap (λ b. advanced (cond b (record (counted s) { halt = Ended }) (counted s))) (eq-eqb s.vp 64 boot)
 
-pub output-return : (s : State) → s.stall ≡ 0 → s.mpc ≡ 5 → output_of s ≡ []
-output-return s still at = puts_at s 5 still at
+pub output-return : (s : State) → s.stall ≡ 0 → s.mpc ≡ 26 → output_of s ≡ []
+output-return s still at = puts_at s 26 still at
 
 pub quiet-shift : (s : State) → s.stall ≡ 0 → s.mpc ≡ 1 → asks_input s ≡ false
 quiet-shift s still at = asks_at s 1 still at
@@ -57,5 +57,5 @@ quiet-push s still at = asks_at s 2 still at
 pub quiet-put : (s : State) → s.stall ≡ 0 → s.mpc ≡ 3 → asks_input s ≡ false
 quiet-put s still at = asks_at s 3 still at
 
-pub quiet-return : (s : State) → s.stall ≡ 0 → s.mpc ≡ 5 → asks_input s ≡ false
-quiet-return s still at = asks_at s 5 still at
+pub quiet-return : (s : State) → s.stall ≡ 0 → s.mpc ≡ 26 → asks_input s ≡ false
+quiet-return s still at = asks_at s 26 still at

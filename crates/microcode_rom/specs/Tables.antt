@@ -1,5 +1,6 @@
 -- What holds of the tables of the microcode.
-use Rattle.std.specs.Prelude.{ℕ, ◌+◌, List, [], ◌∷◌, Bool, true, false, ◌&&◌, ◌==◌, nat_le, if◌then◌else◌, is_some, option_and_then, Some, None, IsTrue}
+use Rattle.std.specs.Prelude.{ℕ, ◌+◌, List, [], ◌∷◌, Bool, true, false, ◌&&◌, ◌==◌, nat_le, if◌then◌else◌, is_some, option_and_then, option_map, Some, None, IsTrue}
+use Rattle.std.specs.List.{find}
 use Rattle.std.specs.Option.{option_map_or}
 use Rattle.std.specs.declared.option.Option.{Option}
 use Rattle.micro_isa.specs.declared.Body.{Body}
@@ -26,8 +27,7 @@ RowsFollow place rows = IsTrue (rows_follow place rows)
 
 -- the turns of the branch at an address, if it has any
 abbrev pub turns_in : ℕ → List (ℕ × Turns) → Option Turns
-turns_in address [] = None
-turns_in address ((at, turns) ∷ branches) = if at == address then Some turns else turns_in address branches
+turns_in address branches = option_map (λ branch. branch.1) (find (λ branch. branch.0 == address) branches)
 
 -- where a microinstruction branches to, if it does
 abbrev pub target_of : Body → Option ℕ

@@ -8,7 +8,7 @@ ghost use Rattle.microcode_rom.specs.Tables.{AreMicros, RowsFollow, BranchesHave
 use micro_isa::{Operation, Turns};
 
 // A constant has its number and its value. A row has the address of its first word, what leads
-// there (the dispatch of an opcode, or a raise) and its words, the last of which leads on. A branch to
+// there (the dispatch of an opcode or of several, a raise, or other rows) and its words. A branch to
 // its own or an earlier address has its turns.
 macro_rules! microcode {
     ($reader:ident $($argument:tt)*) => {
@@ -22,6 +22,7 @@ macro_rules! microcode {
                 4: 4,
                 5: 5,
                 6: 0xffff_ffff,
+                7: 31,
             }
             rows {
                 // nop, and every opcode that has no row
@@ -30,12 +31,50 @@ macro_rules! microcode {
                 1: entry 16 = [Nop opd] [Ldo8 nxt];
                 // impdep2, which puts a byte out
                 3: entry 255 = [Stout nxt];
-                // No handler is looked for yet: what is raised is uncaught.
-                4: raise = [Hltu];
+                // impdep1, which takes a byte in
+                4: entry 254 = [Ldin nxt];
+                // iadd
+                5: entry 96 = [Add nxt];
+                // dup_x1
+                6: entry 90 = [Stm 0] [Stm 1] [Ldm 0] [Ldm 1] [Ldm 0 nxt];
+                // goto
+                11: entry 167 = [Nop opd] [Nop opd] [Jbg] [Nop nxt];
+                // iload, aload
+                15: entry 21 25 = [Nop opd] [Ldl nxt];
+                // ldc: the pool's place and twice the index are the entry's place
+                17: entry 18 = [Nop opd] [Ldo] [Dup] [Add] [Ldm 24] [Add] [Stmra] [Wait] [Ldmrd nxt];
                 // return, from boot alone yet
-                5: entry 177 = [Hltb];
+                26: entry 177 = [Hltb] [Nop nxt];
+                // idiv; AR is the place of the result
+                28: entry 108 = [Ldi 4] [Star] [Jmp 33];
+                // irem
+                31: entry 112 = [Ldi 2] [Star];
+                // Division: the magnitudes of dividend D and divisor d go to places 0 and 1, the factors 1 or -1
+                // that make them so to places 5 and 6, and 0, 0 and 31 to q, r and k, at places 4, 2 and 3.
+                33: part =
+                    [Stm 1] [Stm 0] [Ldm 1] [Bz 112] [Ldi 1] [Ldm 0] [Ldi 7] [Ushr] [Dup] [Add]
+                    [Sub] [Stm 5] [Ldi 1] [Ldm 1] [Ldi 7] [Ushr] [Dup] [Add] [Sub] [Stm 6]
+                    [Ldm 0] [Ldm 5] [Mul] [Stm 0] [Ldm 1] [Ldm 6] [Mul] [Stm 1] [Ldi 0] [Stm 2]
+                    [Ldi 0] [Stm 4] [Ldi 7] [Stm 3];
+                // Here D >> (k + 1) is q * d + r, and r < d; q and r take in bit k, from 31 down.
+                67: part =
+                    [Ldm 2] [Dup] [Add] [Ldm 0] [Ldm 3] [Ushr] [Ldi 1] [And] [Add] [Stm 2]
+                    [Ldi 1] [Ldm 2] [Ldm 1] [Sltu] [Sub] [Stm 7] [Ldm 2] [Ldm 1] [Ldm 7] [Mul]
+                    [Sub] [Stm 2] [Ldm 4] [Dup] [Add] [Ldm 7] [Add] [Stm 4] [Ldm 3] [Dup]
+                    [Ldi 1] [Sub] [Stm 3] [Bnz 67];
+                // The signs of the quotient and of the remainder.
+                101: part =
+                    [Ldm 4] [Ldm 5] [Mul] [Ldm 6] [Mul] [Stm 4] [Ldm 2] [Ldm 5] [Mul] [Stm 2]
+                    [Ldmi nxt];
+                // raises an ArithmeticException, the first object of the raise list
+                112: part =
+                    [Ldi 0] [Ldm 30] [Add] [Stmra] [Wait] [Ldmrd] [Stm 31];
+                // No handler is looked for yet: what is raised in boot is uncaught.
+                119: raise = [Hltu] [Nop nxt];
             }
-            turns {}
+            turns {
+                100: Turns::Count(31),
+            }
         }
     };
 }
@@ -50,6 +89,24 @@ macro_rules! flag {
 }
 
 macro_rules! word {
+    (Stm $place:literal $($flag:ident)*) => {
+        0x0100 + $place $(+ flag!($flag))*
+    };
+    (Ldm $place:literal $($flag:ident)*) => {
+        0x0120 + $place $(+ flag!($flag))*
+    };
+    (Ldi $number:literal $($flag:ident)*) => {
+        0x0140 + $number $(+ flag!($flag))*
+    };
+    (Bz $to:literal) => {
+        0x0800 + $to
+    };
+    (Bnz $to:literal) => {
+        0x1000 + $to
+    };
+    (Jmp $to:literal) => {
+        0x1800 + $to
+    };
     ($operation:ident $($flag:ident)*) => {
         Operation::$operation as u16 $(+ flag!($flag))*
     };
@@ -58,7 +115,7 @@ macro_rules! word {
 macro_rules! words {
     (
         constants { $($number:literal: $value:literal,)* }
-        rows { $($address:literal: $kind:ident $($opcode:literal)? = $([$($part:tt)*])*;)* }
+        rows { $($address:literal: $kind:ident $($opcode:literal)* = $([$($part:tt)*])*;)* }
         turns { $($turn:tt)* }
     ) => {
         [$($(word!($($part)*)),*),*]
@@ -69,7 +126,7 @@ macro_rules! words {
 macro_rules! bounds {
     (
         constants { $($number:literal: $value:literal,)* }
-        rows { $($address:literal: $kind:ident $($opcode:literal)? = $([$($part:tt)*])*;)* }
+        rows { $($address:literal: $kind:ident $($opcode:literal)* = $([$($part:tt)*])*;)* }
         turns { $($turn:tt)* }
     ) => {
         [$(($address, [$(word!($($part)*)),*].len() as u16)),*]
@@ -80,10 +137,10 @@ macro_rules! entry_of {
     (
         $op:literal
         constants { $($number:literal: $value:literal,)* }
-        rows { $($address:literal: $kind:ident $($opcode:literal)? = $([$($part:tt)*])*;)* }
+        rows { $($address:literal: $kind:ident $($opcode:literal)* = $([$($part:tt)*])*;)* }
         turns { $($turn:tt)* }
     ) => {
-        $($(($op == $opcode) as u16 * $address +)?)* 0
+        $($(($op == $opcode) as u16 * $address +)*)* 0
     };
 }
 
@@ -94,12 +151,15 @@ macro_rules! if_raise {
     (entry $address:literal) => {
         0
     };
+    (part $address:literal) => {
+        0
+    };
 }
 
 macro_rules! raise_address {
     (
         constants { $($number:literal: $value:literal,)* }
-        rows { $($address:literal: $kind:ident $($opcode:literal)? = $([$($part:tt)*])*;)* }
+        rows { $($address:literal: $kind:ident $($opcode:literal)* = $([$($part:tt)*])*;)* }
         turns { $($turn:tt)* }
     ) => {
         $(if_raise!($kind $address) +)* 0
@@ -135,13 +195,13 @@ macro_rules! table {
 }
 
 /// The words, from address 0 on. All further words of the ROM are 0.
-pub static WORDS: [u16; 6] = microcode!(words);
+pub static WORDS: [u16; 121] = microcode!(words);
 
 /// The address and the number of words of each row.
-pub static ROWS: [(u16, u16); 5] = microcode!(bounds);
+pub static ROWS: [(u16, u16); 17] = microcode!(bounds);
 
 /// The branches to their own or an earlier address, with their turns.
-pub static TURNS: [(u16, Turns); 0] = microcode!(branches);
+pub static TURNS: [(u16, Turns); 1] = microcode!(branches);
 
 /// Where the raise routine begins.
 pub const RAISE: u16 = microcode!(raise_address);
@@ -177,11 +237,7 @@ pub fn rom(address: u16) -> u16
     requires { address < 2048 }
     ensures { result ≡ slice_index WORDS address }
 {
-    if (address as usize) < WORDS.len() {
-        WORDS[address as usize]
-    } else {
-        0
-    }
+    WORDS.get(address as usize).copied().unwrap_or(0)
 }
 
 /// Where the row of an opcode begins.
@@ -211,7 +267,13 @@ pub fn raise_entry() -> u16
 pub fn turns(address: u16) -> Option<Turns>
     ensures { result ≡ turns_in address TURNS }
 {
-    TURNS
+    turns_among(&TURNS, address)
+}
+
+fn turns_among(branches: &[(u16, Turns)], address: u16) -> Option<Turns>
+    ensures { result ≡ turns_in address branches.now }
+{
+    branches
         .iter()
         .find(|branch| branch.0 == address)
         .map(|branch| branch.1)
