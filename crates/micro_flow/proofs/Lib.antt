@@ -1,0 +1,5 @@
+pub mod Prices
+pub mod Upper
+pub mod Lower
+pub mod Cert
+pub mod Rows
