@@ -1,0 +1,5 @@
+use Rattle.micro_sketch.proofs.Step.{exec_sim}
+use Rattle.micro_sketch.proofs.laws.machine_follows_the_sketch.Goals as goal
+
+pub returns : goal.returns
+returns c = exec_sim

@@ -1,0 +1,4 @@
+pub mod Sketch
+pub mod Scene
+pub mod Stands
+pub mod Laws
