@@ -142,3 +142,9 @@ is_only bytes es rest fits e others behind is spelling =
     let left : es ≡ others = ap (λ (p : List Entry × List ℕ). p.0) same in
     let right : rest ≡ behind = ap (λ (p : List Entry × List ℕ). p.1) same in
     (left, ap (λ (r : List ℕ). length bytes - length r) right ∙ taken_length bytes others behind spelling)
+
+-- bytes begin with one pool at most
+pub one_reading : (es fs : List Entry) (rest more : List ℕ) → IsPool es → IsPool fs → pool_bytes es ++ rest ≡ pool_bytes fs ++ more → (es ≡ fs) × (rest ≡ more)
+one_reading es fs rest more is_pool is_other e =
+    let same : (es, rest) ≡ (fs, more) = same_some (es, rest) (fs, more) (sym (pool_again es rest is_pool) ∙ (ap pool_in e ∙ pool_again fs more is_other)) in
+    (ap (λ (p : List Entry × List ℕ). p.0) same, ap (λ (p : List Entry × List ℕ). p.1) same)

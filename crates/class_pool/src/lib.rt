@@ -3,6 +3,7 @@
 
 mod entry;
 mod fault;
+pub mod laws;
 pub mod numbers;
 mod pool;
 mod reading;
