@@ -1,0 +1,120 @@
+-- The elements of a list, case by case.
+use Rattle.std.proofs.Common.{◌≡◌, ℕ, zero, suc, ◌+◌, ◌<◌, ◌⊎◌, Bool, true, false, cond, List, [], ◌∷◌, length, get_or, map, filter, Contains, refl, sym, ap, ◌∙◌, subst, inl, inr, arith}
+use Rattle.std.specs.List.{range_with_len}
+use Rattle.std.proofs.lemmas.Bool.{cases_eq, cases_Bool}
+use Rattle.std.proofs.lemmas.List.FromFn.{length-range_with_len, get_or-range_with_len}
+
+pub at_head : {X : Type 0} (x : X) (xs : List X) → Contains (x ∷ xs) x
+at_head x xs = (0, omega arith, refl)
+
+pub in_tail : {X : Type 0} (x y : X) (xs : List X) → Contains xs y → Contains (x ∷ xs) y
+in_tail x y xs c = let below = c.1 in (suc c.0, omega arith, c.2)
+
+cases_at : {X : Type 0} (x y : X) (xs : List X) (k : ℕ) → k < length (x ∷ xs) → get_or (x ∷ xs) k y ≡ y → (x ≡ y) ⊎ Contains xs y
+cases_at x y xs zero below at = inl at
+cases_at x y xs (suc k) below at = inr (k, omega arith, at)
+
+pub cons_cases : {X : Type 0} (x y : X) (xs : List X) → Contains (x ∷ xs) y → (x ≡ y) ⊎ Contains xs y
+cons_cases x y xs c = cases_at x y xs c.0 c.1 c.2
+
+pub nil_contains : {X : Type 0} (y : X) → Contains {X = X} [] y → ⊥
+nil_contains y c = let below = c.1 in omega arith
+
+pub has_or_not : (xs : List ℕ) (h : ℕ) → Contains xs h ⊎ (Contains xs h → ⊥)
+has_or_not [] h = inr (λ c. nil_contains h c)
+has_or_not (x ∷ xs) h =
+    elim (cases_eq x h) [
+      | inl same ↦ inl (let P : ℕ → Type 0 = λ y. Contains (x ∷ xs) y in subst P same (at_head x xs))
+      | inr other ↦
+          elim (has_or_not xs h) [
+            | inl c ↦ inl (in_tail x h xs c)
+            | inr never ↦ inr (λ c. elim (cons_cases x h xs c) [ inl same ↦ other same | inr there ↦ never there ])
+          ]
+    ]
+
+pub map_contains : {X Y : Type 0} (f : X → Y) (xs : List X) (x : X) → Contains xs x → Contains (map f xs) (f x)
+map_contains f [] x c = absurd (nil_contains x c)
+map_contains f (y ∷ ys) x c =
+    elim (cons_cases y x ys c) [
+      | inl same ↦ let P : _ → Type 0 = λ z. Contains (map f (y ∷ ys)) (f z) in subst P same (at_head (f y) (map f ys))
+      | inr there ↦ in_tail (f y) (f x) (map f ys) (map_contains f ys x there)
+    ]
+
+-- an element of a mapped list comes from one of the list
+pub from_map : {X Y : Type 0} (f : X → Y) (xs : List X) (y : Y) → Contains (map f xs) y → (x : X) × Contains xs x × (f x ≡ y)
+from_map f [] y c = absurd (nil_contains y c)
+from_map f (x ∷ xs) y c =
+    elim (cons_cases (f x) y (map f xs) c) [
+      | inl same ↦ (x, at_head x xs, same)
+      | inr there ↦ let r = from_map f xs y there in (r.0, in_tail x r.0 xs r.1, r.2)
+    ]
+
+pub kept_at : {X : Type 0} (p : X → Bool) (x : X) (xs : List X) → p x ≡ true → filter p (x ∷ xs) ≡ x ∷ filter p xs
+kept_at p x xs h = ap (λ b. cond b (x ∷ filter p xs) (filter p xs)) h
+
+pub dropped_at : {X : Type 0} (p : X → Bool) (x : X) (xs : List X) → p x ≡ false → filter p (x ∷ xs) ≡ filter p xs
+dropped_at p x xs h = ap (λ b. cond b (x ∷ filter p xs) (filter p xs)) h
+
+pub filter_contains : {X : Type 0} (p : X → Bool) (xs : List X) (x : X) → p x ≡ true → Contains xs x → Contains (filter p xs) x
+filter_contains p [] x h c = c
+filter_contains {X} p (y ∷ ys) x h c =
+    let P : List X → Type 0 = λ zs. Contains zs x in
+    elim (cons_cases y x ys c) [
+      | inl same ↦
+          let Q : X → Type 0 = λ z. Contains (y ∷ filter p ys) z in
+          subst P (sym (kept_at p y ys (ap p same ∙ h))) (subst Q same (at_head y (filter p ys)))
+      | inr there ↦
+          let later = filter_contains p ys x h there in
+          elim (cases_Bool (p y)) [
+            | inl yes' ↦ subst P (sym (kept_at p y ys yes')) (in_tail y x (filter p ys) later)
+            | inr no' ↦ subst P (sym (dropped_at p y ys no')) later
+          ]
+    ]
+
+pub from_filter : {X : Type 0} (p : X → Bool) (xs : List X) (x : X) → Contains (filter p xs) x → Contains xs x × (p x ≡ true)
+from_filter p [] x c = absurd (nil_contains x c)
+from_filter {X} p (y ∷ ys) x c =
+    let P : List X → Type 0 = λ zs. Contains zs x in
+    elim (cases_Bool (p y)) [
+      | inl yes' ↦
+          elim (cons_cases y x (filter p ys) (subst P (kept_at p y ys yes') c)) [
+            | inl same ↦ (let Q : X → Type 0 = λ z. Contains (y ∷ ys) z in subst Q same (at_head y ys), ap p (sym same) ∙ yes')
+            | inr there ↦ let r = from_filter p ys x there in (in_tail y x ys r.0, r.1)
+          ]
+      | inr no' ↦ let r = from_filter p ys x (subst P (dropped_at p y ys no') c) in (in_tail y x ys r.0, r.1)
+    ]
+
+-- two filters in a row are one
+pub filter-filter : {X : Type 0} (p q r : X → Bool) → ((x : X) → q x ≡ true → p x ≡ r x) → ((x : X) → q x ≡ false → r x ≡ false) → (xs : List X) → filter p (filter q xs) ≡ filter r xs
+filter-filter p q r kept left [] = refl
+filter-filter {X} p q r kept left (x ∷ xs) =
+    let rest = filter-filter p q r kept left xs in
+    elim (cases_Bool (q x)) [
+      | inl yes' ↦
+          ap (filter p) (kept_at q x xs yes')
+          ∙ ap (λ b. cond b (x ∷ filter p (filter q xs)) (filter p (filter q xs))) (kept x yes')
+          ∙ ap (λ zs. cond (r x) (x ∷ zs) zs) rest
+      | inr no' ↦ ap (filter p) (dropped_at q x xs no') ∙ rest ∙ sym (dropped_at r x xs (left x no'))
+    ]
+
+pub filter_all : {X : Type 0} (p : X → Bool) → ((x : X) → p x ≡ true) → (xs : List X) → xs ≡ filter p xs
+filter_all p h [] = refl
+filter_all p h (x ∷ xs) = ap (λ ys. x ∷ ys) (filter_all p h xs) ∙ sym (kept_at p x xs (h x))
+
+-- two filters that agree on the elements of a list keep the same of it
+pub filter_alike : {X : Type 0} (p q : X → Bool) (xs : List X) → ((x : X) → Contains xs x → p x ≡ q x) → filter p xs ≡ filter q xs
+filter_alike p q [] h = refl
+filter_alike p q (x ∷ xs) h =
+    let rest = filter_alike p q xs (λ y c. h y (in_tail x y xs c)) in
+    ap (λ b. cond b (x ∷ filter p xs) (filter p xs)) (h x (at_head x xs)) ∙ ap (λ ys. cond (q x) (x ∷ ys) ys) rest
+
+pub range_contains : (n x : ℕ) → x < n → Contains (range_with_len 0 n) x
+range_contains n x below =
+    (x, omega (arith, length-range_with_len 0 n), get_or-range_with_len 0 n x x below ∙ (let e : 0 + x ≡ x = omega arith in e))
+
+pub from_range : (n x : ℕ) → Contains (range_with_len 0 n) x → x < n
+from_range n x c =
+    let below = c.1 in
+    let at = c.2 in
+    let short : c.0 < n = omega (arith, length-range_with_len 0 n) in
+    omega (arith, get_or-range_with_len 0 n c.0 x short)

@@ -1,0 +1,13 @@
+pub mod Digraph
+pub mod Walks
+pub mod Reduction
+pub mod Classes
+pub mod Entered
+pub mod Nest
+pub mod Nesting
+pub mod Search
+pub mod Faults
+pub mod Chains
+pub mod Pointers
+pub mod Laws
+pub mod Order

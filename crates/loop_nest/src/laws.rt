@@ -1,0 +1,39 @@
+//! What holds of all graphs, of their reduction and of their loops. Each function does nothing: its
+//! contract is the law.
+
+ghost use Rattle.loop_nest.specs.Laws.{HeaderDominatesMembers, LoopIsEnteredAtHeader, EdgesToHeaderAreBackEdges, LoopsAreNested, CyclesTakeBackEdges, ReductionHasOneEnd, ReducibleIsReached};
+
+/// A header dominates the members of its loop.
+pub fn headers_dominate_members()
+    ensures { HeaderDominatesMembers }
+{}
+
+/// A loop is entered at its header alone.
+pub fn loops_are_entered_at_headers()
+    ensures { LoopIsEnteredAtHeader }
+{}
+
+/// Within a loop each edge to its header is a back edge.
+pub fn edges_to_headers_are_back_edges()
+    ensures { EdgesToHeaderAreBackEdges }
+{}
+
+/// Two loops with a common member are nested.
+pub fn loops_are_nested()
+    ensures { LoopsAreNested }
+{}
+
+/// The graph without back edges is acyclic, where the graph is reducible.
+pub fn cycles_take_back_edges()
+    ensures { CyclesTakeBackEdges }
+{}
+
+/// The order of its steps doesn't change what the reduction leaves.
+pub fn reduction_has_one_end()
+    ensures { ReductionHasOneEnd }
+{}
+
+/// Every node of a reducible graph is reached.
+pub fn reducible_is_reached()
+    ensures { ReducibleIsReached }
+{}

@@ -1,0 +1,68 @@
+//! The members of a loop: a search backwards from the sources of its back edges, which stops at the
+//! header.
+ghost use Rattle.std.specs.Prelude.{◌≡◌, ◌<◌, ◌↔◌, ℕ, length, All, Some, IfOk, OnOk, IsTrue};
+ghost use Rattle.loop_nest.specs.Digraph.{IsDigraph};
+ghost use Rattle.loop_nest.specs.Search.{AreSources, AreFound, IsMarkedWith, AreUnmarked};
+
+use super::Graph;
+use std::alloc::{AllocError, Global};
+
+/// For each of `nodes` nodes the sources of the edges to it.
+pub fn sources_by_target(
+    alloc: Global,
+    nodes: usize,
+    edges: &[(u32, u32)],
+) -> Result<Vec<Vec<u32>>, AllocError>
+    requires { All (λ e. e.1 < nodes) edges.now }
+    ensures { IfOk result (λ sources. AreSources edges.now nodes sources.items) }
+{
+    let mut sources = Vec::new(alloc);
+    for _ in 0..nodes {
+        sources.push(Vec::new(alloc))?;
+    }
+    for edge in edges {
+        let (u, v) = *edge;
+        sources[v as usize].push(u)?;
+    }
+    Ok(sources)
+}
+
+/// Whether this mark is that of a loop.
+fn is_mark_of(mark: Option<u32>, number: u32) -> bool
+    ensures { IsTrue result ↔ (mark ≡ Some number) }
+{
+    match mark {
+        Some(other) => other == number,
+        None => false,
+    }
+}
+
+/// Marks with the number of a loop its header `h` and the nodes from which one of the nodes `stack`
+/// is reached without visiting `h`.
+pub fn mark(
+    alloc: Global,
+    g: &Graph,
+    sources: &[Vec<u32>],
+    h: u32,
+    mut stack: Vec<u32>,
+    number: u32,
+    marks: &mut [Option<u32>],
+) -> Result<(), AllocError>
+    requires sources { AreSources g.now.edges g.now.nodes sources.now }
+    requires valid { IsDigraph g.now }
+    requires header { h < g.now.nodes }
+    requires within { All (λ x. x < g.now.nodes) stack.items }
+    requires long { length marks.old ≡ g.now.nodes }
+    requires fresh { AreUnmarked number marks.old }
+    ensures found { OnOk result (AreFound g.now h stack.items number marks.new) }
+    ensures others { OnOk result (IsMarkedWith number marks.old marks.new) }
+{
+    marks[h as usize] = Some(number);
+    while let Some(x) = stack.pop() {
+        if !is_mark_of(marks[x as usize], number) {
+            marks[x as usize] = Some(number);
+            stack.extend_from_slice(&sources[x as usize])?;
+        }
+    }
+    Ok(())
+}
