@@ -1,0 +1,25 @@
+-- What look-ups of methods do to a cache, and which of them load.
+use Rattle.std.specs.Prelude.{ℕ, ◌≤◌, if◌then◌else◌, List, [], ◌∷◌, length, sum_by, All, Contains}
+use Rattle.method_cache.specs.Contents.{Cache, is_cached, loaded, blocks_for}
+use Rattle.cache_regions.specs.Region.{AreDistinct, load_stall}
+
+-- the methods that look-ups load, in order, where methods have these words: one that the cache doesn't hold is loaded
+abbrev pub loads : (ℕ → List ℕ) → List ℕ → Cache → List ℕ
+loads words [] c = []
+loads words (m ∷ ms) c = if is_cached m c then loads words ms c else m ∷ loads words ms (loaded m (words m) c)
+
+-- the blocks that methods take together
+abbrev pub blocks_taken : (ℕ → List ℕ) → ℕ → List ℕ → ℕ
+blocks_taken words block_words members = sum_by (λ m. blocks_for block_words (length (words m))) members
+
+-- look-ups of methods of a list whose blocks fit the cache together load each of them at most once, whatever the cache held
+abbrev pub EachIsLoadedOnce : Type 0
+EachIsLoadedOnce =
+    (words : ℕ → List ℕ) (members look_ups : List ℕ) (c : Cache) → blocks_taken words c.block_words members ≤ c.blocks → All (Contains members) look_ups
+    → AreDistinct (loads words look_ups c) × All (Contains members) (loads words look_ups c)
+
+-- so these look-ups stall at most as long as the loads of all members together
+abbrev pub LoadsKeepTheSum : Type 0
+LoadsKeepTheSum =
+    (words : ℕ → List ℕ) (members look_ups : List ℕ) (c : Cache) (r : ℕ) → blocks_taken words c.block_words members ≤ c.blocks → All (Contains members) look_ups
+    → sum_by (λ m. load_stall r (length (words m))) (loads words look_ups c) ≤ sum_by (λ m. load_stall r (length (words m))) members
