@@ -3,3 +3,5 @@ pub mod Upper
 pub mod Lower
 pub mod Cert
 pub mod Rows
+pub mod Marks
+pub mod Closed

@@ -6,6 +6,7 @@ ghost use Rattle.std.specs.Prelude.{◌≡◌, ◌<◌, ◌≤◌};
 ghost use Rattle.micro_flow.specs.Walk.{IsCost, IsRaiseCost};
 ghost use Rattle.micro_flow.specs.Costs.{total};
 
+pub mod laws;
 mod price;
 mod table;
 

@@ -34,6 +34,48 @@ macro_rules! costs {
             10: [108] (84 0 0, 31 turns of 36 0 0);
             // irem
             11: [112] (81 0 0, 31 turns of 36 0 0);
+            // iconst_m1
+            12: [2] (1 0 0);
+            // iconst_0, aconst_null
+            13: [1 3] (1 0 0);
+            // iconst_1
+            14: [4] (1 0 0);
+            // iconst_2
+            15: [5] (1 0 0);
+            // iconst_3
+            16: [6] (1 0 0);
+            // iconst_4
+            17: [7] (1 0 0);
+            // iconst_5
+            18: [8] (1 0 0);
+            // iload_0, aload_0
+            19: [26 42] (1 0 0);
+            // iload_1, aload_1
+            20: [27 43] (1 0 0);
+            // iload_2, aload_2
+            21: [28 44] (1 0 0);
+            // iload_3, aload_3
+            22: [29 45] (1 0 0);
+            // istore_0, astore_0
+            23: [59 75] (1 0 0);
+            // istore_1, astore_1
+            24: [60 76] (1 0 0);
+            // istore_2, astore_2
+            25: [61 77] (1 0 0);
+            // istore_3, astore_3
+            26: [62 78] (1 0 0);
+            // pop
+            27: [87] (1 0 0);
+            // dup
+            28: [89] (1 0 0);
+            // isub
+            29: [100] (1 0 0);
+            // iand
+            30: [126] (1 0 0);
+            // ior
+            31: [128] (1 0 0);
+            // ixor
+            32: [130] (1 0 0);
         }
     };
 }
@@ -90,7 +132,7 @@ macro_rules! table {
 }
 
 /// What each row costs.
-pub static ROWS: [RowCost; 12] = costs!(rows);
+pub static ROWS: [RowCost; 33] = costs!(rows);
 
 /// What a step of the raise routine costs.
 pub const RAISE: RowCost = row!(2 0 0);

@@ -52,7 +52,7 @@ macro_rules! microcode {
                 // Division: the magnitudes of dividend D and divisor d go to places 0 and 1, the factors 1 or -1
                 // that make them so to places 5 and 6, and 0, 0 and 31 to q, r and k, at places 4, 2 and 3.
                 33: part =
-                    [Stm 1] [Stm 0] [Ldm 1] [Bz 112] [Ldi 1] [Ldm 0] [Ldi 7] [Ushr] [Dup] [Add]
+                    [Stm 1] [Stm 0] [Ldm 1] [Bz 133] [Ldi 1] [Ldm 0] [Ldi 7] [Ushr] [Dup] [Add]
                     [Sub] [Stm 5] [Ldi 1] [Ldm 1] [Ldi 7] [Ushr] [Dup] [Add] [Sub] [Stm 6]
                     [Ldm 0] [Ldm 5] [Mul] [Stm 0] [Ldm 1] [Ldm 6] [Mul] [Stm 1] [Ldi 0] [Stm 2]
                     [Ldi 0] [Stm 4] [Ldi 7] [Stm 3];
@@ -66,11 +66,41 @@ macro_rules! microcode {
                 101: part =
                     [Ldm 4] [Ldm 5] [Mul] [Ldm 6] [Mul] [Stm 4] [Ldm 2] [Ldm 5] [Mul] [Stm 2]
                     [Ldmi nxt];
+                // iconst_m1 to iconst_5, and aconst_null
+                112: entry 2 = [Ldi 6 nxt];
+                113: entry 1 3 = [Ldi 0 nxt];
+                114: entry 4 = [Ldi 1 nxt];
+                115: entry 5 = [Ldi 2 nxt];
+                116: entry 6 = [Ldi 3 nxt];
+                117: entry 7 = [Ldi 4 nxt];
+                118: entry 8 = [Ldi 5 nxt];
+                // iload_0 to iload_3, aload_0 to aload_3
+                119: entry 26 42 = [Ld0 nxt];
+                120: entry 27 43 = [Ld1 nxt];
+                121: entry 28 44 = [Ld2 nxt];
+                122: entry 29 45 = [Ld3 nxt];
+                // istore_0 to istore_3, astore_0 to astore_3
+                123: entry 59 75 = [St0 nxt];
+                124: entry 60 76 = [St1 nxt];
+                125: entry 61 77 = [St2 nxt];
+                126: entry 62 78 = [St3 nxt];
+                // pop
+                127: entry 87 = [Pop nxt];
+                // dup
+                128: entry 89 = [Dup nxt];
+                // isub
+                129: entry 100 = [Sub nxt];
+                // iand
+                130: entry 126 = [And nxt];
+                // ior
+                131: entry 128 = [Or nxt];
+                // ixor
+                132: entry 130 = [Xor nxt];
                 // raises an ArithmeticException, the first object of the raise list
-                112: part =
+                133: part =
                     [Ldi 0] [Ldm 30] [Add] [Stmra] [Wait] [Ldmrd] [Stm 31];
                 // No handler is looked for yet: what is raised in boot is uncaught.
-                119: raise = [Hltu] [Nop nxt];
+                140: raise = [Hltu] [Nop nxt];
             }
             turns {
                 100: Turns::Count(31),
@@ -133,14 +163,28 @@ macro_rules! bounds {
     };
 }
 
-macro_rules! entry_of {
+// Where the row of an opcode begins, of pairs of an opcode and an address.
+macro_rules! entry_among {
+    ($op:literal [$($opcode:literal $address:literal)*]) => {
+        $(($op == $opcode) as u16 * $address +)* 0
+    };
+}
+
+macro_rules! entry_table {
+    ($entries:tt $($op:literal)*) => {
+        [$(entry_among!($op $entries)),*]
+    };
+}
+
+// Where the rows of these opcodes begin.
+macro_rules! entries_of {
     (
-        $op:literal
+        [$($op:literal)*]
         constants { $($number:literal: $value:literal,)* }
         rows { $($address:literal: $kind:ident $($opcode:literal)* = $([$($part:tt)*])*;)* }
         turns { $($turn:tt)* }
     ) => {
-        $($(($op == $opcode) as u16 * $address +)*)* 0
+        entry_table!([$($($opcode $address)*)*] $($op)*)
     };
 }
 
@@ -195,10 +239,10 @@ macro_rules! table {
 }
 
 /// The words, from address 0 on. All further words of the ROM are 0.
-pub static WORDS: [u16; 121] = microcode!(words);
+pub static WORDS: [u16; 142] = microcode!(words);
 
 /// The address and the number of words of each row.
-pub static ROWS: [(u16, u16); 17] = microcode!(bounds);
+pub static ROWS: [(u16, u16); 38] = microcode!(bounds);
 
 /// The branches to their own or an earlier address, with their turns.
 pub static TURNS: [(u16, Turns); 1] = microcode!(branches);
@@ -214,7 +258,7 @@ pub static CONSTANTS: [u32; 32] = table!(constant_of:
 
 /// Where the row of each opcode begins.
 #[rattlefmt::skip]
-pub static ENTRIES: [u16; 256] = table!(entry_of:
+pub static ENTRIES: [u16; 256] = microcode!(entries_of [
     0 1 2 3 4 5 6 7 8 9 10 11 12 13 14 15
     16 17 18 19 20 21 22 23 24 25 26 27 28 29 30 31
     32 33 34 35 36 37 38 39 40 41 42 43 44 45 46 47
@@ -230,7 +274,7 @@ pub static ENTRIES: [u16; 256] = table!(entry_of:
     192 193 194 195 196 197 198 199 200 201 202 203 204 205 206 207
     208 209 210 211 212 213 214 215 216 217 218 219 220 221 222 223
     224 225 226 227 228 229 230 231 232 233 234 235 236 237 238 239
-    240 241 242 243 244 245 246 247 248 249 250 251 252 253 254 255);
+    240 241 242 243 244 245 246 247 248 249 250 251 252 253 254 255]);
 
 /// The word at an address below 2,048.
 pub fn rom(address: u16) -> u16

@@ -1,0 +1,17 @@
+//! Laws of the words of the ROM, of every walk. The functions do nothing; a caller whose proof needs a law
+//! calls its function.
+
+ghost use Rattle.std.specs.Prelude.{◌≡◌, ◌<◌};
+ghost use Rattle.micro_flow.specs.Closed.{EntriesInside, RaiseApart, ReachedByDispatch, RaisesWhereItMay};
+
+/// No word goes on to an opcode's entry, by falling through or by a branch.
+pub fn entries_are_reached_by_dispatch()
+    ensures inside { EntriesInside }
+    ensures apart { RaiseApart }
+    ensures dispatch { ReachedByDispatch }
+{}
+
+/// Only an opcode that may raise has a row that leads to the raise routine.
+pub fn opcodes_raise_where_they_may()
+    ensures { RaisesWhereItMay }
+{}
