@@ -9,4 +9,5 @@ pub mod Scan
 pub mod Told
 pub mod Ticked
 pub mod Cycles
+pub mod Scene
 pub mod Watched

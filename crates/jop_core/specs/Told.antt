@@ -77,6 +77,19 @@ pub record Exchanged (old new : Told) (asked : Bool) (byte : Option ℕ) (out : 
   pub noted : Grew old.noted new.noted notes
   pub handed : Grew old.handed new.handed seen
 
+-- these answers were given, one after the other
+abbrev pub GivesEach : Option (List ℕ) → Option (List ℕ) → List (Option ℕ) → Type 0
+GivesEach old new [] = new ≡ old
+GivesEach old new (answer ∷ answers) = (mid : Option (List ℕ)) × Gives old mid answer × GivesEach mid new answers
+
+-- A device gave these answers, was given these bytes and handed these states, noted what it was given in this order, and none of its counts fell.
+pub record Attended (old new : Told) (answers : List (Option ℕ)) (out : List ℕ) (seen : List Seen) (notes : List Note) : Type 0 where
+  pub left : GivesEach old.left new.left answers
+  pub held : Grew old.held new.held out
+  pub noted : Grew old.noted new.noted notes
+  pub handed : Grew old.handed new.handed seen
+  pub counts : CountsRise old new
+
 -- what `input` does
 abbrev pub Inputs : {E : Type 0} → Told → Told → Result (Option ℕ) E → Type 0
 Inputs old new (Ok byte) = TookByte old new byte × OnlyReads old new

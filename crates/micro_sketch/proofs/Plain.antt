@@ -7,11 +7,12 @@ use Rattle.micro_isa.specs.declared.operation.Operation.TheVariants.{Nop, Pop, D
 use Rattle.jop_core.specs.State.{State}
 use Rattle.jop_core.specs.Operations.{pushed, popped, stored, operated, combined, holds, branch_target, sign_extended8, sign_extended16, input_word}
 use Rattle.jop_core.specs.Cycle.{is_ldin}
+use Rattle.jop_core.specs.declared.halt.Halt.{Halt}
 use Rattle.jop_core.specs.declared.halt.Halt.TheVariants.{Ended, Uncaught}
 use Rattle.memory_timing.specs.Port.{read_started, write_started}
 use Rattle.std.specs.declared.option.Option.{Option}
-use Rattle.micro_sketch.specs.Scene.{given}
-use Rattle.micro_sketch.specs.Sketch.{Sketch, apush, apop, need, inside, aload, astore, abinary, aplain, atarget, off_entry, off_raise, first_of}
+use Rattle.jop_core.specs.Scene.{given, first_of}
+use Rattle.micro_sketch.specs.Sketch.{Sketch, apush, apop, inside, aload, astore, abinary, aplain, atarget, off_entry, off_raise, same_bool, ahalt}
 use Rattle.micro_sketch.specs.Stands.{Env, Shaped, Does, conc, port_of, env_after}
 use Rattle.micro_sketch.proofs.OnChip.{fetched, put_in, push_sim, pop_sim, first, second, read_deep, write_deep, length_stack}
 
@@ -71,7 +72,7 @@ ar_sim n x h i =
     let lt : x.ar < n = omega arith in
     mod-eq_of_lt lt
 
-pub jbr_on : (i : Option ℕ) (us : List ℕ) (n : ℕ) (x : Sketch) (e : Env) → let y = record x { under = us } in Shaped n y → (aplain Jbr y).fine ≡ true → Does n y (aplain Jbr y) e (operated i Jbr (conc n y e))
+pub jbr_on : (i : Option ℕ) (us : List ℕ) (n : ℕ) (x : Sketch) (e : Env) → let y = record x { under = us } in Shaped n y → (aplain Jbr false y).fine ≡ true → Does n y (aplain Jbr false y) e (operated i Jbr (conc n y e))
 jbr_on i [] n x e h f = cc
 jbr_on i (c ∷ cs) n x e h f =
     let y = record x { under = c ∷ cs } in
@@ -82,10 +83,10 @@ jbr_on i (c ∷ cs) n x e h f =
       was = d.was;
     }
 
-pub jbr_sim : (i : Option ℕ) (n : ℕ) (x : Sketch) (e : Env) → Shaped n x → (aplain Jbr x).fine ≡ true → Does n x (aplain Jbr x) e (operated i Jbr (conc n x e))
+pub jbr_sim : (i : Option ℕ) (n : ℕ) (x : Sketch) (e : Env) → Shaped n x → (aplain Jbr false x).fine ≡ true → Does n x (aplain Jbr false x) e (operated i Jbr (conc n x e))
 jbr_sim i n x e h f = jbr_on i x.under n x e h f
 
-pub vp_sim : (input : Option ℕ) (n : ℕ) (x : Sketch) (e : Env) → Shaped n x → (aplain Stvp x).fine ≡ true → Does n x (aplain Stvp x) e (operated input Stvp (conc n x e))
+pub vp_sim : (input : Option ℕ) (n : ℕ) (x : Sketch) (e : Env) → Shaped n x → (aplain Stvp false x).fine ≡ true → Does n x (aplain Stvp false x) e (operated input Stvp (conc n x e))
 vp_sim input n x e h f =
     let i = first (inside x.top x) (apop x).fine f in
     let d = pop_sim n x e h (second (inside x.top x) (apop x).fine f) in
@@ -98,68 +99,75 @@ vp_sim input n x e h f =
       was = d.was;
     }
 
-pub halt_sim : (n : ℕ) (x : Sketch) (e : Env) → Shaped n x → (need (if x.vp == 64 then false else true) x).fine ≡ true → (h : State → State) →
-    Does n x (need (if x.vp == 64 then false else true) x) e (if x.vp == 64 then h (conc n x e) else conc n x e)
-halt_sim n x e h f g =
-    let off = first (if x.vp == 64 then false else true) x.fine f in
-    record { same = by (x.vp == 64) off; shape = record { low = h.low; total = h.total }; was = second (if x.vp == 64 then false else true) x.fine f }
-  where
-    by : (b : Bool) → (if b then false else true) ≡ true → (if b then g (conc n x e) else conc n x e) ≡ conc n x e
-    by true k = cc
-    by false k = refl
+pub same_is : (b c : Bool) → same_bool b c ≡ true → c ≡ b
+same_is true c e = e
+same_is false true e = cc
+same_is false false e = refl
 
-pub plain_sim : (op : Operation) (n : ℕ) (x : Sketch) (e : Env) → (op ≡ Stbc → ⊥) → Shaped n x → (aplain op x).fine ≡ true → Does n x (aplain op x) (env_after op e) (operated (given (is_ldin op) x.input) op (conc n x e))
-plain_sim Nop n x e b h f = record { same = refl; shape = h; was = f }
-plain_sim Pop n x e b h f = pop_sim n x e h f
-plain_sim Dup n x e b h f = push_sim n x e x.top h f
-plain_sim Add n x e b h f = binary_sim Add n x e h f
-plain_sim Sub n x e b h f = binary_sim Sub n x e h f
-plain_sim And n x e b h f = binary_sim And n x e h f
-plain_sim Or n x e b h f = binary_sim Or n x e h f
-plain_sim Xor n x e b h f = binary_sim Xor n x e h f
-plain_sim Shl n x e b h f = binary_sim Shl n x e h f
-plain_sim Shr n x e b h f = binary_sim Shr n x e h f
-plain_sim Ushr n x e b h f = binary_sim Ushr n x e h f
-plain_sim Mul n x e b h f = binary_sim Mul n x e h f
-plain_sim Slt n x e b h f = binary_sim Slt n x e h f
-plain_sim Sltu n x e b h f = binary_sim Sltu n x e h f
-plain_sim Ldo n x e b h f = push_sim n x e x.operand h f
-plain_sim Ldo8 n x e b h f = push_sim n x e (sign_extended8 x.operand) h f
-plain_sim Ldo16 n x e b h f = push_sim n x e (sign_extended16 x.operand) h f
-plain_sim Ldl n x e b h f = load_sim n x e (x.vp + x.operand) h f
-plain_sim Stl n x e b h f = store_sim n x e (x.vp + x.operand) h f
-plain_sim Ld0 n x e b h f = load_sim n x e x.vp h f
-plain_sim Ld1 n x e b h f = load_sim n x e (x.vp + 1) h f
-plain_sim Ld2 n x e b h f = load_sim n x e (x.vp + 2) h f
-plain_sim Ld3 n x e b h f = load_sim n x e (x.vp + 3) h f
-plain_sim St0 n x e b h f = store_sim n x e x.vp h f
-plain_sim St1 n x e b h f = store_sim n x e (x.vp + 1) h f
-plain_sim St2 n x e b h f = store_sim n x e (x.vp + 2) h f
-plain_sim St3 n x e b h f = store_sim n x e (x.vp + 3) h f
-plain_sim Ldvp n x e b h f = push_sim n x e x.vp h f
-plain_sim Stvp n x e b h f = vp_sim None n x e h f
-plain_sim Ldsp n x e b h f = push_sim n x e (length x.deep + 63 + length x.under) h f
-plain_sim Stsp n x e b h f = cc
-plain_sim Ldjpc n x e b h f = push_sim n x e x.jpc h f
-plain_sim Stjpc n x e b h f = let d = pop_sim n x e h f in record { same = ap (λ (s : State). record s { jpc = x.top % 2 ^ 16 }) d.same; shape = record { low = d.shape.low; total = d.shape.total }; was = d.was }
-plain_sim Star n x e b h f = let d = pop_sim n x e h f in record { same = ap (λ (k : ℕ). record (popped (conc n x e)) { ar = x.top % k }) (length_stack n x h) ∙ ap (λ (s : State). record s { ar = x.top % n }) d.same; shape = record { low = d.shape.low; total = d.shape.total }; was = d.was }
-plain_sim Ldmi n x e b h f =
+pub halt_sim : (outcome : Halt) (guess : Bool) (n : ℕ) (x : Sketch) (e : Env) → Shaped n x → (ahalt outcome guess x).fine ≡ true →
+    Does n x (ahalt outcome guess x) e (if x.vp == 64 then record (conc n x e) { halt = outcome } else conc n x e)
+halt_sim outcome guess n x e h f = record {
+  same = ap (λ b. if b then record (conc n x e) { halt = outcome } else conc n x e) (same_is guess (x.vp == 64) (first (same_bool guess (x.vp == 64)) x.fine f)) ∙ by guess;
+  shape = record { low = h.low; total = h.total };
+  was = second (same_bool guess (x.vp == 64)) x.fine f;
+}
+  where
+    by : (b : Bool) → (if b then record (conc n x e) { halt = outcome } else conc n x e) ≡ record (conc n x e) { halt = if b then outcome else x.halt }
+    by true = refl
+    by false = refl
+
+pub plain_sim : (op : Operation) (guess : Bool) (n : ℕ) (x : Sketch) (e : Env) → (op ≡ Stbc → ⊥) → Shaped n x → (aplain op guess x).fine ≡ true → Does n x (aplain op guess x) (env_after op e) (operated (given (is_ldin op) x.answers) op (conc n x e))
+plain_sim Nop guess n x e b h f = record { same = refl; shape = h; was = f }
+plain_sim Pop guess n x e b h f = pop_sim n x e h f
+plain_sim Dup guess n x e b h f = push_sim n x e x.top h f
+plain_sim Add guess n x e b h f = binary_sim Add n x e h f
+plain_sim Sub guess n x e b h f = binary_sim Sub n x e h f
+plain_sim And guess n x e b h f = binary_sim And n x e h f
+plain_sim Or guess n x e b h f = binary_sim Or n x e h f
+plain_sim Xor guess n x e b h f = binary_sim Xor n x e h f
+plain_sim Shl guess n x e b h f = binary_sim Shl n x e h f
+plain_sim Shr guess n x e b h f = binary_sim Shr n x e h f
+plain_sim Ushr guess n x e b h f = binary_sim Ushr n x e h f
+plain_sim Mul guess n x e b h f = binary_sim Mul n x e h f
+plain_sim Slt guess n x e b h f = binary_sim Slt n x e h f
+plain_sim Sltu guess n x e b h f = binary_sim Sltu n x e h f
+plain_sim Ldo guess n x e b h f = push_sim n x e x.operand h f
+plain_sim Ldo8 guess n x e b h f = push_sim n x e (sign_extended8 x.operand) h f
+plain_sim Ldo16 guess n x e b h f = push_sim n x e (sign_extended16 x.operand) h f
+plain_sim Ldl guess n x e b h f = load_sim n x e (x.vp + x.operand) h f
+plain_sim Stl guess n x e b h f = store_sim n x e (x.vp + x.operand) h f
+plain_sim Ld0 guess n x e b h f = load_sim n x e x.vp h f
+plain_sim Ld1 guess n x e b h f = load_sim n x e (x.vp + 1) h f
+plain_sim Ld2 guess n x e b h f = load_sim n x e (x.vp + 2) h f
+plain_sim Ld3 guess n x e b h f = load_sim n x e (x.vp + 3) h f
+plain_sim St0 guess n x e b h f = store_sim n x e x.vp h f
+plain_sim St1 guess n x e b h f = store_sim n x e (x.vp + 1) h f
+plain_sim St2 guess n x e b h f = store_sim n x e (x.vp + 2) h f
+plain_sim St3 guess n x e b h f = store_sim n x e (x.vp + 3) h f
+plain_sim Ldvp guess n x e b h f = push_sim n x e x.vp h f
+plain_sim Stvp guess n x e b h f = vp_sim None n x e h f
+plain_sim Ldsp guess n x e b h f = push_sim n x e (length x.deep + 63 + length x.under) h f
+plain_sim Stsp guess n x e b h f = cc
+plain_sim Ldjpc guess n x e b h f = push_sim n x e x.jpc h f
+plain_sim Stjpc guess n x e b h f = let d = pop_sim n x e h f in record { same = ap (λ (s : State). record s { jpc = x.top % 2 ^ 16 }) d.same; shape = record { low = d.shape.low; total = d.shape.total }; was = d.was }
+plain_sim Star guess n x e b h f = let d = pop_sim n x e h f in record { same = ap (λ (k : ℕ). record (popped (conc n x e)) { ar = x.top % k }) (length_stack n x h) ∙ ap (λ (s : State). record s { ar = x.top % n }) d.same; shape = record { low = d.shape.low; total = d.shape.total }; was = d.was }
+plain_sim Ldmi guess n x e b h f =
     let d = load_sim n x e x.ar h f in
     record { same = ap (λ k. fetched k (conc n x e)) (ar_sim n x h (first (inside x.ar x) (apush (get_or x.deep (x.ar - 64) 0) x).fine f)) ∙ d.same; shape = d.shape; was = d.was }
-plain_sim Stmi n x e b h f =
+plain_sim Stmi guess n x e b h f =
     let d = store_sim n x e x.ar h f in
     record { same = ap (λ k. stored k (conc n x e)) (ar_sim n x h (first (inside x.ar x) (apop x).fine f)) ∙ d.same; shape = d.shape; was = d.was }
-plain_sim Stmra n x e b h f =
+plain_sim Stmra guess n x e b h f =
     let d = pop_sim n x e h f in
     record { same = ap (λ (s : State). record s { port = read_started x.top (port_of x e) }) d.same; shape = record { low = d.shape.low; total = d.shape.total }; was = d.was }
-plain_sim Stmwa n x e b h f = let d = pop_sim n x e h f in record { same = ap (λ (s : State). record s { write_address = x.top }) d.same; shape = record { low = d.shape.low; total = d.shape.total }; was = d.was }
-plain_sim Stmwd n x e b h f = let d = pop_sim n x e h f in record { same = ap (λ (s : State). record s { port = write_started x.write_address x.top (port_of x e) }) d.same; shape = record { low = d.shape.low; total = d.shape.total }; was = d.was }
-plain_sim Wait n x e b h f = record { same = refl; shape = record { low = h.low; total = h.total }; was = second (off_entry x && off_raise x) x.fine f }
-plain_sim Ldmrd n x e b h f = push_sim n x e x.value h f
-plain_sim Stbc n x e b h f = absurd (b refl)
-plain_sim Jbr n x e b h f = jbr_sim None n x e h f
-plain_sim Jbg n x e b h f = record { same = refl; shape = record { low = h.low; total = h.total }; was = f }
-plain_sim Ldin n x e b h f = let d = push_sim n x e (input_word (first_of x.input)) h f in record { same = d.same; shape = record { low = d.shape.low; total = d.shape.total }; was = d.was }
-plain_sim Stout n x e b h f = let d = pop_sim n x e h f in record { same = d.same; shape = record { low = d.shape.low; total = d.shape.total }; was = d.was }
-plain_sim Hltb n x e b h f = halt_sim n x e h f (λ (s : State). record s { halt = Ended })
-plain_sim Hltu n x e b h f = halt_sim n x e h f (λ (s : State). record s { halt = Uncaught })
+plain_sim Stmwa guess n x e b h f = let d = pop_sim n x e h f in record { same = ap (λ (s : State). record s { write_address = x.top }) d.same; shape = record { low = d.shape.low; total = d.shape.total }; was = d.was }
+plain_sim Stmwd guess n x e b h f = let d = pop_sim n x e h f in record { same = ap (λ (s : State). record s { port = write_started x.write_address x.top (port_of x e) }) d.same; shape = record { low = d.shape.low; total = d.shape.total }; was = d.was }
+plain_sim Wait guess n x e b h f = record { same = refl; shape = record { low = h.low; total = h.total }; was = second (off_entry x && off_raise x) x.fine f }
+plain_sim Ldmrd guess n x e b h f = push_sim n x e x.value h f
+plain_sim Stbc guess n x e b h f = absurd (b refl)
+plain_sim Jbr guess n x e b h f = jbr_sim None n x e h f
+plain_sim Jbg guess n x e b h f = record { same = refl; shape = record { low = h.low; total = h.total }; was = f }
+plain_sim Ldin guess n x e b h f = let d = push_sim n x e (input_word (first_of x.answers)) h f in record { same = d.same; shape = record { low = d.shape.low; total = d.shape.total }; was = d.was }
+plain_sim Stout guess n x e b h f = let d = pop_sim n x e h f in record { same = d.same; shape = record { low = d.shape.low; total = d.shape.total }; was = d.was }
+plain_sim Hltb guess n x e b h f = halt_sim Ended guess n x e h f
+plain_sim Hltu guess n x e b h f = halt_sim Uncaught guess n x e h f

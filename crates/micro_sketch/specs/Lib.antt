@@ -1,4 +1,9 @@
 pub mod Sketch
-pub mod Scene
 pub mod Stands
+pub mod Frames
+pub mod View
 pub mod Laws
+pub mod Ends
+pub mod Step
+pub mod StepLaws
+pub mod Row

@@ -10,13 +10,16 @@ use Rattle.micro_isa.specs.Words.{micro_of}
 use Rattle.microcode_rom.specs.declared.TheConstants.{WORDS, CONSTANTS, ENTRIES, RAISE}
 use Rattle.method_cache.specs.Contents.{Cache, can_load, is_cached, loaded, word_of}
 use Rattle.micro_flow.specs.Walk.{used}
+use Rattle.jop_core.specs.declared.halt.Halt.{Halt}
+use Rattle.jop_core.specs.declared.halt.Halt.TheVariants.{Running, Ended, Uncaught}
 use Rattle.jop_core.specs.Operations.{combined, holds, sign_extended8, sign_extended16, input_word, code_words, code_place}
-use Rattle.jop_core.specs.Cycle.{byte_of, entry_of}
+use Rattle.jop_core.specs.Cycle.{byte_of, entry_of, is_running}
+use Rattle.jop_core.specs.Scene.{first_of, rest_of}
 
 -- top is A, next is B, and under has the words from SP down to the last of deep; above has the words past SP. low has
 -- the places 0 to 31, and deep those from 64 on below the moving part of the stack. left has the turns that each branch
--- may still take; loads and words count the methods that were loaded and their words. output has the bytes put out, the
--- last one first.
+-- may still take; loads and words count the methods that were loaded and their words. answers are those that the input
+-- is still to give, each a byte or the end, and output has the bytes put out, the last one first.
 pub record Sketch : Type 0 where
   pub top : ℕ
   pub next : ℕ
@@ -41,7 +44,8 @@ pub record Sketch : Type 0 where
   pub left : ℕ → ℕ
   pub loads : ℕ
   pub words : ℕ
-  pub input : List ℕ
+  pub halt : Halt
+  pub answers : List (Option ℕ)
   pub output : List ℕ
   -- whether all of it was allowed, and whether it came to a boundary
   pub fine : Bool
@@ -92,9 +96,17 @@ off_entry x = if among x.mpc ENTRIES then false else true
 abbrev pub off_raise : Sketch → Bool
 off_raise x = if x.mpc == RAISE then false else true
 
--- at an address that was come to: the raise routine's, or one that is no boundary
+-- at the raise routine, or halted
+abbrev pub stopped : Sketch → Bool
+stopped x = if is_running x.halt then x.mpc == RAISE else true
+
+-- at an address that was come to: it stops there, or the address is no boundary
 abbrev pub settled : Sketch → Sketch
-settled x = record x { done = x.mpc == RAISE; fine = (x.mpc == RAISE || off_entry x) && x.fine }
+settled x = record x { done = stopped x; fine = (stopped x || off_entry x) && x.fine }
+
+abbrev pub same_bool : Bool → Bool → Bool
+same_bool true b = b
+same_bool false b = if b then false else true
 
 -- a method that can be switched to
 abbrev pub can_find : Sketch → ℕ → Bool
@@ -122,68 +134,60 @@ found x = let y = apop x in record y {
   words = x.words + missed x.top x.cache * code_words x.memory x.top;
 }
 
-abbrev pub first_of : List ℕ → Option ℕ
-first_of [] = None
-first_of (byte ∷ bytes) = Some byte
+-- a halting operation halts where VP is that of boot's frame, and else does nothing; the guess says which
+abbrev pub ahalt : Halt → (guess : Bool) → Sketch → Sketch
+ahalt halt guess x = need (same_bool guess (x.vp == 64)) (record x { halt = if guess then halt else x.halt })
 
-abbrev pub rest_of : List ℕ → List ℕ
-rest_of [] = []
-rest_of (byte ∷ bytes) = bytes
-
--- in boot's frame a halting operation halts, which is no part of a sketch
-abbrev pub ahalt : Sketch → Sketch
-ahalt x = need (if x.vp == 64 then false else true) x
-
-abbrev pub aplain : Operation → Sketch → Sketch
-aplain Nop x = x
-aplain Pop x = apop x
-aplain Dup x = apush x.top x
-aplain Add x = abinary Add x
-aplain Sub x = abinary Sub x
-aplain And x = abinary And x
-aplain Or x = abinary Or x
-aplain Xor x = abinary Xor x
-aplain Shl x = abinary Shl x
-aplain Shr x = abinary Shr x
-aplain Ushr x = abinary Ushr x
-aplain Mul x = abinary Mul x
-aplain Slt x = abinary Slt x
-aplain Sltu x = abinary Sltu x
-aplain Ldo x = apush x.operand x
-aplain Ldo8 x = apush (sign_extended8 x.operand) x
-aplain Ldo16 x = apush (sign_extended16 x.operand) x
-aplain Ldl x = aload (x.vp + x.operand) x
-aplain Stl x = astore (x.vp + x.operand) x
-aplain Ld0 x = aload x.vp x
-aplain Ld1 x = aload (x.vp + 1) x
-aplain Ld2 x = aload (x.vp + 2) x
-aplain Ld3 x = aload (x.vp + 3) x
-aplain St0 x = astore x.vp x
-aplain St1 x = astore (x.vp + 1) x
-aplain St2 x = astore (x.vp + 2) x
-aplain St3 x = astore (x.vp + 3) x
-aplain Ldvp x = apush x.vp x
-aplain Stvp x = need (inside x.top x) (record (apop x) { vp = x.top })
-aplain Ldsp x = apush (length x.deep + 63 + length x.under) x
+abbrev pub aplain : Operation → (guess : Bool) → Sketch → Sketch
+aplain Nop guess x = x
+aplain Pop guess x = apop x
+aplain Dup guess x = apush x.top x
+aplain Add guess x = abinary Add x
+aplain Sub guess x = abinary Sub x
+aplain And guess x = abinary And x
+aplain Or guess x = abinary Or x
+aplain Xor guess x = abinary Xor x
+aplain Shl guess x = abinary Shl x
+aplain Shr guess x = abinary Shr x
+aplain Ushr guess x = abinary Ushr x
+aplain Mul guess x = abinary Mul x
+aplain Slt guess x = abinary Slt x
+aplain Sltu guess x = abinary Sltu x
+aplain Ldo guess x = apush x.operand x
+aplain Ldo8 guess x = apush (sign_extended8 x.operand) x
+aplain Ldo16 guess x = apush (sign_extended16 x.operand) x
+aplain Ldl guess x = aload (x.vp + x.operand) x
+aplain Stl guess x = astore (x.vp + x.operand) x
+aplain Ld0 guess x = aload x.vp x
+aplain Ld1 guess x = aload (x.vp + 1) x
+aplain Ld2 guess x = aload (x.vp + 2) x
+aplain Ld3 guess x = aload (x.vp + 3) x
+aplain St0 guess x = astore x.vp x
+aplain St1 guess x = astore (x.vp + 1) x
+aplain St2 guess x = astore (x.vp + 2) x
+aplain St3 guess x = astore (x.vp + 3) x
+aplain Ldvp guess x = apush x.vp x
+aplain Stvp guess x = need (inside x.top x) (record (apop x) { vp = x.top })
+aplain Ldsp guess x = apush (length x.deep + 63 + length x.under) x
 -- a new SP takes a new split of the on-chip words: see `proofs/Frames`
-aplain Stsp x = bad x
-aplain Ldjpc x = apush x.jpc x
-aplain Stjpc x = record (apop x) { jpc = x.top % 2 ^ 16 }
-aplain Star x = record (apop x) { ar = x.top }
-aplain Ldmi x = aload x.ar x
-aplain Stmi x = astore x.ar x
-aplain Stmra x = record (apop x) { busy = true; memory = x.memory; value = slice_index x.memory x.top }
-aplain Stmwa x = record (apop x) { write_address = x.top }
-aplain Stmwd x = record (apop x) { busy = true; memory = slice_set x.memory x.write_address x.top; value = x.value }
-aplain Wait x = need (off_entry x && off_raise x) (record x { busy = false })
-aplain Ldmrd x = apush x.value x
-aplain Stbc x = need (can_find x x.top && (if x.busy then false else true)) (found x)
-aplain Jbr x = let y = apop x in record y { jpc = if holds x.opcode x.next x.top then atarget x else x.jpc }
-aplain Jbg x = record x { jpc = atarget x }
-aplain Ldin x = let y = apush (input_word (first_of x.input)) x in record y { input = rest_of x.input }
-aplain Stout x = record (apop x) { output = x.top % 2 ^ 8 ∷ x.output }
-aplain Hltb x = ahalt x
-aplain Hltu x = ahalt x
+aplain Stsp guess x = bad x
+aplain Ldjpc guess x = apush x.jpc x
+aplain Stjpc guess x = record (apop x) { jpc = x.top % 2 ^ 16 }
+aplain Star guess x = record (apop x) { ar = x.top }
+aplain Ldmi guess x = aload x.ar x
+aplain Stmi guess x = astore x.ar x
+aplain Stmra guess x = record (apop x) { busy = true; memory = x.memory; value = slice_index x.memory x.top }
+aplain Stmwa guess x = record (apop x) { write_address = x.top }
+aplain Stmwd guess x = record (apop x) { busy = true; memory = slice_set x.memory x.write_address x.top; value = x.value }
+aplain Wait guess x = need (off_entry x && off_raise x) (record x { busy = false })
+aplain Ldmrd guess x = apush x.value x
+aplain Stbc guess x = need (can_find x x.top && (if x.busy then false else true)) (found x)
+aplain Jbr guess x = let y = apop x in record y { jpc = if holds x.opcode x.next x.top then atarget x else x.jpc }
+aplain Jbg guess x = record x { jpc = atarget x }
+aplain Ldin guess x = let y = apush (input_word (first_of x.answers)) x in record y { answers = rest_of x.answers }
+aplain Stout guess x = record (apop x) { output = x.top % 2 ^ 8 ∷ x.output }
+aplain Hltb guess x = ahalt Ended guess x
+aplain Hltu guess x = ahalt Uncaught guess x
 
 abbrev pub opd_byte : Bool → Sketch → Sketch
 opd_byte false x = x
@@ -202,16 +206,12 @@ abbrev pub jumped : Bool → ℕ → Sketch → Sketch
 jumped true to x = let y = aturned (nat_lt x.mpc to) x in settled (record y { mpc = to })
 jumped false to x = settled (record x { mpc = (x.mpc + 1) % 2048 })
 
-abbrev pub same_bool : Bool → Bool → Bool
-same_bool true b = b
-same_bool false b = if b then false else true
-
--- One microinstruction; guess says which way a branch goes.
+-- One microinstruction; guess says which way a branch goes, and whether a halting operation halts.
 abbrev pub astep : Option Micro → Bool → Sketch → Sketch
 astep None guess x = bad x
 astep (Some m) guess x =
     elim m.body [
-      | Plain code ↦ lead m.nxt (opd_byte m.opd (aplain (operation_of code) x))
+      | Plain code ↦ lead m.nxt (opd_byte m.opd (aplain (operation_of code) guess x))
       | Stm k ↦ lead m.nxt (opd_byte m.opd (need (nat_lt k 32) (astm k x)))
       | Ldm k ↦ lead m.nxt (opd_byte m.opd (need (nat_lt k 32) (apush (slice_index x.low k) x)))
       | Ldi k ↦ lead m.nxt (opd_byte m.opd (need (nat_lt k 32) (apush (slice_index CONSTANTS k) x)))
@@ -220,10 +220,15 @@ astep (Some m) guess x =
       | Jmp to ↦ jumped true to x
     ]
 
--- the words run, the branches among them going as guessed
-abbrev pub is_branch : Option Micro → Bool
-is_branch None = false
-is_branch (Some m) = elim m.body [ Bz to ↦ true | Bnz to ↦ true | _ ↦ false ]
+-- whether a microinstruction takes a guess
+abbrev pub halts : Operation → Bool
+halts Hltb = true
+halts Hltu = true
+halts _ = false
+
+abbrev pub is_guessed : Option Micro → Bool
+is_guessed None = false
+is_guessed (Some m) = elim m.body [ Plain code ↦ halts (operation_of code) | Bz to ↦ true | Bnz to ↦ true | _ ↦ false ]
 
 abbrev pub first_or : List Bool → Bool
 first_or [] = false
@@ -234,15 +239,23 @@ rest_if true (b ∷ bs) = bs
 rest_if true [] = []
 rest_if false bs = bs
 
+-- only what has come to no boundary and hasn't halted goes on
+abbrev pub goes : Sketch → Bool
+goes x = (if x.done then false else true) && is_running x.halt
+
+abbrev pub going : Sketch → Sketch
+going x = need (goes x) x
+
+-- so many microinstructions, the branches and halting operations among them going as guessed
 abbrev pub exec : ℕ → List Bool → Sketch → Sketch
 exec zero guesses x = x
 exec (suc n) guesses x =
     let m = micro_of (slice_index WORDS x.mpc) in
-    exec n (rest_if (is_branch m) guesses) (astep m (first_or guesses) (need (if x.done then false else true) x))
+    exec n (rest_if (is_guessed m) guesses) (astep m (first_or guesses) (going x))
 
 -- f as an opcode begins, with these words on top of its stack and these past SP
 abbrev pub start : (mpc opcode : ℕ) → Sketch → (top next : ℕ) → (under above : List ℕ) → Sketch
-start mpc opcode f top next under above = record f { top = top; next = next; under = under; above = above; operand = 0; mpc = mpc; opcode = opcode; busy = false; loads = 0; words = 0; fine = true; done = false }
+start mpc opcode f top next under above = record f { top = top; next = next; under = under; above = above; operand = 0; mpc = mpc; opcode = opcode; busy = false; halt = Running; loads = 0; words = 0; fine = true; done = false }
 
 -- x as it goes on to the opcode at jpc
 abbrev pub go_on : Sketch → Sketch

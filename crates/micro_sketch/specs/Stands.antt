@@ -9,8 +9,8 @@ use Rattle.micro_flow.specs.Walk.{Kind, Reads, Writes, kind_of, Walker, walk}
 use Rattle.jop_core.specs.declared.halt.Halt.TheVariants.{Running}
 use Rattle.jop_core.specs.State.{State}
 use Rattle.jop_core.specs.Cycle.{at_boundary}
+use Rattle.jop_core.specs.Scene.{Scene, run}
 use Rattle.micro_sketch.specs.Sketch.{Sketch}
-use Rattle.micro_sketch.specs.Scene.{Scene, run}
 
 unfoldable pub constants : List ℕ
 constants = CONSTANTS
@@ -19,7 +19,7 @@ constants = CONSTANTS
 abbrev pub base : Sketch → List ℕ
 base x = x.low ++ (constants ++ x.deep)
 
--- what a sketch leaves out: the clock, the port's count and its waits
+-- what a sketch leaves out: the clock, the port's count and its cycles for a read and a write
 pub record Env : Type 0 where
   pub clock : ℕ
   pub port : ℕ
@@ -50,7 +50,7 @@ conc n x e = record {
   method = x.method;
   cache = x.cache;
   stall = 0;
-  halt = Running;
+  halt = x.halt;
   stack = stack_of x;
   port = port_of x e;
   write_address = x.write_address;
@@ -60,7 +60,7 @@ conc n x e = record {
 }
 
 abbrev pub scene : ℕ → Sketch → Env → Scene
-scene n x e = record { state = conc n x e; input = x.input; output = x.output }
+scene n x e = record { state = conc n x e; answers = x.answers; output = x.output }
 
 pub record Shaped (n : ℕ) (x : Sketch) : Type 0 where
   pub low : length x.low ≡ 32
@@ -108,6 +108,11 @@ pub record Walked (p : CostParams) (x y : Sketch) (env : Env) (cycles : ℕ) (s 
   pub choices : List Bool
   pub tells : Tells y env (walk p choices s)
   pub clock : (walk p choices s).clock + stalls y p.r ≡ s.clock + cycles + stalls x p.r
+
+-- x goes on: it is at no boundary, and hasn't halted
+pub record Goes (x : Sketch) : Type 0 where
+  pub not_done : x.done ≡ false
+  pub running : x.halt ≡ Running
 
 -- From x the machine comes to y, and any walk that has come to x goes on so.
 pub record Reaches (n : ℕ) (x y : Sketch) (e : Env) : Type 0 where

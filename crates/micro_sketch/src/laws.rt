@@ -1,12 +1,68 @@
-ghost use Rattle.micro_sketch.specs.Laws.{MachineFollows, CostsHold};
+ghost use Rattle.micro_sketch.specs.Laws.{MachineFollows, SplitsAnywhere, Reframes, StackPointerMoves, StackPointerComesDown, SeenAsSketch, RunsGoOn, RunsBetweenAlike, CostsHold, RaiseCostHolds, FirstIsReached, BoundaryComesSoon};
+ghost use Rattle.micro_sketch.specs.StepLaws.{StepsAddUp};
 
 /// What the sketch comes to in some words, the machine comes to, and a walk of the ROM with it.
 pub fn machine_follows_the_sketch()
     ensures { MachineFollows }
 {}
 
+/// A machine's words from place 64 on can be split anywhere, if the stack pointer stays.
+pub fn sketches_can_be_split_anywhere()
+    ensures { SplitsAnywhere }
+{}
+
+/// Some of the words below the moving part of the stack can be taken as part of it.
+pub fn sketches_can_be_reframed()
+    ensures { Reframes }
+{}
+
+/// A new stack pointer splits the words elsewhere.
+pub fn stack_pointer_moves()
+    ensures { StackPointerMoves }
+{}
+
+/// A stack pointer that comes down leaves the words past it.
+pub fn stack_pointer_comes_down()
+    ensures { StackPointerComesDown }
+{}
+
+/// Each machine in range is what its sketch stands for.
+pub fn machines_are_seen_as_sketches()
+    ensures { SeenAsSketch }
+{}
+
+/// Two runs make one.
+pub fn runs_go_on()
+    ensures { RunsGoOn }
+{}
+
+/// A run goes between any sketches that are like its ends.
+pub fn runs_go_between_alike_sketches()
+    ensures { RunsBetweenAlike }
+{}
+
 /// From an opcode's entry to the next boundary the machine takes at most the opcode's cost and the
 /// stalls of its loads.
 pub fn opcodes_keep_their_costs()
     ensures { CostsHold }
+{}
+
+/// So from the entry of the raise routine.
+pub fn raise_keeps_its_cost()
+    ensures { RaiseCostHolds }
+{}
+
+/// The first boundary that the machine comes to is where its sketch comes to one.
+pub fn first_boundary_is_reached()
+    ensures { FirstIsReached }
+{}
+
+/// A boundary comes soon where the cost is small.
+pub fn a_boundary_comes_soon()
+    ensures { BoundaryComesSoon }
+{}
+
+/// Cycles that follow others make one run with them.
+pub fn steps_add_up()
+    ensures { StepsAddUp }
 {}

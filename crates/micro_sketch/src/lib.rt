@@ -4,3 +4,4 @@
 
 /// Laws of the sketch. Each is a function without a body, whose contract says it.
 pub mod laws;
+pub mod step;

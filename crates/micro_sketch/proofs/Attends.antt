@@ -1,0 +1,44 @@
+-- What a device was told of a run, over one cycle and over several runs.
+use Rattle.std.proofs.Common.{◌≡◌, ℕ, Bool, true, false, List, [], ◌∷◌, ◌++◌, refl, subst}
+use Rattle.std.specs.declared.option.Option.{Option}
+use Rattle.jop_outside.proofs.Told.{Grew-refl, Grew-trans}
+use Rattle.jop_core.specs.declared.seen.Seen.{Seen}
+use Rattle.jop_core.specs.Told.{Told, Note, Exchanged, GivesWhere, GivesEach, Attended, CountsRise}
+use Rattle.jop_core.proofs.Tells.{CountsRise-refl, CountsRise-trans}
+
+-- the answers of a cycle: one where it asks, and else none
+abbrev pub asked_for : (asks : Bool) → Option ℕ → List (Option ℕ)
+asked_for true input = input ∷ []
+asked_for false input = []
+
+pub GivesEach-append : (l0 l1 l2 : Option (List ℕ)) (earlier later : List (Option ℕ)) → GivesEach l0 l1 earlier → GivesEach l1 l2 later → GivesEach l0 l2 (earlier ++ later)
+GivesEach-append l0 l1 l2 [] later first second = let P : Option (List ℕ) → Type 0 = λ l. GivesEach l l2 later in subst P first second
+GivesEach-append l0 l1 l2 (answer ∷ earlier) later first second = (first.0, first.1, GivesEach-append first.0 l1 l2 earlier later first.2 second)
+
+GivesEach-one : (asks : Bool) (l0 l1 : Option (List ℕ)) (input : Option ℕ) → GivesWhere asks l0 l1 input → GivesEach l0 l1 (asked_for asks input)
+GivesEach-one true l0 l1 input gives = (l1, gives, refl)
+GivesEach-one false l0 l1 input gives = gives.0
+
+pub Attended-refl : (told : Told) → Attended told told [] [] [] []
+Attended-refl told = record { left = refl; held = Grew-refl told.held; noted = Grew-refl told.noted; handed = Grew-refl told.handed; counts = CountsRise-refl told }
+
+pub Attended-one : (t0 t1 : Told) (asks : Bool) (input : Option ℕ) (out : List ℕ) (seen : List Seen) (notes : List Note)
+    → Exchanged t0 t1 asks input out seen notes → CountsRise t0 t1 → Attended t0 t1 (asked_for asks input) out seen notes
+Attended-one t0 t1 asks input out seen notes all counts = record {
+  left = GivesEach-one asks t0.left t1.left input all.left;
+  held = all.held;
+  noted = all.noted;
+  handed = all.handed;
+  counts = counts;
+}
+
+pub Attended-trans : (t0 t1 t2 : Told) (answers0 answers1 : List (Option ℕ)) (out0 out1 out : List ℕ) (seen0 seen1 seen : List Seen) (notes0 notes1 notes : List Note)
+    → Attended t0 t1 answers0 out0 seen0 notes0 → Attended t1 t2 answers1 out1 seen1 notes1
+    → out ≡ out0 ++ out1 → seen ≡ seen0 ++ seen1 → notes ≡ notes0 ++ notes1 → Attended t0 t2 (answers0 ++ answers1) out seen notes
+Attended-trans t0 t1 t2 answers0 answers1 out0 out1 out seen0 seen1 seen notes0 notes1 notes first second outs seens all = record {
+  left = GivesEach-append t0.left t1.left t2.left answers0 answers1 first.left second.left;
+  held = Grew-trans _ _ _ out0 out1 out first.held second.held outs;
+  noted = Grew-trans _ _ _ notes0 notes1 notes first.noted second.noted all;
+  handed = Grew-trans _ _ _ seen0 seen1 seen first.handed second.handed seens;
+  counts = CountsRise-trans t0 t1 t2 first.counts second.counts;
+}

@@ -1,0 +1,61 @@
+-- How the machine goes on from one boundary to the next.
+use Rattle.std.specs.Prelude.{◌≡◌, ◌≢◌, ℕ, suc, ◌<◌, true, false, List, ◌++◌}
+use Rattle.std.specs.declared.option.Option.{Option}
+use Rattle.microcode_rom.specs.declared.TheConstants.{RAISE}
+use Rattle.jop_core.specs.declared.halt.Halt.TheVariants.{Running}
+use Rattle.jop_core.specs.declared.tick.Tick.{Tick}
+use Rattle.jop_core.specs.declared.tick.Tick.TheVariants as ticks
+use Rattle.jop_core.specs.State.{State}
+use Rattle.jop_core.specs.Cycle.{at_boundary, entry_of}
+use Rattle.jop_core.specs.Scene.{begun, run, output_during, seen_during, notes_during}
+use Rattle.jop_core.specs.Told.{Told, Attended}
+use Rattle.jop_core.specs.Ticked.{Ticked}
+use Rattle.micro_sketch.specs.declared.step.Stepped.{Stepped}
+use Rattle.micro_sketch.specs.declared.step.Stepped.TheVariants.{Next, Raise, Halted, ReadFault, WriteFault, SeenFault}
+
+-- So many cycles lead from old to new, where the device gave just these answers: it was handed each state from which a cycle was done, in
+-- order, and given each byte after its state.
+pub record Ran (cycles : ℕ) (old new : State) (told told' : Told) (answers : List (Option ℕ)) : Type 0 where
+  pub state : (more : List (Option ℕ)) → (run cycles (begun old (answers ++ more))).state ≡ new
+  pub left : (more : List (Option ℕ)) → (run cycles (begun old (answers ++ more))).answers ≡ more
+  pub device : Attended told told' answers (output_during cycles (begun old answers)) (seen_during cycles (begun old answers)) (notes_during cycles (begun old answers))
+
+-- no boundary lies on the way
+abbrev pub IsQuiet : ℕ → State → List (Option ℕ) → Type 0
+IsQuiet cycles old answers = (i : ℕ) → suc i < cycles → at_boundary (run (suc i) (begun old answers)).state ≡ false
+
+-- new is the first boundary after old
+pub record Arrived (old new : State) (told told' : Told) : Type 0 where
+  pub cycles : ℕ
+  pub positive : 0 < cycles
+  pub answers : List (Option ℕ)
+  pub ran : Ran cycles old new told told' answers
+  pub boundary : at_boundary new ≡ true
+  pub quiet : IsQuiet cycles old answers
+
+-- a call on the device failed, with no boundary before it, and the machine stands where that cycle was tried
+pub record Broke (old new : State) (told told' : Told) (tick : Tick) : Type 0 where
+  pub cycles : ℕ
+  pub answers : List (Option ℕ)
+  pub before : Told
+  pub ran : Ran cycles old new told before answers
+  pub quiet : IsQuiet (suc cycles) old answers
+  pub tried : Ticked new new before told' tick
+
+-- what the answer says of where the machine then stands
+abbrev pub Went : State → State → Told → Told → Stepped → Type 0
+Went old new told told' Next = Arrived old new told told' × (new.halt ≡ Running) × (new.mpc ≡ entry_of new.opcode) × (new.mpc ≢ RAISE)
+Went old new told told' Raise = Arrived old new told told' × (new.halt ≡ Running) × (new.mpc ≡ RAISE)
+Went old new told told' Halted = Arrived old new told told' × (new.halt ≢ Running)
+Went old new told told' ReadFault = Broke old new told told' ticks.ReadFault
+Went old new told told' WriteFault = Broke old new told told' ticks.WriteFault
+Went old new told told' SeenFault = Broke old new told told' ticks.SeenFault
+
+-- what each answer at a boundary says of the state
+abbrev pub StandsAs : State → Stepped → Type 0
+StandsAs s Next = (s.halt ≡ Running) × (s.mpc ≡ entry_of s.opcode) × (s.mpc ≢ RAISE)
+StandsAs s Raise = (s.halt ≡ Running) × (s.mpc ≡ RAISE)
+StandsAs s Halted = s.halt ≢ Running
+StandsAs s ReadFault = ⊥
+StandsAs s WriteFault = ⊥
+StandsAs s SeenFault = ⊥
