@@ -1,0 +1,21 @@
+//! Steps of the machine over the opcodes of devices, and over boot's return.
+#![tactic(auto)]
+
+ghost use Rattle.std.specs.Prelude.{◌≡◌, ◌<◌, ◌^◌};
+ghost use Rattle.micro_sketch.specs.Step.{Went};
+ghost use Rattle.micro_objects.specs.Stepped.{HasRow, Did};
+
+use jop_core::{Devices, Machine};
+use micro_sketch::step::{Stepped, to_boundary};
+
+/// Runs one opcode, from its entry to the next boundary.
+#[tactic(auto, using(crate::proofs::Steps::went_did))]
+pub fn step<const N: usize, D: Devices>(machine: &mut Machine<N>, device: &mut D) -> Stepped
+    requires row { HasRow N machine.old }
+    requires clock { machine.old.clock < 2 ^ 63 }
+    ensures went { Went machine.old machine.new (D.told device.old) (D.told device.new) result }
+    ensures row { Did N machine.old machine.new (D.told device.old) (D.told device.new) result }
+    ensures names { D.names device.new ≡ D.names device.old }
+{
+    to_boundary(machine, device)
+}
