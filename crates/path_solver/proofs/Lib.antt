@@ -1,0 +1,10 @@
+mod Elements
+mod Sums
+mod Sound
+mod Bounding
+mod Own
+mod Rising
+mod Least
+mod Headed
+mod Ordered
+mod Deciding

@@ -1,0 +1,22 @@
+-- What accepted sections show.
+use Rattle.std.specs.Prelude.{ℕ, ◌≤◌, List, map, All, Contains, Option, MatchOption}
+use Rattle.loop_nest.specs.Digraph.{Digraph, Edge}
+use Rattle.loop_nest.specs.Walks.{Walk, IsHeader, KeepsBound}
+use Rattle.path_solver.specs.Bounded.{BoundedLoop, IsBoundedWalk, IsKept, cost_of}
+use Rattle.path_solver.specs.Section.{Certified, PricedLoop, priced, bounded}
+use Rattle.path_solver.specs.Placing.{AreWellPlaced}
+
+-- no bounded walk costs more than this value, and where there is no value there is no such walk
+abbrev pub BoundsWalks : Digraph → List ℕ → List BoundedLoop → Option ℕ → Type 0
+BoundsWalks g costs loops value = (ns : List ℕ) → IsBoundedWalk g loops ns → MatchOption value ⊥ (λ most. cost_of costs loops ns ≤ most)
+
+-- the loops of a section as far as walks speak of them
+abbrev pub loops_of : Certified → List ℕ → List (Option ℕ) → List BoundedLoop
+loops_of c bounds loads = map bounded (priced c.loops bounds loads)
+
+-- A walk in a part of the graph that keeps the bounds of that part's own loops keeps those of the section's loops, whichever these are.
+abbrev pub OwnBoundsSuffice : Type 0
+OwnBoundsSuffice =
+    (g part : Digraph) (c : Certified) (bounds : List ℕ) (loads : List (Option ℕ)) → AreWellPlaced g c bounds loads → ((u v : ℕ) → Edge part u v → Edge g u v)
+    → (last : ℕ) (ns : List ℕ) → Walk part 0 last ns → ((l : PricedLoop) → Contains (priced c.loops bounds loads) l → IsHeader part l.certified.header → KeepsBound part l.certified.header l.bound ns)
+    → All (IsKept ns) (loops_of c bounds loads)
