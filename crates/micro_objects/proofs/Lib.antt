@@ -1,4 +1,5 @@
 pub mod Rows
 pub mod Faults
+pub mod AtOnce
 pub mod Steps
 pub mod Examples

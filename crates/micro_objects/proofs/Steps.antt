@@ -21,6 +21,7 @@ use Rattle.micro_sketch.proofs.RowSteps.{stands_expecting, finishes, end_of, fin
 use Rattle.micro_objects.specs.Opcodes.{DeviceOp, Impdep1, Impdep2, code_of, effect, answers_taken, return_code}
 use Rattle.micro_objects.specs.Stepped.{IsDevice, IsReturn, HasRow, DoesRow, DidReturn, DoesReturn, Did}
 use Rattle.micro_objects.proofs.Rows.{row_of, Halts, return_halts}
+use Rattle.micro_objects.proofs.AtOnce.{fault_leaves}
 use Rattle.micro_objects.proofs.Faults.{TakesNone, PutsNone, reads_nothing, writes_nothing}
 
 -- The opcodes of devices.
@@ -183,12 +184,18 @@ pub went_did : (n : ℕ) (old new : State) (t0 t1 : Told) (answer : Stepped) →
 went_did n old new t0 t1 Next row went = (does_row n old new t0 t1, λ r. return_halts_it n old new t0 t1 r went.0 went.1)
 went_did n old new t0 t1 Raise row went = ⊎_elim (λ d. device_raises_nothing n old new t0 t1 d went) (λ r. return_halts_it n old new t0 t1 r went.0 went.1) row
 went_did n old new t0 t1 Halted row went = (does_return n old new t0 t1, λ d. went.1 (device_runs_on n old new t0 t1 d went.0))
-went_did n old new t0 t1 ReadFault row went = record {
-  device = λ d. only_impdep1_reads n d.params d.op d.sketch d.env old new t0 t1 d.stands went;
-  no_return = λ r. silent_reads_nothing n r.sketch r.env old new t0 t1 r.stands.same r.stands.silent (return_is_silent n r.params r.sketch r.env old r.stands r.boot) went;
-}
-went_did n old new t0 t1 WriteFault row went = record {
-  device = λ d. only_impdep2_writes n d.params d.op d.sketch d.env old new t0 t1 d.stands went;
-  no_return = λ r. silent_writes_nothing n r.sketch r.env old new t0 t1 r.stands.same r.stands.silent (return_is_silent n r.params r.sketch r.env old r.stands r.boot) went;
-}
-went_did n old new t0 t1 SeenFault row went = tt
+went_did n old new t0 t1 ReadFault row went = (
+  record {
+    device = λ d. only_impdep1_reads n d.params d.op d.sketch d.env old new t0 t1 d.stands went;
+    no_return = λ r. silent_reads_nothing n r.sketch r.env old new t0 t1 r.stands.same r.stands.silent (return_is_silent n r.params r.sketch r.env old r.stands r.boot) went;
+  },
+  fault_leaves n old new t0 t1 ticks.ReadFault row went,
+)
+went_did n old new t0 t1 WriteFault row went = (
+  record {
+    device = λ d. only_impdep2_writes n d.params d.op d.sketch d.env old new t0 t1 d.stands went;
+    no_return = λ r. silent_writes_nothing n r.sketch r.env old new t0 t1 r.stands.same r.stands.silent (return_is_silent n r.params r.sketch r.env old r.stands r.boot) went;
+  },
+  fault_leaves n old new t0 t1 ticks.WriteFault row went,
+)
+went_did n old new t0 t1 SeenFault row went = fault_leaves n old new t0 t1 ticks.SeenFault row went

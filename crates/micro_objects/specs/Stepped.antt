@@ -31,6 +31,7 @@ pub record IsReturn (n : ℕ) (s : State) : Type 0 where
   pub stands : StandsAt n params return_code sketch env s
   pub boot : sketch.vp ≡ 64
 
+-- it is about to run one of these
 abbrev pub HasRow : ℕ → State → Type 0
 HasRow n s = IsDevice n s ⊎ IsReturn n s
 
@@ -70,11 +71,12 @@ pub record IsOnly (op : DeviceOp) (n : ℕ) (s : State) : Type 0 where
   pub device : (d : IsDevice n s) → d.op ≡ op
   pub no_return : ¬ IsReturn n s
 
--- What an answer says of the rows: only a return halts, and nothing raises. A read fails only at impdep1, and a write only at impdep2.
+-- What an answer says of the rows: only a return halts, and nothing raises. A read fails only at impdep1, and a write only at impdep2. A call on
+-- the device that fails leaves the machine as it was.
 abbrev pub Did : ℕ → State → State → Told → Told → Stepped → Type 0
 Did n old new told told' Next = DoesRow n old new told told' × ¬ IsReturn n old
 Did n old new told told' Raise = ⊥
 Did n old new told told' Halted = DoesReturn n old new told told' × ¬ IsDevice n old
-Did n old new told told' ReadFault = IsOnly Impdep1 n old
-Did n old new told told' WriteFault = IsOnly Impdep2 n old
-Did n old new told told' SeenFault = Unit {0}
+Did n old new told told' ReadFault = IsOnly Impdep1 n old × (new ≡ old)
+Did n old new told told' WriteFault = IsOnly Impdep2 n old × (new ≡ old)
+Did n old new told told' SeenFault = new ≡ old
