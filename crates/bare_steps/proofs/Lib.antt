@@ -1,0 +1,14 @@
+pub mod Ints
+pub mod CodeBytes
+pub mod Frames
+pub mod Shows
+pub mod Rows
+pub mod Seen
+pub mod Underway
+pub mod Cases
+pub mod PlainSteps
+pub mod OneCycle
+pub mod DeviceSteps
+pub mod Resets
+pub mod Examples
+pub mod Cuts

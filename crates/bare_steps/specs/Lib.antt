@@ -1,0 +1,4 @@
+pub mod Bytecode
+pub mod StandsFor
+pub mod Step
+pub mod Reset
