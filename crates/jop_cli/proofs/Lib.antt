@@ -1,11 +1,7 @@
-pub mod FrameWords
 pub mod Joined
-pub mod BuiltRows
-pub mod Ints
-pub mod AtWords
-pub mod CodeBytes
-pub mod StandsFor
-pub mod Rows
-pub mod WholeRun
-pub mod Cycling
-pub mod ImageRuns
+pub mod Clocks
+pub mod Marching
+pub mod FromReset
+pub mod Numbers
+pub mod Commands
+pub mod Grammar

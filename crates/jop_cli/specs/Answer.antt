@@ -1,35 +1,39 @@
 -- What the top call answers.
-use Rattle.std.specs.Prelude.{◌≡◌, ℕ, ◌<◌, ◌≤◌, ◌⊎◌, List, length, take, ◌++◌, Ok, Err}
+use Rattle.std.specs.Prelude.{◌≡◌, ℕ, ◌<◌, ◌≤◌, true, false, ◌⊎◌, List, length, take, ◌++◌, Ok, Err}
 use Rattle.std.specs.declared.option.Option.{Option}
 use Rattle.jop_outside.specs.Outside.{Grew, Rose, OnlyWord, IsWhole, HasLength}
+use Rattle.jop_core.specs.declared.seen.Seen.{Seen}
 use Rattle.jop_core.specs.Bare.{Image, IsBare}
+use Rattle.jop_cli.specs.declared.words.RunCommand.{RunCommand}
+use Rattle.jop_cli.specs.declared.outcome.Refusal.{Refusal}
 use Rattle.jop_cli.specs.declared.outcome.Refusal.TheVariants.{Usage, TooBig, BadImage, NotBuilt}
 use Rattle.jop_cli.specs.declared.outcome.Ending.{Ending}
-use Rattle.jop_cli.specs.declared.outcome.Ending.TheVariants.{Ended, Refused, ReadFault, WriteFault, NoMemory}
+use Rattle.jop_cli.specs.declared.outcome.Ending.TheVariants.{Ended, Refused, Spent, ReadFault, WriteFault, NoMemory}
 use Rattle.jop_cli.specs.declared.outcome.Outcome.{Outcome}
 use Rattle.jop_cli.specs.declared.outcome.Outcome.TheVariants as outcomes
 use Rattle.jop_cli.specs.Command.{command_of}
 use Rattle.jop_cli.specs.Line.{line_of, write_fault_line}
-use Rattle.jop_cli.specs.Built.{IsBuilt}
-use Rattle.jop_cli.specs.Run.{RunsToEnd, RunsInPart}
-use Rattle.jop_cli.specs.Phase.{IsNotBuilt, IsNoImage}
+use Rattle.jop_cli.specs.Run.{RunsTo, RunsInPart}
+use Rattle.jop_cli.specs.Phase.{is_linked, IsNoImage}
 
--- what is told of files and out, and their counts of faults
+-- what is told of files, out and the watch, and the counts of faults of files and out
 pub record World : Type 0 where
   pub words : ℕ
   pub files : ℕ → Option (List ℕ)
   pub file_faults : ℕ → ℕ
   pub out : Option (List ℕ)
   pub out_faults : ℕ
+  pub watch : Option (List Seen)
 
-abbrev pub world : ℕ → (ℕ → Option (List ℕ)) → (ℕ → ℕ) → Option (List ℕ) → ℕ → World
-world words files file_faults out out_faults =
-    record { words = words; files = files; file_faults = file_faults; out = out; out_faults = out_faults }
+abbrev pub world : ℕ → (ℕ → Option (List ℕ)) → (ℕ → ℕ) → Option (List ℕ) → ℕ → Option (List Seen) → World
+world words files file_faults out out_faults watch =
+    record { words = words; files = files; file_faults = file_faults; out = out; out_faults = out_faults; watch = watch }
 
--- out is as it was
+-- out and the watch are as they were
 pub record IsQuiet (old new : World) : Type 0 where
   pub out : new.out ≡ old.out
   pub out_faults : new.out_faults ≡ old.out_faults
+  pub watch : new.watch ≡ old.watch
 
 -- of the files, at most that of a word was asked for
 pub record AskedOnly (word : ℕ) (old new : World) : Type 0 where
@@ -42,42 +46,54 @@ pub record AskedNone (old new : World) : Type 0 where
   pub contents : (k : ℕ) → new.files k ≡ old.files k
   pub counts : (k : ℕ) → new.file_faults k ≡ old.file_faults k
 
--- the words give the command `run` of a word, whose file alone was asked for
-pub record RunsWord (words : List (List ℕ)) (word : ℕ) (old new : World) : Type 0 where
-  pub command : command_of words ≡ Ok word
-  pub asked : AskedOnly word old new
+-- the words give a command `run`, and its image's file alone was asked for
+pub record Runs (words : List (List ℕ)) (command : RunCommand) (old new : World) : Type 0 where
+  pub command_is : command_of words ≡ Ok command
+  pub asked : AskedOnly command.image old new
 
 -- and these are the file's bytes
-pub record RunsBytes (words : List (List ℕ)) (bytes : List ℕ) (old new : World) : Type 0 where
-  pub word : ℕ
-  pub runs : RunsWord words word old new
-  pub whole : IsWhole (old.files word) bytes
+pub record RunsBytes (words : List (List ℕ)) (command : RunCommand) (bytes : List ℕ) (old new : World) : Type 0 where
+  pub runs : Runs words command old new
+  pub whole : IsWhole (old.files command.image) bytes
   pub short : length bytes ≤ 16777216
 
--- and these are those of an image that can be run
-pub record RunsImage (words : List (List ℕ)) (image : Image) (old new : World) : Type 0 where
+-- and these are those of an image
+pub record RunsImage (words : List (List ℕ)) (command : RunCommand) (image : Image) (old new : World) : Type 0 where
   pub bytes : List ℕ
-  pub runs : RunsBytes words bytes old new
+  pub runs : RunsBytes words command bytes old new
+  pub unlinked : is_linked bytes ≡ false
   pub bare : IsBare bytes image
-  pub built : IsBuilt image
+
+-- How a refusal of words or of an image comes about.
+abbrev pub RefusedFor : List (List ℕ) → World → World → Refusal → Type 0
+RefusedFor words old new (Usage k) = (command_of words ≡ Err k) × AskedNone old new
+RefusedFor words old new (TooBig operand sum) =
+    (command : RunCommand) × Runs words command old new × (operand ≡ command.image) × (16777216 < sum) × HasLength (old.files operand) sum
+RefusedFor words old new NotBuilt =
+    (command : RunCommand) × (bytes : List ℕ) × RunsBytes words command bytes old new × (is_linked bytes ≡ true)
+RefusedFor words old new BadImage =
+    (command : RunCommand) × (bytes : List ℕ) × RunsBytes words command bytes old new × IsNoImage bytes
 
 -- How the command of the words ends, each ending with its cause.
 abbrev pub Executed : List (List ℕ) → World → World → Ending → Type 0
-Executed words old new (Refused (Usage k)) = (command_of words ≡ Err k) × AskedNone old new × IsQuiet old new
-Executed words old new (Refused (TooBig operand sum)) =
-    RunsWord words operand old new × (16777216 < sum) × HasLength (old.files operand) sum × IsQuiet old new
-Executed words old new (Refused NotBuilt) = (bytes : List ℕ) × RunsBytes words bytes old new × IsNotBuilt bytes × IsQuiet old new
-Executed words old new (Refused BadImage) = (bytes : List ℕ) × RunsBytes words bytes old new × IsNoImage bytes × IsQuiet old new
+Executed words old new (Refused refusal) = RefusedFor words old new refusal × IsQuiet old new
 Executed words old new (Ended counts) =
-    (image : Image) × RunsImage words image old new × RunsToEnd image old.out new.out counts × (old.out_faults ≤ new.out_faults)
-Executed words old new ReadFault = (word : ℕ) × RunsWord words word old new × Rose (old.file_faults word) (new.file_faults word) × IsQuiet old new
+    (command : RunCommand) × (image : Image) × RunsImage words command image old new
+    × RunsTo image command.cycles true old.out new.out old.watch new.watch counts × (old.out_faults ≤ new.out_faults)
+Executed words old new (Spent counts) =
+    (command : RunCommand) × (image : Image) × RunsImage words command image old new
+    × RunsTo image command.cycles false old.out new.out old.watch new.watch counts × (command.cycles ≤ counts.clock) × (old.out_faults ≤ new.out_faults)
+Executed words old new ReadFault =
+    (command : RunCommand) × Runs words command old new × Rose (old.file_faults command.image) (new.file_faults command.image) × IsQuiet old new
 Executed words old new WriteFault =
-    (image : Image) × RunsImage words image old new × RunsInPart image old.out new.out × Rose old.out_faults new.out_faults
-Executed words old new NoMemory = (word : ℕ) × RunsWord words word old new × IsQuiet old new
+    (command : RunCommand) × (image : Image) × RunsImage words command image old new
+    × RunsInPart image command.cycles old.out new.out old.watch new.watch × Rose old.out_faults new.out_faults
+Executed words old new NoMemory = (command : RunCommand) × Runs words command old new × IsQuiet old new
 
 abbrev pub outcome_of : Ending → Outcome
 outcome_of (Ended counts) = outcomes.Ended
 outcome_of (Refused refusal) = outcomes.Refused refusal
+outcome_of (Spent counts) = outcomes.Spent
 outcome_of ReadFault = outcomes.ReadFault
 outcome_of WriteFault = outcomes.WriteFault
 outcome_of NoMemory = outcomes.NoMemory
@@ -86,9 +102,19 @@ outcome_of NoMemory = outcomes.NoMemory
 abbrev pub IsFault : Ending → Type 0
 IsFault (Ended counts) = ⊥
 IsFault (Refused refusal) = ⊥
+IsFault (Spent counts) = ⊥
 IsFault ReadFault = Unit {0}
 IsFault WriteFault = Unit {0}
 IsFault NoMemory = Unit {0}
+
+-- an outcome after which out and the watch are as they were
+abbrev pub LeavesOut : Outcome → Type 0
+LeavesOut outcomes.Ended = ⊥
+LeavesOut (outcomes.Refused refusal) = Unit {0}
+LeavesOut outcomes.Spent = ⊥
+LeavesOut outcomes.ReadFault = Unit {0}
+LeavesOut outcomes.WriteFault = ⊥
+LeavesOut outcomes.NoMemory = Unit {0}
 
 -- the whole line was put
 pub record SaidLine (line : List ℕ) (ending : Ending) (old new : Option (List ℕ)) (outcome : Outcome) : Type 0 where

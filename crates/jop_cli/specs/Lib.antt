@@ -1,8 +1,8 @@
-pub mod Bytecode
-pub mod Built
 pub mod Run
 pub mod Wired
 pub mod Command
+pub mod CommandRows
+pub mod Grammar
 pub mod Line
 pub mod Phase
 pub mod Answer

@@ -8,7 +8,7 @@ use Rattle.jop_cli.specs.declared.outcome.Counts.{Counts}
 use Rattle.jop_cli.specs.declared.outcome.Refusal.{Refusal}
 use Rattle.jop_cli.specs.declared.outcome.Refusal.TheVariants.{Usage, TooBig, BadImage, NotBuilt}
 use Rattle.jop_cli.specs.declared.outcome.Ending.{Ending}
-use Rattle.jop_cli.specs.declared.outcome.Ending.TheVariants.{Ended, Refused, ReadFault, WriteFault, NoMemory}
+use Rattle.jop_cli.specs.declared.outcome.Ending.TheVariants.{Ended, Refused, Spent, ReadFault, WriteFault, NoMemory}
 use Rattle.jop_cli.specs.Command.{text_at}
 
 -- pieces one after another
@@ -39,6 +39,7 @@ write_fault_line = codes "write fault\n"
 abbrev pub line_of : List (List ℕ) → Ending → List ℕ
 line_of words (Ended counts) = counts_line (codes "ended") counts
 line_of words (Refused refusal) = refusal_line words refusal
+line_of words (Spent counts) = counts_line (codes "spent") counts
 line_of words ReadFault = codes "read fault\n"
 line_of words WriteFault = write_fault_line
 line_of words NoMemory = codes "no memory\n"

@@ -1,8 +1,9 @@
--- What an output alone tells as the devices of a machine: it has no input, and notes nothing.
+-- What an output and a watch tell as the devices of a machine: there is no input, and nothing is noted.
 use Rattle.std.specs.Prelude.{ℕ, List, None}
 use Rattle.std.specs.declared.option.Option.{Option}
+use Rattle.jop_core.specs.declared.seen.Seen.{Seen}
 use Rattle.jop_core.specs.Told.{Told}
 
-abbrev pub wired : Option (List ℕ) → ℕ → Told
-wired held faults =
-    record { left = None; held = held; noted = None; handed = None; read_faults = 0; write_faults = faults; seen_faults = 0 }
+abbrev pub wired : (held : Option (List ℕ)) → (faults : ℕ) → (handed : Option (List Seen)) → Told
+wired held faults handed =
+    record { left = None; held = held; noted = None; handed = handed; read_faults = 0; write_faults = faults; seen_faults = 0 }

@@ -2,19 +2,20 @@
 ghost use Rattle.std.specs.Prelude.{◌∷◌, []};
 ghost use Rattle.jop_cli.specs.Wired.{wired};
 
-use jop_core::{DeviceFault, Devices, Seen};
+use jop_core::{DeviceFault, Devices, Seen, Watch};
 use jop_outside::{Sink, put_all};
 
-/// An output that is lent, and an input that is empty. Nobody looks at the states.
+/// An output and a watch that are lent, and an input that is empty.
 #[derive(Drop)]
-pub(crate) struct OutputDevice<'a, O: Sink> {
+pub(crate) struct RunDevice<'a, O: Sink, V: Watch> {
     pub out: &'a mut O,
+    pub watch: &'a mut V,
 }
 
-impl<'a, O: Sink> Devices for OutputDevice<'a, O> {
-    ghost told = { λ d. wired (O.held d.out.now) (O.faults d.out.now) };
+impl<'a, O: Sink, V: Watch> Devices for RunDevice<'a, O, V> {
+    ghost told = { λ d. wired (O.held d.out.now) (O.faults d.out.now) (V.held d.watch.now) };
 
-    ghost names = { λ d. d.out.ghost_name ∷ [] };
+    ghost names = { λ d. d.out.ghost_name ∷ d.watch.ghost_name ∷ [] };
 
     fn input(&mut self) -> Result<Option<u8>, DeviceFault> {
         Ok(None)
@@ -27,7 +28,8 @@ impl<'a, O: Sink> Devices for OutputDevice<'a, O> {
         }
     }
 
-    fn seen(&mut self, _at: Seen) -> Result<(), DeviceFault> {
+    fn seen(&mut self, at: Seen) -> Result<(), DeviceFault> {
+        self.watch.saw(at);
         Ok(())
     }
 

@@ -1,8 +1,8 @@
 //! The program: what it does with the words of its command line.
 #![tactic(auto)]
 
-mod built;
 mod devices;
+pub mod laws;
 mod lines;
 mod outcome;
 mod run;

@@ -19,7 +19,7 @@ fn put_pieces<O: Sink>(sink: &mut O, pieces: &[&[u8]]) -> Result<(), Failed>
     Ok(())
 }
 
-// Puts the line of a run that ended.
+// Puts the line of a run with its counts.
 fn put_counts<O: Sink>(sink: &mut O, label: &[u8], counts: Counts) -> Result<(), Failed>
     ensures put { PutLine (O.held sink.old) (O.held sink.new) (counts_line label.now counts) result }
     ensures cause { HasCause (O.faults sink.old) (O.faults sink.new) result }
@@ -82,6 +82,7 @@ pub(crate) fn put_line<O: Sink>(sink: &mut O, words: &[&str], ending: Ending) ->
 {
     match ending {
         Ending::Ended(counts) => put_counts(sink, b"ended", counts),
+        Ending::Spent(counts) => put_counts(sink, b"spent", counts),
         Ending::Refused(Refusal::Usage(k)) => put_number(sink, b"usage: word ", k),
         Ending::Refused(Refusal::TooBig(k, sum)) => put_too_big(sink, text_of(words, k), sum),
         Ending::Refused(Refusal::BadImage) => put_text(sink, b"bad image\n"),

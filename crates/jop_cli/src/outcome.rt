@@ -11,7 +11,7 @@ pub enum Refusal {
     TooBig(u32, u128),
     /// The file is in no image grammar.
     BadImage,
-    /// The image is of a kind that can't be run yet.
+    /// The image is a linked one, which can't be run yet.
     NotBuilt,
 }
 
@@ -22,6 +22,8 @@ pub enum Outcome {
     Ended,
     /// The command was refused.
     Refused(Refusal),
+    /// The run was stopped at the first boundary whose clock was at least the given count of cycles.
+    Spent,
     /// A file or the input failed.
     ReadFault,
     /// The output failed.
@@ -41,6 +43,7 @@ impl Outcome {
         match self {
             Outcome::Ended => 0,
             Outcome::Refused(_) => 2,
+            Outcome::Spent => 3,
             Outcome::ReadFault | Outcome::WriteFault => 4,
             Outcome::NoMemory => 5,
         }
@@ -60,6 +63,7 @@ pub(crate) struct Counts {
 pub(crate) enum Ending {
     Ended(Counts),
     Refused(Refusal),
+    Spent(Counts),
     ReadFault,
     WriteFault,
     NoMemory,

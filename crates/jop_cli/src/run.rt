@@ -1,46 +1,65 @@
-//! A run of the machine to its end.
-ghost use Rattle.std.specs.Prelude.{◌≡◌, ◌≤◌, ℕ};
-ghost use Rattle.jop_cli.specs.Run.{HaltsSoon, Finished};
+//! A run of the machine from reset to its end, or to its last cycle.
+ghost use Rattle.std.specs.Prelude.{◌≡◌, ◌<◌, ◌^◌};
+ghost use Rattle.jop_cli.specs.Run.{IsAtReset, FinishedAll};
 ghost use Rattle.jop_cli.specs.Wired.{wired};
 
-use crate::devices::OutputDevice;
-use jop_core::{Devices, Halt, Machine, Tick};
+use crate::devices::RunDevice;
+use bare_steps::step;
+use jop_core::{Devices, Machine, Watch};
 use jop_outside::Sink;
+use micro_sketch::step::Stepped;
 
 /// How a run ends.
 #[derive(Clone, Copy, Debug, PartialEq, Eq)]
 pub(crate) enum RunEnd {
+    /// The program returned from boot.
     Ended,
-    ReadFault,
+    /// At a boundary the clock was at least the limit.
+    Spent,
+    /// The output failed.
     WriteFault,
+    /// The device failed as it was handed a state.
     SeenFault,
 }
 
-// Runs a machine that halts soon until it has halted, or a device fails.
-fn run_with<const N: usize, D: Devices>(machine: &mut Machine<N>, device: &mut D) -> RunEnd
-    requires clock { machine.old.clock ≡ 0 }
-    requires halts { HaltsSoon machine.old }
-    ensures finished { Finished machine.old machine.new (D.told device.old) (D.told device.new) result }
+// Runs a machine from reset until it has halted, its clock is at least the limit at a boundary, or a device
+// fails.
+fn run_with<const N: usize, D: Devices>(
+    machine: &mut Machine<N>,
+    device: &mut D,
+    limit: u64,
+) -> RunEnd
+    requires reset { IsAtReset N machine.old }
+    requires few { limit < 2 ^ 63 }
+    ensures finished { FinishedAll N machine.old limit machine.new (D.told device.old) (D.told device.new) result }
     ensures names { D.names device.new ≡ D.names device.old }
 {
-    while machine.halt() == Halt::Running {
-        match machine.cycle(device) {
-            Tick::Went => {}
-            Tick::Halted => unreachable!(),
-            Tick::ReadFault => return RunEnd::ReadFault,
-            Tick::WriteFault => return RunEnd::WriteFault,
-            Tick::SeenFault => return RunEnd::SeenFault,
+    while machine.clock() < limit {
+        match step(machine, device) {
+            Stepped::Next => {}
+            Stepped::Halted => return RunEnd::Ended,
+            Stepped::WriteFault => return RunEnd::WriteFault,
+            Stepped::SeenFault => return RunEnd::SeenFault,
+            Stepped::Raise | Stepped::ReadFault => unreachable!(),
         }
     }
-    RunEnd::Ended
+    RunEnd::Spent
 }
 
-/// Runs a machine that halts soon until it has halted, or `out` fails.
-pub(crate) fn run<const N: usize, O: Sink>(machine: &mut Machine<N>, out: &mut O) -> RunEnd
-    requires clock { machine.old.clock ≡ 0 }
-    requires halts { HaltsSoon machine.old }
-    ensures { Finished machine.old machine.new (wired (O.held out.old) (O.faults out.old)) (wired (O.held out.new) (O.faults out.new)) result }
+/// Runs a machine from reset until it has halted, its clock is at least the limit at a boundary, or `out`
+/// fails. The watch is handed each state from which a cycle is done or tried.
+pub(crate) fn run<const N: usize, O: Sink, V: Watch>(
+    machine: &mut Machine<N>,
+    out: &mut O,
+    watch: &mut V,
+    limit: u64,
+) -> RunEnd
+    requires reset { IsAtReset N machine.old }
+    requires few { limit < 2 ^ 63 }
+    ensures { FinishedAll N machine.old limit machine.new
+        (wired (O.held out.old) (O.faults out.old) (V.held watch.old))
+        (wired (O.held out.new) (O.faults out.new) (V.held watch.new)) result }
 {
-    let mut device = OutputDevice { out };
-    run_with(machine, &mut device)
+    let mut device = RunDevice { out, watch };
+    run_with(machine, &mut device, limit)
 }

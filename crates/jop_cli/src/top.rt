@@ -1,17 +1,17 @@
 //! The top call.
-ghost use Rattle.std.specs.Prelude.{◌≡◌, ◌<◌, ◌≤◌, ◌^◌, ◌↔◌, length, IfOk, IfErr, IsTrue};
+ghost use Rattle.std.specs.Prelude.{◌≡◌, ◌<◌, ◌≤◌, ◌^◌, ◌↔◌, false, length, IfOk, IfErr, IsTrue, IsOk};
 ghost use Rattle.jop_outside.specs.Outside.{IsWhole, OnlyWord};
 ghost use Rattle.jop_core.specs.Bare.{IsImage, IsBare};
 ghost use Rattle.jop_cli.specs.Command.{texts};
-ghost use Rattle.jop_cli.specs.Built.{IsBuilt};
-ghost use Rattle.jop_cli.specs.Phase.{LoadFault, ImageFault, Ran};
-ghost use Rattle.jop_cli.specs.Answer.{world, Executed, Answered, Said, IsFault, outcome_of};
+ghost use Rattle.jop_cli.specs.Phase.{LoadFault, is_linked, ImageFault, Ran};
+ghost use Rattle.jop_cli.specs.Run.{AreCounts};
+ghost use Rattle.jop_cli.specs.Answer.{world, Executed, Answered, Said, IsFault, LeavesOut, outcome_of};
 
-use crate::built::is_built;
 use crate::lines::{put_line, put_text};
 use crate::outcome::{Counts, Ending, Outcome, Refusal};
 use crate::run::{RunEnd, run};
 use crate::words::read_words;
+use bare_steps::laws::reset_is_underway;
 use jop_core::{Bare, BareFault, Config, Machine, Watch, read_bare};
 use jop_outside::{Files, LONGEST_FILE, ReadAll, Sink, Source, read_all};
 use std::alloc::Global;
@@ -39,58 +39,75 @@ fn load<F: Files>(alloc: Global, files: &mut F, word: u32) -> Result<Vec<u8>, En
 // The image that the bytes are, where it can be run.
 fn image_of(alloc: Global, bytes: &[u8]) -> Result<Bare, Ending>
     ensures bare { IfOk result (IsBare bytes.now) }
-    ensures built { IfOk result IsBuilt }
+    ensures unlinked { IsOk result → is_linked bytes.now ≡ false }
     ensures fault { IfErr result (ImageFault bytes.now) }
 {
     if bytes.starts_with(b"JOPI") {
         return Err(Ending::Refused(Refusal::NotBuilt));
     }
     match read_bare(alloc, bytes) {
-        Ok(bare) => {
-            if is_built(bare.code()) {
-                Ok(bare)
-            } else {
-                Err(Ending::Refused(Refusal::NotBuilt))
-            }
-        }
+        Ok(bare) => Ok(bare),
         Err(BareFault::Bad) => Err(Ending::Refused(Refusal::BadImage)),
         Err(BareFault::NoMemory) => Err(Ending::NoMemory),
     }
 }
 
-// Runs an image from reset.
-fn run_image<O: Sink>(alloc: Global, bare: &Bare, out: &mut O) -> Ending
+// Runs an image from reset, up to a limit of cycles.
+fn run_image<O: Sink, V: Watch>(
+    alloc: Global,
+    bare: &Bare,
+    out: &mut O,
+    watch: &mut V,
+    limit: u64,
+) -> Ending
     requires grammar { IsImage bare.now }
-    requires built { IsBuilt bare.now }
-    ensures { Ran bare.now (O.held out.old) (O.held out.new) (O.faults out.old) (O.faults out.new) result }
+    requires few { limit < 2 ^ 63 }
+    ensures ran { Ran bare.now limit (O.held out.old) (O.held out.new) (V.held watch.old) (V.held watch.new)
+        (O.faults out.old) (O.faults out.new) result }
+    ensures leaves { LeavesOut (outcome_of result) → (out.new ≡ out.old) × (watch.new ≡ watch.old) }
 {
+    reset_is_underway();
     let Ok(mut machine) = Machine::<1024>::bare(alloc, bare, Config::default()) else {
         return Ending::NoMemory;
     };
-    match run(&mut machine, out) {
-        RunEnd::Ended => Ending::Ended(Counts {
-            clock: machine.clock(),
-            hits: machine.hits(),
-            misses: machine.misses(),
-        }),
+    match run(&mut machine, out, watch, limit) {
+        RunEnd::Ended => Ending::Ended(counts_of(&machine)),
+        RunEnd::Spent => Ending::Spent(counts_of(&machine)),
         RunEnd::WriteFault => Ending::WriteFault,
-        RunEnd::ReadFault | RunEnd::SeenFault => unreachable!(),
+        RunEnd::SeenFault => unreachable!(),
+    }
+}
+
+fn counts_of(machine: &Machine<1024>) -> Counts
+    ensures { AreCounts result machine.now }
+{
+    Counts {
+        clock: machine.clock(),
+        hits: machine.hits(),
+        misses: machine.misses(),
     }
 }
 
 // Does the command of the words, but for its line.
-fn execute<F: Files, O: Sink>(alloc: Global, words: &[&str], files: &mut F, out: &mut O) -> Ending
+fn execute<F: Files, O: Sink, V: Watch>(
+    alloc: Global,
+    words: &[&str],
+    files: &mut F,
+    out: &mut O,
+    watch: &mut V,
+) -> Ending
     requires words { length words.now ≡ F.words files.old }
     requires few { length words.now < 2 ^ 32 }
-    ensures { Executed (texts words.now)
-        (world (F.words files.old) (F.told files.old) (F.faults files.old) (O.held out.old) (O.faults out.old))
-        (world (F.words files.new) (F.told files.new) (F.faults files.new) (O.held out.new) (O.faults out.new)) result }
+    ensures executed { Executed (texts words.now)
+        (world (F.words files.old) (F.told files.old) (F.faults files.old) (O.held out.old) (O.faults out.old) (V.held watch.old))
+        (world (F.words files.new) (F.told files.new) (F.faults files.new) (O.held out.new) (O.faults out.new) (V.held watch.new)) result }
+    ensures leaves { LeavesOut (outcome_of result) → (out.new ≡ out.old) × (watch.new ≡ watch.old) }
 {
-    let word = match read_words(words) {
-        Ok(word) => word,
+    let command = match read_words(words) {
+        Ok(command) => command,
         Err(k) => return Ending::Refused(Refusal::Usage(k)),
     };
-    let bytes = match load(alloc, files, word) {
+    let bytes = match load(alloc, files, command.image) {
         Ok(bytes) => bytes,
         Err(ending) => return ending,
     };
@@ -98,7 +115,7 @@ fn execute<F: Files, O: Sink>(alloc: Global, words: &[&str], files: &mut F, out:
         Ok(bare) => bare,
         Err(ending) => return ending,
     };
-    run_image(alloc, &bare, out)
+    run_image(alloc, &bare, out, watch, command.cycles)
 }
 
 // Puts the line of an ending, and gives the outcome.
@@ -119,7 +136,7 @@ fn is_fault(ending: Ending) -> bool
     ensures { IsTrue result ↔ IsFault ending }
 {
     match ending {
-        Ending::Ended(_) | Ending::Refused(_) => false,
+        Ending::Ended(_) | Ending::Refused(_) | Ending::Spent(_) => false,
         Ending::ReadFault | Ending::WriteFault | Ending::NoMemory => true,
     }
 }
@@ -130,6 +147,7 @@ fn outcome_for(ending: Ending) -> Outcome
     match ending {
         Ending::Ended(_) => Outcome::Ended,
         Ending::Refused(refusal) => Outcome::Refused(refusal),
+        Ending::Spent(_) => Outcome::Spent,
         Ending::ReadFault => Outcome::ReadFault,
         Ending::WriteFault => Outcome::WriteFault,
         Ending::NoMemory => Outcome::NoMemory,
@@ -138,7 +156,8 @@ fn outcome_for(ending: Ending) -> Outcome
 
 /// Does all that the program does, and puts one line that says how it ended into `err`.
 ///
-/// Word k names file k. `run` of an image puts the program's output into `out`.
+/// Word k names file k. `run` of an image puts the program's output into `out`, and hands the registers of
+/// each state of the machine, from reset on, from which a cycle was done or tried to `watch`.
 pub fn jop<F: Files, S: Source, O: Sink, E: Sink, V: Watch>(
     alloc: Global,
     words: &[&str],
@@ -151,14 +170,13 @@ pub fn jop<F: Files, S: Source, O: Sink, E: Sink, V: Watch>(
     requires words { length words.now ≡ F.words files.old }
     requires few { length words.now < 2 ^ 32 }
     ensures answered { Answered (texts words.now)
-        (world (F.words files.old) (F.told files.old) (F.faults files.old) (O.held out.old) (O.faults out.old))
-        (world (F.words files.new) (F.told files.new) (F.faults files.new) (O.held out.new) (O.faults out.new))
+        (world (F.words files.old) (F.told files.old) (F.faults files.old) (O.held out.old) (O.faults out.old) (V.held watch.old))
+        (world (F.words files.new) (F.told files.new) (F.faults files.new) (O.held out.new) (O.faults out.new) (V.held watch.new))
         (E.held err.old) (E.held err.new) (E.faults err.old) (E.faults err.new) result }
+    ensures leaves { LeavesOut result → (out.new ≡ out.old) × (watch.new ≡ watch.old) }
     ensures input { input.new ≡ input.old }
-    ensures watch { watch.new ≡ watch.old }
 {
     let _ = input;
-    let _ = watch;
-    let ending = execute(alloc, words, files, out);
+    let ending = execute(alloc, words, files, out, watch);
     say(err, words, ending)
 }

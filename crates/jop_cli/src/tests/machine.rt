@@ -2,8 +2,8 @@
 
 ghost use Rattle.std.specs.Prelude.{◌<◌};
 
-use crate::devices::OutputDevice;
-use jop_core::{Config, Halt, Machine, Tick, read_bare};
+use crate::devices::RunDevice;
+use jop_core::{Config, Halt, Machine, NoWatch, Tick, read_bare};
 use jop_outside::SureSink;
 use microcode_rom::entry;
 use std::test::Fail;
@@ -142,7 +142,10 @@ fn keeps_to_the_table_for_a_thousand_cycles(rt: HostRuntime) -> Result<(), Fail>
     assert_eq!(rt; bare.code().len(), 1000);
     let mut machine = Machine::<1024>::bare(alloc, &bare, Config::default())?;
     let mut out = SureSink::new(alloc);
-    let mut device = OutputDevice { out: &mut out };
+    let mut device = RunDevice {
+        out: &mut out,
+        watch: &mut NoWatch,
+    };
     for clock in 0..999 {
         assert_eq!(rt; registers_of(&machine), worked_out(clock));
         assert!(rt; machine.clock() < 1000);

@@ -1,34 +1,37 @@
-use Rattle.std.proofs.Common.{◌≡◌, rules, refl, ◌∙◌, arith}
-use Rattle.jop_core.specs.declared.halt.Halt.TheVariants.{Running}
-use Rattle.jop_cli.proofs.Cycling.{running_none, running_on, quiet_now, broke_at}
+use Rattle.std.proofs.Common.{refl, ◌∙◌, arith}
+use Rattle.bare_steps.specs.Bytecode.{run_of}
+use Rattle.jop_cli.proofs.Marching.{far_none, far_next, has_image, never_raises, clock_rises, finished_ended, finished_spent, finished_fault}
 use Rattle.jop_cli.proofs.run.run_with.Goals as goal
 
 pub loop-machine-init : goal.loop-machine-init
-loop-machine-init g c = record { names = refl; far = running_none _ _ _ c.requires.clock }
+loop-machine-init g c = record { names = refl; far = λ image underway. far_none _ image _ c.args.limit _ underway c.requires.reset.clock }
+
+pub step-requires : goal.step-requires
+step-requires g c = (omega arith, (has_image _ _ _ _ _ _ c.requires.reset c.loop-machine.invariant.far, omega (arith, c.loop-machine-test.true, c.clock.ensures, c.requires.few)))
+
+pub loop-machine-smaller : goal.loop-machine-smaller
+loop-machine-smaller g c = omega (arith, c.loop-machine-test.true, c.clock.ensures, clock_rises _ _ _ _ c.in-Next.ensures.went.0)
 
 pub loop-machine-preserved : goal.loop-machine-preserved
-loop-machine-preserved g c =
-    let going : c.loop-machine.machine.halt ≡ Running = search rules in
-    let quiet = quiet_now _ _ _ _ _ c.requires.halts c.loop-machine.invariant.far going in
-    record {
-      names = c.in-Went.ensures.names ∙ c.loop-machine.invariant.names;
-      far = running_on c.loop-machine.machine.clock c.cycle.new.self.clock _ _ _ _ _ _ (c.in-Went.ensures.clock refl) c.loop-machine.invariant.far quiet c.in-Went.ensures.ticked;
-    }
+loop-machine-preserved g c = record {
+  names = c.in-Next.ensures.names ∙ c.loop-machine.invariant.names;
+  far = λ image underway.
+      let far = c.loop-machine.invariant.far image underway in
+      far_next _ image _ _ _ _ _ _ _ c.requires.reset.clock far (omega (arith, c.loop-machine-test.true, c.clock.ensures)) c.in-Next.ensures.went (c.in-Next.ensures.steps image (run_of image far.steps) far.underway far.going);
+}
 
-pub returns-in-ReadFault-clause-finished : goal.returns-in-ReadFault-clause-finished
-returns-in-ReadFault-clause-finished g c =
-    let going : c.loop-machine.machine.halt ≡ Running = search rules in
-    let tick = c.in-ReadFault.ensures.ticked in
-    (c.loop-machine.machine.clock, broke_at _ _ _ _ _ _ _ _ c.loop-machine.invariant.far going tick.2, omega (arith, tick.5, c.loop-machine.invariant.far.cycled.counts.reads))
+pub returns-in-Halted-clause-finished : goal.returns-in-Halted-clause-finished
+returns-in-Halted-clause-finished g c = λ image underway.
+    let far = c.loop-machine.invariant.far image underway in
+    finished_ended _ image _ _ _ _ _ _ _ c.requires.reset.clock far (omega (arith, c.loop-machine-test.true, c.clock.ensures)) c.in-Halted.ensures.went (c.in-Halted.ensures.steps image (run_of image far.steps) far.underway far.going)
 
 pub returns-in-WriteFault-clause-finished : goal.returns-in-WriteFault-clause-finished
-returns-in-WriteFault-clause-finished g c =
-    let going : c.loop-machine.machine.halt ≡ Running = search rules in
-    let tick = c.in-WriteFault.ensures.ticked in
-    (c.loop-machine.machine.clock, broke_at _ _ _ _ _ _ _ _ c.loop-machine.invariant.far going tick.2, omega (arith, tick.5, c.loop-machine.invariant.far.cycled.counts.writes))
+returns-in-WriteFault-clause-finished g c = λ image underway.
+    let far = c.loop-machine.invariant.far image underway in
+    finished_fault _ image _ _ _ _ _ _ _ far (omega (arith, c.loop-machine-test.true, c.clock.ensures)) c.in-WriteFault.ensures.went (c.in-WriteFault.ensures.steps image (run_of image far.steps) far.underway far.going)
 
-pub returns-in-SeenFault-clause-finished : goal.returns-in-SeenFault-clause-finished
-returns-in-SeenFault-clause-finished g c =
-    let going : c.loop-machine.machine.halt ≡ Running = search rules in
-    let tick = c.in-SeenFault.ensures.ticked in
-    (c.loop-machine.machine.clock, broke_at _ _ _ _ _ _ _ _ c.loop-machine.invariant.far going tick.2, omega (arith, tick.4, c.loop-machine.invariant.far.cycled.counts.sees))
+pub unreachable-requires : goal.unreachable-requires
+unreachable-requires g c = never_raises _ _ _ _ _ _ _ _ _ c.requires.reset c.loop-machine.invariant.far c.in-Raise.is c.step.ensures.steps
+
+pub returns-clause-finished : goal.returns-clause-finished
+returns-clause-finished g c = λ image underway. finished_spent _ image _ _ _ _ _ (c.loop-machine.invariant.far image underway) (omega (arith, c.loop-machine-test.false, c.clock.ensures))

@@ -1,5 +1,5 @@
 use Rattle.std.proofs.Common.{arith, refl, inr}
-use Rattle.jop_cli.proofs.WholeRun.{fits_cache}
+use Rattle.jop_cli.proofs.FromReset.{fits_cache}
 use Rattle.jop_cli.proofs.tests.machine.keeps_to_the_table_for_a_thousand_cycles.Goals as goal
 
 pub bare-requires : goal.bare-requires
