@@ -1,9 +1,9 @@
--- What an output and a watch tell as the devices of a machine: there is no input, and nothing is noted.
-use Rattle.std.specs.Prelude.{ℕ, List, None}
+-- What an output and a watch tell as the devices of a machine: the input has ended, and nothing is noted.
+use Rattle.std.specs.Prelude.{ℕ, List, [], None, Some}
 use Rattle.std.specs.declared.option.Option.{Option}
 use Rattle.jop_core.specs.declared.seen.Seen.{Seen}
 use Rattle.jop_core.specs.Told.{Told}
 
 abbrev pub wired : (held : Option (List ℕ)) → (faults : ℕ) → (handed : Option (List Seen)) → Told
 wired held faults handed =
-    record { left = None; held = held; noted = None; handed = handed; read_faults = 0; write_faults = faults; seen_faults = 0 }
+    record { left = Some []; held = held; noted = None; handed = handed; read_faults = 0; write_faults = faults; seen_faults = 0 }

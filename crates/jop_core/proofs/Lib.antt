@@ -1,6 +1,5 @@
 pub mod Tells
 pub mod OneCycle
-pub mod ManyCycles
 pub mod ResetWords
 pub mod Packs
 pub mod Scanned

@@ -8,6 +8,5 @@ pub mod Bare
 pub mod Scan
 pub mod Told
 pub mod Ticked
-pub mod Cycles
 pub mod Scene
 pub mod Watched
