@@ -10,7 +10,7 @@ use Rattle.loop_nest.specs.Walks.{Walk, turns}
 use Rattle.loop_nest.specs.Walks.Walk.{stay, along}
 use Rattle.path_solver.specs.Bounded.{BoundedLoop, holds, entries_from, entries, cost_of_nodes, cost_of_entries, cost_of, IsKept, IsBoundedWalk}
 use Rattle.path_solver.specs.Section.{Certified, PricedLoop, bounded, fee, headed_by, headed_fee, entry_fee, potential, with_fee}
-use Rattle.path_solver.specs.Conditions.{DescendsTo, Descends, DescendsFrom, EdgesHold, ExitsHold, IsWorth, natural, natural_of, value_of}
+use Rattle.path_solver.specs.Conditions.{DescendsTo, Descends, DescendsFrom, EdgesHold, ExitsHold, ExitHolds, IsWorth, natural, natural_of, value_of}
 use Rattle.path_solver.proofs.Elements.{has_or_not, map_contains, contains_from_holds, holds_from_contains}
 use Rattle.path_solver.proofs.Sums.{sum_by-plus, sum_by-zero, load_of, left_after, worth_before, worth_after, paid, credit, debit, worth_falls}
 use Rattle.path_solver.proofs.Sound.{AreSound}
@@ -40,7 +40,7 @@ not_counted l x other = cond-false (eqb x l.certified.header) 1 0 (ne_eqb x l.ce
 same_head : (x y : ℕ) (xs ys : List ℕ) → x ∷ xs ≡ y ∷ ys → x ≡ y
 same_head x y xs ys e = cc
 
-abbrev inside_of : ℕ → PricedLoop → Bool
+abbrev pub inside_of : ℕ → PricedLoop → Bool
 inside_of u l = holds l.certified.members u
 
 left_bound : (inside : PricedLoop → Bool) (left : PricedLoop → ℕ) (v : ℕ) (l : PricedLoop) → inside l ≡ false → left_after inside left v l ≡ l.bound
@@ -98,20 +98,29 @@ descends_by inside cost u p q (Some l) is h =
     let Q : Bool → Type 0 = λ b. ((pos cost +ℤ q) +ℤ pos (cond b 0 (fee l))) ≤ℤ (p +ℤ pos (cond b l.certified.worth 0)) in
     subst Q (sym (is l)) (go (holds l.certified.members u) h)
 
-abbrev entered_later : ℕ → List ℕ → PricedLoop → ℕ
+abbrev pub entered_later : ℕ → List ℕ → PricedLoop → ℕ
 entered_later u rest l = load_of l * entries_from (inside_of u l) l.certified.members rest
 
--- the rest of a walk costs no more than the potential of its node, and the turns that are left of the loops around it
-record IsPaid (costs : List ℕ) (c : Certified) (ls : List PricedLoop) (u : ℕ) (rest : List ℕ) (left : PricedLoop → ℕ) : Type 0 where
-  potential_of : ℤ
-  listed : potential c.nodes u ≡ Some potential_of
-  most : pos (cost_of_nodes costs (u ∷ rest) + sum_by (entered_later u rest) ls) ≤ℤ (potential_of +ℤ pos (sum_by (worth_before (inside_of u) left) ls))
+-- the potential of u is at least its cost and what is due after it
+pub record Covers (costs : List ℕ) (c : Certified) (u : ℕ) (due : ℤ) : Type 0 where
+  pub potential_of : ℤ
+  pub listed : potential c.nodes u ≡ Some potential_of
+  pub enough : (pos (slice_index costs u) +ℤ due) ≤ℤ potential_of
 
-listed_worth : (cost : ℕ) (o : Option ℤ) → IsWorth cost o → (p : ℤ) × (o ≡ Some p) × (pos cost ≤ℤ p)
-listed_worth cost None h = absurd h
-listed_worth cost (Some p) h = (p, refl, h)
+-- the rest of a walk, with what is due after it, costs no more than the potential of its node, and the turns that are left of the loops around it
+pub record IsPaid (costs : List ℕ) (c : Certified) (ls : List PricedLoop) (u : ℕ) (rest : List ℕ) (left : PricedLoop → ℕ) (due : ℤ) : Type 0 where
+  pub potential_of : ℤ
+  pub listed : potential c.nodes u ≡ Some potential_of
+  pub most : (pos (cost_of_nodes costs (u ∷ rest) + sum_by (entered_later u rest) ls) +ℤ due) ≤ℤ (potential_of +ℤ pos (sum_by (worth_before (inside_of u) left) ls))
 
-source_listed : (o : Option PricedLoop) (cost u : ℕ) (a b : Option ℤ) (q : ℤ) → b ≡ Some q → DescendsFrom o cost u a b → (p : ℤ) × (a ≡ Some p) × Descends o cost u p q
+exit_covers : (costs : List ℕ) (c : Certified) (u : ℕ) → ExitHolds costs c u → Covers costs c u (pos 0)
+exit_covers costs c u holds_there =
+    let cost = slice_index costs u in
+    let P : Option ℤ → Type 0 = λ o. potential c.nodes u ≡ o → IsWorth cost o → Covers costs c u (pos 0) in
+    let go : (o : Option ℤ) → P o = elim [ None ↦ λ is h. absurd h | Some z ↦ λ is h. record { potential_of = z; listed = is; enough = omega (arith, ints) } ] in
+    go (potential c.nodes u) refl holds_there
+
+pub source_listed : (o : Option PricedLoop) (cost u : ℕ) (a b : Option ℤ) (q : ℤ) → b ≡ Some q → DescendsFrom o cost u a b → (p : ℤ) × (a ≡ Some p) × Descends o cost u p q
 source_listed o cost u a b q is h =
     let P : Option ℤ → Type 0 = λ z. DescendsFrom o cost u a z in
     let go : (z : Option ℤ) → DescendsFrom o cost u z (Some q) → (p : ℤ) × (z ≡ Some p) × Descends o cost u p q = elim [ None ↦ λ k. absurd k | Some p ↦ λ k. (p, refl, k) ] in
@@ -126,7 +135,7 @@ more_entries u v rest [] = refl
 more_entries u v rest (l ∷ ls) =
     omega (arith, sum_by-cons (entered_later u (v ∷ rest)) l ls, sum_by-cons (paid (inside_of u) v) l ls, sum_by-cons (entered_later v rest) l ls, more_entries u v rest ls)
 
-module _ (g : Digraph) (costs : List ℕ) (c : Certified) (ls : List PricedLoop) (sound : AreSound g ls) (edges : EdgesHold g costs c ls) (exits : ExitsHold g costs c) where
+module _ (g : Digraph) (costs : List ℕ) (c : Certified) (ls : List PricedLoop) (sound : AreSound g ls) (edges : EdgesHold g costs c ls) (due : ℤ) where
   -- the loops that hold u, or that hold v and are headed by it, are all that an edge from u to v meets
   enters_only : (u v : ℕ) → Edge g u v → (l : PricedLoop) → Contains ls l → (l.certified.header ≡ v → ⊥) → holds l.certified.members v ≡ true → inside_of u l ≡ true
   enters_only u v e l has other held =
@@ -139,7 +148,7 @@ module _ (g : Digraph) (costs : List ℕ) (c : Certified) (ls : List PricedLoop)
   held_by_own v l has same = let P : ℕ → Type 0 = λ x. Contains l.certified.members x in subst P same (sound.own l has)
 
   paid_along : (u v : ℕ) (rest : List ℕ) (left : PricedLoop → ℕ) → Edge g u v → ((l : PricedLoop) → Contains ls l → IsKeptFrom (u ∷ v ∷ rest) l (left l))
-      → IsPaid costs c ls v rest (left_after (inside_of u) left v) → IsPaid costs c ls u (v ∷ rest) left
+      → IsPaid costs c ls v rest (left_after (inside_of u) left v) due → IsPaid costs c ls u (v ∷ rest) left due
   paid_along u v rest left e kept ih =
       let cost = slice_index costs u in
       let after = left_after (inside_of u) left v in
@@ -155,25 +164,24 @@ module _ (g : Digraph) (costs : List ℕ) (c : Certified) (ls : List PricedLoop)
       let d = sum_by-cons (λ (x : ℕ). slice_index costs x) u (v ∷ rest) in
       record { potential_of = from.0; listed = from.1; most = omega (arith, ints) }
 
-  paid_at_exit : (u : ℕ) → Contains g.exits u → (left : PricedLoop → ℕ) → IsPaid costs c ls u [] left
-  paid_at_exit u exit left =
-      let worth = listed_worth (slice_index costs u) (potential c.nodes u) (exits u exit) in
-      let enough = worth.2 in
+  paid_at_end : (u : ℕ) → Covers costs c u due → (left : PricedLoop → ℕ) → IsPaid costs c ls u [] left due
+  paid_at_end u end left =
+      let enough = end.enough in
       let a = no_entries u ls in
       let b = sum_by-cons (λ (x : ℕ). slice_index costs x) u [] in
-      record { potential_of = worth.0; listed = worth.1; most = omega (arith, ints) }
+      record { potential_of = end.potential_of; listed = end.listed; most = omega (arith, ints) }
 
-  paid_for : {u x : ℕ} {ns : List ℕ} → Walk g u x ns → Contains g.exits x → (rest : List ℕ) → ns ≡ u ∷ rest → (left : PricedLoop → ℕ) → ((l : PricedLoop) → Contains ls l → IsKeptFrom ns l (left l)) → IsPaid costs c ls u rest left
-  paid_for (stay {u}) exit rest is left kept = let P : List ℕ → Type 0 = λ zs. IsPaid costs c ls u zs left in let e : [] ≡ rest = cc in subst P e (paid_at_exit u exit left)
-  paid_for (along {u} {v} {w} {ns} e t) exit rest is left kept =
+  pub paid_for : {u x : ℕ} {ns : List ℕ} → Walk g u x ns → Covers costs c x due → (rest : List ℕ) → ns ≡ u ∷ rest → (left : PricedLoop → ℕ) → ((l : PricedLoop) → Contains ls l → IsKeptFrom ns l (left l)) → IsPaid costs c ls u rest left due
+  paid_for (stay {u}) end rest is left kept = let P : List ℕ → Type 0 = λ zs. IsPaid costs c ls u zs left due in let e : [] ≡ rest = cc in subst P e (paid_at_end u end left)
+  paid_for (along {u} {v} {w} {ns} e t) end rest is left kept =
       let b = begins t in
       let P : List ℕ → Type 0 = λ zs.
-      ((turns_left : PricedLoop → ℕ) → ((l : PricedLoop) → Contains ls l → IsKeptFrom zs l (turns_left l)) → IsPaid costs c ls v b.0 turns_left)
-      → ((l : PricedLoop) → Contains ls l → IsKeptFrom (u ∷ zs) l (left l)) → IsPaid costs c ls u (v ∷ b.0) left
+      ((turns_left : PricedLoop → ℕ) → ((l : PricedLoop) → Contains ls l → IsKeptFrom zs l (turns_left l)) → IsPaid costs c ls v b.0 turns_left due)
+      → ((l : PricedLoop) → Contains ls l → IsKeptFrom (u ∷ zs) l (left l)) → IsPaid costs c ls u (v ∷ b.0) left due
       in
       let go : P (v ∷ b.0) = λ ih k. paid_along u v b.0 left e k (ih (left_after (inside_of u) left v) (λ l has. kept_on u v b.0 l left (k l has))) in
-      let r = subst P (sym b.1) go (λ turns_left k. paid_for t exit b.0 b.1 turns_left k) kept in
-      let Q : List ℕ → Type 0 = λ zs. IsPaid costs c ls u zs left in
+      let r = subst P (sym b.1) go (λ turns_left k. paid_for t end b.0 b.1 turns_left k) kept in
+      let Q : List ℕ → Type 0 = λ zs. IsPaid costs c ls u zs left due in
       let tail : v ∷ b.0 ≡ rest = cc (b.1, is) in
       subst Q tail r
 
@@ -202,7 +210,8 @@ value_bounds g costs c ls sound edges exits ns bounded_walk =
     let keeps = All-contains (IsKept ns) (map bounded ls) (bounded l) bounded_walk.kept (map_contains bounded ls l has) in
     record { now = λ in_loop after e all. keeps [] in_loop after e all; later = keeps }
     in
-    let paid_all = paid_for g costs c ls sound edges exits bounded_walk.walk bounded_walk.exit b.0 b.1 bound kept in
+    let end = exit_covers costs c bounded_walk.last (exits bounded_walk.last bounded_walk.exit) in
+    let paid_all = paid_for g costs c ls sound edges (pos 0) bounded_walk.walk end b.0 b.1 bound kept in
     let falls =
     worth_falls out bound 0 ls sound.apart (λ l has other held. absurd (other (sound.entry l has (contains_from_holds l.certified.members 0 held))))
     (λ l has same. holds_from_contains l.certified.members 0 (let P : ℕ → Type 0 = λ x. Contains l.certified.members x in subst P same (sound.own l has))) (λ l has same t. absurd (false≢true t))

@@ -40,7 +40,7 @@ linked_take : (g : Digraph) (ns after : List ℕ) → AreLinked g (ns ++ after) 
 linked_take g [] after h = tt
 linked_take g (u ∷ ns) after h = (leads_take g u ns after h.0, linked_take g ns after h.1)
 
-count_none : (h : ℕ) (ns : List ℕ) → (Contains ns h → ⊥) → count_by (λ x. eqb x h) ns ≡ 0
+pub count_none : (h : ℕ) (ns : List ℕ) → (Contains ns h → ⊥) → count_by (λ x. eqb x h) ns ≡ 0
 count_none h [] none = refl
 count_none h (n ∷ ns) none =
     let f : ℕ → ℕ = λ x. cond (eqb x h) 1 0 in
@@ -88,7 +88,7 @@ module _ (g part : Digraph) (ls : List PricedLoop) (sound : AreSound g ls) (with
             ]
       ]
 
-  header_dominates : (x : ℕ) → Holds x → Dominates part h x
+  pub header_dominates : (x : ℕ) → Holds x → Dominates part h x
   header_dominates x inside ns w =
       elim (visits w inside) [
         | inl visited ↦ visited

@@ -1,5 +1,5 @@
 -- Lists of numbers that rise, and what a binary search finds in them.
-use Rattle.std.proofs.Common.{◌≡◌, ℕ, zero, suc, ◌<◌, ◌≤◌, ℤ, pos, true, false, ltb, eqb, List, [], ◌∷◌, length, get_or, Contains, Some, None, refl, sym, ap, ◌∙◌, inl, inr, arith}
+use Rattle.std.proofs.Common.{◌≡◌, ℕ, zero, suc, ◌-◌, ◌<◌, ◌≤◌, ℤ, pos, true, false, ltb, eqb, List, [], ◌∷◌, length, get_or, Contains, Some, None, refl, sym, ap, ◌∙◌, inl, inr, arith}
 use Rattle.std.specs.List.Sorted.{IsStrictlyIncreasing, IsNonDecreasingBy, IsPartitionPoint}
 use Rattle.std.proofs.lemmas.Bool.{cases_order, cases_lt, eq-eqb, ne_eqb, cond-true, cond-false, ltb-true, ltb-false}
 use Rattle.std.proofs.lemmas.List.{get_or-map, get_or_default}
@@ -22,6 +22,20 @@ rising_all xs h i j le below =
             | inr gt ↦ absurd (omega arith)
           ]
     ]
+
+-- what stands in a rising list lies between its first and its last number
+pub above_first : (xs : List ℕ) → IsStrictlyIncreasing xs → (u : ℕ) → Contains xs u → get_or xs 0 0 ≤ u
+above_first xs h u has =
+    let at = get_or_default xs has.0 0 u has.1 ∙ has.2 in
+    let up = rising_all xs h 0 has.0 (omega arith) has.1 in
+    omega arith
+
+pub below_last : (xs : List ℕ) → IsStrictlyIncreasing xs → (u : ℕ) → Contains xs u → u ≤ get_or xs (length xs - 1) 0
+below_last xs h u has =
+    let below = has.1 in
+    let at = get_or_default xs has.0 0 u has.1 ∙ has.2 in
+    let up = rising_all xs h has.0 (length xs - 1) (omega arith) (omega arith) in
+    omega arith
 
 pub listed_at : (ps : List (ℕ × ℤ)) (k : ℕ) → k < length ps → get_or (listed ps) k 0 ≡ (get_or ps k (0, pos 0)).0
 listed_at ps k below = get_or-map (λ (p : ℕ × ℤ). p.0) ps k (0, pos 0) 0 below

@@ -1,10 +1,11 @@
 -- What accepted sections show.
-use Rattle.std.specs.Prelude.{ℕ, ◌≤◌, List, map, All, Contains, Option, MatchOption}
+use Rattle.std.specs.Prelude.{◌≡◌, ℕ, ◌≤◌, List, map, All, Contains, Option, None, MatchOption}
 use Rattle.loop_nest.specs.Digraph.{Digraph, Edge}
 use Rattle.loop_nest.specs.Walks.{Walk, IsHeader, KeepsBound}
 use Rattle.path_solver.specs.Bounded.{BoundedLoop, IsBoundedWalk, IsKept, cost_of}
 use Rattle.path_solver.specs.Section.{Certified, PricedLoop, priced, bounded}
 use Rattle.path_solver.specs.Placing.{AreWellPlaced}
+use Rattle.path_solver.specs.Conditions.{IsAccepted, value_of}
 
 -- no bounded walk costs more than this value, and where there is no value there is no such walk
 abbrev pub BoundsWalks : Digraph → List ℕ → List BoundedLoop → Option ℕ → Type 0
@@ -20,3 +21,9 @@ OwnBoundsSuffice =
     (g part : Digraph) (c : Certified) (bounds : List ℕ) (loads : List (Option ℕ)) → AreWellPlaced g c bounds loads → ((u v : ℕ) → Edge part u v → Edge g u v)
     → (last : ℕ) (ns : List ℕ) → Walk part 0 last ns → ((l : PricedLoop) → Contains (priced c.loops bounds loads) l → IsHeader part l.certified.header → KeepsBound part l.certified.header l.bound ns)
     → All (IsKept ns) (loops_of c bounds loads)
+
+-- where an accepted section has no value, no exit is reached from node 0, whatever the bounds
+abbrev pub NoValueNoExit : Type 0
+NoValueNoExit =
+    (g : Digraph) (costs : List ℕ) (c : Certified) (bounds : List ℕ) (loads : List (Option ℕ)) → IsAccepted g costs c bounds loads → value_of c (priced c.loops bounds loads) ≡ None
+    → (exit : ℕ) (ns : List ℕ) → Contains g.exits exit → ¬ Walk g 0 exit ns

@@ -5,3 +5,15 @@ pub mod Heading
 pub mod Least
 pub mod Conditions
 pub mod Laws
+pub mod Longest
+pub mod Solution
+pub mod Reaching
+pub mod Ordering
+pub mod Distances
+pub mod Passages
+pub mod Turning
+pub mod Certifying
+pub mod Totals
+pub mod Turns
+pub mod Potentials
+pub mod Problem

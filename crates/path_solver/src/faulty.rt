@@ -8,11 +8,27 @@ ghost use Rattle.path_solver.specs.Least.{IsLeast, Meet, IsWithin};
 use super::lookups::has;
 use super::section::CertLoop;
 
+/// Whether all of the nodes `a` come before those of `b`.
+fn comes_before(a: &[u32], b: &[u32]) -> bool
+    requires a { IsStrictlyIncreasing a.now }
+    requires b { IsStrictlyIncreasing b.now }
+    ensures { IsTrue result → ¬ Meet a.now b.now }
+{
+    match (a.last(), b.first()) {
+        (Some(last), Some(first)) => last < first,
+        _ => true,
+    }
+}
+
 /// Whether one of the nodes `a` is one of the nodes `b`.
 fn meets(a: &[u32], b: &[u32]) -> bool
-    requires { IsStrictlyIncreasing b.now }
+    requires a { IsStrictlyIncreasing a.now }
+    requires b { IsStrictlyIncreasing b.now }
     ensures { IsTrue result ↔ Meet a.now b.now }
 {
+    if comes_before(a, b) || comes_before(b, a) {
+        return false;
+    }
     for u in a {
         if has(b, *u) {
             return true;

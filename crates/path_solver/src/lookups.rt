@@ -6,12 +6,23 @@ ghost use Rattle.path_solver.specs.Heading.{NoneHeads, IsFirstHeaded};
 
 use super::section::CertLoop;
 
+/// Whether `u` is in the range from the first to the last of these nodes.
+fn spans(nodes: &[u32], u: u32) -> bool
+    requires { IsStrictlyIncreasing nodes.now }
+    ensures { Contains nodes.now u → IsTrue result }
+{
+    match (nodes.first(), nodes.last()) {
+        (Some(first), Some(last)) => *first <= u && u <= *last,
+        _ => false,
+    }
+}
+
 /// Whether `u` is among these nodes.
 pub fn has(nodes: &[u32], u: u32) -> bool
     requires { IsStrictlyIncreasing nodes.now }
     ensures { IsTrue result ↔ Contains nodes.now u }
 {
-    nodes.binary_search(&u).is_ok()
+    spans(nodes, u) && nodes.binary_search(&u).is_ok()
 }
 
 /// The potential of `u`, if it is listed.

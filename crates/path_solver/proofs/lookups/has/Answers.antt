@@ -1,5 +1,5 @@
 use Rattle.std.proofs.Common.{◌≡◌, ℕ, ◌<◌, ◌≤◌, List, length, get_or, Contains, Result, Ok, Err, is_ok, ◌↔◌, MatchResult, sym, ◌∙◌, inl, inr, refl, arith, true}
-use Rattle.std.proofs.lemmas.Bool.{cases_lt, false≢true}
+use Rattle.std.proofs.lemmas.Bool.{cases_lt, both_ways, false≢true}
 use Rattle.std.proofs.lemmas.List.{get_or_default}
 use Rattle.std.proofs.lemmas.List.Sorted.{searched}
 use Rattle.path_solver.proofs.Rising.{rising_all}
@@ -17,8 +17,11 @@ told xs x (Err i) h = (
       ],
 )
 
-pub returns : goal.returns
-returns c =
+pub returns-then-spans : goal.returns-then-spans
+returns-then-spans c =
     let xs = c.args.nodes.now in
     let all = told xs c.args.u c.binary_search.result (searched xs c.args.u c.binary_search.result c.binary_search.ensures.position (rising_all xs c.requires)) in
     (λ t. all.0 (sym c.is_ok.ensures.value ∙ t), λ has. c.is_ok.ensures.value ∙ all.1 has)
+
+pub returns-else-spans : goal.returns-else-spans
+returns-else-spans c = (λ t. absurd (both_ways c.spans.result c.if-spans.false t), λ has. absurd (both_ways c.spans.result c.if-spans.false (c.spans.ensures has)))

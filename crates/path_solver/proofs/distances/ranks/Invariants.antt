@@ -1,0 +1,5 @@
+use Rattle.std.proofs.Common.{◌≡◌, take, map, get_or}
+use Rattle.path_solver.proofs.distances.ranks.Given as goal
+
+abbrev pub invariant-loop-u : goal.invariant-loop-u
+invariant-loop-u l = l.ranks.items ≡ map (λ u. get_or l.places u 0) (take l.u-index l.members)

@@ -1,0 +1,158 @@
+//! An order of the nodes in which every edge but the back edges leads from a node to a later one.
+ghost use Rattle.std.specs.Prelude.{◌≡◌, ℕ, ◌+◌, ◌^◌, ◌<◌, ◌≤◌, ◌↔◌, ◌==◌, List, [], ◌∷◌, length, map, All, Contains, count_by, slice_index, IfOk, OnOk, IsTrue, MatchOption};
+ghost use Rattle.std.specs.List.Sorted.{IsStrictlyIncreasing};
+ghost use Rattle.loop_nest.specs.Nest.{headers_of};
+ghost use Rattle.loop_nest.specs.Walks.{Walk};
+ghost use Rattle.path_solver.specs.Reaching.{IsFlagged};
+ghost use Rattle.path_solver.specs.Ordering.{AreLoops, IsHeadedAt, NoLoopHas, TurnsBack, IsTaken, AreTaken, AreArrivals, AreApart, AreStarts, ArePassed, graph_of, IsForwardOrder};
+
+use super::lookups::has;
+use super::reaching::sources_by_target;
+use loop_nest::Graph;
+use loop_nest::loops::Loop;
+use std::alloc::{AllocError, Global};
+
+/// The number of the loop that `u` heads.
+pub fn headed_loop(loops: &[Loop], u: u32) -> Option<usize>
+    requires { IsStrictlyIncreasing (headers_of loops.now) }
+    ensures { MatchOption result (NoLoopHas loops.now u) (IsHeadedAt loops.now u) }
+{
+    let i = loops.partition_point(|l| l.header() < u);
+    if i < loops.len() && loops[i].header() == u {
+        Some(i)
+    } else {
+        None
+    }
+}
+
+/// Whether an edge from `u` to `v` turns back: `v` heads a loop that has `u`.
+fn turns_back(loops: &[Loop], u: u32, v: u32) -> bool
+    requires { AreLoops loops.now }
+    ensures { IsTrue result ↔ TurnsBack loops.now u v }
+{
+    match headed_loop(loops, v) {
+        Some(i) => has(loops[i].members(), u),
+        None => false,
+    }
+}
+
+/// Whether `v` is listed, and an edge from `u` to `v` turns back, or doesn't.
+fn is_taken(loops: &[Loop], listed: &[bool], back: bool, u: u32, v: u32) -> bool
+    requires loops { AreLoops loops.now }
+    requires within { v < length listed.now }
+    ensures { IsTrue result ↔ IsTaken loops.now listed.now back u v }
+{
+    if !listed[v as usize] {
+        return false;
+    }
+    if back {
+        return turns_back(loops, u, v);
+    }
+    !turns_back(loops, u, v)
+}
+
+/// Of these edges those to listed nodes that turn back, or those that don't.
+pub fn taken(
+    alloc: Global,
+    edges: &[(u32, u32)],
+    loops: &[Loop],
+    listed: &[bool],
+    back: bool,
+) -> Result<Vec<(u32, u32)>, AllocError>
+    requires loops { AreLoops loops.now }
+    requires within { All (λ e. e.1 < length listed.now) edges.now }
+    ensures { IfOk result (λ found. AreTaken edges.now loops.now listed.now back found.items) }
+{
+    let mut found = Vec::new(alloc);
+    for i in 0..edges.len() {
+        let (u, v) = edges[i];
+        if is_taken(loops, listed, back, u, v) {
+            found.push((u, v))?;
+        }
+    }
+    Ok(found)
+}
+
+/// These edges from their targets to their sources.
+fn turned(alloc: Global, edges: &[(u32, u32)]) -> Result<Vec<(u32, u32)>, AllocError>
+    ensures { IfOk result (λ turned. turned.items ≡ map (λ e. (e.1, e.0)) edges.now) }
+{
+    edges.iter().map(|e| (e.1, e.0)).collect(alloc)
+}
+
+/// How many edges lead to each of `nodes` nodes.
+fn arrivals(alloc: Global, nodes: usize, edges: &[(u32, u32)]) -> Result<Vec<usize>, AllocError>
+    requires { All (λ e. e.1 < nodes) edges.now }
+    ensures { IfOk result (λ counts. AreArrivals edges.now nodes counts.items) }
+{
+    let mut counts = vec![in alloc; 0; nodes]?;
+    for edge in edges {
+        let (_u, v) = *edge;
+        counts[v as usize] += 1;
+    }
+    Ok(counts)
+}
+
+/// The listed nodes for which no edge is waited for.
+fn starts(alloc: Global, listed: &[bool], waiting: &[usize]) -> Result<Vec<u32>, AllocError>
+    requires few { length listed.now < 2 ^ 32 }
+    requires same { length waiting.now ≡ length listed.now }
+    ensures { IfOk result (λ us. AreStarts listed.now waiting.now (length listed.now) us.items) }
+{
+    let mut nodes = Vec::new(alloc);
+    for u in 0..listed.len() {
+        if listed[u] && waiting[u] == 0 {
+            nodes.push(u as u32)?;
+        }
+    }
+    Ok(nodes)
+}
+
+/// Takes an edge to each of these nodes as passed, and adds those for which none is waited for any
+/// more.
+fn pass_edges(
+    targets: &[u32],
+    waiting: &mut [usize],
+    order: &mut Vec<u32>,
+) -> Result<(), AllocError>
+    requires within { All (λ v. v < length waiting.old) targets.now }
+    requires enough { (v : ℕ) → count_by (λ x. x == v) targets.now ≤ slice_index waiting.old v }
+    requires passed { (v : ℕ) → Contains order.old.items v → slice_index waiting.old v ≡ 0 }
+    requires apart { AreApart order.old.items }
+    ensures { OnOk result (ArePassed targets.now waiting.old waiting.new order.old.items order.new.items) }
+{
+    for v in targets {
+        let left = waiting[*v as usize] - 1;
+        waiting[*v as usize] = left;
+        if left == 0 {
+            order.push(*v)?;
+        }
+    }
+    Ok(())
+}
+
+/// The listed nodes, each behind those from which one of these edges leads to it.
+pub fn forward_order(
+    alloc: Global,
+    listed: &[bool],
+    edges: &[(u32, u32)],
+) -> Result<Vec<u32>, AllocError>
+    requires few { length listed.now < 2 ^ 32 }
+    requires targets { (u v : ℕ) → Contains edges.now (u, v) → IsFlagged listed.now v }
+    requires sources { (u v : ℕ) → Contains edges.now (u, v) → IsFlagged listed.now u }
+    requires acyclic { (u v : ℕ) (ns : List ℕ) → Contains edges.now (u, v) → ¬ Walk (graph_of (length listed.now) edges.now) v u ns }
+    ensures { IfOk result (λ order. IsForwardOrder listed.now edges.now order.items) }
+{
+    let nodes = listed.len();
+    let turned = turned(alloc, edges)?;
+    let targets = sources_by_target(alloc, nodes, &turned)?;
+    let mut waiting = arrivals(alloc, nodes, edges)?;
+    let mut order = starts(alloc, listed, &waiting)?;
+    for i in 0..nodes {
+        if i < order.len() {
+            let u = order[i];
+            pass_edges(&targets[u as usize], &mut waiting, &mut order)?;
+        }
+    }
+    Ok(order)
+}

@@ -1,0 +1,54 @@
+//! The listed nodes in order, with the edges by which each is reached.
+ghost use Rattle.std.specs.Prelude.{IfOk};
+ghost use Rattle.loop_nest.specs.Reduction.{IsReducible};
+ghost use Rattle.loop_nest.specs.Nest.{IsNest};
+ghost use Rattle.path_solver.specs.Reaching.{AreReaching};
+ghost use Rattle.path_solver.specs.Passages.{IsPassage};
+
+use super::distances::places;
+use super::ordering::{forward_order, taken};
+use super::reaching::sources_by_target;
+use loop_nest::Graph;
+use loop_nest::laws::cycles_take_back_edges;
+use loop_nest::loops::Nest;
+use std::alloc::{AllocError, Global};
+
+/// The nodes from which an exit is reached, in an order in which the edges lead forward, but for the
+/// back edges; the place of each in the order; and for each node the sources of the edges to it that
+/// don't turn back, and of those that do.
+#[derive(Debug, Drop)]
+pub struct Passage {
+    pub order: Vec<u32>,
+    pub places: Vec<usize>,
+    pub forward: Vec<Vec<u32>>,
+    pub back: Vec<Vec<u32>>,
+}
+
+/// The passage through the listed nodes.
+pub fn find_passage(
+    alloc: Global,
+    g: &Graph,
+    nest: &Nest,
+    listed: &[bool],
+) -> Result<Passage, AllocError>
+    requires nest { IsNest g.now nest.now }
+    requires reducible { IsReducible g.now }
+    requires listed { AreReaching g.now listed.now }
+    ensures { IfOk result (IsPassage g.now nest.now listed.now) }
+{
+    cycles_take_back_edges();
+    let nodes = g.nodes() as usize;
+    let loops = nest.loops();
+    let onward = taken(alloc, g.edges(), loops, listed, false)?;
+    let turning = taken(alloc, g.edges(), loops, listed, true)?;
+    let order = forward_order(alloc, listed, &onward)?;
+    let places = places(alloc, nodes, &order)?;
+    let forward = sources_by_target(alloc, nodes, &onward)?;
+    let back = sources_by_target(alloc, nodes, &turning)?;
+    Ok(Passage {
+        order,
+        places,
+        forward,
+        back,
+    })
+}

@@ -1,0 +1,73 @@
+//! Greatest walks with the sections that show them.
+
+use super::section::Section;
+use std::alloc::AllocError;
+use std::marker::Model;
+
+/// What the greatest walk costs, in cycles, and a section of that value.
+#[derive(Debug, Drop)]
+pub struct Solved {
+    value: u64,
+    section: Section,
+}
+
+impl Model for Solved {
+    ghost use Rattle.path_solver.specs.Solution.{Solution};
+
+    ghost Value = { Solution };
+
+    ghost view = { λ s. record { value = s.value; section = s.section } };
+}
+
+impl Solved {
+    ghost use Rattle.std.specs.Prelude.{◌≡◌};
+
+    /// A value with a section.
+    pub(crate) fn new(value: u64, section: Section) -> Self
+        ensures { result ≡ record { value = value; section = section } }
+    {
+        Solved { value, section }
+    }
+
+    /// What the greatest walk costs, in cycles.
+    pub fn value(&self) -> u64
+        ensures { result ≡ self.now.value }
+    {
+        self.value
+    }
+
+    /// The section that shows that no walk costs more.
+    pub fn section(&self) -> &Section
+        ensures { result.now ≡ self.now.section }
+    {
+        &self.section
+    }
+
+    /// The section alone.
+    pub fn into_section(self) -> Section
+        ensures { result ≡ self.section }
+    {
+        let Solved { value: _, section } = self;
+        section
+    }
+}
+
+/// Why there is no solution.
+#[derive(Clone, Copy, Debug, PartialEq, Eq)]
+pub enum SolveFault {
+    /// A walk passes 64 bits, or turns do together, one of each loop that holds a node.
+    TooLarge,
+    /// There is no memory.
+    NoMemory,
+}
+
+impl From<AllocError> for SolveFault {
+    ghost use Rattle.std.specs.Prelude.{◌≡◌};
+    ghost use Rattle.path_solver.specs.declared.solved.SolveFault.TheVariants.{NoMemory};
+
+    ghost from_gives = { λ _ e. e ≡ NoMemory };
+
+    fn from(_: AllocError) -> Self {
+        SolveFault::NoMemory
+    }
+}
