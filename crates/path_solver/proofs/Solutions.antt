@@ -15,7 +15,7 @@ use Rattle.path_solver.specs.Section.{Certified, priced, IsInForm, start_value, 
 use Rattle.path_solver.specs.Conditions.{IsAccepted, Answers, natural_of, value_of}
 use Rattle.path_solver.specs.Certifying.{certified}
 use Rattle.path_solver.specs.Distances.{IsMost, cost_through}
-use Rattle.path_solver.specs.Longest.{bounded_loops, IsTooLarge}
+use Rattle.path_solver.specs.Longest.{bounded_loops, AreLoopsOf, IsTooLarge}
 use Rattle.path_solver.specs.Longest.IsTooLarge.{walk, turn}
 use Rattle.path_solver.specs.Reaching.{ReachesExit, IsFlagged, AreReaching}
 use Rattle.path_solver.specs.Totals.{worth_around, SomeTurnsPass}
@@ -27,6 +27,7 @@ use Rattle.path_solver.proofs.Bounding.{value_bounds}
 use Rattle.path_solver.proofs.Growing.{flagged_below}
 use Rattle.path_solver.proofs.WorthsAround.{worth_of_one}
 use Rattle.path_solver.proofs.Structure.{own_header, members_below, listed_below, listed_exit}
+use Rattle.path_solver.proofs.Certificates.{loops_of_nest}
 use Rattle.path_solver.proofs.Correspond.{same_loops}
 use Rattle.path_solver.proofs.Accepting.{edges_hold, exits_hold, starts_with, potentials}
 use Rattle.path_solver.proofs.Placed.{members_rise, headers_rise, as_many, well_placed}
@@ -141,6 +142,7 @@ module _ (g : Digraph) (loops : List NaturalLoop) (flags : List Bool) (p : Passa
 -- what a solution shows
 pub record IsFound (g : Digraph) (loops : List NaturalLoop) (costs bounds loads : List ℕ) (value : ℕ) (section : Certified) : Type 0 where
   pub greatest : IsGreatest g costs (bounded_loops loops bounds loads) value
+  pub own_loops : AreLoopsOf loops section.loops
   pub form : IsInForm section bounds (map Some loads)
   pub shown : Answers g costs section bounds (map Some loads) (Ok (Some value))
   pub fits : IsTooLarge g costs (bounded_loops loops bounds loads) → ⊥
@@ -177,6 +179,7 @@ module _ (g : Digraph) (loops : List NaturalLoop) (flags : List Bool) (costs bou
     pub found : (nodes : List (ℕ × ℤ)) → AreLeft flags value dist nodes → IsFound g loops costs bounds loads value (record { nodes = nodes; loops = certified loops worths })
     found nodes left = record {
       greatest = greatest g loops flags a.passage costs bounds loads worths a.fees dist a.measured entry value most small turns_fit nodes left;
+      own_loops = loops_of_nest loops worths a.measured.turns.long;
       form = in_form g loops flags a.passage costs bounds loads worths a.fees dist a.measured entry value most small turns_fit nodes left;
       shown = shown g loops flags a.passage costs bounds loads worths a.fees dist a.measured entry value most small turns_fit nodes left;
       fits = not_too_large g loops flags a.passage costs bounds loads worths a.fees dist a.measured entry value most small turns_fit nodes left;

@@ -1,11 +1,12 @@
 -- What the greatest walk of a graph is asked: its value, one turn of each loop, and when these are too large.
-use Rattle.std.specs.Prelude.{◌≡◌, ℕ, ◌+◌, ◌*◌, ◌^◌, ◌≤◌, List, [], ◌∷◌, filter, sum_by, All, Contains}
+use Rattle.std.specs.Prelude.{◌≡◌, ℕ, ◌+◌, ◌*◌, ◌^◌, ◌≤◌, false, List, [], ◌∷◌, map, filter, sum_by, All, Contains}
 use Rattle.path_solver.specs.declared.solved.SolveFault.{SolveFault}
 use Rattle.path_solver.specs.declared.solved.SolveFault.TheVariants.{TooLarge, NoMemory}
 use Rattle.loop_nest.specs.Digraph.{Digraph, Edge}
 use Rattle.loop_nest.specs.Walks.{Walk, turns}
 use Rattle.loop_nest.specs.Nest.{NaturalLoop}
 use Rattle.path_solver.specs.Bounded.{BoundedLoop, holds, entries_from, cost_of_nodes, cost_of, IsKept, IsBoundedWalk}
+use Rattle.path_solver.specs.Section.{CertifiedLoop}
 use Rattle.path_solver.specs.Reaching.{ReachesExit}
 
 -- the loops of a nest with their bounds and loads
@@ -14,6 +15,12 @@ bounded_loops [] bounds loads = []
 bounded_loops (l ∷ ls) [] loads = []
 bounded_loops (l ∷ ls) (bound ∷ bounds) [] = []
 bounded_loops (l ∷ ls) (bound ∷ bounds) (load ∷ loads) = record { header = l.header; members = l.members; bound = bound; load = load } ∷ bounded_loops ls bounds loads
+
+-- the loops of a section are those of a nest, in its order, and none is marked as a region
+pub record AreLoopsOf (nest : List NaturalLoop) (loops : List CertifiedLoop) : Type 0 where
+  pub headers : map (λ l. l.header) loops ≡ map (λ l. l.header) nest
+  pub members : map (λ l. l.members) loops ≡ map (λ l. l.members) nest
+  pub regions : All (λ l. l.region ≡ false) loops
 
 -- the loops that hold a node
 abbrev pub around : List BoundedLoop → ℕ → List BoundedLoop

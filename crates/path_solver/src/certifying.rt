@@ -1,10 +1,33 @@
-//! The loops of a section.
+//! The nodes and the loops of a section.
 ghost use Rattle.std.specs.Prelude.{◌≡◌, ◌^◌, ◌<◌, length, All, IfOk};
+ghost use Rattle.path_solver.specs.Distances.{AreLimited};
 ghost use Rattle.path_solver.specs.Certifying.{certified};
+ghost use Rattle.path_solver.specs.Potentials.{AreLeft};
 
 use super::section::CertLoop;
 use loop_nest::loops::Loop;
 use std::alloc::{AllocError, Global};
+
+/// The listed nodes with their potentials: what is left of the value.
+pub fn potentials(
+    alloc: Global,
+    listed: &[bool],
+    value: u64,
+    dist: &[u128],
+) -> Result<Vec<(u32, i128)>, AllocError>
+    requires few { length listed.now < 2 ^ 32 }
+    requires same { length dist.now ≡ length listed.now }
+    requires limited { AreLimited dist.now }
+    ensures { IfOk result (λ nodes. AreLeft listed.now value dist.now nodes.items) }
+{
+    let mut nodes = Vec::new(alloc);
+    for u in 0..listed.len() {
+        if listed[u] {
+            nodes.push((u as u32, i128::from(value) - dist[u] as i128))?;
+        }
+    }
+    Ok(nodes)
+}
 
 /// The loops, with what a turn of each is worth. None is marked as a region.
 pub fn cert_loops(

@@ -5,7 +5,7 @@ ghost use Rattle.std.specs.Prelude.{◌≡◌, ℕ, ◌<◌, List, Option, Some,
 ghost use Rattle.loop_nest.specs.Reduction.{IsReducible};
 ghost use Rattle.loop_nest.specs.Nest.{IsNest};
 ghost use Rattle.path_solver.specs.Bounded.{IsBoundedWalk, IsGreatest};
-ghost use Rattle.path_solver.specs.Longest.{bounded_loops, IsTooLarge, HasCause};
+ghost use Rattle.path_solver.specs.Longest.{bounded_loops, AreLoopsOf, IsTooLarge, HasCause};
 ghost use Rattle.path_solver.specs.Section.{IsInForm};
 ghost use Rattle.path_solver.specs.Conditions.{Answers};
 ghost use Rattle.path_solver.specs.Laws.{BoundsWalks, loops_of};
@@ -23,15 +23,13 @@ mod ordering;
 mod passages;
 mod placing;
 mod prices;
-mod proving;
 mod reaching;
 pub mod section;
 pub mod solved;
 mod totals;
-mod turning;
 mod turns;
 
-use certifying::cert_loops;
+use certifying::{cert_loops, potentials};
 use descent::{failing_edge, failing_exit, value};
 use distances::greatest_end;
 use loop_nest::Graph;
@@ -39,12 +37,11 @@ use loop_nest::laws::reducible_is_reached;
 use loop_nest::loops::Nest;
 use measures::{Measures, measure};
 use placing::misplaced;
-use proving::{potentials, turns_pass};
 use reaching::reaching;
 use section::{Section, SectionFault};
 use solved::{SolveFault, Solved};
 use std::alloc::Global;
-use totals::passes;
+use totals::{passes, turns_pass};
 
 /// Checks the conditions on a section: its value, which bounds each walk from node 0 to an exit that
 /// keeps all bounds, or the first condition that fails. `None` says that there is no such walk.
@@ -102,6 +99,7 @@ pub fn longest(
         IfOk result (λ o. IfNone o ((ns : List ℕ) → ¬ IsBoundedWalk g.now loops ns)) }
     ensures greatest { let loops = bounded_loops nest.now bounds.now loads.now in
         IfOk result (λ o. IfSome o (λ s. IsGreatest g.now costs.now loops s.value)) }
+    ensures loops { IfOk result (λ o. IfSome o (λ s. AreLoopsOf nest.now s.section.loops)) }
     ensures form { IfOk result (λ o. IfSome o (λ s. IsInForm s.section bounds.now (map Some loads.now))) }
     ensures shown { let fitting : List (Option ℕ) = map Some loads.now in
         IfOk result (λ o. IfSome o (λ s. Answers g.now costs.now s.section bounds.now fitting (Ok (Some s.value)))) }

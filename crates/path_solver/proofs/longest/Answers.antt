@@ -157,6 +157,9 @@ solution c =
 pub returns-clause-greatest : goal.returns-clause-greatest
 returns-clause-greatest c = (solution c).greatest
 
+pub returns-clause-loops : goal.returns-clause-loops
+returns-clause-loops c = (solution c).own_loops
+
 pub returns-clause-form : goal.returns-clause-form
 returns-clause-form c = (solution c).form
 

@@ -5,8 +5,8 @@ use Rattle.std.proofs.lemmas.Int.{ints}
 use Rattle.std.proofs.lemmas.List.Elements.{All-get_or}
 use Rattle.path_solver.specs.Distances.{limit}
 use Rattle.path_solver.proofs.Listing.{IsListing, listing_push, listing_skip}
-use Rattle.path_solver.proofs.proving.potentials.Goals as goal
-use Rattle.path_solver.proofs.proving.potentials.Goals.{then-listed-u+in_ok-push, else-listed-u}
+use Rattle.path_solver.proofs.certifying.potentials.Goals as goal
+use Rattle.path_solver.proofs.certifying.potentials.Goals.{then-listed-u+in_ok-push, else-listed-u}
 
 -- a difference of numbers of 64 bits and up to the limit fits
 fits : (value dist : ℕ) (v : ℤ) → value < 2 ^ 64 → dist ≤ limit → v ≡ pos value → to_z w128 (of_z w128 (to_z w128 (of_z w128 v) -ℤ to_z w128 dist)) ≡ pos value -ℤ pos dist

@@ -4,7 +4,7 @@ use Rattle.std.proofs.lemmas.Iterator.{cases_from_any, YieldsList-from_slice}
 use Rattle.loop_nest.specs.Nest.{NaturalLoop}
 use Rattle.path_solver.specs.Totals.{AreAdded}
 use Rattle.path_solver.proofs.AddingUp.{AreTotals, totals_push, some_pass}
-use Rattle.path_solver.proofs.proving.turns_pass.Goals as goal
+use Rattle.path_solver.proofs.totals.turns_pass.Goals as goal
 
 pub loop-i-preserved : goal.loop-i-preserved
 loop-i-preserved c =

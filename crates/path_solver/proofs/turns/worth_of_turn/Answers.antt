@@ -9,7 +9,7 @@ use Rattle.path_solver.specs.Distances.{LeadForward, sources_at, IsMost, cost_th
 use Rattle.path_solver.specs.Turning.{IsOrderly, AreMembers}
 use Rattle.path_solver.specs.declared.passages.Passage.{Passage}
 use Rattle.path_solver.proofs.Leading.{leads_forward, picked_apart, others_of, from_others, to_others, repick, all_from}
-use Rattle.path_solver.proofs.turning.worth_of_turn.Goals as goal
+use Rattle.path_solver.proofs.turns.worth_of_turn.Goals as goal
 
 below : (n : ℕ) (p : Passage) (members : List ℕ) (header u : ℕ) → IsOrderly n p → AreMembers p.order.items members header → Contains members u → u < n
 below n p members header u orderly h has = All-contains (λ z. z < n) p.order.items u orderly.within (h.listed u has)
