@@ -19,7 +19,7 @@ all_free n len x old now is none zero_len =
     ∙ ap (λ (k : ℕ). replicate k x) (let e : n - len ≡ n = omega arith in e)
 
 abbrev fresh : ℕ → ℕ → Vec (Option Tag) Global → Vec ℕ Global → Inside
-fresh blocks w tags words = record { blocks = blocks; block_words = w; tags = tags; words = words; next = 0; selected = 0 }
+fresh blocks w tags words = record { blocks = blocks; block_words = w; tags = tags; words = words; next = 0; selected = None }
 
 module _ (blocks w : ℕ) (tags : Vec (Option Tag) Global) (words : Vec ℕ Global) (free : tags.items ≡ replicate blocks None) where
   turned : ring_tags (fresh blocks w tags words) ≡ replicate blocks None
@@ -44,7 +44,7 @@ module _ (blocks w : ℕ) (tags : Vec (Option Tag) Global) (words : Vec ℕ Glob
         most_words = most_words;
         tags = ap length free ∙ length-replicate {A = Option Tag} blocks None;
         words = long;
-        selected = some_blocks;
+        selected = tt;
         holds = subst IsCache (sym cache_of-fresh) nothing;
         in_order = turned ∙ subst P (sym none_held) order;
       }

@@ -1,7 +1,7 @@
 -- The fields of a cache after a load.
-use Rattle.std.proofs.Common.{◌≡◌, ℕ, ◌+◌, ◌*◌, ◌%◌, ◌<◌, ◌≤◌, false, List, ◌∷◌, ◌++◌, length, take, drop, Option, Some, None, is_some, Vec, Global, refl, subst, sym, ap, ◌∙◌, arith}
-use Rattle.std.proofs.Math.Nat.{mul-le-mul_right}
-use Rattle.std.proofs.lemmas.List.{with_items_is}
+use Rattle.std.proofs.Common.{◌≡◌, ℕ, ◌+◌, ◌-◌, ◌*◌, ◌%◌, ◌<◌, ◌≤◌, false, List, ◌∷◌, ◌++◌, length, get_or, take, drop, Option, Some, None, is_some, Vec, Global, refl, subst, sym, ap, inl, inr, mod-eq_of_lt, ◌∙◌, arith, length-append}
+use Rattle.std.proofs.Math.Nat.{add-mod_right, mul-le-mul_right}
+use Rattle.std.proofs.lemmas.List.{with_items_is, get_or-append_right}
 use Rattle.std.proofs.lemmas.Nat.{mod_below}
 use Rattle.std.specs.Vec.{with_items}
 use Rattle.method_cache.specs.declared.blocks.Tag.{Tag}
@@ -9,7 +9,9 @@ use Rattle.method_cache.specs.declared.MethodCache.TheInside.{Inside}
 use Rattle.method_cache.specs.Contents.{Entry, Cache, blocks_for, fitting, find_words, is_cached, loaded, AreApart, HaveWords, IsCache}
 use Rattle.method_cache.specs.Ring.{rotated, parts, cleared}
 use Rattle.method_cache.specs.Meaning.{ring_tags, ring_words, contents_of, cache_of, IsRing}
-use Rattle.method_cache.proofs.Rotation.{length-rotated}
+use Rattle.method_cache.proofs.Rotation.{mod_wraps_once, length-rotated, get_or-rotated}
+use Rattle.method_cache.proofs.Parts.{length-parts, get_or-parts}
+use Rattle.method_cache.proofs.Held.{blocks_for-pos}
 use Rattle.method_cache.proofs.Fitting.{total_blocks-fitting, AreApart-fitting, HaveWords-fitting}
 use Rattle.method_cache.proofs.Rings.{in_order, held_loaded}
 
@@ -30,9 +32,9 @@ IsCache-loaded m ws c some h absent has =
       next = mod_below (c.next + blocks_for c.block_words (length ws)) c.blocks some;
     }
 
--- the fields after a load that leaves these tags and words, with the pointer at `end`
-abbrev pub after_load : Inside → Vec (Option Tag) Global → Vec ℕ Global → ℕ → Inside
-after_load a tags words end = record { blocks = a.blocks; block_words = a.block_words; tags = tags; words = words; next = end; selected = a.next }
+-- the fields after a load of n words of method m that leaves these tags and words, with the pointer at `end`
+abbrev pub after_load : Inside → Vec (Option Tag) Global → Vec ℕ Global → ℕ → ℕ → ℕ → Inside
+after_load a tags words end m n = record { blocks = a.blocks; block_words = a.block_words; tags = tags; words = words; next = end; selected = Some (record { method = m; first = a.next * a.block_words; words = n }) }
 
 pub record IsLoad (a : Inside) (tags : Vec (Option Tag) Global) (words : Vec ℕ Global) (end m : ℕ) (ws : List ℕ) : Type 0 where
   pub ring : IsRing a
@@ -46,7 +48,7 @@ pub record IsLoad (a : Inside) (tags : Vec (Option Tag) Global) (words : Vec ℕ
   pub words_are : rotated (end * a.block_words) words.items ≡ drop (blocks_for a.block_words (length ws) * a.block_words) (ring_words a) ++ take (blocks_for a.block_words (length ws) * a.block_words) (ws ++ drop (length ws) (ring_words a))
 
 module _ (a : Inside) (tags : Vec (Option Tag) Global) (words : Vec ℕ Global) (end m : ℕ) (ws : List ℕ) (h : IsLoad a tags words end m ws) where
-  held_now : (contents_of (after_load a tags words end) ≡ fitting a.block_words a.blocks (record { method = m; words = ws } ∷ contents_of a)) × (ring_tags (after_load a tags words end) ≡ in_order a.block_words a.blocks (fitting a.block_words a.blocks (record { method = m; words = ws } ∷ contents_of a)))
+  held_now : (contents_of (after_load a tags words end m (length ws)) ≡ fitting a.block_words a.blocks (record { method = m; words = ws } ∷ contents_of a)) × (ring_tags (after_load a tags words end m (length ws)) ≡ in_order a.block_words a.blocks (fitting a.block_words a.blocks (record { method = m; words = ws } ∷ contents_of a)))
   held_now =
       let ring = h.ring in
       let cache = ring.holds in
@@ -54,21 +56,49 @@ module _ (a : Inside) (tags : Vec (Option Tag) Global) (words : Vec ℕ Global) 
       let long : length (ring_words a) ≡ a.blocks * a.block_words = length-rotated (a.next * a.block_words) a.words.items (omega (arith, ring.words)) ∙ ring.words in
       held_loaded a.block_words a.blocks m ws (contents_of a) (ring_tags a) _ (ring_words a) _ ring.some_words h.least cache.have_words cache.fits h.most long ring.in_order refl h.tags_are h.words_are
 
-  pub cache_of-after_load : cache_of (after_load a tags words end) ≡ loaded m ws (cache_of a)
+  pub cache_of-after_load : cache_of (after_load a tags words end m (length ws)) ≡ loaded m ws (cache_of a)
   cache_of-after_load =
       ap (λ (es : List Entry). record { blocks = a.blocks; block_words = a.block_words; contents = es; next = end }) held_now.0
       ∙ ap (λ (k : ℕ). record { blocks = a.blocks; block_words = a.block_words; contents = fitting a.block_words a.blocks (record { method = m; words = ws } ∷ contents_of a); next = k }) h.end_is
 
-  pub IsCache-after_load : IsCache (cache_of (after_load a tags words end))
+  pub IsCache-after_load : IsCache (cache_of (after_load a tags words end m (length ws)))
   IsCache-after_load =
       let ring = h.ring in
       subst IsCache (sym cache_of-after_load) (IsCache-loaded m ws (cache_of a) ring.some_blocks ring.holds h.absent h.least)
 
-  pub IsRing-after_load : IsRing (after_load a tags words end)
+  -- the method begins in the block with which the load began
+  begins_at_next : get_or tags.items a.next None ≡ Some (record { method = m; part = 0; words = length ws })
+  begins_at_next =
+      let ring = h.ring in
+      let n = a.blocks in
+      let s = blocks_for a.block_words (length ws) in
+      let j = n - s in
+      let some : 0 < s = blocks_for-pos a.block_words (length ws) ring.some_words h.least in
+      let start = ring.holds.next in
+      let most = h.most in
+      let place : end < n = omega (arith, h.end_is, mod_below (a.next + s) n ring.some_blocks) in
+      let others = cleared a.block_words (drop s (ring_tags a)) in
+      let ps = parts m (length ws) s in
+      let long : length others ≡ j =
+      omega (arith, length-append others ps, length-parts m (length ws) s, ap length h.tags_are, length-rotated end tags.items (omega (arith, h.tags_len)), h.tags_len) in
+      let back : (end + j) % n ≡ a.next =
+      elim (mod_wraps_once n (a.next + s) (omega arith)) [
+        | inl low ↦ ap (λ (k : ℕ). k % n) (let e : end + j ≡ a.next + n = omega (arith, h.end_is, low.1) in e) ∙ add-mod_right a.next n ∙ mod-eq_of_lt start
+        | inr high ↦ ap (λ (k : ℕ). k % n) (let e : end + j ≡ a.next = omega (arith, h.end_is, high.0, high.1) in e) ∙ mod-eq_of_lt start
+      ] in
+      ap (λ (k : ℕ). get_or tags.items k None) (sym back)
+      ∙ ap (λ (k : ℕ). get_or tags.items ((end + j) % k) None) (sym h.tags_len)
+      ∙ sym (get_or-rotated end tags.items (omega (arith, h.tags_len)) j None (omega (arith, h.tags_len)))
+      ∙ ap (λ ts. get_or ts j None) h.tags_are
+      ∙ get_or-append_right others ps j j None long (omega arith)
+      ∙ ap (λ (k : ℕ). get_or ps k None) (let e : j - j ≡ 0 = omega arith in e)
+      ∙ get_or-parts m (length ws) s 0 some None
+
+  pub IsRing-after_load : IsRing (after_load a tags words end m (length ws))
   IsRing-after_load =
       let ring = h.ring in
       let cache = ring.holds in
-      let order : ring_tags (after_load a tags words end) ≡ in_order a.block_words a.blocks (contents_of (after_load a tags words end)) =
+      let order : ring_tags (after_load a tags words end m (length ws)) ≡ in_order a.block_words a.blocks (contents_of (after_load a tags words end m (length ws))) =
       held_now.1 ∙ sym (ap (in_order a.block_words a.blocks) held_now.0) in
       record {
         some_blocks = ring.some_blocks;
@@ -77,7 +107,7 @@ module _ (a : Inside) (tags : Vec (Option Tag) Global) (words : Vec ℕ Global) 
         most_words = ring.most_words;
         tags = h.tags_len;
         words = h.words_len;
-        selected = cache.next;
+        selected = record { block = a.next; within = omega (arith, h.tags_len, cache.next); tagged = begins_at_next; first = refl };
         holds = IsCache-after_load;
         in_order = order;
       }

@@ -1,14 +1,16 @@
 -- What is read from the ring.
-use Rattle.std.proofs.Common.{◌≡◌, ℕ, ◌+◌, ◌-◌, ◌*◌, ◌%◌, ◌<◌, ◌≤◌, ◌⊎◌, true, false, List, [], ◌++◌, length, get_or, take, drop, map, replicate, min, Option, Some, None, is_some, unwrap_or, refl, subst, sym, ap, inl, inr, mod-eq_of_lt, ◌∙◌, arith, length-drop, get_or-drop, get_or-take}
+use Rattle.std.proofs.Common.{◌≡◌, ℕ, ◌+◌, ◌-◌, ◌*◌, ◌%◌, ◌<◌, ◌≤◌, ◌⊎◌, true, false, cond, ltb, List, [], ◌++◌, length, get_or, take, drop, map, replicate, min, Option, Some, None, is_some, unwrap_or, subst, sym, ap, inl, inr, mod-eq_of_lt, ◌∙◌, arith, length-drop, get_or-drop, get_or-take}
 use Rattle.std.specs.Prelude.{All, IfSome, IfNone}
 use Rattle.std.proofs.Math.Nat.{add-mod_right, mul-le-mul_right}
 use Rattle.std.proofs.lemmas.Nat.{mod_below, mul-add-lt}
 use Rattle.std.proofs.lemmas.List.{length-take, length-replicate, get_or-replicate, get_or_append_left, get_or-append_right, get_or_past, get_or-map, map-append}
 use Rattle.std.proofs.lemmas.Bool.{cases_lt}
+use Rattle.std.proofs.lemmas.Bool.Decides.{nat_tests}
 use Rattle.method_cache.specs.declared.blocks.Tag.{Tag}
+use Rattle.method_cache.specs.declared.blocks.Extent.{Extent}
 use Rattle.method_cache.specs.declared.MethodCache.TheInside.{Inside}
 use Rattle.method_cache.specs.Contents.{Entry, total_blocks, AreApart, find_words, is_cached, word_of, tags_from_next, tag_of}
-use Rattle.method_cache.specs.Ring.{begins, laid, method_of}
+use Rattle.method_cache.specs.Ring.{begins, laid, method_of, IsExtent}
 use Rattle.method_cache.specs.Meaning.{ring_tags, ring_words, contents_of, cache_of, IsRing}
 use Rattle.method_cache.proofs.Rotation.{get_or-rotated, length-rotated}
 use Rattle.method_cache.proofs.Finds.{find_at, find_none, words_at, begins-method, map-laid, map-free}
@@ -60,6 +62,9 @@ same_word next n b p w i place =
           ap (λ (k : ℕ). k % (n * w)) (sums ∙ ap (λ (k : ℕ). k * w + i) turn ∙ (let e : (b + n) * w + i ≡ b * w + i + n * w = omega arith in e))
           ∙ add-mod_right (b * w + i) (n * w)
     ]
+
+begins-self : (m n : ℕ) → begins m (Some (record { method = m; part = 0; words = n })) ≡ true
+begins-self m n = grind (arith, nat_tests)
 
 -- free blocks have no tag
 words_behind : (w p free : ℕ) (t : Tag) (es : List Entry) → AreApart es → get_or (replicate free None ++ laid w es) p None ≡ Some t → (ws : List ℕ) × (find_words t.method es ≡ Some ws) × (t.words ≡ length ws)
@@ -124,31 +129,38 @@ module _ (a : Inside) (ring : IsRing a) where
       let P : ℕ → Type 0 = λ k. (ws : List ℕ) × (find_words k es ≡ Some ws) × (t.words ≡ length ws) in
       subst P (begins-method m t here) (words_behind w p free t es ring.holds.apart at_laid)
 
-  -- a method that begins in block b is, and its words begin with those of that block
-  pub record IsFound (m b : ℕ) (t : Tag) (ws : List ℕ) : Type 0 where
-    pub is : find_words m (contents_of a) ≡ Some ws
-    pub count : t.words ≡ length ws
-    pub near : (i : ℕ) → i < t.words → b * a.block_words + i < length a.words.items + length a.words.items
-    pub each : (i : ℕ) → i < t.words → get_or ws i 0 ≡ get_or a.words.items ((b * a.block_words + i) % length a.words.items) 0
+  -- a method that lies there is held, and its words are those of the ring from its first one on
+  record IsFound (e : Extent) (ws : List ℕ) : Type 0 where
+    pub is : find_words e.method (contents_of a) ≡ Some ws
+    pub count : e.words ≡ length ws
+    pub near : (i : ℕ) → i < e.words → e.first + i < length a.words.items + length a.words.items
+    pub each : (i : ℕ) → i < e.words → get_or ws i 0 ≡ get_or a.words.items ((e.first + i) % length a.words.items) 0
 
-  pub found_at : (m b : ℕ) (t : Tag) → b < a.blocks → get_or a.tags.items b None ≡ Some t → begins m (Some t) ≡ true → (ws : List ℕ) × IsFound m b t ws
-  found_at m b t below tagged here =
+  -- the extent stands in the tags that `find` was lent
+  found_at : (e : Extent) (lent : List (Option Tag)) → lent ≡ a.tags.items → IsExtent a.block_words lent e → (ws : List ℕ) × IsFound e ws
+  found_at e lent same lies =
       let w = a.block_words in
       let n = a.blocks in
+      let m = e.method in
+      let b = lies.block in
+      let t : Tag = record { method = m; part = 0; words = e.words } in
+      let here = begins-self m e.words in
+      let below : b < n = omega (arith, lies.within, ap length same, ring.tags) in
       let at = place_from a.next n b ring.holds.next below in
       let p = at.0 in
       let place = at.1 in
-      let es = contents_of a in
       let rest = drop (p * w) (ring_words a) in
-      let ws = take t.words rest in
-      let here_tag : get_or (ring_tags a) p None ≡ Some t = tag_at b p place ∙ tagged in
-      let is : find_words m es ≡ Some ws = find_at w m p t (ring_tags a) (ring_words a) ring.holds.apart here_tag here in
+      let ws = take e.words rest in
+      let here_tag : get_or (ring_tags a) p None ≡ Some t =
+      tag_at b p place ∙ ap (λ ts. get_or ts b None) (sym same) ∙ lies.tagged in
+      let is : find_words m (contents_of a) ≡ Some ws = find_at w m p t (ring_tags a) (ring_words a) ring.holds.apart here_tag here in
       let counted = found_count m p t here_tag here in
-      let same : counted.0 ≡ ws = let joined : Some counted.0 ≡ Some ws = sym counted.1 ∙ is in cc in
-      let count : t.words ≡ length ws = counted.2 ∙ ap length same in
-      let long : length ws ≡ min t.words (length rest) = length-take t.words rest in
+      let same_words : counted.0 ≡ ws = let joined : Some counted.0 ≡ Some ws = sym counted.1 ∙ is in cc in
+      let count : e.words ≡ length ws = counted.2 ∙ ap length same_words in
+      let long : length ws ≡ min e.words (length rest) = length-take e.words rest in
       let long_rest = length-drop (p * w) (ring_words a) in
       let row : b * w + 0 < w * n = mul-add-lt b w 0 n below ring.some_words in
+      let first = lies.first in
       let total : length a.words.items ≡ n * w = ring.words in (
         ws,
         record {
@@ -156,60 +168,53 @@ module _ (a : Inside) (ring : IsRing a) where
           count = count;
           near = λ i less. omega (arith, long_words);
           each = λ i less.
-              get_or-take t.words rest i 0 less
+              get_or-take e.words rest i 0 less
               ∙ get_or-drop (p * w) (ring_words a) i 0
               ∙ get_or-rotated (a.next * w) a.words.items start_within (p * w + i) 0 (omega (arith, long_words))
               ∙ ap (λ (k : ℕ). get_or a.words.items ((a.next * w + (p * w + i)) % k) 0) total
               ∙ ap (λ (k : ℕ). get_or a.words.items k 0) (same_word a.next n b p w i place)
-              ∙ ap (λ (k : ℕ). get_or a.words.items ((b * w + i) % k) 0) (sym total);
+              ∙ ap (λ (k : ℕ). get_or a.words.items ((k + i) % (n * w)) 0) (sym first)
+              ∙ ap (λ (k : ℕ). get_or a.words.items ((e.first + i) % k) 0) (sym total);
         },
       )
 
-  -- the answer of `find`, where it was lent the tags
-  tag_found : (m b : ℕ) (lent : List (Option Tag)) → lent ≡ a.tags.items → b < length lent → begins m (get_or lent b None) ≡ true → (t : Tag) × (b < a.blocks) × (get_or a.tags.items b None ≡ Some t) × (begins m (Some t) ≡ true)
-  tag_found m b lent same below here =
-      let is : begins m (get_or a.tags.items b None) ≡ true = ap (λ ts. begins m (get_or ts b None)) (sym same) ∙ here in
-      let inside : b < a.blocks = omega (arith, ap length same, ring.tags) in
-      let P : Option Tag → Type 0 = λ o. get_or a.tags.items b None ≡ o → begins m o ≡ true → (t : Tag) × (b < a.blocks) × (get_or a.tags.items b None ≡ Some t) × (begins m (Some t) ≡ true) in
-      elim (get_or a.tags.items b None) as P [
-        | None ↦ λ e h. let bad : ⊥ = cc in absurd bad
-        | Some t ↦ λ e h. (t, inside, e, h)
-      ] refl is
-
-  pub is_cached-found : (m b : ℕ) (lent : List (Option Tag)) → lent ≡ a.tags.items → b < length lent → begins m (get_or lent b None) ≡ true → is_cached m (cache_of a) ≡ true
-  is_cached-found m b lent same below here =
-      let tag = tag_found m b lent same below here in
-      let there = found_at m b tag.0 tag.1 tag.2 tag.3 in
-      ap (λ (o : Option (List ℕ)). is_some o) there.1.is
+  pub is_cached-found : (m : ℕ) (e : Extent) (lent : List (Option Tag)) → lent ≡ a.tags.items → IsExtent a.block_words lent e → e.method ≡ m → is_cached m (cache_of a) ≡ true
+  is_cached-found m e lent same here is =
+      let there = found_at e lent same here in
+      ap (λ (k : ℕ). is_cached k (cache_of a)) (sym is) ∙ ap (λ (o : Option (List ℕ)). is_some o) there.1.is
 
   pub is_cached-none : (m : ℕ) (lent : List (Option Tag)) → lent ≡ a.tags.items → All (λ t. begins m t ≡ false) lent → is_cached m (cache_of a) ≡ false
   is_cached-none m lent same absent =
       let P : List (Option Tag) → Type 0 = λ ts. All (λ t. begins m t ≡ false) ts in
       ap (λ (o : Option (List ℕ)). is_some o) (find_words-none m (subst P same absent))
 
-  pub is_cached-by : (m : ℕ) (r : Option ℕ) (lent : List (Option Tag)) → lent ≡ a.tags.items → IfSome r (λ b. b < length lent) → IfSome r (λ b. begins m (get_or lent b None) ≡ true) → IfNone r (All (λ t. begins m t ≡ false) lent) → is_cached m (cache_of a) ≡ is_some r
-  is_cached-by m None lent same below here absent = is_cached-none m lent same absent
-  is_cached-by m (Some b) lent same below here absent = is_cached-found m b lent same below here
+  pub is_cached-by : (m : ℕ) (r : Option Extent) (lent : List (Option Tag)) → lent ≡ a.tags.items → IfSome r (IsExtent a.block_words lent) → IfSome r (λ e. e.method ≡ m) → IfNone r (All (λ t. begins m t ≡ false) lent) → is_cached m (cache_of a) ≡ is_some r
+  is_cached-by m None lent same here is absent = is_cached-none m lent same absent
+  is_cached-by m (Some e) lent same here is absent = is_cached-found m e lent same here is
 
   pub word_of-none : (m i : ℕ) (lent : List (Option Tag)) → lent ≡ a.tags.items → All (λ t. begins m t ≡ false) lent → word_of m i (cache_of a) ≡ 0
   word_of-none m i lent same absent =
       let P : List (Option Tag) → Type 0 = λ ts. All (λ t. begins m t ≡ false) ts in
       ap (λ (o : Option (List ℕ)). get_or (unwrap_or o []) i 0) (find_words-none m (subst P same absent))
 
-  -- the same, where the tag is known
-  pub tag_begins : (m b : ℕ) (t : Tag) (lent : List (Option Tag)) → lent ≡ a.tags.items → begins m (get_or lent b None) ≡ true → get_or a.tags.items b None ≡ Some t → begins m (Some t) ≡ true
-  tag_begins m b t lent same here tagged =
-      ap (begins m) (sym tagged) ∙ ap (λ ts. begins m (get_or ts b None)) (sym same) ∙ here
+  -- what `word_at` requires, where it is lent the words
+  pub word_near : (i : ℕ) (e : Extent) (lent : List (Option Tag)) (ring_lent : List ℕ) → lent ≡ a.tags.items → ring_lent ≡ a.words.items → IsExtent a.block_words lent e → i < e.words → e.first + i < length ring_lent + length ring_lent
+  word_near i e lent ring_lent same same_words here less =
+      let there = found_at e lent same here in
+      omega (arith, there.1.near i less, ap length same_words)
 
-  pub word_near : (m b i : ℕ) (t : Tag) → b < a.blocks → get_or a.tags.items b None ≡ Some t → begins m (Some t) ≡ true → i < t.words → b * a.block_words + i < length a.words.items + length a.words.items
-  word_near m b i t below tagged here less = let there = found_at m b t below tagged here in there.1.near i less
-
-  pub word_of-found : (m b i : ℕ) (t : Tag) → b < a.blocks → get_or a.tags.items b None ≡ Some t → begins m (Some t) ≡ true → i < t.words → word_of m i (cache_of a) ≡ get_or a.words.items ((b * a.block_words + i) % length a.words.items) 0
-  word_of-found m b i t below tagged here less =
-      let there = found_at m b t below tagged here in
-      ap (λ (o : Option (List ℕ)). get_or (unwrap_or o []) i 0) there.1.is ∙ there.1.each i less
-
-  pub word_of-past : (m b i : ℕ) (t : Tag) → b < a.blocks → get_or a.tags.items b None ≡ Some t → begins m (Some t) ≡ true → t.words ≤ i → word_of m i (cache_of a) ≡ 0
-  word_of-past m b i t below tagged here past =
-      let there = found_at m b t below tagged here in
-      ap (λ (o : Option (List ℕ)). get_or (unwrap_or o []) i 0) there.1.is ∙ get_or_past there.0 i 0 (omega (arith, there.1.count))
+  -- what `word_at` answers
+  pub word_of-at : (m i : ℕ) (e : Extent) (lent : List (Option Tag)) (ring_lent : List ℕ) → lent ≡ a.tags.items → ring_lent ≡ a.words.items → IsExtent a.block_words lent e → e.method ≡ m → word_of m i (cache_of a) ≡ cond (ltb i e.words) (get_or ring_lent ((e.first + i) % length ring_lent) 0) 0
+  word_of-at m i e lent ring_lent same same_words here is =
+      let there = found_at e lent same here in
+      ap (λ (k : ℕ). word_of k i (cache_of a)) (sym is)
+      ∙ ap (λ (o : Option (List ℕ)). get_or (unwrap_or o []) i 0) there.1.is
+      ∙ elim (cases_lt i e.words) [
+        | inl less ↦
+            there.1.each i less
+            ∙ ap (λ rs. get_or rs ((e.first + i) % length rs) 0) (sym same_words)
+            ∙ ap (λ b. cond b (get_or ring_lent ((e.first + i) % length ring_lent) 0) 0) (let t : true ≡ ltb i e.words = grind (arith, nat_tests) in t)
+        | inr past ↦
+            get_or_past there.0 i 0 (omega (arith, there.1.count))
+            ∙ ap (λ b. cond b (get_or ring_lent ((e.first + i) % length ring_lent) 0) 0) (let t : false ≡ ltb i e.words = grind (arith, nat_tests) in t)
+      ]

@@ -1,10 +1,10 @@
 -- What the fields of a method cache mean.
-use Rattle.std.specs.Prelude.{◌≡◌, ℕ, ◌-◌, ◌*◌, ◌<◌, ◌≤◌, List, ◌++◌, length, replicate, Option, None}
+use Rattle.std.specs.Prelude.{◌≡◌, ℕ, ◌-◌, ◌*◌, ◌<◌, ◌≤◌, List, ◌++◌, length, replicate, Option, None, IfSome}
 use Rattle.method_cache.specs.declared.blocks.Tag.{Tag}
 use Rattle.method_cache.specs.declared.MethodCache.TheInside.{Inside}
 use Rattle.method_cache.specs.declared.TheConstants.{MAX_BLOCKS, MAX_BLOCK_WORDS}
 use Rattle.method_cache.specs.Contents.{Entry, Cache, total_blocks, IsCache}
-use Rattle.method_cache.specs.Ring.{rotated, held, laid}
+use Rattle.method_cache.specs.Ring.{rotated, held, laid, IsExtent}
 
 -- the tags of all blocks, from the pointer on
 abbrev pub ring_tags : Inside → List (Option Tag)
@@ -28,6 +28,6 @@ pub record IsRing (a : Inside) : Type 0 where
   pub most_words : a.block_words ≤ MAX_BLOCK_WORDS
   pub tags : length a.tags.items ≡ a.blocks
   pub words : length a.words.items ≡ a.blocks * a.block_words
-  pub selected : a.selected < a.blocks
+  pub selected : IfSome a.selected (IsExtent a.block_words a.tags.items)
   pub holds : IsCache (cache_of a)
   pub in_order : ring_tags a ≡ replicate (a.blocks - total_blocks a.block_words (contents_of a)) None ++ laid a.block_words (contents_of a)

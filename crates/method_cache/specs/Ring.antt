@@ -1,6 +1,7 @@
 -- What the blocks of the ring mean: the methods that they hold.
-use Rattle.std.specs.Prelude.{ℕ, zero, suc, ◌-◌, Bool, false, if◌then◌else◌, ◌==◌, ◌&&◌, List, [], ◌∷◌, ◌++◌, length, replicate, take, drop, slice_index_or, Option, Some, None}
+use Rattle.std.specs.Prelude.{◌≡◌, ℕ, ◌*◌, ◌<◌, zero, suc, ◌-◌, Bool, false, if◌then◌else◌, ◌==◌, ◌&&◌, List, [], ◌∷◌, ◌++◌, length, replicate, take, drop, slice_index_or, Option, Some, None}
 use Rattle.method_cache.specs.declared.blocks.Tag.{Tag}
+use Rattle.method_cache.specs.declared.blocks.Extent.{Extent}
 use Rattle.method_cache.specs.Contents.{Entry, blocks_for, blocks_of}
 
 -- a ring as a list that begins at place k
@@ -31,6 +32,13 @@ laid w (e ∷ es) = laid w es ++ parts e.method (length e.words) (blocks_of w e)
 abbrev pub begins : ℕ → Option Tag → Bool
 begins m None = false
 begins m (Some t) = (t.method == m) && (t.part == 0)
+
+-- a method of so many words begins in a block, and its first word is that block's
+pub record IsExtent (w : ℕ) (tags : List (Option Tag)) (e : Extent) : Type 0 where
+  pub block : ℕ
+  pub within : block < length tags
+  pub tagged : slice_index_or tags block None ≡ Some (record { method = e.method; part = 0; words = e.words })
+  pub first : e.first ≡ block * w
 
 -- the method that lies in a block with this tag
 abbrev pub method_of : Option Tag → Option ℕ

@@ -2,9 +2,10 @@
 //!
 //! `rotated at ring` is the ring as a list that begins at place `at`.
 
-ghost use Rattle.std.specs.Prelude.{◌≡◌, ◌+◌, ◌*◌, ◌%◌, ◌<◌, ◌≤◌, ◌++◌, true, false, length, replicate, drop, take, slice_index_or, IfSome, IfNone, All, None};
+ghost use Rattle.std.specs.Prelude.{◌≡◌, ◌+◌, ◌*◌, ◌%◌, ◌<◌, ◌≤◌, ◌++◌, true, false, length, replicate, drop, take, slice_index, slice_index_or, nat_lt, if◌then◌else◌, IfSome, IfNone, All, None};
 ghost use Rattle.method_cache.specs.Contents.{blocks_for};
-ghost use Rattle.method_cache.specs.Ring.{rotated, parts, begins, method_of, stale_of, stale_first, cleared};
+ghost use Rattle.method_cache.specs.declared.TheConstants.{MAX_BLOCKS, MAX_BLOCK_WORDS};
+ghost use Rattle.method_cache.specs.Ring.{rotated, parts, begins, IsExtent, method_of, stale_of, stale_first, cleared};
 
 /// What a block holds: a part of a method.
 #[derive(Clone, Copy, Debug, PartialEq, Eq)]
@@ -14,6 +15,17 @@ pub struct Tag {
     /// Which of the method's blocks this is.
     pub part: usize,
     /// The words of the whole method.
+    pub words: usize,
+}
+
+/// Where a method lies in the ring.
+#[derive(Clone, Copy, Debug, PartialEq, Eq)]
+pub struct Extent {
+    /// The method's place in main memory.
+    pub method: u32,
+    /// The place of its first word among the words of all blocks.
+    pub first: usize,
+    /// How many words it has.
     pub words: usize,
 }
 
@@ -38,17 +50,32 @@ pub fn method_in(tag: Option<Tag>) -> Option<u32>
     tag.map(|tag| tag.method)
 }
 
-/// The block in which a method begins. It costs no search where it is `hint`.
-pub fn find(tags: &[Option<Tag>], hint: usize, method: u32) -> Option<usize>
-    requires { hint < length tags.now }
-    ensures found { IfSome result (λ b. b < length tags.now) }
-    ensures begins { IfSome result (λ b. begins method (slice_index_or tags.now b None) ≡ true) }
+/// Where a method lies.
+pub fn find(tags: &[Option<Tag>], block_words: usize, method: u32) -> Option<Extent>
+    requires { length tags.now * block_words ≤ MAX_BLOCKS * MAX_BLOCK_WORDS }
+    ensures found { IfSome result (IsExtent block_words tags.now) }
+    ensures same { IfSome result (λ e. e.method ≡ method) }
     ensures absent { IfNone result (All (λ t. begins method t ≡ false) tags.now) }
 {
-    if begins_in(tags[hint], method) {
-        return Some(hint);
+    let block = tags.iter().position(|tag| begins_in(*tag, method))?;
+    tags[block].map(|tag| Extent {
+        method,
+        first: block * block_words,
+        words: tag.words,
+    })
+}
+
+/// Word `i` of the method that lies there. It is 0 past the method's words.
+pub fn word_at(ring: &[u32], extent: Extent, i: usize) -> u32
+    requires { i < extent.words → extent.first + i < length ring.now + length ring.now }
+    ensures { result
+        ≡ (if nat_lt i extent.words then slice_index ring.now ((extent.first + i) % length ring.now) else 0) }
+{
+    if i < extent.words {
+        ring[wrapped(extent.first + i, ring.len())]
+    } else {
+        0
     }
-    tags.iter().position(|tag| begins_in(*tag, method))
 }
 
 /// How many blocks, from one with this tag on, hold the rest of a method that begins before it.

@@ -9,7 +9,7 @@ ghost use Rattle.std.specs.Prelude.{◌≡◌, ℕ, ◌<◌, ◌≤◌, ◌↔�
 ghost use Rattle.method_cache.specs.Laws.{FittingIsLongest};
 ghost use Rattle.method_cache.specs.declared.TheConstants.{MAX_BLOCKS, MAX_BLOCK_WORDS};
 
-use blocks::{Tag, find, method_in, store, wrapped};
+use blocks::{Extent, Tag, find, method_in, store, word_at};
 use std::alloc::{AllocError, Global};
 use std::marker::Model;
 
@@ -31,8 +31,8 @@ pub struct MethodCache {
     words: Vec<u32>,
     // The block with which the next load begins.
     next: usize,
-    // The block with which the method begins that was selected or loaded last.
-    selected: usize,
+    // Where the method lies that was selected or loaded last.
+    selected: Option<Extent>,
 }
 
 impl Model for MethodCache {
@@ -70,7 +70,7 @@ impl MethodCache {
             tags,
             words: vec![in alloc; 0; blocks * block_words]?,
             next: 0,
-            selected: 0,
+            selected: None,
         })
     }
 
@@ -79,7 +79,7 @@ impl MethodCache {
         ensures value { result ≡ is_cached m self.now }
         ensures member { IsTrue result ↔ Contains (methods_of self.now) m }
     {
-        find(&self.tags, self.selected, m).is_some()
+        find(&self.tags, self.block_words, m).is_some()
     }
 
     /// Whether the cache holds method `m`, as `look`. If it does, its words cost no search from now
@@ -88,9 +88,9 @@ impl MethodCache {
         ensures found { result ≡ is_cached m self.old }
         ensures unchanged { self.new ≡ self.old }
     {
-        match find(&self.tags, self.selected, m) {
-            Some(block) => {
-                self.selected = block;
+        match find(&self.tags, self.block_words, m) {
+            Some(extent) => {
+                self.selected = Some(extent);
                 true
             }
             None => false,
@@ -124,7 +124,11 @@ impl MethodCache {
             m,
             words,
         );
-        self.selected = self.next;
+        self.selected = Some(Extent {
+            method: m,
+            first: self.next * self.block_words,
+            words: words.len(),
+        });
         self.next = end;
     }
 
@@ -133,14 +137,19 @@ impl MethodCache {
     pub fn word(&self, m: u32, i: u32) -> u32
         ensures { result ≡ word_of m i self.now }
     {
-        let Some(block) = find(&self.tags, self.selected, m) else {
-            return 0;
-        };
-        match self.tags[block] {
-            Some(tag) if (i as usize) < tag.words => {
-                self.words[wrapped(block * self.block_words + i as usize, self.words.len())]
-            }
-            _ => 0,
+        match self.selected {
+            Some(extent) if extent.method == m => word_at(&self.words, extent, i as usize),
+            _ => self.searched_word(m, i),
+        }
+    }
+
+    // The same of any method, by a search for it.
+    fn searched_word(&self, m: u32, i: u32) -> u32
+        ensures { result ≡ word_of m i self.now }
+    {
+        match find(&self.tags, self.block_words, m) {
+            Some(extent) => word_at(&self.words, extent, i as usize),
+            None => 0,
         }
     }
 

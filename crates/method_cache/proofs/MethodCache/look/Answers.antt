@@ -8,7 +8,7 @@ use Rattle.method_cache.proofs.MethodCache.look.Goals as goal
 pub returns-clause-value : goal.returns-clause-value
 returns-clause-value c =
     c.is_some.ensures
-    ∙ sym (is_cached-by c.self.inside c.self.invariant c.args.m c.find.result c.deref.result.now c.deref.ensures.value c.find.ensures.found c.find.ensures.begins c.find.ensures.absent)
+    ∙ sym (is_cached-by c.self.inside c.self.invariant c.args.m c.find.result c.deref.result.now c.deref.ensures.value c.find.ensures.found c.find.ensures.same c.find.ensures.absent)
     ∙ ap (is_cached c.args.m) c.self.view_is
 
 pub returns-clause-member : goal.returns-clause-member

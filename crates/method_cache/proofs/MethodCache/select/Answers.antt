@@ -5,7 +5,7 @@ use Rattle.method_cache.proofs.MethodCache.select.Goals as goal
 
 pub returns-in-Some-clause-found : goal.returns-in-Some-clause-found
 returns-in-Some-clause-found c =
-    sym (is_cached-found c.self.inside c.self.invariant c.args.m c.in-Some.block c.deref.result.now c.deref.ensures.value c.in-Some.ensures.found c.in-Some.ensures.begins)
+    sym (is_cached-found c.self.inside c.self.invariant c.args.m c.in-Some.extent c.deref.result.now c.deref.ensures.value c.in-Some.ensures.found c.in-Some.ensures.same)
     ∙ ap (is_cached c.args.m) c.self.view_is
 
 pub returns-in-None-clause-found : goal.returns-in-None-clause-found
