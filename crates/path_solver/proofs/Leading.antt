@@ -1,10 +1,10 @@
 -- The members of a loop but its header, in the order, and where the edges between them lead.
-use Rattle.std.proofs.Common.{◌≡◌, ◌≢◌, ℕ, ◌<◌, ◌≤◌, eqb, not, List, [], length, get_or, take, filter, All, Contains, sym, ap, ◌∙◌, subst, inl, inr, arith}
+use Rattle.std.proofs.Common.{◌≡◌, ◌≢◌, ℕ, ◌<◌, ◌≤◌, eqb, not, List, [], length, get_or, take, All, Contains, sym, ap, ◌∙◌, subst, inl, inr, arith}
 use Rattle.std.proofs.lemmas.Bool.{cases_lt, cases_order, eq-eqb, ne_eqb, both_ways}
 use Rattle.std.proofs.lemmas.List.{get_or-map, get_or_default, length-map, length-take-le, get_or-take}
 use Rattle.std.proofs.lemmas.List.Elements.{All-get_or, All-from_get_or, Contains-get_or}
 use Rattle.path_solver.specs.Ordering.{AreApart}
-use Rattle.path_solver.specs.Distances.{LeadForward, ArePicked}
+use Rattle.path_solver.specs.Distances.{LeadForward, others_of, ArePicked}
 use Rattle.path_solver.proofs.Rising.{rising_all, rising_pair}
 use Rattle.path_solver.proofs.Order.{taken_at}
 use Rattle.path_solver.proofs.Sources.{filter_contains, from_filter}
@@ -59,9 +59,6 @@ picked_apart order members nodes apart h i j lt below same =
     let up = rising_pair h.ranks h.rising i j lt (let x : j < length h.ranks = omega arith in x) in
     omega arith
 
-abbrev pub others_of : List ℕ → ℕ → List ℕ
-others_of members header = filter (λ u. not (eqb u header)) members
-
 pub from_others : (members : List ℕ) (h u : ℕ) → Contains (others_of members h) u → Contains members u × (u ≢ h)
 from_others members h u has =
     let r = from_filter (λ z. not (eqb z h)) members u has in
@@ -70,11 +67,8 @@ from_others members h u has =
 pub to_others : (members : List ℕ) (h u : ℕ) → Contains members u → u ≢ h → Contains (others_of members h) u
 to_others members h u has other = filter_contains (λ z. not (eqb z h)) members u (ap not (ne_eqb u h other)) has
 
-pub repick : (order order' members members' nodes : List ℕ) → order' ≡ order → members' ≡ members → ArePicked order' members' nodes → ArePicked order members nodes
-repick order order' members members' nodes a b h =
-    let P : List ℕ → Type 0 = λ us. ArePicked us members' nodes in
-    let Q : List ℕ → Type 0 = λ us. ArePicked order us nodes in
-    subst Q b (subst P a h)
+pub repick : (order order' members nodes : List ℕ) → order' ≡ order → ArePicked order' members nodes → ArePicked order members nodes
+repick order order' members nodes a h = let P : List ℕ → Type 0 = λ us. ArePicked us members nodes in subst P a h
 
 pub all_from : (n : ℕ) (us : List ℕ) → ((u : ℕ) → Contains us u → u < n) → All (λ u. u < n) us
 all_from n us all = All-from_get_or (λ u. u < n) us 0 (λ i lt. all (get_or us i 0) (Contains-get_or us i 0 lt))

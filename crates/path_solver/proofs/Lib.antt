@@ -27,6 +27,7 @@ mod Adding
 mod Arriving
 mod Fewer
 mod Headers
+mod Sharing
 mod Structure
 mod Correspond
 mod SimpleWalks

@@ -1,5 +1,6 @@
 -- The edges that are taken, edge by edge.
-use Rattle.std.proofs.Common.{ℕ, Bool, List, [], ◌∷◌, ◌++◌, Contains, sym, subst, inl, inr}
+use Rattle.std.proofs.Common.{ℕ, ◌+◌, ◌<◌, Bool, List, [], ◌∷◌, ◌++◌, length, get_or, take, Contains, sym, subst, inl, inr}
+use Rattle.std.proofs.lemmas.List.{take_more}
 use Rattle.std.proofs.lemmas.List.Elements.{Contains-append_left, Contains-push, Contains-push_cases}
 use Rattle.loop_nest.specs.Nest.{NaturalLoop}
 use Rattle.path_solver.specs.Ordering.{IsTaken, AreTaken}
@@ -34,3 +35,13 @@ module _ (loops : List NaturalLoop) (flags : List Bool) (back : Bool) where
           | inr same ↦ let P : ℕ × ℕ → Type 0 = λ z. IsTaken loops flags back z.0 z.1 in absurd (off (subst P (sym same) r.1))
         ],
   )
+
+  pub taken_next : (es found : List (ℕ × ℕ)) (i : ℕ) → i < length es → IsTaken loops flags back (get_or es i (0, 0)).0 (get_or es i (0, 0)).1 → AreTaken (take i es) loops flags back found → AreTaken (take (i + 1) es) loops flags back (found ++ get_or es i (0, 0) ∷ [])
+  taken_next es found i lt b h =
+      let P : List (ℕ × ℕ) → Type 0 = λ qs. AreTaken qs loops flags back (found ++ get_or es i (0, 0) ∷ []) in
+      subst P (sym (take_more es i (0, 0) lt)) (taken_push (take i es) found (get_or es i (0, 0)) b h)
+
+  pub taken_not_next : (es found : List (ℕ × ℕ)) (i : ℕ) → i < length es → (IsTaken loops flags back (get_or es i (0, 0)).0 (get_or es i (0, 0)).1 → ⊥) → AreTaken (take i es) loops flags back found → AreTaken (take (i + 1) es) loops flags back found
+  taken_not_next es found i lt off h =
+      let P : List (ℕ × ℕ) → Type 0 = λ qs. AreTaken qs loops flags back found in
+      subst P (sym (take_more es i (0, 0) lt)) (taken_skip (take i es) found (get_or es i (0, 0)) off h)

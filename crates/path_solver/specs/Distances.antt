@@ -1,5 +1,5 @@
 -- What the walks that don't turn back cost at most. Numbers are counted up to a limit beyond all that a section may hold.
-use Rattle.std.specs.Prelude.{◌≡◌, ℕ, ◌+◌, ◌^◌, ◌<◌, ◌≤◌, ◌⊎◌, ◌↔◌, min, List, [], length, take, map, All, Contains, slice_index, slice_index_or, Vec}
+use Rattle.std.specs.Prelude.{◌≡◌, ℕ, ◌+◌, ◌^◌, ◌<◌, ◌≤◌, ◌⊎◌, ◌↔◌, ◌==◌, not, min, List, [], length, take, map, filter, All, Contains, slice_index, slice_index_or, Vec}
 use Rattle.std.specs.List.Sorted.{IsStrictlyIncreasing}
 use Rattle.std.specs.declared.alloc.Global.{Global}
 
@@ -46,6 +46,10 @@ LeadForward sources nodes = (p j : ℕ) → j < length nodes → Contains (sourc
 pub record ArePlaces (order : List ℕ) (n : ℕ) (places : List ℕ) : Type 0 where
   pub long : length places ≡ n
   pub each : (j : ℕ) → j < length order → slice_index places (slice_index order j) ≡ j
+
+-- the members but the header
+abbrev pub others_of : List ℕ → ℕ → List ℕ
+others_of members header = filter (λ u. not (u == header)) members
 
 -- the members in the order: what stands at rising places
 pub record ArePicked (order members nodes : List ℕ) : Type 0 where

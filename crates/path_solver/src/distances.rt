@@ -3,7 +3,7 @@
 ghost use Rattle.std.specs.Prelude.{◌≡◌, ◌+◌, ◌*◌, ◌<◌, ◌≤◌, ℕ, List, length, map, All, Contains, slice_index, IfOk};
 ghost use Rattle.std.specs.List.Sorted.{IsPermutation, IsNonDecreasing, IsStrictlyIncreasing};
 ghost use Rattle.path_solver.specs.Ordering.{AreApart};
-ghost use Rattle.path_solver.specs.Distances.{limit, limited, AreLimited, IsMost, cost_through, sources_at, AreSpread, LeadForward, ArePlaces, ArePicked};
+ghost use Rattle.path_solver.specs.Distances.{limit, limited, AreLimited, IsMost, cost_through, sources_at, AreSpread, LeadForward, ArePlaces, others_of, ArePicked};
 
 use std::alloc::{AllocError, Global};
 
@@ -68,35 +68,43 @@ pub fn places(alloc: Global, nodes: usize, order: &[u32]) -> Result<Vec<usize>, 
     Ok(places)
 }
 
-/// The places of these members, rising.
-fn ranks(alloc: Global, places: &[usize], members: &[u32]) -> Result<Vec<usize>, AllocError>
+/// The places of these members but the header, rising.
+fn ranks(
+    alloc: Global,
+    places: &[usize],
+    members: &[u32],
+    header: u32,
+) -> Result<Vec<usize>, AllocError>
     requires { All (λ u. u < length places.now) members.now }
-    ensures permutation { IfOk result (λ rs. IsPermutation (map (λ u. slice_index places.now u) members.now) rs.items) }
+    ensures permutation { IfOk result (λ rs. IsPermutation (map (λ u. slice_index places.now u) (others_of members.now header)) rs.items) }
     ensures sorted { IfOk result (λ rs. IsNonDecreasing rs.items) }
 {
-    let mut ranks = Vec::new(alloc);
+    let mut ranks = Vec::with_capacity(alloc, members.len())?;
     for u in members {
-        ranks.push(places[*u as usize])?;
+        if *u != header {
+            ranks.push(places[*u as usize])?;
+        }
     }
     ranks.sort_unstable();
     Ok(ranks)
 }
 
-/// These members in the order.
+/// These members but the header, in the order.
 pub fn in_order(
     alloc: Global,
     order: &[u32],
     places: &[usize],
     members: &[u32],
+    header: u32,
 ) -> Result<Vec<u32>, AllocError>
     requires places { ArePlaces order.now (length places.now) places.now }
     requires within { All (λ u. u < length places.now) members.now }
     requires listed { (u : ℕ) → Contains members.now u → Contains order.now u }
     requires rising { IsStrictlyIncreasing members.now }
-    ensures { IfOk result (λ nodes. ArePicked order.now members.now nodes.items) }
+    ensures { IfOk result (λ nodes. ArePicked order.now (others_of members.now header) nodes.items) }
 {
-    let ranks = ranks(alloc, places, members)?;
-    let mut nodes = Vec::new(alloc);
+    let ranks = ranks(alloc, places, members, header)?;
+    let mut nodes = Vec::with_capacity(alloc, ranks.len())?;
     for i in &ranks {
         nodes.push(order[*i])?;
     }

@@ -1,5 +1,5 @@
 //! What is wrong with the loops of a section among themselves.
-ghost use Rattle.std.specs.Prelude.{◌≡◌, ◌≢◌, ◌<◌, ◌↔◌, length, true, IsTrue};
+ghost use Rattle.std.specs.Prelude.{◌≡◌, ◌≢◌, ℕ, ◌<◌, ◌↔◌, length, true, IsTrue};
 ghost use Rattle.std.specs.List.Sorted.{IsStrictlyIncreasing};
 ghost use Rattle.path_solver.specs.Section.{CertifiedLoop, HeadersRise, MembersRise};
 ghost use Rattle.path_solver.specs.Placing.{IsAt, LiesIn, AreCrossed, SharesHeader, CrossesAnother, LiesInRegion, IsFaulty, HeadsFaulty};
@@ -66,27 +66,28 @@ fn crosses(a: &CertLoop, b: &CertLoop) -> bool
     !lies_in(outer, inner)
 }
 
-/// Whether another loop has the header of loop `i`.
+/// Whether another loop has the header of loop `i`. As headers don't fall, only those next to it need
+/// to be looked at.
 fn shares_header(loops: &[CertLoop], i: usize) -> bool
-    requires { i < length loops.now }
+    requires headers { HeadersRise loops.now }
+    requires within { i < length loops.now }
     ensures { (l : CertifiedLoop) → IsAt loops.now i l → IsTrue result ↔ SharesHeader loops.now i l }
 {
     let header = loops[i].header();
-    for k in 0..loops.len() {
-        if k != i && loops[k].header() == header {
-            return true;
-        }
+    if i > 0 && loops[i - 1].header() == header {
+        return true;
     }
-    false
+    i + 1 < loops.len() && loops[i + 1].header() == header
 }
 
-/// Whether a loop crosses loop `i`.
+/// Whether a loop crosses loop `i`, where no earlier loop crosses another.
 fn crosses_another(loops: &[CertLoop], i: usize) -> bool
     requires members { MembersRise loops.now }
     requires within { i < length loops.now }
+    requires earlier { (j : ℕ) (m : CertifiedLoop) → j < i → IsAt loops.now j m → ¬ CrossesAnother loops.now m }
     ensures { (l : CertifiedLoop) → IsAt loops.now i l → IsTrue result ↔ CrossesAnother loops.now l }
 {
-    for k in 0..loops.len() {
+    for k in i + 1..loops.len() {
         if crosses(&loops[i], &loops[k]) {
             return true;
         }
@@ -125,11 +126,13 @@ fn lies_in_region(loops: &[CertLoop], i: usize) -> bool
 }
 
 /// Whether loop `i` shares its header, leaves it out, crosses a loop, or is a region that doesn't fit
-/// or that lies in another.
+/// or that lies in another, where no earlier loop is faulty.
 fn is_faulty(loops: &[CertLoop], loads: &[Option<u64>], i: usize) -> bool
+    requires headers { HeadersRise loops.now }
     requires members { MembersRise loops.now }
     requires loads { length loads.now ≡ length loops.now }
     requires within { i < length loops.now }
+    requires earlier { (j : ℕ) (m : CertifiedLoop) → j < i → IsAt loops.now j m → ¬ IsFaulty loops.now loads.now j m }
     ensures { (l : CertifiedLoop) → IsAt loops.now i l → IsTrue result ↔ IsFaulty loops.now loads.now i l }
 {
     let l = &loops[i];

@@ -1,10 +1,10 @@
 //! An order of the nodes in which every edge but the back edges leads from a node to a later one.
-ghost use Rattle.std.specs.Prelude.{◌≡◌, ℕ, ◌+◌, ◌^◌, ◌<◌, ◌≤◌, ◌↔◌, ◌==◌, List, [], ◌∷◌, length, map, All, Contains, count_by, slice_index, IfOk, OnOk, IsTrue, MatchOption};
+ghost use Rattle.std.specs.Prelude.{◌≡◌, ℕ, ◌+◌, ◌^◌, ◌<◌, ◌≤◌, ◌↔◌, ◌==◌, List, [], ◌∷◌, length, map, All, Contains, count_by, slice_index, IfOk, OnOk, IsTrue, MatchOption, true, false};
 ghost use Rattle.std.specs.List.Sorted.{IsStrictlyIncreasing};
 ghost use Rattle.loop_nest.specs.Nest.{headers_of};
 ghost use Rattle.loop_nest.specs.Walks.{Walk};
 ghost use Rattle.path_solver.specs.Reaching.{IsFlagged};
-ghost use Rattle.path_solver.specs.Ordering.{AreLoops, IsHeadedAt, NoLoopHas, TurnsBack, IsTaken, AreTaken, AreArrivals, AreApart, AreStarts, ArePassed, graph_of, IsForwardOrder};
+ghost use Rattle.path_solver.specs.Ordering.{AreLoops, IsHeadedAt, NoLoopHas, TurnsBack, AreTaken, AreArrivals, AreApart, AreStarts, ArePassed, graph_of, IsForwardOrder};
 
 use super::lookups::has;
 use super::reaching::sources_by_target;
@@ -36,41 +36,39 @@ fn turns_back(loops: &[Loop], u: u32, v: u32) -> bool
     }
 }
 
-/// Whether `v` is listed, and an edge from `u` to `v` turns back, or doesn't.
-fn is_taken(loops: &[Loop], listed: &[bool], back: bool, u: u32, v: u32) -> bool
-    requires loops { AreLoops loops.now }
-    requires within { v < length listed.now }
-    ensures { IsTrue result ↔ IsTaken loops.now listed.now back u v }
-{
-    if !listed[v as usize] {
-        return false;
-    }
-    if back {
-        return turns_back(loops, u, v);
-    }
-    !turns_back(loops, u, v)
+/// The edges to listed nodes: those that don't turn back, and those that do.
+#[derive(Debug, Drop)]
+pub struct TakenEdges {
+    pub onward: Vec<(u32, u32)>,
+    pub turning: Vec<(u32, u32)>,
 }
 
-/// Of these edges those to listed nodes that turn back, or those that don't.
+/// Of these edges those to listed nodes.
 pub fn taken(
     alloc: Global,
     edges: &[(u32, u32)],
     loops: &[Loop],
     listed: &[bool],
-    back: bool,
-) -> Result<Vec<(u32, u32)>, AllocError>
+) -> Result<TakenEdges, AllocError>
     requires loops { AreLoops loops.now }
     requires within { All (λ e. e.1 < length listed.now) edges.now }
-    ensures { IfOk result (λ found. AreTaken edges.now loops.now listed.now back found.items) }
+    ensures onward { IfOk result (λ t. AreTaken edges.now loops.now listed.now false t.onward.items) }
+    ensures turning { IfOk result (λ t. AreTaken edges.now loops.now listed.now true t.turning.items) }
 {
-    let mut found = Vec::new(alloc);
+    let mut onward = Vec::new(alloc);
+    let mut turning = Vec::new(alloc);
     for i in 0..edges.len() {
         let (u, v) = edges[i];
-        if is_taken(loops, listed, back, u, v) {
-            found.push((u, v))?;
+        if !listed[v as usize] {
+            continue;
+        }
+        if turns_back(loops, u, v) {
+            turning.push((u, v))?;
+        } else {
+            onward.push((u, v))?;
         }
     }
-    Ok(found)
+    Ok(TakenEdges { onward, turning })
 }
 
 /// These edges from their targets to their sources.

@@ -6,7 +6,7 @@ ghost use Rattle.path_solver.specs.Reaching.{AreReaching};
 ghost use Rattle.path_solver.specs.Passages.{IsPassage};
 
 use super::distances::places;
-use super::ordering::{forward_order, taken};
+use super::ordering::{TakenEdges, forward_order, taken};
 use super::reaching::sources_by_target;
 use loop_nest::Graph;
 use loop_nest::laws::cycles_take_back_edges;
@@ -39,8 +39,7 @@ pub fn find_passage(
     cycles_take_back_edges();
     let nodes = g.nodes() as usize;
     let loops = nest.loops();
-    let onward = taken(alloc, g.edges(), loops, listed, false)?;
-    let turning = taken(alloc, g.edges(), loops, listed, true)?;
+    let TakenEdges { onward, turning } = taken(alloc, g.edges(), loops, listed)?;
     let order = forward_order(alloc, listed, &onward)?;
     let places = places(alloc, nodes, &order)?;
     let forward = sources_by_target(alloc, nodes, &onward)?;

@@ -1,5 +1,5 @@
 //! What a turn of each loop is worth.
-ghost use Rattle.std.specs.Prelude.{◌≡◌, ◌==◌, not, length, filter, IfOk};
+ghost use Rattle.std.specs.Prelude.{◌≡◌, length, IfOk};
 ghost use Rattle.path_solver.specs.Ordering.{AreLoops};
 ghost use Rattle.path_solver.specs.Distances.{AreLimited};
 ghost use Rattle.path_solver.specs.Turning.{IsOrderly, AreMembers, IsTurnWorth};
@@ -16,17 +16,6 @@ use std::alloc::{AllocError, Global};
 pub struct Turns {
     pub worths: Vec<u128>,
     pub fees: Vec<u128>,
-}
-
-/// These members but the header.
-fn others(alloc: Global, members: &[u32], header: u32) -> Result<Vec<u32>, AllocError>
-    ensures { IfOk result (λ us. us.items ≡ filter (λ u. not (u == header)) members.now) }
-{
-    members
-        .iter()
-        .copied()
-        .filter(|u| *u != header)
-        .collect(alloc)
 }
 
 /// What a turn of a loop is worth, where the fees of the loops inside are known.
@@ -47,8 +36,7 @@ fn worth_of_turn(
     requires limited { AreLimited dist.old }
     ensures { IfOk result (λ worth. IsTurnWorth passage.now members.now header costs.now fees.now dist.new worth) }
 {
-    let others = others(alloc, members, header)?;
-    let nodes = in_order(alloc, &passage.order, &passage.places, &others)?;
+    let nodes = in_order(alloc, &passage.order, &passage.places, members, header)?;
     dist[header as usize] = 0;
     spread(&nodes, &passage.forward, costs, fees, dist);
     Ok(greatest_end(&passage.back[header as usize], costs, dist))

@@ -1,31 +1,54 @@
-use Rattle.std.proofs.Common.{ℕ, List, [], ◌∷◌, ◌++◌, get_or, take, sym, ap, ◌∙◌, subst}
+use Rattle.std.proofs.Common.{ℕ, ◌+◌, Bool, true, false, List, get_or, take, sym, ap, ◌∙◌, subst}
 use Rattle.std.proofs.lemmas.Bool.{both_ways}
-use Rattle.std.proofs.lemmas.List.{take_more, take_all}
-use Rattle.path_solver.specs.Ordering.{AreTaken}
-use Rattle.path_solver.proofs.Taken.{taken_push, taken_skip}
+use Rattle.std.proofs.lemmas.List.{take_all}
+use Rattle.path_solver.specs.Ordering.{TurnsBack, AreTaken}
+use Rattle.path_solver.proofs.Taken.{taken_next, taken_not_next}
 use Rattle.path_solver.proofs.ordering.taken.Goals as goal
-use Rattle.path_solver.proofs.ordering.taken.Goals.{then-is_taken+in_ok-push, else-is_taken}
+use Rattle.path_solver.proofs.ordering.taken.Goals.{then-turns_back+in_ok-push, else-turns_back+in_ok-push-2}
+
+pub loop-i-preserved-then-not-listed-v : goal.loop-i-preserved-then-not-listed-v
+loop-i-preserved-then-not-listed-v c =
+    let es = c.args.edges.now in
+    let i = c.loop-i.i in
+    let ls = c.args.loops.now in
+    let flags = c.args.listed.now in
+    let flag = get_or flags (get_or es i (0, 0)).1 false in
+    record {
+      onward = taken_not_next ls flags false es c.loop-i.onward.items i c.loop-i-test.true (λ b. both_ways flag c.if-not-listed-v.true b.0) c.loop-i.invariant.onward;
+      turning = taken_not_next ls flags true es c.loop-i.turning.items i c.loop-i-test.true (λ b. both_ways flag c.if-not-listed-v.true b.0) c.loop-i.invariant.turning;
+    }
 
 pub loop-i-preserved : goal.loop-i-preserved
 loop-i-preserved c =
     let es = c.args.edges.now in
     let i = c.loop-i.i in
-    let e = get_or es i (0, 0) in
     let ls = c.args.loops.now in
     let flags = c.args.listed.now in
-    let back = c.args.back in
-    let found = c.loop-i.found.items in
-    let P : List (ℕ × ℕ) → Type 0 = λ qs. AreTaken qs ls flags back c.if-is_taken.found.items in
-    let Q : List (ℕ × ℕ) → Type 0 = λ fs. AreTaken (take i es ++ e ∷ []) ls flags back fs in
-    subst P (sym (take_more es i (0, 0) c.loop-i-test.true)) (
-    elim c.if-is_taken.branch [
-      | then-is_taken+in_ok-push w ↦
-          subst Q (sym (ap (λ v. v.items) w.found-is ∙ w.in_ok-push.ensures.items)) (taken_push ls flags back (take i es) found e (c.is_taken.ensures.0 w.if-is_taken.true) c.loop-i.invariant)
-      | else-is_taken w ↦
-          subst Q (sym (ap (λ v. v.items) w.found-is)) (taken_skip ls flags back (take i es) found e (λ b. both_ways c.is_taken.result w.if-is_taken.false (c.is_taken.ensures.1 b)) c.loop-i.invariant)
-    ])
+    let lt = c.loop-i-test.true in
+    let onward = c.loop-i.onward.items in
+    let turning = c.loop-i.turning.items in
+    let P : Bool → List (ℕ × ℕ) → Type 0 = λ back found. AreTaken (take (i + 1) es) ls flags back found in
+    elim c.if-turns_back.branch [
+      | then-turns_back+in_ok-push w ↦
+          let back = c.turns_back.ensures.0 w.if-turns_back.true in
+          record {
+            onward = subst (P false) (sym (ap (λ v. v.items) w.onward-is)) (taken_not_next ls flags false es onward i lt (λ b. b.1 back) c.loop-i.invariant.onward);
+            turning = subst (P true) (sym (ap (λ v. v.items) w.turning-is ∙ w.in_ok-push.ensures.items)) (taken_next ls flags true es turning i lt (c.if-not-listed-v.false, back) c.loop-i.invariant.turning);
+          }
+      | else-turns_back+in_ok-push-2 w ↦
+          let off : TurnsBack ls (get_or es i (0, 0)).0 (get_or es i (0, 0)).1 → ⊥ = λ back. both_ways c.turns_back.result w.if-turns_back.false (c.turns_back.ensures.1 back) in
+          record {
+            onward = subst (P false) (sym (ap (λ v. v.items) w.onward-is ∙ w.in_ok-push-2.ensures.items)) (taken_next ls flags false es onward i lt (c.if-not-listed-v.false, off) c.loop-i.invariant.onward);
+            turning = subst (P true) (sym (ap (λ v. v.items) w.turning-is)) (taken_not_next ls flags true es turning i lt (λ b. off b.1) c.loop-i.invariant.turning);
+          }
+    ]
 
-pub returns : goal.returns
-returns c =
-    let P : List (ℕ × ℕ) → Type 0 = λ es. AreTaken es c.args.loops.now c.args.listed.now c.args.back c.loop-i.found.items in
-    subst P (take_all c.loop-i.i c.args.edges.now c.loop-i-test.false) c.loop-i.invariant
+pub returns-clause-onward : goal.returns-clause-onward
+returns-clause-onward c =
+    let P : List (ℕ × ℕ) → Type 0 = λ es. AreTaken es c.args.loops.now c.args.listed.now false c.loop-i.onward.items in
+    subst P (take_all c.loop-i.i c.args.edges.now c.loop-i-test.false) c.loop-i.invariant.onward
+
+pub returns-clause-turning : goal.returns-clause-turning
+returns-clause-turning c =
+    let P : List (ℕ × ℕ) → Type 0 = λ es. AreTaken es c.args.loops.now c.args.listed.now true c.loop-i.turning.items in
+    subst P (take_all c.loop-i.i c.args.edges.now c.loop-i-test.false) c.loop-i.invariant.turning

@@ -1,6 +1,9 @@
-use Rattle.std.proofs.Common.{take}
+use Rattle.std.proofs.Common.{true, false, take}
 use Rattle.path_solver.specs.Ordering.{AreTaken}
 use Rattle.path_solver.proofs.ordering.taken.Given as goal
 
 abbrev pub invariant-loop-i : goal.invariant-loop-i
-invariant-loop-i l = AreTaken (take l.i l.edges) l.loops l.listed l.back l.found.items
+invariant-loop-i l = record {
+  onward : AreTaken (take l.i l.edges) l.loops l.listed false l.onward.items;
+  turning : AreTaken (take l.i l.edges) l.loops l.listed true l.turning.items;
+}

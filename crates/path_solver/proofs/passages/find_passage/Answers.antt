@@ -13,18 +13,13 @@ taken-requires-clause-loops c =
     let P : List NaturalLoop → Type 0 = λ ls. AreLoops ls in
     subst P (sym c.loops-loops.ensures) (nest_loops c.args.g.now c.args.nest.now c.requires.nest)
 
-pub taken-requires-2-clause-loops : goal.taken-requires-2-clause-loops
-taken-requires-2-clause-loops c =
-    let P : List NaturalLoop → Type 0 = λ ls. AreLoops ls in
-    subst P (sym c.loops-loops.ensures) (nest_loops c.args.g.now c.args.nest.now c.requires.nest)
-
 pub forward_order-requires-clause-targets : goal.forward_order-requires-clause-targets
 forward_order-requires-clause-targets c =
     let g = c.args.g.now in
     let ls = c.args.nest.now in
     let flags = c.args.listed.now in
-    let es = c.in_ok-onward.onward.items in
-    let taken = retaken g.edges c.edges.result.now ls c.loops-loops.result.now flags false es c.edges.ensures.edges c.loops-loops.ensures c.in_ok-onward.ensures in
+    let es = c.in_ok-onward.field-0.onward.items in
+    let taken = retaken g.edges c.edges.result.now ls c.loops-loops.result.now flags false es c.edges.ensures.edges c.loops-loops.ensures c.in_ok-onward.ensures.onward in
     let P : List (ℕ × ℕ) → Type 0 = λ zs. (u v : ℕ) → Contains zs (u, v) → IsFlagged flags v in
     subst P (sym c.deref.ensures.value) (targets_flagged g ls flags false es taken)
 
@@ -33,8 +28,8 @@ forward_order-requires-clause-sources c =
     let g = c.args.g.now in
     let ls = c.args.nest.now in
     let flags = c.args.listed.now in
-    let es = c.in_ok-onward.onward.items in
-    let taken = retaken g.edges c.edges.result.now ls c.loops-loops.result.now flags false es c.edges.ensures.edges c.loops-loops.ensures c.in_ok-onward.ensures in
+    let es = c.in_ok-onward.field-0.onward.items in
+    let taken = retaken g.edges c.edges.result.now ls c.loops-loops.result.now flags false es c.edges.ensures.edges c.loops-loops.ensures c.in_ok-onward.ensures.onward in
     let P : List (ℕ × ℕ) → Type 0 = λ zs. (u v : ℕ) → Contains zs (u, v) → IsFlagged flags u in
     subst P (sym c.deref.ensures.value) (sources_flagged g ls flags es c.requires.listed taken)
 
@@ -43,8 +38,8 @@ forward_order-requires-clause-acyclic c =
     let g = c.args.g.now in
     let ls = c.args.nest.now in
     let flags = c.args.listed.now in
-    let es = c.in_ok-onward.onward.items in
-    let taken = retaken g.edges c.edges.result.now ls c.loops-loops.result.now flags false es c.edges.ensures.edges c.loops-loops.ensures c.in_ok-onward.ensures in
+    let es = c.in_ok-onward.field-0.onward.items in
+    let taken = retaken g.edges c.edges.result.now ls c.loops-loops.result.now flags false es c.edges.ensures.edges c.loops-loops.ensures c.in_ok-onward.ensures.onward in
     let P : List (ℕ × ℕ) → Type 0 = λ zs. (u v : ℕ) (ns : List ℕ) → Contains zs (u, v) → Walk (graph_of (length flags) zs) v u ns → ⊥ in
     subst P (sym c.deref.ensures.value) (onward_acyclic g ls flags es (length flags) c.cycles_take_back_edges.ensures c.nodes-nodes.ensures.valid c.requires.reducible c.requires.nest taken)
 
@@ -64,8 +59,8 @@ sources_by_target-requires c =
     let g = c.args.g.now in
     let ls = c.args.nest.now in
     let flags = c.args.listed.now in
-    let es = c.in_ok-onward.onward.items in
-    let taken = retaken g.edges c.edges.result.now ls c.loops-loops.result.now flags false es c.edges.ensures.edges c.loops-loops.ensures c.in_ok-onward.ensures in
+    let es = c.in_ok-onward.field-0.onward.items in
+    let taken = retaken g.edges c.edges.result.now ls c.loops-loops.result.now flags false es c.edges.ensures.edges c.loops-loops.ensures c.in_ok-onward.ensures.onward in
     let P : ℕ → Type 0 = λ n. All (λ (e : ℕ × ℕ). e.1 < n) c.deref-3.result.now in
     let Q : List (ℕ × ℕ) → Type 0 = λ zs. All (λ (e : ℕ × ℕ). e.1 < length flags) zs in
     subst P (c.requires.listed.long ∙ sym c.nodes-nodes.ensures.nodes) (subst Q (sym c.deref-3.ensures.value) (targets_below flags es (targets_flagged g ls flags false es taken)))
@@ -75,8 +70,8 @@ sources_by_target-requires-2 c =
     let g = c.args.g.now in
     let ls = c.args.nest.now in
     let flags = c.args.listed.now in
-    let es = c.in_ok-turning.turning.items in
-    let taken = retaken g.edges c.edges-2.result.now ls c.loops-loops.result.now flags true es c.edges-2.ensures.edges c.loops-loops.ensures c.in_ok-turning.ensures in
+    let es = c.in_ok-onward.field-0.turning.items in
+    let taken = retaken g.edges c.edges.result.now ls c.loops-loops.result.now flags true es c.edges.ensures.edges c.loops-loops.ensures c.in_ok-onward.ensures.turning in
     let P : ℕ → Type 0 = λ n. All (λ (e : ℕ × ℕ). e.1 < n) c.deref-4.result.now in
     let Q : List (ℕ × ℕ) → Type 0 = λ zs. All (λ (e : ℕ × ℕ). e.1 < length flags) zs in
     subst P (c.requires.listed.long ∙ sym c.nodes-nodes.ensures.nodes) (subst Q (sym c.deref-4.ensures.value) (targets_below flags es (targets_flagged g ls flags true es taken)))
@@ -86,8 +81,8 @@ returns c =
     let g = c.args.g.now in
     let ls = c.args.nest.now in
     let flags = c.args.listed.now in
-    let onward = c.in_ok-onward.onward.items in
-    let turning = c.in_ok-turning.turning.items in
+    let onward = c.in_ok-onward.field-0.onward.items in
+    let turning = c.in_ok-onward.field-0.turning.items in
     let order = c.in_ok-order.order.items in
     let P : List ℕ → ℕ → Type 0 = λ us n. ArePlaces us n c.in_ok-places.places.items in
     let P1 : List ℕ → Type 0 = λ us. P us c.nodes-nodes.result in
@@ -100,8 +95,8 @@ returns c =
     record {
       onward = onward;
       turning = turning;
-      are_onward = retaken g.edges c.edges.result.now ls c.loops-loops.result.now flags false onward c.edges.ensures.edges c.loops-loops.ensures c.in_ok-onward.ensures;
-      are_turning = retaken g.edges c.edges-2.result.now ls c.loops-loops.result.now flags true turning c.edges-2.ensures.edges c.loops-loops.ensures c.in_ok-turning.ensures;
+      are_onward = retaken g.edges c.edges.result.now ls c.loops-loops.result.now flags false onward c.edges.ensures.edges c.loops-loops.ensures c.in_ok-onward.ensures.onward;
+      are_turning = retaken g.edges c.edges.result.now ls c.loops-loops.result.now flags true turning c.edges.ensures.edges c.loops-loops.ensures c.in_ok-onward.ensures.turning;
       ordered = ordered flags onward c.deref.result.now order c.deref.ensures.value c.in_ok-order.ensures;
       placed = subst P2 nodes (subst P1 c.deref-2.ensures.value c.in_ok-places.ensures);
       forward_sources = subst Q2 nodes (subst Q1 c.deref-3.ensures.value c.in_ok-forward.ensures);
