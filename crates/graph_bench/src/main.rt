@@ -4,8 +4,11 @@
 #![tactic(auto)]
 
 ghost use Rattle.std.specs.Prelude.{◌≡◌, ◌*◌, ◌<◌, length, map, Some, IfOk};
+ghost use Rattle.loop_nest.specs.Reduction.{IsReducible};
+ghost use Rattle.loop_nest.specs.Nest.{IsNest};
 ghost use Rattle.path_solver.specs.Section.{IsInForm};
 
+use loop_nest::loops::Nest;
 use loop_nest::{Graph, blocks, is_graph, nest};
 use path_solver::solved::Solved;
 use path_solver::{check_section, longest};
@@ -119,6 +122,42 @@ fn check(
     Ok(Some(checked))
 }
 
+// Finds what the greatest walk costs, and checks the section that shows it. With `timed`, prints how
+// long it took.
+fn solve(
+    rt: &(impl Print + Clock + Alloc<A = Global>),
+    shape: Shape,
+    g: &Graph,
+    nest: &Nest,
+    timed: bool,
+) -> io::Result<()>
+    requires nest { IsNest g.now nest.now }
+    requires reducible { IsReducible g.now }
+{
+    let loops = nest.loops().len();
+    let costs = costs_of(rt.alloc(), g.nodes())?;
+    let bounds = vec![in rt.alloc(); shape.bound; loops]?;
+    let loads = loads_of(rt.alloc(), loops)?;
+    let start = Instant::now(rt)?;
+    let Ok(Some(solved)) = longest(rt.alloc(), g, nest, &costs, &bounds, &loads) else {
+        return println!(rt; "no walk");
+    };
+    let found = start.elapsed(rt)?.as_micros();
+    let value = solved.value();
+    println!(rt; "value={value}")?;
+    if timed {
+        println!(rt; "longest_us={found}")?;
+    }
+    if !shape.checked {
+        return Ok(());
+    }
+    match check(rt, g, &costs, &bounds, &loads, &solved)? {
+        Some(checked) if timed => println!(rt; "check_us={checked}"),
+        Some(_) => Ok(()),
+        None => println!(rt; "not shown"),
+    }
+}
+
 // Counts the loops and blocks of a method of this shape, and finds what its greatest walk costs. With
 // `timed`, prints how long it took.
 fn measure(
@@ -146,27 +185,11 @@ fn measure(
     let chains = blocks(rt.alloc(), &g)?;
     let divided = start.elapsed(rt)?.as_micros();
     let (loops, chains) = (nest.loops().len(), chains.chains().len());
-    let costs = costs_of(rt.alloc(), nodes)?;
-    let bounds = vec![in rt.alloc(); shape.bound; loops]?;
-    let loads = loads_of(rt.alloc(), loops)?;
-    let start = Instant::now(rt)?;
-    let Ok(Some(solved)) = longest(rt.alloc(), &g, &nest, &costs, &bounds, &loads) else {
-        return println!(rt; "no walk");
-    };
-    let found = start.elapsed(rt)?.as_micros();
-    let value = solved.value();
-    println!(rt; "nodes={nodes} edges={count} loops={loops} blocks={chains} value={value}")?;
+    println!(rt; "nodes={nodes} edges={count} loops={loops} blocks={chains}")?;
     if timed {
-        println!(rt; "nest_us={nested} blocks_us={divided} longest_us={found}")?;
+        println!(rt; "nest_us={nested} blocks_us={divided}")?;
     }
-    if !shape.checked {
-        return Ok(());
-    }
-    match check(rt, &g, &costs, &bounds, &loads, &solved)? {
-        Some(checked) if timed => println!(rt; "check_us={checked}"),
-        Some(_) => Ok(()),
-        None => println!(rt; "not shown"),
-    }
+    solve(rt, shape, &g, &nest, timed)
 }
 
 // The shapes that are timed: the first has 10,000 nodes, the next four are those of methods of about

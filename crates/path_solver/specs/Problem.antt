@@ -18,6 +18,7 @@ pub record AreNestLaws : Type 0 where
   pub back : EdgesToHeaderAreBackEdges
   pub nested : LoopsAreNested
 
+-- a reducible graph with its nest, the nodes from which an exit is reached, and the passage through them
 pub record IsPassed (g : Digraph) (loops : List NaturalLoop) (flags : List Bool) (p : Passage) : Type 0 where
   pub laws : AreNestLaws
   pub digraph : IsDigraph g
@@ -26,7 +27,7 @@ pub record IsPassed (g : Digraph) (loops : List NaturalLoop) (flags : List Bool)
   pub reaching : AreReaching g flags
   pub passage : IsPassage g loops flags p
 
--- with what turns are worth, fees, and the distance of each listed node
+-- the same with what turns are worth, fees, and the distance of each listed node
 pub record IsMeasured (g : Digraph) (loops : List NaturalLoop) (flags : List Bool) (p : Passage) (costs bounds loads worths fees dist : List ℕ) : Type 0 where
   pub passed : IsPassed g loops flags p
   pub costs_long : length costs ≡ g.nodes
