@@ -1,10 +1,10 @@
 -- What taking a number off the list of failing calls leaves, and what a failed call does to the counts of the words.
-use Rattle.std.proofs.Common.{◌≡◌, ◌≢◌, ℕ, ◌+◌, ◌-◌, ◌<◌, ◌≤◌, ◌==◌, List, [], ◌∷◌, ◌++◌, length, map, drop, get_or, slice_get, slice_set, count_by, is_some, Contains, true, false, None, Some, Ok, Err, OnErr, Vec, refl, sym, ap, ◌∙◌, ⊎_elim, subst, arith, length-drop}
+use Rattle.std.proofs.Common.{◌≡◌, ◌≢◌, ℕ, ◌+◌, ◌-◌, ◌<◌, ◌≤◌, ◌==◌, List, [], ◌∷◌, ◌++◌, length, map, drop, get_or, slice_get, slice_set, count_by, is_some, IsErr, min, ◌^◌, Contains, true, false, None, Some, Ok, Err, OnErr, Vec, refl, sym, ap, ◌∙◌, ⊎_elim, subst, arith, length-drop}
 use Rattle.std.proofs.lemmas.Bool.{cases_eq}
 use Rattle.std.proofs.lemmas.Bool.Decides.{nat_tests}
 use Rattle.std.proofs.lemmas.Grind.{get_or_default_zero}
 use Rattle.std.proofs.lemmas.List.{get_or-drop, get_or-set_same, get_or-set_other, length-map}
-use Rattle.std.proofs.lemmas.List.Sums.{sum_by-append}
+use Rattle.std.proofs.lemmas.List.Sums.{count_by-le-length, sum_by-append}
 use Rattle.std.proofs.lemmas.Option.{none-some, slice_get-map, slice_get_cases, slice_get_read}
 use Rattle.std.proofs.Math.ListN.{length-set}
 use Rattle.std.specs.Option.{option_map}
@@ -12,7 +12,7 @@ use Rattle.std.specs.declared.alloc.Global.{Global}
 use Rattle.std.specs.declared.option.Option.{Option}
 use Rattle.std.specs.declared.result.Result.{Result}
 use Rattle.jop_outside.specs.Memory.{SameLaterCalls, entry_bytes, entry_faults, entry_told}
-use Rattle.jop_outside.specs.Outside.{HasCause}
+use Rattle.jop_outside.specs.Outside.{Counted, HasCause}
 
 -- an element of the rest of a list, by its place in the whole list
 Contains-drop : (xs : List ℕ) (n j k : ℕ) → n ≤ j → j < length xs → get_or xs j k ≡ k → Contains (drop n xs) k
@@ -89,6 +89,26 @@ HasCause-listed entries word old new result there is =
     (λ found. rw (found.2, more) (raised found.0 (count_by (λ k. k == word) old) result))
     (λ past. absurd (omega (arith, past.0)))
     (slice_get_cases entries word).1
+
+-- A call that failed by its number is one more of its word.
+counted : {T E : Type 0} (entry : Option (List ℕ)) (calls : ℕ) (result : Result T E) → IsErr result → calls + 1 < 2 ^ 64 → Counted result (entry_faults (Some entry) calls) (entry_faults (Some entry) (calls + 1))
+counted entry calls (Ok x) failed fits = cc
+counted None calls (Err e) failed fits = omega arith
+counted (Some bytes) calls (Err e) failed fits = omega arith
+
+pub Counted-listed : {T E : Type 0} (entries : List (Option (List ℕ))) (word : ℕ) (old new : List ℕ) (result : Result T E) → word < length entries → IsErr result → new ≡ old ++ word ∷ [] → length new < 2 ^ 64
+    → Counted result (entry_faults (slice_get entries word) (count_by (λ k. k == word) old)) (entry_faults (slice_get entries word) (count_by (λ k. k == word) new))
+Counted-listed entries word old new result there failed is fits =
+    let more : count_by (λ k. k == word) new ≡ count_by (λ k. k == word) old + 1 = rw is (count-push word old) in
+    let few : count_by (λ k. k == word) new ≤ length new = count_by-le-length (λ k. k == word) new in
+    ⊎_elim
+    (λ found. rw (found.2, more) (counted found.0 (count_by (λ k. k == word) old) result failed (omega arith)))
+    (λ past. absurd (omega (arith, past.0)))
+    (slice_get_cases entries word).1
+
+-- The count of a word whose entry has no bytes stands at its end.
+pub counted-no_bytes : (entry : Option (Option (List ℕ))) (old new : ℕ) → entry ≡ Some None → entry_faults entry new ≡ min (entry_faults entry old + 1) (2 ^ 64 - 1)
+counted-no_bytes entry old new is = rw is refl
 
 -- The count of a word whose entry has no bytes counts as risen at each call.
 pub HasCause-no_bytes : {T E : Type 0} (entry : Option (Option (List ℕ))) (old new : ℕ) (result : Result T E) → entry ≡ Some None → HasCause (entry_faults entry old) (entry_faults entry new) result

@@ -1,21 +1,10 @@
 -- How what is told goes on over several calls.
-use Rattle.std.proofs.Common.{◌≡◌, ℕ, ◌+◌, ◌-◌, ◌≤◌, List, [], ◌++◌, length, take, drop, None, Some, refl, sym, ◌∙◌, ap, arith, append_assoc, append-nil, length-append, length-drop}
+use Rattle.std.proofs.Common.{◌≡◌, ℕ, ◌+◌, ◌-◌, ◌≤◌, List, ◌++◌, length, take, drop, None, Some, refl, sym, ◌∙◌, ap, arith, length-append, length-drop}
 use Rattle.std.proofs.lemmas.List.{take_all, length-take-le}
 use Rattle.std.proofs.Math.Seq.{take-add}
 use Rattle.std.specs.Prelude.{⊤}
 use Rattle.std.specs.declared.option.Option.{Option}
-use Rattle.jop_outside.specs.Outside.{Grew, OnlyWord, IsWhole, ReadAt, HasLength}
-
-pub Grew-refl : {A : Type 0} (old : Option (List A)) → Grew old old []
-Grew-refl old = record { grown = λ ys e. (ys, e, sym (append-nil ys)) }
-
-pub Grew-trans : {A : Type 0} (old mid new : Option (List A)) (xs ys zs : List A) → Grew old mid xs → Grew mid new ys → zs ≡ xs ++ ys → Grew old new zs
-Grew-trans old mid new xs ys zs first second all = record {
-  grown = λ held e.
-      let between = second.grown held e in
-      let before = first.grown between.0 between.1 in
-      (before.0, before.1, between.2 ∙ ap (λ t. t ++ ys) before.2 ∙ append_assoc before.0 xs ys ∙ ap (λ t. before.0 ++ t) (sym all));
-}
+use Rattle.jop_outside.specs.Outside.{OnlyWord, IsWhole, ReadAt, HasLength}
 
 pub OnlyWord-refl : (words : ℕ) (told : ℕ → Option (List ℕ)) (faults : ℕ → ℕ) (word : ℕ) → OnlyWord words words told told faults faults word
 OnlyWord-refl words told faults word = record { same_words = refl; contents = λ k. refl; counts = λ k other. refl }

@@ -1,3 +1,4 @@
 pub mod Outside
+pub mod Growing
 pub mod Memory
 pub mod ReadAll

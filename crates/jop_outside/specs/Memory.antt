@@ -1,5 +1,5 @@
 -- What objects in memory are seen as.
-use Rattle.std.specs.Prelude.{◌≡◌, ◌≢◌, ◌↔◌, ◌⊎◌, ◌==◌, ℕ, ◌+◌, ◌-◌, ◌^◌, min, List, [], length, slice_get, Contains, count_by, None, Some, Vec}
+use Rattle.std.specs.Prelude.{◌≡◌, ◌≢◌, ◌↔◌, ◌⊎◌, ◌==◌, ℕ, ◌+◌, ◌-◌, ◌^◌, ◌<◌, min, List, [], length, slice_get, Contains, count_by, None, Some, Vec}
 use Rattle.std.specs.declared.option.Option.{Option}
 use Rattle.std.specs.declared.alloc.Global.{Global}
 
@@ -10,12 +10,22 @@ pub record SourceState : Type 0 where
   pub calls : ℕ
   pub faults : ℕ
 
--- A sink: the bytes that it holds, the numbers of the calls that are to fail, how many calls there were, and how many of them failed.
+-- A sink: the bytes that it holds, for how many bytes it has memory, the numbers of the calls that are to fail, how many calls there were, and how many of them failed.
 pub record SinkState : Type 0 where
   pub held : List ℕ
+  pub capacity : ℕ
   pub failing : List ℕ
   pub calls : ℕ
   pub faults : ℕ
+
+-- A sink that never fails: the bytes that it holds, if it tells, and for how many bytes it has memory.
+pub record SureSinkState : Type 0 where
+  pub held : Option (List ℕ)
+  pub capacity : ℕ
+
+-- The memory that a sink has doesn't do for a piece behind the bytes that are held: more has to be found.
+abbrev pub LacksRoom : List ℕ → ℕ → List ℕ → Type 0
+LacksRoom held capacity piece = capacity < length held + length piece
 
 -- The numbers of the calls that are to fail, how many calls there were, and the words of those that failed by their number.
 pub record FailingState : Type 0 where

@@ -1,20 +1,8 @@
 -- What calls on files, a source and a sink do to what these tell, and when they may fail.
-use Rattle.std.specs.Prelude.{◌≡◌, ◌≢◌, ◌↔◌, ℕ, ◌+◌, ◌-◌, ◌^◌, ◌<◌, ◌≤◌, min, List, [], ◌++◌, length, take, drop, ⊤, None, Some, Ok, Err, OnErr}
+use Rattle.std.specs.Prelude.{◌≡◌, ◌≢◌, ◌↔◌, ℕ, ◌<◌, ◌≤◌, List, [], ◌++◌, length, take, drop, ⊤, None, Some, Ok, Err}
 use Rattle.std.specs.declared.option.Option.{Option}
 use Rattle.std.specs.declared.result.Result.{Result}
-
--- A count of faults rose. One that stands at its type's end counts as risen.
-abbrev pub Rose : ℕ → ℕ → Type 0
-Rose before now = min (before + 1) (2 ^ 64 - 1) ≤ now
-
--- The count of faults never falls, and an error comes only where it rose.
-pub record HasCause {T E : Type 0} (before now : ℕ) (result : Result T E) : Type 0 where
-  pub later : before ≤ now
-  pub failed : OnErr result (Rose before now)
-
--- What is told now was told before, and these are added to it. An object may stop telling, and never starts.
-pub record Grew {A : Type 0} (old new : Option (List A)) (more : List A) : Type 0 where
-  pub grown : (ys : List A) → new ≡ Some ys → (xs : List A) × (old ≡ Some xs) × (ys ≡ xs ++ more)
+pub use Rattle.telling.specs.Telling.{Rose, HasCause, Counted, Grew}
 
 -- What a sink tells after a call that was handed a piece: the front that the call took is added, and after an error all is as it was.
 abbrev pub Puts : {E : Type 0} → Option (List ℕ) → Option (List ℕ) → Result ℕ E → List ℕ → Type 0

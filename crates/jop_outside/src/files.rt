@@ -51,7 +51,7 @@ pub trait Files {
 }
 
 /// Why a whole file wasn't read.
-#[derive(Clone, Copy, Debug, PartialEq, Eq)]
+#[derive(Clone, Copy)]
 pub enum ReadAll {
     /// The file's length in bytes is past the limit.
     TooBig(u64),

@@ -1,8 +1,8 @@
 // Adapters over the real files and streams. They tell nothing of contents, and count each error as a fault.
-ghost use Rattle.std.specs.Prelude.{◌≡◌, ◌≢◌, ◌<◌, ◌≤◌, ◌^◌, ℕ, List, length, slice_index, vec_len, None, IfOk, All};
-ghost use Rattle.jop_outside.specs.Outside.{Rose};
+ghost use Rattle.std.specs.Prelude.{◌≡◌, ◌≢◌, ◌<◌, ◌≤◌, ◌+◌, ◌-◌, ◌^◌, ℕ, min, List, length, slice_index, vec_len, None, IfOk, All};
+ghost use Rattle.jop_outside.specs.Outside.{Counted, HasCause, HasLength, OnlyWord, Puts, ReadAt, Rose, Takes};
 
-use crate::{Failed, Files, NoMemory, Sink, Source};
+use crate::{Failed, Files, LONGEST_FILE, NoMemory, Sink, Source};
 use std::alloc::Global;
 use std::io::{ErrorKind, Read, Seek, SeekFrom, Write};
 use std::marker::Model;
@@ -36,7 +36,13 @@ impl<W: Write + Drop> Sink for HostSink<W> {
 
     ghost faults = { λ faults. faults };
 
-    fn put(&mut self, piece: &[u8]) -> Result<usize, Failed> {
+    fn put(&mut self, piece: &[u8]) -> Result<usize, Failed>
+        ensures bound { IfOk result (λ n. n ≤ length piece.now) }
+        ensures some { IfOk result (λ n. 0 < length piece.now → 0 < n) }
+        ensures told { Puts None None result piece.now }
+        ensures cause { HasCause self.old self.new result }
+        ensures counted { Counted result self.old self.new }
+    {
         if piece.is_empty() {
             return Ok(0);
         }
@@ -80,7 +86,12 @@ impl<R: Read + Drop> Source for HostSource<R> {
 
     ghost faults = { λ faults. faults };
 
-    fn take(&mut self, piece: &mut [u8]) -> Result<usize, Failed> {
+    fn take(&mut self, piece: &mut [u8]) -> Result<usize, Failed>
+        ensures bound { IfOk result (λ n. n ≤ length piece.new) }
+        ensures told { Takes None None result piece.new }
+        ensures cause { HasCause self.old self.new result }
+        ensures counted { Counted result self.old self.new }
+    {
         match self.reader.read(piece) {
             Ok(count) => Ok(count),
             Err(_) => {
@@ -160,6 +171,7 @@ fn read_from(
 fn count_fault(faults: &mut Vec<u64>, word: u32)
     requires { word < vec_len faults.old }
     ensures length { length faults.new.items ≡ length faults.old.items }
+    ensures counted { slice_index faults.new.items word ≡ min (slice_index faults.old.items word + 1) (2 ^ 64 - 1) }
     ensures rose { Rose (slice_index faults.old.items word) (slice_index faults.new.items word) }
     ensures later { slice_index faults.old.items word ≤ slice_index faults.new.items word }
     ensures others { (k : ℕ) → k ≢ word → slice_index faults.new.items k ≡ slice_index faults.old.items k }
@@ -179,7 +191,14 @@ impl<R: FileSystem + Drop> Files for HostFiles<R> {
         self.faults.len() as u32
     }
 
-    fn length(&mut self, word: u32) -> Result<u64, Failed> {
+    fn length(&mut self, word: u32) -> Result<u64, Failed>
+        requires { word < length self.old }
+        ensures told { IfOk result (HasLength None) }
+        ensures rest { OnlyWord (length self.old) (length self.new) (λ _. None) (λ _. None) (slice_index self.old)
+            (slice_index self.new) word }
+        ensures cause { HasCause (slice_index self.old word) (slice_index self.new word) result }
+        ensures counted { Counted result (slice_index self.old word) (slice_index self.new word) }
+    {
         match length_of(&self.system, self.words[word as usize].as_str()) {
             Ok(length) => Ok(length),
             Err(_) => {
@@ -189,7 +208,16 @@ impl<R: FileSystem + Drop> Files for HostFiles<R> {
         }
     }
 
-    fn read(&mut self, word: u32, place: u64, piece: &mut [u8]) -> Result<usize, Failed> {
+    fn read(&mut self, word: u32, place: u64, piece: &mut [u8]) -> Result<usize, Failed>
+        requires word { word < length self.old }
+        requires place { place ≤ LONGEST_FILE }
+        ensures bound { IfOk result (λ n. n ≤ length piece.new) }
+        ensures told { IfOk result (λ n. ReadAt None place n piece.new) }
+        ensures rest { OnlyWord (length self.old) (length self.new) (λ _. None) (λ _. None) (slice_index self.old)
+            (slice_index self.new) word }
+        ensures cause { HasCause (slice_index self.old word) (slice_index self.new word) result }
+        ensures counted { Counted result (slice_index self.old word) (slice_index self.new word) }
+    {
         let name = self.words[word as usize].as_str();
         match read_from(&self.system, name, place, piece) {
             Ok(count) => Ok(count),

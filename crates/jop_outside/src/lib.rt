@@ -6,35 +6,18 @@
 
 mod files;
 mod host;
+pub mod laws;
 mod memory;
 mod sink;
 mod source;
-#[cfg(test)]
-mod tests;
 
 pub use files::{Files, LONGEST_FILE, ReadAll, read_all};
 pub use host::{HostFiles, HostSink, HostSource};
+pub use jop_base::NoMemory;
 pub use memory::{MemFiles, MemSink, MemSource, SureFiles, SureSink, SureSource};
 pub use sink::{Sink, put_all};
 pub use source::Source;
-use std::alloc::{AllocError, AllocFailed};
 
 /// A call on the outside failed, and its count of faults rose.
-#[derive(Clone, Copy, Debug, PartialEq, Eq)]
+#[derive(Clone, Copy)]
 pub struct Failed;
-
-/// There was no memory.
-#[derive(Clone, Copy, Debug, PartialEq, Eq)]
-pub struct NoMemory;
-
-impl From<AllocError> for NoMemory {
-    fn from(_: AllocError) -> Self {
-        NoMemory
-    }
-}
-
-impl<T: Drop> From<AllocFailed<T>> for NoMemory {
-    fn from(_: AllocFailed<T>) -> Self {
-        NoMemory
-    }
-}

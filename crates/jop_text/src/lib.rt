@@ -1,14 +1,13 @@
 //! Numbers and lines in texts.
 #![tactic(auto)]
 
-mod memory;
 mod number;
 mod pieces;
 
 ghost use Rattle.std.specs.Prelude.{◌≡◌};
 ghost use Rattle.jop_text.specs.Line.{lines_of, AreLines};
 
-pub use memory::NoMemory;
+pub use jop_base::NoMemory;
 pub use number::{put_u64, read_u64};
 pub use pieces::Lines;
 

@@ -4,8 +4,8 @@ ghost use Rattle.std.specs.Prelude.{◌≡◌, ◌++◌, ◌<◌, ◌^◌, OnOk,
 ghost use Rattle.std.specs.Vec.{VecUnchanged};
 ghost use Rattle.jop_text.specs.Number.{IsDecimalNumber, value_of, HasOneSpelling};
 
-use crate::memory::NoMemory;
-use std::alloc::Global;
+use itoa::Buffer;
+use jop_base::NoMemory;
 
 /// The value of a text that is a decimal number below 2^64: digits without a leading zero, `0` itself
 /// excepted. For any other text it is `None`.
@@ -23,12 +23,12 @@ pub fn read_u64(text: &[u8]) -> Option<u64>
 
 /// Appends the digits of `n`, the one decimal number that has this value.
 #[tactic(auto, using(crate::proofs::NumberLemmas::spelling))]
-pub fn put_u64(alloc: Global, out: &mut Vec<u8>, n: u64) -> Result<(), NoMemory>
+pub fn put_u64(out: &mut Vec<u8>, n: u64) -> Result<(), NoMemory>
     ensures written { OnOk result (out.new.items ≡ out.old.items ++ decimal n) }
     ensures spelling { HasOneSpelling n }
     ensures err { OnErr result (VecUnchanged out.old out.new) }
 {
-    let digits = n.to_string(alloc)?;
-    out.extend_from_slice(digits.as_bytes())?;
+    let mut digits = Buffer::new();
+    out.extend_from_slice(digits.format(n).as_bytes())?;
     Ok(())
 }

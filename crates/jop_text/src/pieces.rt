@@ -10,7 +10,7 @@ const LINE_FEED: u8 = b'\n';
 
 /// An iterator over the lines of a text, without their line feeds. A clause sees it as the list of the
 /// lines that are left.
-#[derive(Debug, Drop)]
+#[derive(Drop)]
 pub struct Lines<'a> {
     rest: &'a [u8],
 }

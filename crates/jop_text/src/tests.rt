@@ -31,9 +31,9 @@ fn reads_decimal_numbers(rt: HostRuntime) {
 #[test]
 fn appends_digits(rt: HostRuntime) -> Result<(), Fail> {
     let mut out = Vec::new(rt.alloc());
-    put_u64(rt.alloc(), &mut out, 0)?;
+    put_u64(&mut out, 0)?;
     assert_eq!(rt; out.as_slice(), b"0".as_slice());
-    put_u64(rt.alloc(), &mut out, u64::MAX)?;
+    put_u64(&mut out, u64::MAX)?;
     assert_eq!(rt; out.as_slice(), b"018446744073709551615".as_slice());
     Ok(())
 }

@@ -1,5 +1,5 @@
 // Which calls on files in memory fail, and on which words they failed.
-ghost use Rattle.std.specs.Prelude.{◌≡◌, ◌<◌, ◌≤◌, ◌+◌, ◌++◌, ◌∷◌, ◌↔◌, ◌==◌, [], take, drop, vec_len, count_by, slice_index, Contains, IsErr, OnErr, OnOk};
+ghost use Rattle.std.specs.Prelude.{◌≡◌, ◌<◌, ◌≤◌, ◌+◌, ◌^◌, ◌++◌, ◌∷◌, ◌↔◌, ◌==◌, [], length, take, drop, vec_len, count_by, slice_index, Contains, IsErr, OnErr, OnOk};
 ghost use Rattle.jop_outside.specs.Memory.{FailingState, SameLaterCalls, next_call};
 
 use crate::Failed;
@@ -41,6 +41,8 @@ impl FailingCalls {
         ensures later { SameLaterCalls self.old.calls self.old.failing self.new.failing }
         ensures failed { OnErr result (self.new.failed ≡ self.old.failed ++ word ∷ []) }
         ensures same { OnOk result (self.new.failed ≡ self.old.failed) }
+        // A count of them fits.
+        ensures few { length self.new.failed < 2 ^ 64 }
     {
         let call = self.calls;
         self.calls = call.saturating_add(1);

@@ -1,6 +1,6 @@
 // Files in memory.
 ghost use Rattle.std.specs.Prelude.{◌≡◌, ◌<◌, ◌≤◌, ◌^◌, ◌↔◌, ℕ, List, [], length, map, IsErr, IfOk, IfSome, slice_get};
-ghost use Rattle.jop_outside.specs.Outside.{HasCause, HasLength, OnlyWord, ReadAt};
+ghost use Rattle.jop_outside.specs.Outside.{Counted, HasCause, HasLength, OnlyWord, ReadAt};
 ghost use Rattle.jop_outside.specs.Memory.{CountsCall, FailsAt, FilesState, bytes_or_empty, entry_bytes, faults_of, told_of, words_of};
 
 use super::failing::FailingCalls;
@@ -47,6 +47,7 @@ impl MemFiles {
             (faults_of self.old) (faults_of self.new) word }
         ensures cause { HasCause (faults_of self.old word) (faults_of self.new word) result }
         ensures fails { IsErr result ↔ FailsAt self.old word }
+        ensures faults { Counted result (faults_of self.old word) (faults_of self.new word) }
         ensures counted { CountsCall self.old self.new }
     {
         self.calls.count_call(word)?;
@@ -88,6 +89,7 @@ impl Files for MemFiles {
 
         // The calls that are listed fail, those on an entry without bytes, and no others.
         ensures fails { IsErr result ↔ FailsAt self.old word }
+        ensures faults { Counted result (faults_of self.old word) (faults_of self.new word) }
         ensures counted { CountsCall self.old self.new }
     {
         self.start_call(word)?;
@@ -105,6 +107,7 @@ impl Files for MemFiles {
 
         // The calls that are listed fail, those on an entry without bytes, and no others.
         ensures fails { IsErr result ↔ FailsAt self.old word }
+        ensures faults { Counted result (faults_of self.old word) (faults_of self.new word) }
         ensures counted { CountsCall self.old self.new }
     {
         self.start_call(word)?;

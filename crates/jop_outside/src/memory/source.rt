@@ -1,6 +1,6 @@
 // Sources in memory.
 ghost use Rattle.std.specs.Prelude.{◌≡◌, ◌≤◌, ◌↔◌, ℕ, List, length, drop, vec_len, Contains, IsErr, IfOk, Some};
-ghost use Rattle.jop_outside.specs.Outside.{Gave, HasCause, Takes};
+ghost use Rattle.jop_outside.specs.Outside.{Counted, Gave, HasCause, Takes};
 ghost use Rattle.jop_outside.specs.Memory.{SourceState, next_call};
 
 use super::{count_call, fill};
@@ -113,6 +113,7 @@ impl Source for MemSource {
 
         // The calls that are listed fail, and no others.
         ensures listed { IsErr result ↔ Contains self.old.failing self.old.calls }
+        ensures faults { Counted result self.old.faults self.new.faults }
         ensures counted { self.new.calls ≡ next_call self.old.calls }
         ensures same { self.new.failing ≡ self.old.failing }
     {

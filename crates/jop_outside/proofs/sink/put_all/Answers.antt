@@ -1,5 +1,6 @@
 use Rattle.std.proofs.Common.{arith}
-use Rattle.jop_outside.proofs.Told.{Grew-trans, take_rest}
+use Rattle.jop_outside.specs.Growing.{Grew-trans}
+use Rattle.jop_outside.proofs.Told.{take_rest}
 use Rattle.jop_outside.proofs.sink.put_all.Goals as goal
 
 pub loop-at-preserved : goal.loop-at-preserved
