@@ -150,14 +150,14 @@ decoded-IsNoOpcodeAt code pc byte range w = elim w [
 -- bytes behind a code give no opcode either
 decoded-append_NoOpcode : (code more : List ℕ) (pc byte : ℕ) → pc < length code → ((k : ℕ) → u1 code k < 256) → IsNoOpcodeAt code pc byte → decoded (code ++ more) pc ≡ Err (NoOpcode byte)
 decoded-append_NoOpcode code more pc byte inside range w =
-    let same = agree-append code more in
+    let same = agree-append 0 code more in
     elim w [
       | inl w ↦
-          let e : u1 (code ++ more) pc ≡ u1 code pc = same.same pc inside in
+          let e : u1 (code ++ more) pc ≡ u1 code pc = same.same pc (omega arith) inside in
           decoded-unassigned (code ++ more) pc byte (omega (arith, range pc, e)) (w.0 ∙ sym e, w.1)
       | inr w ↦
-          let e : u1 (code ++ more) pc ≡ u1 code pc = same.same pc inside in
-          let f : u1 (code ++ more) (pc + 1) ≡ u1 code (pc + 1) = same.same (pc + 1) w.1 in
+          let e : u1 (code ++ more) pc ≡ u1 code pc = same.same pc (omega arith) inside in
+          let f : u1 (code ++ more) (pc + 1) ≡ u1 code (pc + 1) = same.same (pc + 1) (omega arith) w.1 in
           decoded-not_wide (code ++ more) pc byte (omega (arith, range (pc + 1), f)) (e ∙ w.0, omega (arith, w.1, length-append code more), w.2 ∙ sym f, w.3)
     ]
 
@@ -194,7 +194,7 @@ module _ (code : List ℕ) (pc : ℕ) (inside : pc < length code) where
   completed : (found : Instr) (form : Form) → spelled_at (code ++ rest found) pc form ≡ Ok found → form ≡ (row_of (u1 code pc)).form → Completed
   completed found form e same =
       let new = code ++ rest found in
-      let byte : u1 new pc ≡ u1 code pc = (agree-zeros (pc + 1) (pc + found.length) code).same pc (omega arith) in
+      let byte : u1 new pc ≡ u1 code pc = (agree-zeros (pc + 1) (pc + found.length) code).same pc (omega arith) (omega arith) in
       let fits : pc + found.length ≤ length new = omega (arith, length-append code (rest found), length-replicate {A = ℕ} (pc + found.length) 0) in
       let whole : decoded new pc ≡ Ok found =
       sym (decoded-form new pc form (same ∙ ap (λ (b : ℕ). (row_of b).form) (sym byte)))
@@ -204,7 +204,7 @@ module _ (code : List ℕ) (pc : ℕ) (inside : pc < length code) where
   short-fixed : (o : Operands) (found : Instr) → fixed_at code pc false o ≡ found → spelled_at (code ++ rest found) pc (Fixed o) ≡ Ok found
   short-fixed o found e =
       let n = pc + (fixed_at code pc false o).length in
-      ap ok (same_fixed n code (code ++ rest found) (agree-zeros n (pc + found.length) code) pc false o (omega arith) ∙ e)
+      ap ok (same_fixed 0 n code (code ++ rest found) (agree-zeros n (pc + found.length) code) pc false o (omega arith) (omega arith) ∙ e)
 
   short-wide : (form : Form) → within code pc (widened_at code pc form) ≡ Err Short → form ≡ (row_of (u1 code (pc + 1))).form → pc + 1 < length code → Wide ≡ (row_of (u1 code pc)).form → Completed
   short-wide NotAnOpcode e same more wide = absurd (cc)
@@ -214,12 +214,12 @@ module _ (code : List ℕ) (pc : ℕ) (inside : pc < length code) where
       let new = code ++ rest found in
       let n = pc + 2 + found.length in
       let agree = agree-zeros n (pc + found.length) code in
-      let byte : u1 new (pc + 1) ≡ u1 code (pc + 1) = agree.same (pc + 1) (omega arith) in
+      let byte : u1 new (pc + 1) ≡ u1 code (pc + 1) = agree.same (pc + 1) (omega arith) (omega arith) in
       let form : (row_of (u1 new (pc + 1))).form ≡ Widened o w = ap (λ (b : ℕ). (row_of b).form) byte ∙ sym same in
       completed found Wide
       (sym (cond_below (pc + 1) (length new) (widened_at new pc (row_of (u1 new (pc + 1))).form) (Err Short) (omega (arith, more, length-append code (rest found))))
       ∙ ap (widened_at new pc) form
-      ∙ ap ok (same_fixed n code new agree pc true w (omega arith)))
+      ∙ ap ok (same_fixed 0 n code new agree pc true w (omega arith) (omega arith)))
       wide
   short-wide TableSwitch e same more wide = absurd (cc)
   short-wide LookupSwitch e same more wide = absurd (cc)
@@ -230,7 +230,7 @@ module _ (code : List ℕ) (pc : ℕ) (inside : pc < length code) where
   short-end last wide =
       let more : List ℕ = 21 ∷ 0 ∷ 0 ∷ [] in
       let new = code ++ more in
-      let byte : u1 new pc ≡ u1 code pc = (agree-append code more).same pc inside in
+      let byte : u1 new pc ≡ u1 code pc = (agree-append 0 code more).same pc (omega arith) inside in
       let at : pc + 1 - length code ≡ 0 = omega arith in
       let next : u1 new (pc + 1) ≡ 21 = get_or-append_right code more (length code) (pc + 1) 0 refl last ∙ ap (λ (k : ℕ). get_or more k 0) at in
       let form : local ≡ (row_of (u1 new (pc + 1))).form = sym (ap (λ (b : ℕ). (row_of b).form) next ∙ form_21) in
@@ -249,11 +249,11 @@ module _ (code : List ℕ) (pc : ℕ) (inside : pc < length code) where
   short-form TableSwitch e same =
       let found = table_switch_at code pc in
       let n = pc + 1 + (default_place pc + 12) in
-      completed found TableSwitch (ap ok (same_table_switch n code (code ++ rest found) (agree-zeros n (pc + found.length) code) pc (omega arith) (omega arith))) same
+      completed found TableSwitch (ap ok (same_table_switch 0 n code (code ++ rest found) (agree-zeros n (pc + found.length) code) pc (omega arith) (omega arith) (omega arith))) same
   short-form LookupSwitch e same =
       let found = lookup_switch_at code pc in
       let n = pc + 1 + (default_place pc + 8) in
-      completed found LookupSwitch (ap ok (same_lookup_switch n code (code ++ rest found) (agree-zeros n (pc + found.length) code) pc (omega arith) (omega arith))) same
+      completed found LookupSwitch (ap ok (same_lookup_switch 0 n code (code ++ rest found) (agree-zeros n (pc + found.length) code) pc (omega arith) (omega arith) (omega arith))) same
   short-form Wide e same = elim (cases_lt (pc + 1) (length code)) [
     | inl h ↦ short-wide (row_of (u1 code (pc + 1))).form (wide-inside code pc (row_of (u1 code (pc + 1))).form h refl ∙ e) refl h same
     | inr h ↦ short-end h same

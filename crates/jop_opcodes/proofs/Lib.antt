@@ -6,3 +6,4 @@ pub mod WithinLemmas
 pub mod StartLemmas
 pub mod Examples
 pub mod TargetLemmas
+pub mod SwitchLemmas

@@ -1,8 +1,9 @@
 -- The starts of a code.
-use Rattle.std.proofs.Common.{◌≡◌, ℕ, zero, suc, ◌+◌, ◌<◌, ◌≤◌, Bool, true, false, not, List, [], ◌∷◌, length, get_or, refl, sym, ◌∙◌, ap, subst, arith, Option, Some, None, Result, Ok, Err, cond, ◌⊎◌, inl, inr, Contains}
+use Rattle.std.proofs.Common.{◌≡◌, ℕ, zero, suc, ◌+◌, ◌-◌, ◌<◌, ◌≤◌, Bool, true, false, not, List, [], ◌∷◌, ◌++◌, length, length-append, ◌==◌, eqb-true, IfSome, get_or, refl, sym, ◌∙◌, ap, subst, arith, Option, Some, None, Result, Ok, Err, cond, ◌⊎◌, inl, inr, Contains}
 use Rattle.std.specs.Prelude.{is_ok, find}
+use Rattle.std.proofs.lemmas.List.{append_assoc, append-nil}
 use Rattle.std.specs.List.Sorted.{IsStrictlyIncreasing}
-use Rattle.std.proofs.lemmas.Bool.{cases_lt, cases_Bool, cases_order, false≢true, cond_below, cond_above}
+use Rattle.std.proofs.lemmas.Bool.{cases_lt, cases_Bool, cases_order, false≢true, cond_below, cond_above, eqb-false}
 use Rattle.jop_opcodes.specs.declared.instruction.Instr.{Instr}
 use Rattle.jop_opcodes.specs.declared.instruction.DecodeFault.{DecodeFault}
 use Rattle.jop_opcodes.specs.Instruction.{decoded}
@@ -322,3 +323,59 @@ IsPartition-starts_of code none place h = elim (starts_are code) [
       )
   | inr (empty, e) ↦ absurd (omega arith)
 ]
+
+-- ---- the starts found one after another
+
+-- the starts found, and then those from the next one on, are those of the code
+pub record AreSoFar (code found : List ℕ) (next : Option ℕ) : Type 0 where
+  pub all : found ++ starts_from (length code - length found) code next ≡ starts_of code
+  pub inside : IfSome next (λ pc. (length found ≤ pc) × (pc < length code))
+
+module _ (code : List ℕ) where
+  most : (next : Option ℕ) → [] ++ starts_from (length code - 0) code next ≡ starts_from (length code) code next
+  most next =
+      let same : length code - 0 ≡ length code = omega arith in
+      ap (λ (k : ℕ). starts_from k code next) same
+
+  pub begins_empty : (length code == 0) ≡ true → AreSoFar code [] None
+  unfolding starts_of
+  begins_empty e =
+      let none : length code ≡ 0 = eqb-true (length code) 0 e in
+      record {
+        all = most None ∙ ap (starts_from (length code) code) (cond_above 0 (length code) (Some 0) None None (omega arith) refl);
+        inside = tt;
+      }
+
+  pub begins : (length code == 0) ≡ false → AreSoFar code [] (Some 0)
+  unfolding starts_of
+  begins e =
+      let some : 0 < length code = omega (arith, eqb-false (length code) 0 e) in
+      record {
+        all = most (Some 0) ∙ ap (starts_from (length code) code) (cond_below 0 (length code) (Some 0) None some);
+        inside = (omega arith, some);
+      }
+
+  -- one more start
+  pub goes_on : (found : List ℕ) (pc : ℕ) (next : Option ℕ) → next ≡ next_start code pc → AreSoFar code found (Some pc) → AreSoFar code (found ++ pc ∷ []) next
+  goes_on found pc next is h = record {
+    all = all_of (length code - length found) refl;
+    inside = inside_of next is;
+  } where
+    all_of : (most : ℕ) → length code - length found ≡ most → (found ++ pc ∷ []) ++ starts_from (length code - length (found ++ pc ∷ [])) code next ≡ starts_of code
+    all_of zero e = absurd (omega (arith, h.inside.0, h.inside.1))
+    all_of (suc most) e =
+        let left : length code - length (found ++ pc ∷ []) ≡ most = omega (arith, length-append found (pc ∷ [])) in
+        ap (λ (k : ℕ). (found ++ pc ∷ []) ++ starts_from k code next) left
+        ∙ append_assoc found (pc ∷ []) (starts_from most code next)
+        ∙ ap (λ (o : Option ℕ). found ++ pc ∷ starts_from most code o) is
+        ∙ ap (λ (k : ℕ). found ++ starts_from k code (Some pc)) (sym e) ∙ h.all
+
+    inside_of : (o : Option ℕ) → o ≡ next_start code pc → IfSome o (λ place. (length (found ++ pc ∷ []) ≤ place) × (place < length code))
+    inside_of None e = tt
+    inside_of (Some place) e =
+        let step = leads_to code pc place (sym e) in
+        (omega (arith, step.later, h.inside.0, length-append found (pc ∷ [])), step.inside)
+
+  -- at the end
+  pub are_all : (found : List ℕ) → AreSoFar code found None → found ≡ starts_of code
+  are_all found h = sym (append-nil found) ∙ ap (λ (ps : List ℕ). found ++ ps) (sym (no_more (length code - length found) code)) ∙ h.all

@@ -7,13 +7,9 @@ use Rattle.jop_opcodes.specs.declared.table.Kind.{Kind}
 use Rattle.jop_opcodes.specs.declared.table.Kind.TheVariants.{Plain, Branch, Jump, Switch, Return, Throw, Invoke}
 use Rattle.jop_opcodes.specs.Form.{Operand, Absent, UnsignedByte, UnsignedShort, SignedByte, SignedShort, Offset, WideOffset, Form, NotAnOpcode, Fixed, Widened, TableSwitch, LookupSwitch, Wide}
 use Rattle.jop_opcodes.specs.Row.{row_of}
-use Rattle.jop_opcodes.specs.Target.{Case, cases_by, operand_offset, first_offset_by, TargetsFitKind}
+use Rattle.jop_opcodes.specs.declared.instruction.Case.{Case}
+use Rattle.jop_opcodes.specs.Target.{cases_by, operand_offset, first_offset_by, targets_of, is_offset, leads, TargetsFitKind}
 use Rattle.jop_opcodes.proofs.FaultLemmas.{same_at}
-
-abbrev is_offset : Operand → Bool
-is_offset Offset = true
-is_offset WideOffset = true
-is_offset _ = false
 
 abbrev has_offset : Form → Bool
 has_offset (Fixed plain) = is_offset plain.first
@@ -122,3 +118,35 @@ TargetsFitKind-targets_of code pc instr range =
       throw = λ k. no_target code pc instr form (by_kind Throw k) (cases ∙ ap switches k);
       invoke = λ k. no_target code pc instr form (by_kind Invoke k) (cases ∙ ap switches k);
     }
+
+-- ---- the first target, and those of the cases
+
+module _ (code : List ℕ) (pc : ℕ) (instr : Instr) where
+  abbrev of_cases : Form → List ℤ
+  of_cases form = map (λ (c : Case). pos pc +ℤ c.offset) (cases_by form code instr)
+
+  case_targets : (cs : List Case) → map (λ offset. pos pc +ℤ offset) (map (λ (c : Case). c.offset) cs) ≡ map (λ (c : Case). pos pc +ℤ c.offset) cs
+  case_targets [] = refl
+  case_targets (c ∷ cs) = ap (λ (places : List ℤ). (pos pc +ℤ c.offset) ∷ places) (case_targets cs)
+
+  first_target : (form : Form) → leads form ≡ true → targets_by code pc instr form ≡ (pos pc +ℤ instr.first) ∷ of_cases form
+  first_target NotAnOpcode e = absurd (false≢true e)
+  first_target (Fixed plain) e = ap (placed code pc instr) (one_offset code pc instr plain.first e)
+  first_target (Widened plain widened) e = absurd (false≢true e)
+  first_target TableSwitch e = ap (λ (places : List ℤ). (pos pc +ℤ instr.first) ∷ places) (case_targets (cases_by TableSwitch code instr))
+  first_target LookupSwitch e = ap (λ (places : List ℤ). (pos pc +ℤ instr.first) ∷ places) (case_targets (cases_by LookupSwitch code instr))
+  first_target Wide e = absurd (false≢true e)
+
+  no_first_target : (form : Form) → leads form ≡ false → targets_by code pc instr form ≡ of_cases form
+  no_first_target NotAnOpcode e = refl
+  no_first_target (Fixed plain) e = ap (placed code pc instr) (no_offset code pc instr plain.first e)
+  no_first_target (Widened plain widened) e = refl
+  no_first_target TableSwitch e = absurd (false≢true (sym e))
+  no_first_target LookupSwitch e = absurd (false≢true (sym e))
+  no_first_target Wide e = refl
+
+  pub with_target : leads (row_of instr.op).form ≡ true → targets_of code pc instr ≡ (pos pc +ℤ instr.first) ∷ of_cases (row_of instr.op).form
+  with_target e = first_target (row_of instr.op).form e
+
+  pub without_target : leads (row_of instr.op).form ≡ false → targets_of code pc instr ≡ of_cases (row_of instr.op).form
+  without_target e = no_first_target (row_of instr.op).form e

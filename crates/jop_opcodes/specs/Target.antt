@@ -1,17 +1,13 @@
 -- Where an instruction may lead: its branch offset, the default offset and the cases of a switch: JVM Specification SE 8, 6.5.
-use Rattle.std.specs.Prelude.{◌≡◌, ◌≢◌, ℕ, ◌+◌, ◌*◌, ◌<◌, ◌≤◌, List, [], ◌∷◌, ◌++◌, length, map, ℤ, pos, ◌+ℤ◌, Ok}
+use Rattle.std.specs.Prelude.{◌≡◌, ◌≢◌, ℕ, ◌+◌, ◌*◌, ◌<◌, ◌≤◌, List, [], ◌∷◌, ◌++◌, length, map, ℤ, pos, ◌+ℤ◌, Ok, Option, Some, None, Bool, true, false}
 use Rattle.std.specs.List.{range_with_len}
 use Rattle.jop_opcodes.specs.declared.instruction.Instr.{Instr}
+use Rattle.jop_opcodes.specs.declared.instruction.Case.{Case}
 use Rattle.jop_opcodes.specs.declared.table.Kind.TheVariants.{Plain, Branch, Jump, Switch, Return, Throw, Invoke}
-use Rattle.jop_opcodes.specs.Bytes.{s4}
+use Rattle.jop_opcodes.specs.Bytes.{u1, s4}
 use Rattle.jop_opcodes.specs.Form.{Operand, Offset, WideOffset, Form, Fixed, TableSwitch, LookupSwitch}
 use Rattle.jop_opcodes.specs.Instruction.{decoded}
 use Rattle.jop_opcodes.specs.Row.{row_of}
-
--- a case of a switch: the key at which it is taken, and its offset from the switch's place
-pub record Case : Type 0 where
-  pub key : ℤ
-  pub offset : ℤ
 
 -- entry k of a `tableswitch`: its keys count up from the low value
 abbrev pub table_case : List ℕ → Instr → ℕ → Case
@@ -48,6 +44,24 @@ abbrev pub targets_of : List ℕ → ℕ → Instr → List ℤ
 targets_of code pc instr =
     map (λ offset. pos pc +ℤ offset) (first_offset_by (row_of instr.op).form instr ++ map (λ c. c.offset) (cases_of code instr))
 
+-- whether an operand is a branch offset
+abbrev pub is_offset : Operand → Bool
+is_offset Offset = true
+is_offset WideOffset = true
+is_offset _ = false
+
+-- whether an instruction of this form has a branch offset or a default offset
+abbrev pub leads : Form → Bool
+leads (Fixed plain) = is_offset plain.first
+leads TableSwitch = true
+leads LookupSwitch = true
+leads _ = false
+
+-- the places of an answer
+abbrev pub or_none : Option ℤ → List ℤ
+or_none None = []
+or_none (Some place) = place ∷ []
+
 -- ---- laws
 
 -- what an opcode's kind says of its targets: a branch and a jump have one, `ret` (169) excepted, a switch the default and its cases, and no other instruction has any
@@ -68,6 +82,20 @@ pub record IsWithin (code : List ℕ) (pc : ℕ) (instr : Instr) : Type 0 where
   pub ends : pc + instr.length ≤ length code
   pub table_switch : (row_of instr.op).form ≡ TableSwitch → instr.table + 4 * instr.count ≡ pc + instr.length
   pub lookup_switch : (row_of instr.op).form ≡ LookupSwitch → instr.table + 8 * instr.count ≡ pc + instr.length
+
+-- the codes have the same bytes from one place up to another
+abbrev pub SameBytes : (from to : ℕ) → (code other : List ℕ) → Type 0
+SameBytes from to code other = (place : ℕ) → from ≤ place → place < to → u1 other place ≡ u1 code place
+
+-- the other code has the same instruction at pc, with the same cases
+pub record IsSameInstruction (code other : List ℕ) (pc : ℕ) (instr : Instr) : Type 0 where
+  pub is : decoded other pc ≡ Ok instr
+  pub cases : cases_of other instr ≡ cases_of code instr
+
+-- a whole instruction depends on its own bytes alone
+abbrev pub IsLocal : (code other : List ℕ) (pc : ℕ) (instr : Instr) → Type 0
+IsLocal code other pc instr =
+    decoded code pc ≡ Ok instr → pc + instr.length ≤ length other → SameBytes pc (pc + instr.length) code other → IsSameInstruction code other pc instr
 
 abbrev pub WholeIsWithin : List ℕ → ℕ → Type 0
 WholeIsWithin code pc = (instr : Instr) → decoded code pc ≡ Ok instr → IsWithin code pc instr

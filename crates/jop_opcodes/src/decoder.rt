@@ -123,7 +123,7 @@ fn number(code: &[u8], place: usize, operand: Operand) -> i32
 }
 
 /// The four bytes at a place as a signed number, high byte first.
-fn signed_word(code: &[u8], place: usize) -> i32
+pub(crate) fn signed_word(code: &[u8], place: usize) -> i32
     requires { place + 4 ≤ length code.now }
     ensures { result ≡ s4 code.now place }
 {

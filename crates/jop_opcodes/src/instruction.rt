@@ -1,7 +1,7 @@
 //! What decoding gives.
 
 /// An instruction of a code. What it lacks is 0.
-#[derive(Clone, Copy, Debug, PartialEq, Eq)]
+#[derive(Clone, Copy)]
 pub struct Instr {
     /// The opcode, and under `wide` the one that follows it.
     pub op: u8,
@@ -23,10 +23,19 @@ pub struct Instr {
 }
 
 /// Why no instruction begins at a place.
-#[derive(Clone, Copy, Debug, PartialEq, Eq)]
+#[derive(Clone, Copy)]
 pub enum DecodeFault {
     /// The byte there, or the byte behind `wide`, is no opcode for that place.
     NoOpcode(u8),
     /// The instruction passes the end of the code.
     Short,
+}
+
+/// A case of a switch.
+#[derive(Clone, Copy)]
+pub struct Case {
+    /// The key at which it is taken.
+    pub key: i32,
+    /// Its offset from the switch's place.
+    pub offset: i32,
 }

@@ -4,11 +4,16 @@
 ghost use Rattle.std.specs.Prelude.{ℕ, ◌<◌, List};
 ghost use Rattle.jop_opcodes.specs.declared.instruction.Instr.{Instr};
 ghost use Rattle.jop_opcodes.specs.Start.{AreStarts, IsFirstBad, IsPartition};
-ghost use Rattle.jop_opcodes.specs.Target.{TargetsFitKind, WholeIsWithin};
+ghost use Rattle.jop_opcodes.specs.Target.{TargetsFitKind, WholeIsWithin, IsLocal};
 
 /// A whole instruction is not empty and ends within the code, and a switch ends with its cases.
 pub fn instructions_end_within()
     ensures { (code : List ℕ) → (pc : ℕ) → WholeIsWithin code pc }
+{}
+
+/// An instruction depends on its own bytes alone: where another code has them at the same place, it has that instruction.
+pub fn instructions_are_local()
+    ensures { (code other : List ℕ) (pc : ℕ) (instr : Instr) → IsLocal code other pc instr }
 {}
 
 /// What an opcode's kind says of the targets that the instruction names.

@@ -5,13 +5,15 @@
 mod decoder;
 mod instruction;
 pub mod laws;
+mod place;
 mod table;
 
 ghost use Rattle.std.specs.Prelude.{◌≡◌};
 ghost use Rattle.jop_opcodes.specs.Row.{row_of};
 
 pub use decoder::{decode, length};
-pub use instruction::{DecodeFault, Instr};
+pub use instruction::{Case, DecodeFault, Instr};
+pub use place::{case, starts, target};
 pub use table::Kind;
 use table::entry_of;
 
@@ -38,6 +40,3 @@ pub fn raises(op: u8) -> bool
 {
     entry_of(op).raises
 }
-
-#[cfg(test)]
-mod tests;

@@ -5,7 +5,7 @@ ghost use Rattle.jop_opcodes.specs.Row.{row_of};
 ghost use Rattle.jop_opcodes.specs.Entry.{entry_form, entry_row};
 
 /// Where control goes after an instruction.
-#[derive(Clone, Copy, Debug, PartialEq, Eq)]
+#[derive(Clone, Copy)]
 pub enum Kind {
     /// To the next instruction.
     Plain,
