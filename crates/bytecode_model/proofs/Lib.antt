@@ -1,0 +1,4 @@
+mod Examples
+mod Supported
+mod Quiet
+mod Raises

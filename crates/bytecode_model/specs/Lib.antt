@@ -1,0 +1,15 @@
+pub mod Lists
+pub mod Types
+pub mod State
+pub mod Program
+pub mod Numbers
+pub mod Rows
+pub mod Slots
+pub mod Table
+pub mod Sizes
+pub mod Effects
+pub mod Steps
+pub mod WellFormed
+pub mod Examples
+pub mod Supported
+pub mod Raises
