@@ -1,0 +1,17 @@
+pub mod Relations
+pub mod Spaced
+pub mod Hierarchy
+pub mod Values
+pub mod Parts
+pub mod Pairs
+pub mod Plain
+pub mod ObjectRows
+pub mod CallRows
+pub mod EachRow
+pub mod Keeping
+pub mod Formed
+pub mod Walking
+pub mod TypedWalks
+pub mod Beginning
+pub mod BareProof
+pub mod WorkedOut

@@ -1,0 +1,13 @@
+pub mod Tests
+pub mod Types
+pub mod Assignable
+pub mod Rules
+pub mod Checks
+pub mod Walk
+pub mod Typed
+pub mod Fits
+pub mod Lawful
+pub mod Typings
+pub mod Bare
+pub mod Laws
+pub mod Examples
