@@ -1,31 +1,34 @@
 -- A class file that is read is spelled so, and a class file that is spelled so is read.
 use Rattle.std.proofs.Common.{◌≡◌, ℕ, ◌-◌, ◌<◌, ◌≤◌, ◌==◌, ◌⊎◌, inl, inr, Bool, true, false, cond, List, ◌++◌, length, take, drop, Option, Some, None, refl, sym, ap, subst, ◌∙◌, arith, eqb-true, take-append-drop}
-use Rattle.std.specs.Prelude.{Result, Err, IsTrue, map}
+use Rattle.std.specs.Prelude.{Result, Err}
 use Rattle.std.proofs.lemmas.List.{drop_at, take_all, length-drop}
 use Rattle.class_pool.specs.declared.entry.Entry.{Entry}
-use Rattle.class_pool.specs.declared.fault.PoolFault.{PoolFault}
-use Rattle.class_pool.specs.declared.fault.PoolFault.TheVariants as faults
+use Rattle.jop_base.specs.declared.fault.FormatFault.{FormatFault}
+use Rattle.jop_base.specs.declared.fault.FormatFault.TheVariants as faults
 use Rattle.class_pool.specs.Spelling.{u2, u4, pool_bytes}
 use Rattle.class_pool.specs.Grammar.{IsPool, IsPoolOf}
-use Rattle.class_pool.specs.Reading.{◌>>=◌, Fails, number_in}
-use Rattle.class_pool.specs.NumberLaws.{IsBytes, IsBytes-drop, bind_some, same_some, Takes, Takes-then, wide_2, wide_4, number_takes, number_again}
-use Rattle.class_file.specs.declared.class.ClassFile.{ClassFile}
+use Rattle.jop_base.specs.Reading.{◌>>=◌, Fails}
+use Rattle.class_pool.specs.Reading.{number_in}
+use Rattle.class_pool.specs.NumberLaws.{IsBytes, bind_some, same_some, Takes, Takes-then, wide_2, wide_4, number_takes, number_again}
+use Rattle.class_pool.specs.declared.class.ClassFile.{ClassFile}
 use Rattle.class_file.specs.declared.fault.ClassFault.{ClassFault}
 use Rattle.class_file.specs.declared.fault.ClassFault.TheVariants as answers
-use Rattle.class_file.specs.declared.forms.Form.{Form}
 use Rattle.class_file.specs.Faults.{class_fault}
-use Rattle.class_file.specs.Spelling.{inside_bytes, header_bytes, magic}
-use Rattle.class_file.specs.Structure.{IsHalf}
-use Rattle.class_file.specs.Forms.{entry_form, forms_of}
-use Rattle.class_file.specs.Rules.{follows_rules}
-use Rattle.class_file.specs.Grammar.{IsClassOf, IsBehindHeader, IsOtherVersion}
-use Rattle.class_file.specs.Reading.{header_in, inside_in}
-use Rattle.class_file.proofs.PartLaws.{step}
-use Rattle.class_file.proofs.MemberLaws.{inside_takes, inside_again}
+use Rattle.class_pool.specs.ClassSpelling.{inside_bytes, header_bytes, magic}
+use Rattle.class_pool.specs.Structure.{IsHalf}
+use Rattle.class_rules.specs.Rules.{FollowsRules}
+use Rattle.class_rules.specs.Grammar.{IsClassOf}
+use Rattle.class_file.specs.Grammar.{IsBehindHeader, IsOtherVersion}
+use Rattle.class_file.specs.Reading.{header_in}
+use Rattle.class_reader.specs.Grammar.{IsInsideOf, OneInside}
 
 passed : {A : Type 0} (b : Bool) (x y : A) → cond b (Some x) None ≡ Some y → (b ≡ true) × (x ≡ y)
 passed true x y e = (refl, same_some x y e)
 passed false x y e = absurd (let f : None ≡ Some y = e in cc)
+
+-- a step of reading whose part is there
+step : {X Y : Type 0} (read : List ℕ → Option (X × List ℕ)) (f : X × List ℕ → Option Y) (bytes : List ℕ) (x : X × List ℕ) → read bytes ≡ Some x → (read bytes >>= f) ≡ f x
+step read f bytes x e = ap (λ r. r >>= f) e
 
 -- ---- headers
 
@@ -58,42 +61,34 @@ header_again minor major rest h k =
 
 -- ---- behind the header
 
-pub behind_found : (minor major : ℕ) (bytes : List ℕ) (pool : List Entry) (taken : ℕ) (c : ClassFile) (forms : List Form) → IsBytes bytes → IsPoolOf (take taken bytes) pool
-    → inside_in minor major pool (drop taken bytes) ≡ Some c → Some (map entry_form c.pool) ≡ Some forms → follows_rules forms c ≡ true → IsBehindHeader minor major bytes c
-behind_found minor major bytes pool taken c forms small is read made follows =
-    let r = inside_takes minor major pool (drop taken bytes) c (IsBytes-drop taken bytes small) read in
-    let same : forms_of c.pool ≡ forms = same_some (map entry_form c.pool) forms made in
+pub behind_found : (minor major : ℕ) (bytes : List ℕ) (pool : List Entry) (taken : ℕ) (c : ClassFile) → IsPoolOf (take taken bytes) pool
+    → IsInsideOf minor major pool (drop taken bytes) c → FollowsRules c → IsBehindHeader minor major bytes c
+behind_found minor major bytes pool taken c is r follows =
     record {
       same_minor = r.same_minor;
       same_major = r.same_major;
       pool = subst IsPool (sym r.same_pool) is.grammar;
       inside = r.structure;
-      rules = ap (λ (f : List Form). follows_rules f c) same ∙ follows;
+      rules = follows;
       spelling = sym (take-append-drop taken bytes) ∙ ap (λ (b : List ℕ). b ++ drop taken bytes) is.spelling ∙ ap (λ (b : List ℕ). pool_bytes pool ++ b) r.spelling ∙ ap (λ (p : List Entry). pool_bytes p ++ inside_bytes c) (sym r.same_pool);
     }
 
--- a class file that stands there is what is read behind its pool
+-- a class file that stands there stands behind its pool
 pub behind_read : (minor major : ℕ) (bytes : List ℕ) (pool : List Entry) (taken : ℕ) (c : ClassFile) → IsBehindHeader minor major bytes c
-    → (pool ≡ c.pool) × (taken ≡ length (pool_bytes c.pool)) → inside_in minor major pool (drop taken bytes) ≡ Some c
+    → (pool ≡ c.pool) × (taken ≡ length (pool_bytes c.pool)) → IsInsideOf minor major pool (drop taken bytes) c
 behind_read minor major bytes pool taken c is same =
-    let rest : drop taken bytes ≡ inside_bytes c = ap (drop taken) is.spelling ∙ drop_at (pool_bytes c.pool) (inside_bytes c) taken (sym same.1) in
-    ap (λ (b : List ℕ). inside_in minor major pool b) rest
-    ∙ ap (λ (p : List Entry). inside_in minor major p (inside_bytes c)) same.0
-    ∙ ap (λ (m : ℕ). inside_in m major c.pool (inside_bytes c)) (sym is.same_minor)
-    ∙ ap (λ (m : ℕ). inside_in c.minor m c.pool (inside_bytes c)) (sym is.same_major)
-    ∙ inside_again c is.inside
+    record {
+      spelling = ap (drop taken) is.spelling ∙ drop_at (pool_bytes c.pool) (inside_bytes c) taken (sym same.1);
+      structure = is.inside;
+      same_minor = is.same_minor;
+      same_major = is.same_major;
+      same_pool = sym same.0;
+    }
 
 -- no other fault is told where a class file stands
-pub memory_alone : {X : Type 0} (fault : PoolFault) (read : Option X) (x : X) → Fails fault read → read ≡ Some x → fault ≡ faults.NoMemory
+pub memory_alone : {X : Type 0} (fault : FormatFault) (read : Option X) (x : X) → Fails fault read → read ≡ Some x → fault ≡ faults.NoMemory
 memory_alone faults.NoMemory read x fails is = refl
 memory_alone faults.Bad read x fails is = absurd (let f : None ≡ Some x = sym fails ∙ is in cc)
-
-pub rules_kept : (c d : ClassFile) (forms : List Form) → c ≡ d → IsTrue (follows_rules (forms_of d.pool) d) → Some (map entry_form c.pool) ≡ Some forms → follows_rules forms c ≡ true
-rules_kept c d forms same rules made =
-    let is : forms_of c.pool ≡ forms = same_some (map entry_form c.pool) forms made in
-    let P : ClassFile → Type 0 = λ x. follows_rules (forms_of x.pool) x ≡ true in
-    let here : follows_rules (forms_of c.pool) c ≡ true = subst P (sym same) rules in
-    ap (λ (f : List Form). follows_rules f c) (sym is) ∙ here
 
 -- ---- class files
 
@@ -146,9 +141,6 @@ is_other bytes minor major rest small header other =
     let t = header_takes bytes minor major rest small header in
     record { minor = minor; rest = rest; minor_fits = t.1; major_fits = t.2; other = other; spelling = t.0.parts }
 
-pub same_class : (c d : ClassFile) (read : Option ClassFile) → read ≡ Some c → read ≡ Some d → c ≡ d
-same_class c d read is other = same_some c d (sym is ∙ other)
-
 pub tail_is : (taken : ℕ) (bytes : List ℕ) → drop taken bytes ≡ take (length bytes - taken) (drop taken bytes)
 tail_is taken bytes = sym (take_all (length bytes - taken) (drop taken bytes) (omega (arith, length-drop taken bytes)))
 
@@ -157,7 +149,7 @@ tail_is taken bytes = sym (take_all (length bytes - taken) (drop taken bytes) (o
 abbrev pub Read : Type 0
 Read = Option ((ℕ × ℕ) × List ℕ)
 
-pub no_header : (fault : PoolFault) (read : Read) (found : (ℕ × ℕ) × List ℕ) → fault ≡ faults.Bad → Fails fault read → read ≡ Some found → ⊥
+pub no_header : (fault : FormatFault) (read : Read) (found : (ℕ × ℕ) × List ℕ) → fault ≡ faults.Bad → Fails fault read → read ≡ Some found → ⊥
 no_header faults.NoMemory read found same fails is = absurd (cc)
 no_header faults.Bad read found same fails is = absurd (let f : None ≡ Some found = sym fails ∙ is in cc)
 
@@ -165,21 +157,21 @@ abbrev answer : ClassFault → Result ClassFile ClassFault
 answer fault = Err fault
 
 -- a fault of a part is no version
-pub no_version : (fault : PoolFault) (major : ℕ) → answer (class_fault fault) ≡ answer (answers.Version major) → ⊥
+pub no_version : (fault : FormatFault) (major : ℕ) → answer (class_fault fault) ≡ answer (answers.Version major) → ⊥
 no_version faults.NoMemory major e = absurd (cc)
 no_version faults.Bad major e = absurd (cc)
 
 pub version_is : (m major : ℕ) → answer (answers.Version m) ≡ answer (answers.Version major) → m ≡ major
 version_is m major e = cc
 
-pub is_bad : (fault : PoolFault) → answer (class_fault fault) ≡ answer answers.Bad → fault ≡ faults.Bad
+pub is_bad : (fault : FormatFault) → answer (class_fault fault) ≡ answer answers.Bad → fault ≡ faults.Bad
 is_bad faults.NoMemory e = absurd (cc)
 is_bad faults.Bad e = refl
 
-pub memory_is : (fault : PoolFault) → fault ≡ faults.NoMemory → class_fault fault ≡ answers.NoMemory
+pub memory_is : (fault : FormatFault) → fault ≡ faults.NoMemory → class_fault fault ≡ answers.NoMemory
 memory_is fault e = ap class_fault e
 
-pub memory_not_bad : (fault : PoolFault) → fault ≡ faults.NoMemory → fault ≡ faults.Bad → ⊥
+pub memory_not_bad : (fault : FormatFault) → fault ≡ faults.NoMemory → fault ≡ faults.Bad → ⊥
 memory_not_bad fault a b = absurd (let f : faults.NoMemory ≡ faults.Bad = sym a ∙ b in cc)
 
 -- a version that is read is no other one
@@ -199,18 +191,18 @@ is_no_other bytes minor major rest c header is other =
 abbrev pub OnePool : Type 0
 OnePool = (es fs : List Entry) (rest more : List ℕ) → IsPool es → IsPool fs → pool_bytes es ++ rest ≡ pool_bytes fs ++ more → (es ≡ fs) × (rest ≡ more)
 
-pub one_of : OnePool → (bytes : List ℕ) (c d : ClassFile) → IsClassOf bytes c → IsClassOf bytes d → c ≡ d
-one_of one_pool bytes c d is_c is_d =
+pub one_of : OnePool → OneInside → (bytes : List ℕ) (c d : ClassFile) → IsClassOf bytes c → IsClassOf bytes d → c ≡ d
+one_of one_pool one_inside bytes c d is_c is_d =
     let here : (ℕ × ℕ) × List ℕ = ((c.minor, c.major), pool_bytes c.pool ++ inside_bytes c) in
     let there : (ℕ × ℕ) × List ℕ = ((d.minor, d.major), pool_bytes d.pool ++ inside_bytes d) in
     let same : here ≡ there = same_some here there (sym (class_header bytes c is_c) ∙ class_header bytes d is_d) in
-    let minors : c.minor ≡ d.minor = ap (λ (p : (ℕ × ℕ) × List ℕ). p.0.0) same in
-    let majors : c.major ≡ d.major = ap (λ (p : (ℕ × ℕ) × List ℕ). p.0.1) same in
     let pools = one_pool c.pool d.pool (inside_bytes c) (inside_bytes d) is_c.grammar.pool is_d.grammar.pool (ap (λ (p : (ℕ × ℕ) × List ℕ). p.1) same) in
-    let read : inside_in c.minor c.major c.pool (inside_bytes c) ≡ Some d =
-    ap (λ (m : ℕ). inside_in m c.major c.pool (inside_bytes c)) minors
-    ∙ ap (λ (m : ℕ). inside_in d.minor m c.pool (inside_bytes c)) majors
-    ∙ ap (λ (p : List Entry). inside_in d.minor d.major p (inside_bytes c)) pools.0
-    ∙ ap (λ (b : List ℕ). inside_in d.minor d.major d.pool b) pools.1
-    ∙ inside_again d is_d.grammar.inside in
-    same_class c d (inside_in c.minor c.major c.pool (inside_bytes c)) (inside_again c is_c.grammar.inside) read
+    one_inside c.minor c.major c.pool (inside_bytes c) c d
+    (record { spelling = refl; structure = is_c.grammar.inside; same_minor = refl; same_major = refl; same_pool = refl })
+    (record {
+      spelling = pools.1;
+      structure = is_d.grammar.inside;
+      same_minor = ap (λ (p : (ℕ × ℕ) × List ℕ). p.0.0) (sym same);
+      same_major = ap (λ (p : (ℕ × ℕ) × List ℕ). p.0.1) (sym same);
+      same_pool = sym pools.0;
+    })

@@ -1,9 +1,3 @@
-pub mod Kind
-pub mod Spelling
-pub mod Structure
 pub mod Reading
-pub mod Forms
-pub mod Rules
-pub mod Distinct
 pub mod Grammar
 pub mod Faults

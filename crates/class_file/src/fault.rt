@@ -1,7 +1,7 @@
-use class_pool::PoolFault;
+use jop_base::FormatFault;
 
 /// Why no class file was read.
-#[derive(Clone, Copy, Debug, PartialEq, Eq)]
+#[derive(Clone, Copy)]
 pub enum ClassFault {
     /// The first eight bytes are a header of this major version, which isn't read.
     Version(u16),
@@ -11,16 +11,16 @@ pub enum ClassFault {
     NoMemory,
 }
 
-impl From<PoolFault> for ClassFault {
+impl From<FormatFault> for ClassFault {
     ghost use Rattle.std.specs.Prelude.{◌≡◌};
     ghost use Rattle.class_file.specs.Faults.{class_fault};
 
     ghost from_gives = { λ fault answer. answer ≡ class_fault fault };
 
-    fn from(fault: PoolFault) -> Self {
+    fn from(fault: FormatFault) -> Self {
         match fault {
-            PoolFault::Bad => ClassFault::Bad,
-            PoolFault::NoMemory => ClassFault::NoMemory,
+            FormatFault::Bad => ClassFault::Bad,
+            FormatFault::NoMemory => ClassFault::NoMemory,
         }
     }
 }

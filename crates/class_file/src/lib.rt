@@ -1,18 +1,13 @@
-//! Class files (JVM Specification SE 8, chapter 4).
+//! Class files (JVM Specification SE 8, chapter 4): read from bytes, and told from other values.
 #![tactic(auto)]
 
-mod class;
-mod distinct;
 mod fault;
-mod forms;
-mod kind;
 pub mod laws;
-mod parts;
 mod reader;
-mod rules;
-mod structure;
+mod test;
 
-pub use class::{Attribute, Body, ClassFile, Code, Member};
-pub use descriptors::Items;
+pub use class_pool::{Attribute, Body, ClassFile, Code, Member};
 pub use fault::ClassFault;
+pub use items::Items;
 pub use reader::read_class;
+pub use test::is_class;

@@ -3,3 +3,5 @@ pub mod PlaceLemmas
 pub mod TextLaws
 pub mod EntryLaws
 pub mod PoolLaws
+pub mod FoundLemmas
+pub mod CheckLemmas

@@ -2,10 +2,11 @@
 use Rattle.std.proofs.Common.{◌≡◌, ℕ, suc, ◌+◌, ◌-◌, ◌<◌, ◌≤◌, Bool, true, false, List, [], ◌∷◌, ◌++◌, Option, Some, None, refl, sym, ap, ◌∙◌, append_assoc, arith}
 use Rattle.std.proofs.lemmas.List.{append-nil}
 use Rattle.class_pool.specs.declared.entry.Entry.{Entry}
-use Rattle.class_pool.specs.declared.fault.PoolFault.{PoolFault}
-use Rattle.class_pool.specs.declared.fault.PoolFault.TheVariants as faults
+use Rattle.jop_base.specs.declared.fault.FormatFault.{FormatFault}
+use Rattle.jop_base.specs.declared.fault.FormatFault.TheVariants as faults
 use Rattle.class_pool.specs.Grammar.{takes_two}
-use Rattle.class_pool.specs.Reading.{◌>>=◌, Fails, place_in, places_in}
+use Rattle.jop_base.specs.Reading.{◌>>=◌, Fails}
+use Rattle.class_pool.specs.Reading.{place_in, places_in}
 
 abbrev Found : Type 0
 Found = Option (List Entry × List ℕ)
@@ -26,7 +27,7 @@ goes_on front count i due bytes e after total lt h so_far =
     let one : with_front front (places_in (count - i) due bytes) ≡ with_front (front ++ e ∷ []) (places_in (count - (i + 1)) (takes_two e) after) = rw (k, h) (regroup front e (places_in (count - (i + 1)) (takes_two e) after)) in
     sym one ∙ so_far
 
-pub stops : (fault : PoolFault) (front : List Entry) (count i : ℕ) (due : Bool) (bytes : List ℕ) (total : Found) → i < count → Fails fault (place_in due bytes)
+pub stops : (fault : FormatFault) (front : List Entry) (count i : ℕ) (due : Bool) (bytes : List ℕ) (total : Found) → i < count → Fails fault (place_in due bytes)
     → with_front front (places_in (count - i) due bytes) ≡ total → Fails fault total
 unfolding places_in
 stops faults.NoMemory front count i due bytes total lt h so_far = tt

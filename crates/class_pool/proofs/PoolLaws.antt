@@ -1,16 +1,17 @@
 -- A pool that is read is spelled so, and a pool that is spelled so is read.
 use Rattle.std.proofs.Common.{◌≡◌, ℕ, zero, suc, ◌+◌, ◌-◌, ◌≤◌, Bool, true, false, cond, ◌&&◌, ◌==◌, List, [], ◌∷◌, ◌++◌, length, take, drop, Option, Some, None, refl, sym, ap, subst, ◌∙◌, append_assoc, arith, ne_eqb, take-append-drop}
-use Rattle.std.proofs.lemmas.Bool.{eqb-false}
+use Rattle.std.proofs.lemmas.Bool.{eqb-false, and_parts}
 use Rattle.std.specs.Prelude.{Result, IsTrue}
 use Rattle.std.specs.List.{flat_map, list_all, AllByRecursion}
 use Rattle.std.proofs.lemmas.List.{take_at, length-append}
 use Rattle.std.proofs.lemmas.List.Concat.{flat_map-cons}
 use Rattle.class_pool.specs.declared.entry.Entry.{Entry}
-use Rattle.class_pool.specs.declared.fault.PoolFault.{PoolFault}
-use Rattle.class_pool.specs.declared.fault.PoolFault.TheVariants as faults
+use Rattle.jop_base.specs.declared.fault.FormatFault.{FormatFault}
+use Rattle.jop_base.specs.declared.fault.FormatFault.TheVariants as faults
 use Rattle.class_pool.specs.Spelling.{u2, entry_bytes, IsInRange, pool_bytes}
 use Rattle.class_pool.specs.Grammar.{takes_two, HaveSeconds, points_rightly, IsPool, IsPoolOf}
-use Rattle.class_pool.specs.Reading.{◌>>=◌, Fails, number_in, place_in, places_in, pool_in}
+use Rattle.jop_base.specs.Reading.{◌>>=◌, Fails}
+use Rattle.class_pool.specs.Reading.{number_in, place_in, places_in, pool_in}
 use Rattle.class_pool.specs.NumberLaws.{IsBytes, bind_some, same_some, Takes, Takes-then, wide_2, number_takes, number_again}
 use Rattle.class_pool.proofs.EntryLaws.{place_takes, place_again}
 
@@ -46,15 +47,11 @@ places_again (e ∷ es) due rest range seconds =
     ∙ ap (λ (read : Option (Entry × List ℕ)). read >>= λ f. places_in (length es) (takes_two f.0) f.1 >>= λ others. Some (f.0 ∷ others.0, others.1)) first
     ∙ ap (λ (read : Option (List Entry × List ℕ)). read >>= λ others. Some (e ∷ others.0, others.1)) (places_again es (takes_two e) rest range.1 seconds.1)
 
-all_true : (p : Entry → Bool) (es : List Entry) → list_all p es ≡ true → AllByRecursion (λ e. IsTrue (p e)) es
+pub all_true : (p : Entry → Bool) (es : List Entry) → list_all p es ≡ true → AllByRecursion (λ e. IsTrue (p e)) es
 all_true p [] h = tt
-all_true p (e ∷ es) h = let b = both (p e) (list_all p es) h in (b.0, all_true p es b.1)
-  where
-    both : (a b : Bool) → (a && b) ≡ true → (a ≡ true) × (b ≡ true)
-    both true b e = (refl, e)
-    both false b e = absurd (cc)
+all_true p (e ∷ es) h = let b = and_parts (p e) (list_all p es) h in (b.0, all_true p es b.1)
 
-true_all : (p : Entry → Bool) (es : List Entry) → AllByRecursion (λ e. IsTrue (p e)) es → list_all p es ≡ true
+pub true_all : (p : Entry → Bool) (es : List Entry) → AllByRecursion (λ e. IsTrue (p e)) es → list_all p es ≡ true
 true_all p [] h = refl
 true_all p (e ∷ es) h = ap (λ (b : Bool). b && list_all p es) h.0 ∙ true_all p es h.1
 
@@ -111,14 +108,14 @@ pool_again es rest is =
 -- ---- what the clauses of `read_pool` say
 
 abbrev Made : Type 0
-Made = Result (List Entry × ℕ) PoolFault
+Made = Result (List Entry × ℕ) FormatFault
 
-pub only_fault : (fault : PoolFault) (bytes : List ℕ) (es : List Entry) (rest : List ℕ) → IsPool es → bytes ≡ pool_bytes es ++ rest → Fails fault (pool_in bytes) → fault ≡ faults.NoMemory
+pub only_fault : (fault : FormatFault) (bytes : List ℕ) (es : List Entry) (rest : List ℕ) → IsPool es → bytes ≡ pool_bytes es ++ rest → Fails fault (pool_in bytes) → fault ≡ faults.NoMemory
 only_fault faults.NoMemory bytes es rest is spelling fails = refl
 only_fault faults.Bad bytes es rest is spelling fails =
     absurd (let x : List Entry × List ℕ = (es, rest) in let f : None ≡ Some x = sym fails ∙ (ap pool_in spelling ∙ pool_again es rest is) in cc)
 
-pub no_pool : (fault : PoolFault) (bytes : List ℕ) → Fails fault (pool_in bytes) → fault ≡ faults.Bad → (es : List Entry) (n : ℕ) → IsPoolOf (take n bytes) es → ⊥
+pub no_pool : (fault : FormatFault) (bytes : List ℕ) → Fails fault (pool_in bytes) → fault ≡ faults.Bad → (es : List Entry) (n : ℕ) → IsPoolOf (take n bytes) es → ⊥
 no_pool faults.NoMemory bytes fails same es n is = absurd (cc)
 no_pool faults.Bad bytes fails same es n is =
     let whole : bytes ≡ pool_bytes es ++ drop n bytes = sym (take-append-drop n bytes) ∙ ap (λ (t : List ℕ). t ++ drop n bytes) is.spelling in

@@ -1,20 +1,13 @@
 -- Text that is read is spelled so, and text that is spelled so is read.
 use Rattle.std.proofs.Common.{◌≡◌, ℕ, zero, suc, ◌+◌, ◌*◌, ◌/◌, ◌%◌, ◌^◌, ◌<◌, ◌≤◌, Bool, true, false, cond, ◌&&◌, ◌||◌, ◌==◌, nat_lt, nat_le, List, [], ◌∷◌, ◌++◌, length, Option, Some, None, refl, sym, ap, subst, ◌∙◌, append_assoc, arith, inl, inr, ◌⊎◌, ⊎_elim, eqb-true, leb-true, le-leb, eq-eqb}
-use Rattle.std.proofs.lemmas.Bool.{ltb-true, ltb-false, lt-ltb, le-ltb}
+use Rattle.std.proofs.lemmas.Bool.{ltb-true, ltb-false, lt-ltb, le-ltb, and_parts, and_from, or_cases}
 use Rattle.std.proofs.lemmas.List.Concat.{flat_map-cons}
 use Rattle.class_pool.specs.Utf8.{is_single, two_bytes, three_bytes, unit_bytes, utf8_bytes, AreUnits}
-use Rattle.class_pool.specs.Reading.{◌>>=◌, is_pair, pair, is_triple, triple, unit_in, units_in, with_unit, utf8_in, number_in, front_in}
+use Rattle.jop_base.specs.Reading.{◌>>=◌}
+use Rattle.class_pool.specs.Reading.{is_pair, pair, is_triple, triple, unit_in, units_in, with_unit, utf8_in, number_in, front_in}
 use Rattle.class_pool.specs.Spelling.{u2}
 use Rattle.class_pool.specs.NumberLaws.{IsBytes, IsBytes-behind, bind_some, same_some, Takes, Takes-then, wide_2, number_takes, number_again, front_takes, front_again}
 use Rattle.class_pool.proofs.TextLemmas.{unit_first, unit_none}
-
-both : (a b : Bool) → (a && b) ≡ true → (a ≡ true) × (b ≡ true)
-both true b e = (refl, e)
-both false b e = absurd (cc)
-
-either : (a b : Bool) → (a || b) ≡ true → (a ≡ true) ⊎ (b ≡ true)
-either true b e = inl refl
-either false b e = inr e
 
 two : (b : Bool) → (b ≡ true) ⊎ (b ≡ false)
 two true = inl refl
@@ -37,18 +30,18 @@ single_is a rest small s = (rw s refl, omega arith)
 
 pair_is : (a b : ℕ) (rest : List ℕ) → a < 256 → b < 256 → is_pair a b ≡ true → Is (a ∷ b ∷ rest) (pair a b, rest)
 pair_is a b rest a_small b_small p =
-    let x = both (a / 32 == 6 && b / 64 == 2) (nat_le 194 a || (a == 192 && b == 128)) p in
-    let y = both (a / 32 == 6) (b / 64 == 2) x.0 in
+    let x = and_parts (a / 32 == 6 && b / 64 == 2) (nat_le 194 a || (a == 192 && b == 128)) p in
+    let y = and_parts (a / 32 == 6) (b / 64 == 2) x.0 in
     let high : a / 32 ≡ 6 = eqb-true (a / 32) 6 y.0 in
     let low : b / 64 ≡ 2 = eqb-true (b / 64) 2 y.1 in
     let form : (pair a b ≡ 0) ⊎ (128 ≤ pair a b) =
     ⊎_elim (λ (le : nat_le 194 a ≡ true). let big : 194 ≤ a = leb-true 194 a le in inr (omega arith))
     (λ (zeros : (a == 192 && b == 128) ≡ true).
-    let z = both (a == 192) (b == 128) zeros in
+    let z = and_parts (a == 192) (b == 128) zeros in
     let a_is : a ≡ 192 = eqb-true a 192 z.0 in
     let b_is : b ≡ 128 = eqb-true b 128 z.1 in
     inl (omega arith))
-    (either (nat_le 194 a) (a == 192 && b == 128) x.1) in
+    (or_cases (nat_le 194 a) (a == 192 && b == 128) x.1) in
     let not_single : is_single (pair a b) ≡ false = not_both a b (pair a b) form in
     let below : nat_lt (pair a b) 2048 ≡ true = lt-ltb (pair a b) 2048 (omega arith) in
     let first : 192 + pair a b / 64 ≡ a = omega arith in
@@ -57,16 +50,16 @@ pair_is a b rest a_small b_small p =
 
 triple_is : (a b c : ℕ) (rest : List ℕ) → a < 256 → b < 256 → c < 256 → is_triple a b c ≡ true → Is (a ∷ b ∷ c ∷ rest) (triple a b c, rest)
 triple_is a b c rest a_small b_small c_small p =
-    let x = both (a / 16 == 14 && b / 64 == 2 && c / 64 == 2) (nat_le 225 a || nat_le 160 b) p in
-    let y = both (a / 16 == 14 && b / 64 == 2) (c / 64 == 2) x.0 in
-    let z = both (a / 16 == 14) (b / 64 == 2) y.0 in
+    let x = and_parts (a / 16 == 14 && b / 64 == 2 && c / 64 == 2) (nat_le 225 a || nat_le 160 b) p in
+    let y = and_parts (a / 16 == 14 && b / 64 == 2) (c / 64 == 2) x.0 in
+    let z = and_parts (a / 16 == 14) (b / 64 == 2) y.0 in
     let high : a / 16 ≡ 14 = eqb-true (a / 16) 14 z.0 in
     let middle : b / 64 ≡ 2 = eqb-true (b / 64) 2 z.1 in
     let low : c / 64 ≡ 2 = eqb-true (c / 64) 2 y.1 in
     let large : 2048 ≤ triple a b c =
     ⊎_elim (λ (le : nat_le 225 a ≡ true). let big : 225 ≤ a = leb-true 225 a le in omega arith)
     (λ (le : nat_le 160 b ≡ true). let big : 160 ≤ b = leb-true 160 b le in omega arith)
-    (either (nat_le 225 a) (nat_le 160 b) x.1) in
+    (or_cases (nat_le 225 a) (nat_le 160 b) x.1) in
     let not_single : is_single (triple a b c) ≡ false = not_both a b (triple a b c) (inr (omega arith)) in
     let above : nat_lt (triple a b c) 2048 ≡ false = le-ltb (triple a b c) 2048 large in
     let first : 224 + triple a b c / 4096 ≡ a = omega arith in
@@ -125,22 +118,16 @@ triple_in a b c rest s p t = rw (s, p, t) refl
 large_not_single : (a : ℕ) → 128 ≤ a → is_single a ≡ false
 large_not_single a le = not_both a a a (inr le)
 
-and_true : (a b : Bool) → a ≡ true → b ≡ true → (a && b) ≡ true
-and_true a b x y = rw (x, y) refl
-
 or_true : (a b : Bool) → (a ≡ true) ⊎ (b ≡ true) → (a || b) ≡ true
 or_true true b h = refl
 or_true false b (inl h) = absurd cc
 or_true false b (inr h) = h
 
-or_false : (a b : Bool) → a ≡ false → b ≡ false → (a || b) ≡ false
-or_false a b x y = rw (x, y) refl
-
 -- a unit that takes two bytes is 0, or not below 80
 not_single : (u : ℕ) → is_single u ≡ false → (u ≡ 0) ⊎ (128 ≤ u)
 not_single u s =
     ⊎_elim (λ (positive : nat_lt 0 u ≡ true).
-    ⊎_elim (λ (small : nat_lt u 128 ≡ true). absurd (let t : true ≡ false = sym (and_true (nat_lt 0 u) (nat_lt u 128) positive small) ∙ s in cc))
+    ⊎_elim (λ (small : nat_lt u 128 ≡ true). absurd (let t : true ≡ false = sym (and_from (nat_lt 0 u) (nat_lt u 128) positive small) ∙ s in cc))
     (λ (large : nat_lt u 128 ≡ false). inr (ltb-false u 128 large))
     (two (nat_lt u 128)))
     (λ (zeros : nat_lt 0 u ≡ false). let le : u ≤ 0 = ltb-false 0 u zeros in inl (omega arith))
@@ -157,7 +144,7 @@ two_again u rest s below =
     (⊎_elim (λ (z : u ≡ 0). inr (rw z refl))
     (λ (le : 128 ≤ u). inl (le-leb 194 a (omega arith)))
     (not_single u s)) in
-    let is : is_pair a b ≡ true = and_true (a / 32 == 6 && b / 64 == 2) (nat_le 194 a || (a == 192 && b == 128)) (and_true (a / 32 == 6) (b / 64 == 2) (eq-eqb (a / 32) 6 high) (eq-eqb (b / 64) 2 low)) form in
+    let is : is_pair a b ≡ true = and_from (a / 32 == 6 && b / 64 == 2) (nat_le 194 a || (a == 192 && b == 128)) (and_from (a / 32 == 6) (b / 64 == 2) (eq-eqb (a / 32) 6 high) (eq-eqb (b / 64) 2 low)) form in
     let value : (192 + u / 64) % 32 * 64 + (128 + u % 64) % 64 ≡ u = omega arith in
     pair_in a b rest (large_not_single a (omega arith)) is ∙ ap (λ (x : ℕ). Some (x, rest)) value
 
@@ -174,8 +161,8 @@ three_again u rest above small =
     (⊎_elim (λ (le : 4096 ≤ u). inl (le-leb 225 a (omega arith)))
     (λ (lt : u < 4096). inr (le-leb 160 b (omega arith)))
     (le_or_lt 4096 u)) in
-    let is : is_triple a b c ≡ true = and_true (a / 16 == 14 && b / 64 == 2 && c / 64 == 2) (nat_le 225 a || nat_le 160 b)
-    (and_true (a / 16 == 14 && b / 64 == 2) (c / 64 == 2) (and_true (a / 16 == 14) (b / 64 == 2) (eq-eqb (a / 16) 14 high) (eq-eqb (b / 64) 2 middle)) (eq-eqb (c / 64) 2 low)) form in
+    let is : is_triple a b c ≡ true = and_from (a / 16 == 14 && b / 64 == 2 && c / 64 == 2) (nat_le 225 a || nat_le 160 b)
+    (and_from (a / 16 == 14 && b / 64 == 2) (c / 64 == 2) (and_from (a / 16 == 14) (b / 64 == 2) (eq-eqb (a / 16) 14 high) (eq-eqb (b / 64) 2 middle)) (eq-eqb (c / 64) 2 low)) form in
     let six : (a / 32 == 6) ≡ false = not_six u small in
     let no_pair : is_pair a b ≡ false = rw six refl in
     let value : (224 + u / 4096) % 16 * 4096 + (128 + u / 64 % 64) % 64 * 64 + (128 + u % 64) % 64 ≡ u = omega arith in

@@ -3,3 +3,7 @@ pub mod Spelling
 pub mod Grammar
 pub mod Reading
 pub mod NumberLaws
+pub mod Kind
+pub mod ClassSpelling
+pub mod Structure
+pub mod Found

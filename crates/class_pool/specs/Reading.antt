@@ -1,29 +1,14 @@
 -- Reading a pool from the front of bytes: what was read and the bytes behind it, or nothing.
-use Rattle.std.specs.Prelude.{◌≡◌, ℕ, zero, suc, ◌+◌, ◌-◌, ◌*◌, ◌%◌, ◌/◌, Bool, true, false, ◌&&◌, ◌||◌, ◌==◌, nat_lt, nat_le, if◌then◌else◌, List, [], ◌∷◌, length, take, drop, Option, Some, None, Result, Ok, Err}
+use Rattle.std.specs.Prelude.{ℕ, zero, suc, ◌+◌, ◌-◌, ◌*◌, ◌%◌, ◌/◌, Bool, true, false, ◌&&◌, ◌||◌, ◌==◌, nat_lt, nat_le, if◌then◌else◌, List, [], ◌∷◌, length, take, drop, Option, Some, None}
 use Rattle.std.specs.List.{list_all}
 use Rattle.byteorder.specs.Endian.{big_number}
 use Rattle.class_pool.specs.declared.entry.Entry.{Entry}
 use Rattle.class_pool.specs.declared.entry.Entry.TheVariants as entries
 use Rattle.class_pool.specs.declared.tag.Tag.{Tag}
 use Rattle.class_pool.specs.declared.tag.Tag.TheVariants.{Utf8, Integer, Float, Long, Double, Class, Text, Field, Method, InterfaceMethod, NameAndType, Handle, MethodType, Dynamic}
-use Rattle.class_pool.specs.declared.fault.PoolFault.{PoolFault}
-use Rattle.class_pool.specs.declared.fault.PoolFault.TheVariants as faults
+use Rattle.jop_base.specs.Reading.{◌>>=◌}
 use Rattle.class_pool.specs.Utf8.{is_single}
 use Rattle.class_pool.specs.Grammar.{takes_two, points_rightly}
-
-infixl 10 ◌>>=◌
-abbrev pub ◌>>=◌ : {A B : Type 0} → Option A → (A → Option B) → Option B
-(Some x) >>= f = f x
-None >>= f = None
-
--- What a function returned, seen by view, is what reading gives, unless memory ran out.
-abbrev pub Fails : {Y : Type 0} → PoolFault → Option Y → Type 0
-Fails faults.Bad read = read ≡ None
-Fails faults.NoMemory read = Unit {0}
-
-abbrev pub Gives : {X Y : Type 0} → (X → Y) → Result X PoolFault → Option Y → Type 0
-Gives view (Ok x) read = read ≡ Some (view x)
-Gives view (Err fault) read = Fails fault read
 
 -- a number of n bytes
 abbrev pub number_in : ℕ → List ℕ → Option (ℕ × List ℕ)

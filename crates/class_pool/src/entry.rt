@@ -2,7 +2,7 @@ use crate::units::Units;
 
 /// An entry of a pool, or the second place of one that takes two (JVM Specification SE 8, 4.4).
 /// An index is that of another entry of the pool.
-#[derive(Debug, Drop)]
+#[derive(Drop)]
 pub enum Entry {
     /// A text.
     Utf8(Units),

@@ -1,8 +1,12 @@
-//! Constant pools of class files (JVM Specification SE 8, 4.4).
+//! Class files as values: constant pools and their reader, and the types of what stands around them (JVM
+//! Specification SE 8, 4.1 and 4.4 to 4.7).
 #![tactic(auto)]
 
+mod checking;
+mod class;
 mod entry;
-mod fault;
+mod found;
+pub mod kind;
 pub mod laws;
 pub mod numbers;
 mod pool;
@@ -12,10 +16,8 @@ mod tag;
 mod text;
 mod units;
 
+pub use checking::is_pool;
+pub use class::{Attribute, Body, ClassFile, Code, Member};
 pub use entry::Entry;
-pub use fault::PoolFault;
 pub use pool::{Pool, read_pool};
 pub use units::Units;
-
-#[cfg(test)]
-mod tests;

@@ -2,18 +2,19 @@ ghost use Rattle.std.specs.Prelude.{◌≡◌, ℕ, ◌+◌, ◌-◌, ◌≤◌,
 ghost use Rattle.class_pool.specs.declared.entry.Entry.{Entry};
 ghost use Rattle.class_pool.specs.Spelling.{pool_bytes};
 ghost use Rattle.class_pool.specs.Grammar.{IsPool, IsPoolOf, entry_at, utf8_of, class_name_of, name_and_type_of};
-ghost use Rattle.class_pool.specs.Reading.{Gives, pool_in};
+ghost use Rattle.jop_base.specs.Reading.{Gives};
+ghost use Rattle.class_pool.specs.Reading.{pool_in};
 
 use crate::entry::Entry;
-use crate::fault::PoolFault;
 use crate::numbers::u16_at;
 use crate::reading::places_at;
 use crate::references::{all_point_rightly, entry_at};
+use jop_base::FormatFault;
 use std::alloc::Global;
 use std::marker::Model;
 
 /// The entries of a pool; that of index i stands at place i − 1. Contracts see it as that list.
-#[derive(Debug, Drop)]
+#[derive(Drop)]
 pub struct Pool {
     entries: Vec<Entry>,
 }
@@ -81,29 +82,33 @@ impl Pool {
 }
 
 #[tactic(auto, unfolding(crate::specs::Reading::pool_in))]
-fn pool_at(alloc: Global, bytes: &[u8]) -> Result<(Pool, &[u8]), PoolFault>
+fn pool_at(alloc: Global, bytes: &[u8]) -> Result<(Pool, &[u8]), FormatFault>
     ensures { Gives (λ x. (x.0, x.1.now)) result (pool_in bytes.now) }
 {
     let (count, rest) = u16_at(bytes)?;
     if count == 0 {
-        return Err(PoolFault::Bad);
+        return Err(FormatFault::Bad);
     }
     let (entries, rest) = places_at(alloc, count - 1, rest)?;
     if !all_point_rightly(&entries) {
-        return Err(PoolFault::Bad);
+        return Err(FormatFault::Bad);
     }
     Ok((Pool::new(entries), rest))
 }
 
 /// Reads the pool at the front of the bytes, and answers how many bytes it takes.
-pub fn read_pool(alloc: Global, bytes: &[u8]) -> Result<(Pool, usize), PoolFault>
+///
+/// A pool is what JVM Specification SE 8, 4.4 says of tags, lengths, texts in their one spelling, places and what
+/// indexes point at. That a name or a descriptor has the form of one (4.2, 4.3) is no part of it: a pool may hold any
+/// texts, and which of them stand for names of classes or descriptors is a rule on the class file around it.
+pub fn read_pool(alloc: Global, bytes: &[u8]) -> Result<(Pool, usize), FormatFault>
     ensures length { IfOk result (λ found. found.1 ≤ length bytes.now) }
     // What is read is a pool, and the bytes taken are its spelling.
     ensures found { IfOk result (λ found. IsPoolOf (take found.1 bytes.now) found.0) }
     // A pool that stands at the front is read, and no other, unless memory runs out.
     ensures only { (entries : List Entry) (rest : List ℕ) → IsPool entries → bytes.now ≡ pool_bytes entries ++ rest →
-        MatchResult result (λ found. (found.0 ≡ entries) × (found.1 ≡ length (pool_bytes entries))) (λ fault. fault ≡ PoolFault.NoMemory) }
-    ensures bad { result ≡ Err PoolFault.Bad → (entries : List Entry) (n : ℕ) → ¬ IsPoolOf (take n bytes.now) entries }
+        MatchResult result (λ found. (found.0 ≡ entries) × (found.1 ≡ length (pool_bytes entries))) (λ fault. fault ≡ FormatFault.NoMemory) }
+    ensures bad { result ≡ Err FormatFault.Bad → (entries : List Entry) (n : ℕ) → ¬ IsPoolOf (take n bytes.now) entries }
 {
     let (pool, rest) = pool_at(alloc, bytes)?;
     Ok((pool, bytes.len() - rest.len()))

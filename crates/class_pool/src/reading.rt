@@ -1,17 +1,18 @@
 //! Entries at the front of bytes.
 ghost use Rattle.std.specs.Prelude.{◌≡◌, false};
 ghost use Rattle.class_pool.specs.Grammar.{takes_two};
-ghost use Rattle.class_pool.specs.Reading.{Gives, indexes_in, handle_in, parts_in, place_in, places_in};
+ghost use Rattle.jop_base.specs.Reading.{Gives};
+ghost use Rattle.class_pool.specs.Reading.{indexes_in, handle_in, parts_in, place_in, places_in};
 
 use crate::entry::Entry;
-use crate::fault::PoolFault;
 use crate::numbers::{u8_at, u16_at, u32_at, u64_at};
 use crate::tag::{Tag, tag_of};
 use crate::text::utf8_at;
+use jop_base::FormatFault;
 use std::alloc::Global;
 
 #[tactic(auto, unfolding(crate::specs::Reading::indexes_in))]
-fn indexes_at(bytes: &[u8]) -> Result<((u16, u16), &[u8]), PoolFault>
+fn indexes_at(bytes: &[u8]) -> Result<((u16, u16), &[u8]), FormatFault>
     ensures { Gives (λ x. (x.0, x.1.now)) result (indexes_in bytes.now) }
 {
     let (first, rest) = u16_at(bytes)?;
@@ -20,7 +21,7 @@ fn indexes_at(bytes: &[u8]) -> Result<((u16, u16), &[u8]), PoolFault>
 }
 
 #[tactic(auto, unfolding(crate::specs::Reading::handle_in))]
-fn handle_at(bytes: &[u8]) -> Result<((u8, u16), &[u8]), PoolFault>
+fn handle_at(bytes: &[u8]) -> Result<((u8, u16), &[u8]), FormatFault>
     ensures { Gives (λ x. (x.0, x.1.now)) result (handle_in bytes.now) }
 {
     let (kind, rest) = u8_at(bytes)?;
@@ -30,7 +31,7 @@ fn handle_at(bytes: &[u8]) -> Result<((u8, u16), &[u8]), PoolFault>
 
 // The parts of an entry behind its tag.
 #[tactic(auto, unfolding(crate::specs::Reading::parts_in))]
-fn parts_at(alloc: Global, tag: Tag, bytes: &[u8]) -> Result<(Entry, &[u8]), PoolFault>
+fn parts_at(alloc: Global, tag: Tag, bytes: &[u8]) -> Result<(Entry, &[u8]), FormatFault>
     ensures { Gives (λ x. (x.0, x.1.now)) result (parts_in tag bytes.now) }
 {
     match tag {
@@ -93,7 +94,7 @@ fn parts_at(alloc: Global, tag: Tag, bytes: &[u8]) -> Result<(Entry, &[u8]), Poo
     }
 }
 
-fn takes_two(entry: &Entry) -> bool
+pub(crate) fn takes_two(entry: &Entry) -> bool
     ensures { result ≡ takes_two entry.now }
 {
     matches!(entry, Entry::Long(_) | Entry::Double(_))
@@ -101,7 +102,7 @@ fn takes_two(entry: &Entry) -> bool
 
 // The entry of the next place, which may be due as the second one.
 #[tactic(auto, unfolding(crate::specs::Reading::place_in))]
-fn place_at(alloc: Global, due: bool, bytes: &[u8]) -> Result<(Entry, &[u8]), PoolFault>
+fn place_at(alloc: Global, due: bool, bytes: &[u8]) -> Result<(Entry, &[u8]), FormatFault>
     ensures { Gives (λ x. (x.0, x.1.now)) result (place_in due bytes.now) }
 {
     if due {
@@ -109,7 +110,7 @@ fn place_at(alloc: Global, due: bool, bytes: &[u8]) -> Result<(Entry, &[u8]), Po
     }
     let (number, rest) = u8_at(bytes)?;
     let Some(tag) = tag_of(number) else {
-        return Err(PoolFault::Bad);
+        return Err(FormatFault::Bad);
     };
     parts_at(alloc, tag, rest)
 }
@@ -119,7 +120,7 @@ pub(crate) fn places_at(
     alloc: Global,
     count: u16,
     bytes: &[u8],
-) -> Result<(Vec<Entry>, &[u8]), PoolFault>
+) -> Result<(Vec<Entry>, &[u8]), FormatFault>
     ensures { Gives (λ x. (x.0.items, x.1.now)) result (places_in count false bytes.now) }
 {
     let mut entries = Vec::new(alloc);
@@ -132,7 +133,7 @@ pub(crate) fn places_at(
         rest = after;
     }
     if due {
-        return Err(PoolFault::Bad);
+        return Err(FormatFault::Bad);
     }
     Ok((entries, rest))
 }

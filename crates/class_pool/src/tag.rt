@@ -2,7 +2,7 @@ ghost use Rattle.std.specs.Prelude.{◌≡◌};
 ghost use Rattle.class_pool.specs.Reading.{tag_in};
 
 /// The tags of entries (JVM Specification SE 8, table 4.4-A).
-#[derive(Clone, Copy, Debug, PartialEq, Eq)]
+#[derive(Clone, Copy)]
 pub(crate) enum Tag {
     Utf8,
     Integer,

@@ -1,11 +1,12 @@
 //! Texts in their one spelling (JVM Specification SE 8, 4.4.7).
 ghost use Rattle.std.specs.Prelude.{◌≡◌, option_map};
 ghost use Rattle.class_pool.specs.Utf8.{is_single};
-ghost use Rattle.class_pool.specs.Reading.{Gives, is_pair, is_triple, unit_in, units_in, utf8_in};
+ghost use Rattle.jop_base.specs.Reading.{Gives};
+ghost use Rattle.class_pool.specs.Reading.{is_pair, is_triple, unit_in, units_in, utf8_in};
 
-use crate::fault::PoolFault;
 use crate::numbers::u16_at;
 use crate::units::Units;
+use jop_base::FormatFault;
 use std::alloc::Global;
 
 fn is_single(a: u8) -> bool
@@ -45,14 +46,14 @@ fn unit_at(bytes: &[u8]) -> Option<(u16, &[u8])>
 }
 
 // The text that all of the bytes spell.
-fn units_of(alloc: Global, bytes: &[u8]) -> Result<Units, PoolFault>
+fn units_of(alloc: Global, bytes: &[u8]) -> Result<Units, FormatFault>
     ensures { Gives (λ x. x) result (units_in bytes.now) }
 {
     let mut units = Vec::new(alloc);
     let mut rest = bytes;
     while !rest.is_empty() {
         let Some((unit, after)) = unit_at(rest) else {
-            return Err(PoolFault::Bad);
+            return Err(FormatFault::Bad);
         };
         units.push(unit)?;
         rest = after;
@@ -62,13 +63,13 @@ fn units_of(alloc: Global, bytes: &[u8]) -> Result<Units, PoolFault>
 
 // The number of bytes, and the text that they spell.
 #[tactic(auto, unfolding(crate::specs::Reading::utf8_in))]
-pub(crate) fn utf8_at(alloc: Global, bytes: &[u8]) -> Result<(Units, &[u8]), PoolFault>
+pub(crate) fn utf8_at(alloc: Global, bytes: &[u8]) -> Result<(Units, &[u8]), FormatFault>
     ensures { Gives (λ x. (x.0, x.1.now)) result (utf8_in bytes.now) }
 {
     let (length, rest) = u16_at(bytes)?;
     let length = usize::from(length);
     if rest.len() < length {
-        return Err(PoolFault::Bad);
+        return Err(FormatFault::Bad);
     }
     let (text, rest) = rest.split_at(length);
     Ok((units_of(alloc, text)?, rest))

@@ -1,9 +1,14 @@
-ghost use Rattle.std.specs.Prelude.{◌≡◌};
+ghost use Rattle.std.specs.Prelude.{◌≡◌, nat_eq};
+ghost use Rattle.std.specs.Cmp.{partial_equiv_from_equiv, unsigned_Decides};
+ghost use Rattle.std.specs.Cmp.Lexicographic.{pointwise, nat_list_eq_equiv};
+ghost use Rattle.std.specs.Hash as fed;
+ghost use Rattle.std.specs.Hash.{same_Alike, items_Alike};
 
+use std::hash::{Hash, Hasher};
 use std::marker::Model;
 
 /// A text, as a list of 16-bit units. Contracts see it as that list.
-#[derive(Debug, Drop)]
+#[derive(Drop)]
 pub struct Units {
     units: Vec<u16>,
 }
@@ -36,5 +41,30 @@ impl Units {
         ensures { result.items ≡ self }
     {
         self.units
+    }
+}
+
+// Texts are equal, and hashed, as their lists: a map may have them as keys.
+impl PartialEq for Units {
+    ghost eq = { λ a b. pointwise nat_eq a b };
+
+    ghost laws = { partial_equiv_from_equiv nat_list_eq_equiv };
+
+    fn eq(&self, other: &Units) -> bool {
+        self.as_slice() == other.as_slice()
+    }
+}
+
+impl Eq for Units {
+    ghost laws = { nat_list_eq_equiv };
+}
+
+impl Hash for Units {
+    ghost hash_input = { λ text. fed.slice fed.u16 text };
+
+    ghost respects_eq = { (items_Alike (same_Alike fed.u16 unsigned_Decides)).fed };
+
+    fn hash<H: Hasher>(&self, state: &mut H) {
+        self.as_slice().hash(state);
     }
 }

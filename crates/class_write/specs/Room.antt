@@ -1,11 +1,11 @@
 -- Which parts of a class file have room for their lengths.
 use Rattle.std.specs.Prelude.{◌<◌, ◌^◌, length}
-use Rattle.class_file.specs.declared.class.Attribute.{Attribute}
-use Rattle.class_file.specs.declared.class.Body.{Body}
-use Rattle.class_file.specs.declared.class.Body.TheVariants.{Code}
-use Rattle.class_file.specs.declared.class.Member.{Member}
-use Rattle.class_file.specs.Spelling.{body_bytes}
-use Rattle.class_file.specs.Structure.{AreCounted, IsCode}
+use Rattle.class_pool.specs.declared.class.Attribute.{Attribute}
+use Rattle.class_pool.specs.declared.class.Body.{Body}
+use Rattle.class_pool.specs.declared.class.Body.TheVariants.{Code}
+use Rattle.class_pool.specs.declared.class.Member.{Member}
+use Rattle.class_pool.specs.ClassSpelling.{body_bytes}
+use Rattle.class_pool.specs.Structure.{AreCounted, IsCode}
 
 abbrev pub HasRoom : Body → Type 0
 HasRoom (Code code) = IsCode code

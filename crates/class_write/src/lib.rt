@@ -2,14 +2,9 @@
 #![tactic(auto)]
 
 mod members;
-mod no_memory;
 mod numbers;
 mod parts;
 mod pool;
 mod writer;
 
-pub use no_memory::NoMemory;
 pub use writer::{read_again, write_class};
-
-#[cfg(test)]
-mod tests;

@@ -1,14 +1,14 @@
 //! Attributes and members as bytes.
 ghost use Rattle.std.specs.Prelude.{◌≡◌, ◌<◌, ◌^◌, ◌++◌, length, OnOk};
 ghost use Rattle.class_pool.specs.Spelling.{u2};
-ghost use Rattle.class_file.specs.Spelling.{counted, attribute_bytes, member_bytes};
-ghost use Rattle.class_file.specs.Structure.{AreCounted};
+ghost use Rattle.class_pool.specs.ClassSpelling.{counted, attribute_bytes, member_bytes};
+ghost use Rattle.class_pool.specs.Structure.{AreCounted};
 ghost use Rattle.class_write.specs.Room.{IsRoomy, IsRoomyMember};
 
-use crate::no_memory::NoMemory;
 use crate::numbers::put_u16;
 use crate::parts::{bytes_of, put_framed};
-use class_file::{Attribute, Member};
+use class_pool::{Attribute, Member};
+use jop_base::NoMemory;
 use std::alloc::Global;
 
 fn put_attribute(alloc: Global, out: &mut Vec<u8>, a: &Attribute) -> Result<(), NoMemory>

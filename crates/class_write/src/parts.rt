@@ -1,13 +1,14 @@
 //! Code and the other bodies of attributes as bytes.
 ghost use Rattle.std.specs.Prelude.{◌≡◌, ◌<◌, ◌^◌, ◌++◌, length, OnOk, IfOk};
 ghost use Rattle.std.specs.List.{flat_map, AllByRecursion};
-ghost use Rattle.class_file.specs.Spelling.{counted, handler_bytes, framed, named_bytes, code_bytes, body_bytes};
-ghost use Rattle.class_file.specs.Structure.{AreCounted, IsHandler, IsNamed, IsCode};
+ghost use Rattle.class_pool.specs.ClassSpelling.{counted, handler_bytes, framed, named_bytes, code_bytes, body_bytes};
+ghost use Rattle.class_pool.specs.Structure.{AreCounted, IsHandler, IsNamed, IsCode};
 ghost use Rattle.class_write.specs.Room.{HasRoom};
 
-use crate::no_memory::NoMemory;
 use crate::numbers::{put_u16, put_u32};
-use class_file::{Body, Code, Items};
+use class_pool::{Body, Code};
+use items::Items;
+use jop_base::NoMemory;
 use std::alloc::Global;
 
 fn put_handler(out: &mut Vec<u8>, h: &(u16, u16, u16, u16)) -> Result<(), NoMemory>

@@ -5,9 +5,9 @@ ghost use Rattle.class_pool.specs.Utf8.{unit_bytes, utf8_bytes};
 ghost use Rattle.class_pool.specs.Spelling.{u2, entry_bytes, IsInRange, pool_bytes};
 ghost use Rattle.class_pool.specs.Grammar.{IsPool};
 
-use crate::no_memory::NoMemory;
 use crate::numbers::{put_u16, put_u32, put_u64};
 use class_pool::{Entry, Pool};
+use jop_base::NoMemory;
 use std::alloc::Global;
 
 fn put_unit(out: &mut Vec<u8>, unit: u16) -> Result<(), NoMemory>

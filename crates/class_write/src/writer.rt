@@ -1,15 +1,15 @@
 //! Whole class files as bytes, and the laws of reading again.
 ghost use Rattle.std.specs.Prelude.{◌≡◌, ◌++◌, List, ℕ, OnOk, IfOk};
-ghost use Rattle.class_file.specs.declared.class.ClassFile.{ClassFile};
-ghost use Rattle.class_file.specs.Spelling.{class_bytes, header_bytes, identity_bytes, members_bytes, identity_of, members_of, inside_bytes};
-ghost use Rattle.class_file.specs.Grammar.{IsClass, IsClassOf};
+ghost use Rattle.class_pool.specs.declared.class.ClassFile.{ClassFile};
+ghost use Rattle.class_pool.specs.ClassSpelling.{class_bytes, header_bytes, identity_bytes, members_bytes};
+ghost use Rattle.class_rules.specs.Grammar.{IsClass, IsClassOf};
 
 use crate::members::{put_attributes, put_indexes, put_members};
-use crate::no_memory::NoMemory;
 use crate::numbers::{put_u16, put_u32};
 use crate::pool::put_pool;
-use class_file::ClassFile;
 use class_file::laws::one_class;
+use class_pool::ClassFile;
+use jop_base::NoMemory;
 use std::alloc::Global;
 
 fn put_header(out: &mut Vec<u8>, minor: u16, major: u16) -> Result<(), NoMemory>
@@ -22,7 +22,7 @@ fn put_header(out: &mut Vec<u8>, minor: u16, major: u16) -> Result<(), NoMemory>
 
 fn put_identity(out: &mut Vec<u8>, class: &ClassFile) -> Result<(), NoMemory>
     requires { IsClass class.now }
-    ensures { OnOk result (out.new.items ≡ out.old.items ++ identity_bytes (identity_of class.now)) }
+    ensures { OnOk result (out.new.items ≡ out.old.items ++ identity_bytes class.now) }
 {
     put_u16(out, class.flags)?;
     put_u16(out, class.this_class)?;
@@ -32,7 +32,7 @@ fn put_identity(out: &mut Vec<u8>, class: &ClassFile) -> Result<(), NoMemory>
 
 fn put_inside(alloc: Global, out: &mut Vec<u8>, class: &ClassFile) -> Result<(), NoMemory>
     requires { IsClass class.now }
-    ensures { OnOk result (out.new.items ≡ out.old.items ++ members_bytes (members_of class.now)) }
+    ensures { OnOk result (out.new.items ≡ out.old.items ++ members_bytes class.now) }
 {
     put_members(alloc, out, class.fields.as_slice())?;
     put_members(alloc, out, class.methods.as_slice())?;

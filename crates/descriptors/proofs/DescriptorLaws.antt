@@ -2,22 +2,20 @@
 use Rattle.std.proofs.Common.{◌≡◌, ℕ, zero, suc, ◌+◌, ◌<◌, ◌≤◌, ◌==◌, ◌&&◌, not, ◌⊎◌, inl, inr, ⊎_elim, Bool, true, false, cond, nat_lt, nat_le, List, [], ◌∷◌, ◌++◌, length, Option, Some, None, refl, sym, ap, subst, ◌∙◌, append_assoc, arith, eqb-true, ne_eqb, leb-true, le-leb}
 use Rattle.std.specs.Prelude.{replicate, IsTrue, ◌↔◌}
 use Rattle.std.specs.List.{flat_map, AllByRecursion}
-use Rattle.std.proofs.lemmas.Bool.{ltb-true, lt-ltb}
+use Rattle.std.proofs.lemmas.Bool.{ltb-true, lt-ltb, and_parts}
+use Rattle.std.proofs.lemmas.Option.{same_Some}
 use Rattle.std.proofs.lemmas.List.{append-nil, length-append, nil_from_length}
 use Rattle.std.proofs.lemmas.List.Concat.{flat_map-cons}
-use Rattle.descriptors.specs.Reading.{◌>>=◌}
+use Rattle.jop_base.specs.Reading.{◌>>=◌}
 use Rattle.descriptors.specs.declared.descriptor.Element.{Element}
 use Rattle.descriptors.specs.declared.descriptor.Element.TheVariants.{Byte, Char, Double, Float, Int, Long, Class, Short, Boolean}
 use Rattle.descriptors.specs.declared.descriptor.FieldType.{FieldType}
 use Rattle.descriptors.specs.declared.descriptor.MethodType.{MethodType}
 use Rattle.descriptors.specs.Names.{is_plain, is_path, is_class_name}
 use Rattle.descriptors.specs.Descriptors.{letter_of, behind_letter, type_units, IsElement, IsType, argument_words, result_units, IsResult, IsFieldDescriptor, IsMethodDescriptor}
-use Rattle.descriptors.specs.Reading.{whole}
+use Rattle.jop_base.specs.Reading.{whole}
 use Rattle.descriptors.specs.Parsing.{behind, primitives, first_with, primitive_in, split_in, class_in, element_in, with_dimensions, type_from, type_in, types_in, field_in, result_in, method_in}
 use Rattle.descriptors.proofs.TypeLemmas.{types_more}
-
-same_some : {A : Type 0} (x y : A) → Some x ≡ Some y → x ≡ y
-same_some x y e = cc
 
 -- the value of a step that did not fail
 bind_some : {A B : Type 0} (r : Option A) (f : A → Option B) (y : B) → (r >>= f) ≡ Some y → (x : A) × (r ≡ Some x) × (f x ≡ Some y)
@@ -29,20 +27,16 @@ whole_is : {X : Type 0} (found : X × List ℕ) (x : X) → whole found ≡ Some
 whole_is {X} found x e = chosen (length found.1 == 0) refl e
   where
     chosen : (b : Bool) → (length found.1 == 0) ≡ b → cond b (Some found.0) None ≡ Some x → (found.0 ≡ x) × (found.1 ≡ [])
-    chosen true is f = (same_some found.0 x f, nil_from_length found.1 (eqb-true _ _ is))
+    chosen true is f = (same_Some found.0 x f, nil_from_length found.1 (eqb-true _ _ is))
     chosen false is f = absurd (let n : None ≡ Some x = f in cc)
 
 passed : {A : Type 0} (b : Bool) (x y : A) → cond b (Some x) None ≡ Some y → (b ≡ true) × (x ≡ y)
-passed true x y e = (refl, same_some x y e)
+passed true x y e = (refl, same_Some x y e)
 passed false x y e = absurd (let f : None ≡ Some y = e in cc)
 
 two : (b : Bool) → (b ≡ true) ⊎ (b ≡ false)
 two true = inl refl
 two false = inr refl
-
-both : (a b : Bool) → (a && b) ≡ true → (a ≡ true) × (b ≡ true)
-both true b e = (refl, e)
-both false b e = absurd (cc)
 
 -- ---- elements
 
@@ -57,7 +51,7 @@ with_first : (letter : ℕ) (e found : Element) (others : Option Element) → Is
     → (b : Bool) → (letter == letter_of e) ≡ b → cond b (Some e) others ≡ Some found → (letter ≡ letter_of found) × IsPrimitive found
 with_first letter e found others here rest true is f =
     let P : Element → Type 0 = λ x. (letter ≡ letter_of x) × IsPrimitive x in
-    subst P (same_some e found f) (eqb-true letter (letter_of e) is, here)
+    subst P (same_Some e found f) (eqb-true letter (letter_of e) is, here)
 with_first letter e found others here rest false is f = rest f
 
 found_with : (letter : ℕ) (es : List Element) (found : Element) → AllByRecursion IsPrimitive es → first_with letter es ≡ Some found → (letter ≡ letter_of found) × IsPrimitive found
@@ -73,13 +67,13 @@ split_on unit units = split_in units >>= λ x. Some (unit ∷ x.0, x.1)
 split_step : (b : Bool) (unit : ℕ) (units name rest : List ℕ) → (unit == 59) ≡ b → ((n r : List ℕ) → split_in units ≡ Some (n, r) → units ≡ n ++ 59 ∷ r)
     → cond b (split_end units) (split_on unit units) ≡ Some (name, rest) → unit ∷ units ≡ name ++ 59 ∷ rest
 split_step true unit units name rest is others e =
-    let p = same_some ([], units) (name, rest) e in
+    let p = same_Some ([], units) (name, rest) e in
     let P : List ℕ × List ℕ → Type 0 = λ x. unit ∷ units ≡ x.0 ++ 59 ∷ x.1 in
     subst P p (ap (λ (u : ℕ). u ∷ units) (eqb-true unit 59 is))
 split_step false unit units name rest is others e =
     let b = bind_some (split_in units) (λ x. Some (unit ∷ x.0, x.1)) (name, rest) e in
     let P : List ℕ × List ℕ → Type 0 = λ x. unit ∷ units ≡ x.0 ++ 59 ∷ x.1 in
-    subst P (same_some (unit ∷ b.0.0, b.0.1) (name, rest) b.2) (ap (λ (us : List ℕ). unit ∷ us) (others b.0.0 b.0.1 b.1))
+    subst P (same_Some (unit ∷ b.0.0, b.0.1) (name, rest) b.2) (ap (λ (us : List ℕ). unit ∷ us) (others b.0.0 b.0.1 b.1))
 
 split_takes : (units name rest : List ℕ) → split_in units ≡ Some (name, rest) → units ≡ name ++ 59 ∷ rest
 unfolding split_in
@@ -94,9 +88,9 @@ path_step : (fresh : Bool) (unit : ℕ) (units : List ℕ) (b : Bool) → (unit 
     → ((unit == 59) ≡ false) × ((f : Bool) × (is_path f units ≡ true))
 path_step fresh unit units true is e =
     let same : unit ≡ 47 = eqb-true unit 47 is in
-    let p = both (not fresh) (is_path true units) e in
+    let p = and_parts (not fresh) (is_path true units) e in
     (subst (λ (u : ℕ). (u == 59) ≡ false) (sym same) refl, (true, p.1))
-path_step fresh unit units false is e = let p = both (is_plain unit) (is_path false units) e in (no_end unit p.0, (false, p.1))
+path_step fresh unit units false is e = let p = and_parts (is_plain unit) (is_path false units) e in (no_end unit p.0, (false, p.1))
 
 split_again : (fresh : Bool) (name rest : List ℕ) → is_path fresh name ≡ true → split_in (name ++ 59 ∷ rest) ≡ Some (name, rest)
 unfolding split_in
@@ -129,7 +123,7 @@ element_step false letter units found is e =
     let a = bind_some (primitive_in letter) (λ element. Some (element, units)) found e in
     let p = found_with letter primitives a.0 primitives_are a.1 in
     let spelled : letter ∷ units ≡ letter_of a.0 ∷ (behind_letter a.0 ++ units) = ap (λ (l : ℕ). l ∷ units) p.0 ∙ ap (λ (b : List ℕ). letter_of a.0 ∷ (b ++ units)) (sym p.1.0) in
-    subst (IsFound (letter ∷ units)) (same_some (a.0, units) found a.2) (spelled, p.1.1)
+    subst (IsFound (letter ∷ units)) (same_Some (a.0, units) found a.2) (spelled, p.1.1)
 
 element_takes : (units : List ℕ) (found : Element × List ℕ) → element_in units ≡ Some found → IsFound units found
 unfolding element_in
@@ -186,7 +180,7 @@ type_step false n unit units found is few others e =
     let t : FieldType = record { dimensions = n; element = a.0.0 } in
     let made : FieldType × List ℕ = (t, a.0.1) in
     let parts : replicate n 91 ++ unit ∷ units ≡ type_units t ++ a.0.1 = ap (λ (us : List ℕ). replicate n 91 ++ us) el.0 ∙ sym (append_assoc (replicate n 91) (letter_of a.0.0 ∷ behind_letter a.0.0) a.0.1) in
-    subst (IsTypeAt n (unit ∷ units)) (same_some made found a.2) (parts, (omega (arith, few), el.1))
+    subst (IsTypeAt n (unit ∷ units)) (same_Some made found a.2) (parts, (omega (arith, few), el.1))
 
 type_takes : (n : ℕ) (units : List ℕ) (found : FieldType × List ℕ) → n ≤ 255 → type_from n units ≡ Some found → IsTypeAt n units found
 unfolding type_from
@@ -271,7 +265,7 @@ types_step : (b : Bool) (n unit : ℕ) (units : List ℕ) (found : List FieldTyp
     → (unit ∷ units ≡ flat_map type_units found.0 ++ 41 ∷ found.1) × AllByRecursion IsType found.0
 types_step true n unit units found is others e =
     let P : List FieldType × List ℕ → Type 0 = λ f. (unit ∷ units ≡ flat_map type_units f.0 ++ 41 ∷ f.1) × AllByRecursion IsType f.0 in
-    subst P (same_some ([], units) found e) (ap (λ (u : ℕ). u ∷ units) (eqb-true unit 41 is), tt)
+    subst P (same_Some ([], units) found e) (ap (λ (u : ℕ). u ∷ units) (eqb-true unit 41 is), tt)
 types_step false n unit units found is others e =
     let a = bind_some (type_in (unit ∷ units)) (λ first. types_in n first.1 >>= λ o. Some (first.0 ∷ o.0, o.1)) found e in
     let b = bind_some (types_in n a.0.1) (λ o. Some (a.0.0 ∷ o.0, o.1)) found a.2 in
@@ -282,7 +276,7 @@ types_step false n unit units found is others e =
     first.0 ∙ ap (λ (us : List ℕ). type_units a.0.0 ++ us) rest.0 ∙ sym (append_assoc (type_units a.0.0) (flat_map type_units b.0.0) (41 ∷ b.0.1))
     ∙ ap (λ (us : List ℕ). us ++ 41 ∷ b.0.1) (sym (flat_map-cons type_units a.0.0 b.0.0)) in
     let P : List FieldType × List ℕ → Type 0 = λ f. (unit ∷ units ≡ flat_map type_units f.0 ++ 41 ∷ f.1) × AllByRecursion IsType f.0 in
-    subst P (same_some made found b.2) (parts, (first.1, rest.1))
+    subst P (same_Some made found b.2) (parts, (first.1, rest.1))
 
 types_take : (n : ℕ) (units : List ℕ) (found : List FieldType × List ℕ) → types_in n units ≡ Some found → (units ≡ flat_map type_units found.0 ++ 41 ∷ found.1) × AllByRecursion IsType found.0
 unfolding types_in
@@ -316,15 +310,15 @@ types_short (t ∷ ts) rest =
 result_step : (b : Bool) (unit : ℕ) (units : List ℕ) (r : Option FieldType) → (unit == 86 && length units == 0) ≡ b
     → cond b (Some None) (field_in (unit ∷ units) >>= λ t. Some (Some t)) ≡ Some r → (unit ∷ units ≡ result_units r) × IsResult r
 result_step true unit units r is e =
-    let p = both (unit == 86) (length units == 0) is in
+    let p = and_parts (unit == 86) (length units == 0) is in
     let P : Option FieldType → Type 0 = λ x. (unit ∷ units ≡ result_units x) × IsResult x in
     let nil : units ≡ [] = nil_from_length units (eqb-true (length units) 0 p.1) in
-    subst P (same_some None r e) (ap (λ (u : ℕ). u ∷ units) (eqb-true unit 86 p.0) ∙ ap (λ (us : List ℕ). 86 ∷ us) nil, tt)
+    subst P (same_Some None r e) (ap (λ (u : ℕ). u ∷ units) (eqb-true unit 86 p.0) ∙ ap (λ (us : List ℕ). 86 ∷ us) nil, tt)
 result_step false unit units r is e =
     let a = bind_some (field_in (unit ∷ units)) (λ t. Some (Some t)) r e in
     let f = field_takes (unit ∷ units) a.0 a.1 in
     let P : Option FieldType → Type 0 = λ x. (unit ∷ units ≡ result_units x) × IsResult x in
-    subst P (same_some (Some a.0) r a.2) (f.1, f.0)
+    subst P (same_Some (Some a.0) r a.2) (f.1, f.0)
 
 result_takes : (units : List ℕ) (r : Option FieldType) → result_in units ≡ Some r → (units ≡ result_units r) × IsResult r
 unfolding result_in

@@ -1,21 +1,14 @@
 -- The name of a class is its parts.
 use Rattle.std.proofs.Common.{◌≡◌, ℕ, ◌==◌, ◌&&◌, ◌||◌, not, Bool, true, false, cond, List, [], ◌∷◌, ◌++◌, length, refl, sym, ap, ◌∙◌, eqb-true, ne_eqb, arith}
+use Rattle.std.proofs.lemmas.Bool.{and_parts, and_from}
 use Rattle.std.specs.List.{flat_map, AllByRecursion, list_all}
 use Rattle.std.specs.Prelude.{IsTrue}
 use Rattle.descriptors.specs.Names.{is_plain, is_path, is_unqualified}
 use Rattle.descriptors.specs.Parts.{parts_units, ClassNames}
 
-both : (a b : Bool) → (a && b) ≡ true → (a ≡ true) × (b ≡ true)
-both true b e = (refl, e)
-both false b e = absurd (cc)
-
 not_true : (b : Bool) → not b ≡ true → b ≡ false
 not_true true e = cc
 not_true false e = refl
-
-joined : (a b : Bool) → a ≡ true → b ≡ true → (a && b) ≡ true
-joined true b e f = f
-joined false b e f = absurd (cc)
 
 none_of : (a b c d : Bool) → not (a || b || c || d) ≡ true → d ≡ false
 none_of true b c d e = absurd (cc)
@@ -35,15 +28,15 @@ read_on fresh unit units plain =
 after_plain : (part rest : List ℕ) → list_all is_plain part ≡ true → is_path false (part ++ rest) ≡ is_path false rest
 after_plain [] rest plain = refl
 after_plain (u ∷ part) rest plain =
-    let b = both (is_plain u) (list_all is_plain part) plain in
+    let b = and_parts (is_plain u) (list_all is_plain part) plain in
     read_on false u (part ++ rest) b.0 ∙ after_plain part rest b.1
 
 -- a part that is read leaves no name about to begin
 plain_read : (fresh : Bool) (part rest : List ℕ) → is_unqualified part ≡ true → is_path fresh (part ++ rest) ≡ is_path false rest
 plain_read fresh [] rest is = absurd (cc)
 plain_read fresh (u ∷ part) rest is =
-    let a = both (not (length (u ∷ part) == 0)) (list_all is_plain (u ∷ part)) is in
-    let b = both (is_plain u) (list_all is_plain part) a.1 in
+    let a = and_parts (not (length (u ∷ part) == 0)) (list_all is_plain (u ∷ part)) is in
+    let b = and_parts (is_plain u) (list_all is_plain part) a.1 in
     read_on fresh u (part ++ rest) b.0 ∙ after_plain part rest b.1
 
 others_read : (others : List (List ℕ)) → AllByRecursion (λ part. IsTrue (is_unqualified part)) others → is_path false (flat_map (λ part. 47 ∷ part) others) ≡ true
@@ -68,7 +61,7 @@ made_of false [] e = record { first = []; others = []; plain = refl; begun = λ 
 made_of fresh (u ∷ units) e = chosen (λ f h. made_of f units h) (u == 47) refl e
   where
     unqualified : (m : IsMade true units) → is_unqualified m.first ≡ true
-    unqualified m = joined (not (length m.first == 0)) (list_all is_plain m.first) (ap not (m.begun refl)) m.plain
+    unqualified m = and_from (not (length m.first == 0)) (list_all is_plain m.first) (ap not (m.begun refl)) m.plain
 
     behind_slash : u ≡ 47 → fresh ≡ false → (m : IsMade true units) → IsMade fresh (u ∷ units)
     behind_slash is old m = record {
@@ -82,15 +75,15 @@ made_of fresh (u ∷ units) e = chosen (λ f h. made_of f units h) (u == 47) ref
 
     chosen : ((f : Bool) → is_path f units ≡ true → IsMade f units) → (b : Bool) → (u == 47) ≡ b → cond b (not fresh && is_path true units) (is_plain u && is_path false units) ≡ true → IsMade fresh (u ∷ units)
     chosen made true is f =
-        let b = both (not fresh) (is_path true units) f in
+        let b = and_parts (not fresh) (is_path true units) f in
         behind_slash (eqb-true u 47 is) (not_true fresh b.0) (made true b.1)
     chosen made false is f =
-        let b = both (is_plain u) (is_path false units) f in
+        let b = and_parts (is_plain u) (is_path false units) f in
         let m = made false b.1 in
         record {
           first = u ∷ m.first;
           others = m.others;
-          plain = joined (is_plain u) (list_all is_plain m.first) b.0 m.plain;
+          plain = and_from (is_plain u) (list_all is_plain m.first) b.0 m.plain;
           begun = λ g. some_units u m.first;
           others_are = m.others_are;
           spelling = ap (λ (x : List ℕ). u ∷ x) m.spelling;
@@ -99,6 +92,6 @@ made_of fresh (u ∷ units) e = chosen (λ f h. made_of f units h) (u == 47) ref
 pub class_names : ClassNames
 class_names units = (
   (λ e. let m = made_of true units e in
-      record { first = m.first; others = m.others; first_is = joined (not (length m.first == 0)) (list_all is_plain m.first) (ap not (m.begun refl)) m.plain; others_are = m.others_are; spelling = m.spelling }),
+      record { first = m.first; others = m.others; first_is = and_from (not (length m.first == 0)) (list_all is_plain m.first) (ap not (m.begun refl)) m.plain; others_are = m.others_are; spelling = m.spelling }),
   (λ h. ap (is_path true) h.spelling ∙ plain_read true h.first (flat_map (λ part. 47 ∷ part) h.others) h.first_is ∙ others_read h.others h.others_are),
 )

@@ -6,9 +6,9 @@ use Rattle.descriptors.specs.Descriptors.{argument_words}
 use Rattle.std.proofs.lemmas.List.{append-nil}
 use Rattle.std.proofs.Common.{ne_eqb}
 use Rattle.std.proofs.lemmas.Bool.{lt-ltb, le-ltb}
-use Rattle.descriptors.specs.declared.fault.DescriptorFault.{DescriptorFault}
-use Rattle.descriptors.specs.declared.fault.DescriptorFault.TheVariants as faults
-use Rattle.descriptors.specs.Reading.{◌>>=◌, Fails}
+use Rattle.jop_base.specs.declared.fault.FormatFault.{FormatFault}
+use Rattle.jop_base.specs.declared.fault.FormatFault.TheVariants as faults
+use Rattle.jop_base.specs.Reading.{◌>>=◌, Fails}
 use Rattle.descriptors.specs.declared.descriptor.FieldType.{FieldType}
 use Rattle.descriptors.specs.Parsing.{behind, split_in, element_in, with_dimensions, type_from, type_in, types_in}
 
@@ -92,7 +92,7 @@ unfolding type_from element_in
 type_shut n [] e = refl
 type_shut n (unit ∷ units) e = let s = none_is (unit == 91) units e in rw s refl
 
-pub type_failed : (fault : DescriptorFault) (n : ℕ) (rest : List ℕ) (total : Option (FieldType × List ℕ)) → None ≡ behind 91 rest → type_from n rest ≡ total → Fails fault (element_in rest) → Fails fault total
+pub type_failed : (fault : FormatFault) (n : ℕ) (rest : List ℕ) (total : Option (FieldType × List ℕ)) → None ≡ behind 91 rest → type_from n rest ≡ total → Fails fault (element_in rest) → Fails fault total
 type_failed faults.NoMemory n rest total shut so_far fails = tt
 type_failed faults.Bad n rest total shut so_far fails = sym so_far ∙ (type_shut n rest shut ∙ ap (with_dimensions n) fails)
 
@@ -125,7 +125,7 @@ types_go_on front count i rest t after total lt shut h so_far =
     rw (k, types_more (count - (i + 1)) rest shut, h) (types_regroup front t (types_in (count - (i + 1)) after)) in
     sym here ∙ so_far
 
-pub types_stop : (fault : DescriptorFault) (front : List FieldType) (count i : ℕ) (rest : List ℕ) (total : Option (List FieldType × List ℕ)) → i < count → None ≡ behind 41 rest → Fails fault (type_in rest)
+pub types_stop : (fault : FormatFault) (front : List FieldType) (count i : ℕ) (rest : List ℕ) (total : Option (List FieldType × List ℕ)) → i < count → None ≡ behind 41 rest → Fails fault (type_in rest)
     → types_after front (types_in (count - i) rest) ≡ total → Fails fault total
 types_stop faults.NoMemory front count i rest total lt shut h so_far = tt
 types_stop faults.Bad front count i rest total lt shut h so_far =
@@ -139,6 +139,3 @@ types_none front count i rest total le so_far =
     let k : count - i ≡ 0 = omega arith in
     let here : types_after front (types_in (count - i) rest) ≡ None = rw k refl in
     sym so_far ∙ here
-
-pub words_known : (words : ℕ) → words ≤ 255 → cond (nat_le words 255) (Some words) None ≡ Some words
-words_known words le = rw (le-leb words 255 le) refl

@@ -1,5 +1,6 @@
 -- Types and their descriptors: JVM Specification SE 8, 4.3.
 use Rattle.std.specs.Prelude.{◌≡◌, ℕ, ◌<◌, ◌≤◌, ◌^◌, ◌==◌, if◌then◌else◌, IsTrue, List, [], ◌∷◌, ◌++◌, replicate, sum_by, Option, Some, None}
+use Prim.Native.Char.{code}
 use Rattle.std.specs.List.{flat_map, AllByRecursion}
 use Rattle.descriptors.specs.declared.descriptor.Element.{Element}
 use Rattle.descriptors.specs.declared.descriptor.Element.TheVariants.{Byte, Char, Double, Float, Int, Long, Class, Short, Boolean}
@@ -9,24 +10,24 @@ use Rattle.descriptors.specs.Names.{is_class_name}
 
 -- the letter of a type (table 4.3-A)
 abbrev pub letter_of : Element → ℕ
-letter_of Byte = 66
-letter_of Char = 67
-letter_of Double = 68
-letter_of Float = 70
-letter_of Int = 73
-letter_of Long = 74
-letter_of (Class name) = 76
-letter_of Short = 83
-letter_of Boolean = 90
+letter_of Byte = code "B"
+letter_of Char = code "C"
+letter_of Double = code "D"
+letter_of Float = code "F"
+letter_of Int = code "I"
+letter_of Long = code "J"
+letter_of (Class name) = code "L"
+letter_of Short = code "S"
+letter_of Boolean = code "Z"
 
 -- what stands behind the letter: a class's name and ;
 abbrev pub behind_letter : Element → List ℕ
-behind_letter (Class name) = name ++ 59 ∷ []
+behind_letter (Class name) = name ++ code ";" ∷ []
 behind_letter element = []
 
 -- a [ for each dimension, then the element (4.3.2)
 abbrev pub type_units : FieldType → List ℕ
-type_units t = replicate t.dimensions 91 ++ (letter_of t.element ∷ behind_letter t.element)
+type_units t = replicate t.dimensions (code "[") ++ (letter_of t.element ∷ behind_letter t.element)
 
 abbrev pub IsElement : Element → Type 0
 IsElement (Class name) = IsTrue (is_class_name name)
@@ -50,12 +51,12 @@ argument_words types = sum_by words_of types
 
 -- V where there is no result
 abbrev pub result_units : Option FieldType → List ℕ
-result_units None = 86 ∷ []
+result_units None = code "V" ∷ []
 result_units (Some t) = type_units t
 
 -- the types of the parameters in parentheses, then the result (4.3.3)
 abbrev pub method_units : MethodType → List ℕ
-method_units m = 40 ∷ (flat_map type_units m.parameters ++ 41 ∷ result_units m.result)
+method_units m = code "(" ∷ (flat_map type_units m.parameters ++ code ")" ∷ result_units m.result)
 
 abbrev pub IsResult : Option FieldType → Type 0
 IsResult None = Unit {0}

@@ -1,13 +1,13 @@
 -- Reading types from the front of units: what was read and the units behind it, or nothing.
 use Rattle.std.specs.Prelude.{ℕ, zero, suc, ◌+◌, ◌&&◌, ◌==◌, nat_lt, nat_le, if◌then◌else◌, List, [], ◌∷◌, length, Option, Some, None}
-use Rattle.descriptors.specs.Reading.{◌>>=◌}
+use Rattle.jop_base.specs.Reading.{◌>>=◌, whole}
+use Prim.Native.Char.{code}
 use Rattle.descriptors.specs.declared.descriptor.Element.{Element}
 use Rattle.descriptors.specs.declared.descriptor.Element.TheVariants.{Byte, Char, Double, Float, Int, Long, Class, Short, Boolean}
 use Rattle.descriptors.specs.declared.descriptor.FieldType.{FieldType}
 use Rattle.descriptors.specs.declared.descriptor.MethodType.{MethodType}
 use Rattle.descriptors.specs.Names.{is_class_name}
 use Rattle.descriptors.specs.Descriptors.{letter_of, argument_words}
-use Rattle.descriptors.specs.Reading.{whole}
 
 -- what stands behind a unit, if it is the first
 abbrev pub behind : ℕ → List ℕ → Option (List ℕ)
@@ -27,7 +27,7 @@ primitive_in letter = first_with letter primitives
 -- the units before the first ; and those behind it
 unfoldable pub split_in : List ℕ → Option (List ℕ × List ℕ)
 split_in [] = None
-split_in (unit ∷ units) = if unit == 59 then Some ([], units) else (split_in units >>= λ x. Some (unit ∷ x.0, x.1))
+split_in (unit ∷ units) = if unit == code ";" then Some ([], units) else (split_in units >>= λ x. Some (unit ∷ x.0, x.1))
 
 unfoldable pub class_in : List ℕ → Option (Element × List ℕ)
 class_in units = do
@@ -36,7 +36,7 @@ class_in units = do
 
 unfoldable pub element_in : List ℕ → Option (Element × List ℕ)
 element_in [] = None
-element_in (letter ∷ units) = if letter == 76 then class_in units else (primitive_in letter >>= λ element. Some (element, units))
+element_in (letter ∷ units) = if letter == code "L" then class_in units else (primitive_in letter >>= λ element. Some (element, units))
 
 abbrev pub with_dimensions : ℕ → Option (Element × List ℕ) → Option (FieldType × List ℕ)
 with_dimensions n read = read >>= λ x. Some (record { dimensions = n; element = x.0 }, x.1)
@@ -44,7 +44,7 @@ with_dimensions n read = read >>= λ x. Some (record { dimensions = n; element =
 -- behind so many [
 unfoldable pub type_from : ℕ → List ℕ → Option (FieldType × List ℕ)
 type_from n [] = None
-type_from n (unit ∷ units) = if unit == 91 then (if nat_lt n 255 then type_from (n + 1) units else None) else with_dimensions n (element_in (unit ∷ units))
+type_from n (unit ∷ units) = if unit == code "[" then (if nat_lt n 255 then type_from (n + 1) units else None) else with_dimensions n (element_in (unit ∷ units))
 
 abbrev pub type_in : List ℕ → Option (FieldType × List ℕ)
 type_in units = type_from 0 units
@@ -54,7 +54,7 @@ unfoldable pub types_in : ℕ → List ℕ → Option (List FieldType × List �
 types_in zero units = None
 types_in (suc n) [] = None
 types_in (suc n) (unit ∷ units) =
-    if unit == 41 then Some ([], units)
+    if unit == code ")" then Some ([], units)
     else (type_in (unit ∷ units) >>= λ first. types_in n first.1 >>= λ others. Some (first.0 ∷ others.0, others.1))
 
 -- all of the units as a field's type
@@ -67,13 +67,13 @@ field_in units = do
 unfoldable pub result_in : List ℕ → Option (Option FieldType)
 result_in [] = None
 result_in (unit ∷ units) =
-    if unit == 86 && length units == 0 then Some None else (field_in (unit ∷ units) >>= λ t. Some (Some t))
+    if unit == code "V" && length units == 0 then Some None else (field_in (unit ∷ units) >>= λ t. Some (Some t))
 
 -- all of the units as a method's types
 unfoldable pub method_in : List ℕ → Option MethodType
 method_in [] = None
 method_in (unit ∷ units) =
-    if unit == 40 then
+    if unit == code "(" then
     (types_in (length units) units >>= λ parameters. result_in parameters.1 >>= λ result.
     (if nat_le (argument_words parameters.0) 255 then Some (record { parameters = parameters.0; result = result }) else None))
     else None

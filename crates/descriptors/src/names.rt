@@ -3,10 +3,15 @@ ghost use Rattle.std.specs.Prelude.{◌≡◌};
 ghost use Rattle.std.specs.List.{list_all};
 ghost use Rattle.descriptors.specs.Names.{is_plain, is_not_angle, is_unqualified, is_instance_initializer, is_class_initializer, is_method_name, has_no_parenthesis, is_class_name};
 
+use items::is_text;
+
+// What stands between the parts of a name of a class.
+const SLASH: u16 = b'/' as u16;
+
 fn is_plain(unit: u16) -> bool
     ensures { result ≡ is_plain unit }
 {
-    !(unit == 46 || unit == 59 || unit == 91 || unit == 47)
+    !(unit == b'.' as u16 || unit == b';' as u16 || unit == b'[' as u16 || unit == SLASH)
 }
 
 /// Whether the units are an unqualified name (JVM Specification SE 8, 4.2.2).
@@ -31,21 +36,21 @@ fn are_not_angles(units: &[u16]) -> bool
 fn is_not_angle(unit: u16) -> bool
     ensures { result ≡ is_not_angle unit }
 {
-    !(unit == 60 || unit == 62)
+    !(unit == b'<' as u16 || unit == b'>' as u16)
 }
 
 /// Whether the units are `<init>`.
 pub fn is_instance_initializer(units: &[u16]) -> bool
     ensures { result ≡ is_instance_initializer units.now }
 {
-    units == [60, 105, 110, 105, 116, 62].as_slice()
+    is_text(units, b"<init>")
 }
 
 /// Whether the units are `<clinit>`.
 pub fn is_class_initializer(units: &[u16]) -> bool
     ensures { result ≡ is_class_initializer units.now }
 {
-    units == [60, 99, 108, 105, 110, 105, 116, 62].as_slice()
+    is_text(units, b"<clinit>")
 }
 
 /// Whether the units are the name of a method (JVM Specification SE 8, 4.2.2).
@@ -61,7 +66,7 @@ pub fn is_method_name(units: &[u16]) -> bool
 pub fn has_no_parenthesis(units: &[u16]) -> bool
     ensures { result ≡ has_no_parenthesis units.now }
 {
-    units.iter().all(|unit| *unit != 40)
+    units.iter().all(|unit| *unit != b'(' as u16)
 }
 
 /// Whether the units are the name of a class or an interface (JVM Specification SE 8, 4.2.1).
@@ -71,7 +76,7 @@ pub fn is_class_name(units: &[u16]) -> bool
     // Whether a name between slashes is about to begin.
     let mut fresh = true;
     for unit in units {
-        if *unit == 47 {
+        if *unit == SLASH {
             if fresh {
                 return false;
             }

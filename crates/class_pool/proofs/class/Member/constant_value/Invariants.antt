@@ -1,0 +1,6 @@
+use Rattle.class_pool.specs.Found.{constant_part}
+use Rattle.class_pool.proofs.FoundLemmas.{IsSame}
+use Rattle.class_pool.proofs.class.Member.constant_value.Given as goal
+
+abbrev pub invariant-loop-attribute : goal.invariant-loop-attribute
+invariant-loop-attribute l = IsSame (λ a. constant_part a.body) l.self.attributes l.attribute-index

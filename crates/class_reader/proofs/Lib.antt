@@ -1,0 +1,4 @@
+pub mod ManyLemmas
+pub mod PartLaws
+pub mod MemberLaws
+pub mod CheckLemmas

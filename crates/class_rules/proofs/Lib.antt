@@ -1,0 +1,5 @@
+pub mod FormLemmas
+pub mod DistinctLemmas
+pub mod RuleLaws
+pub mod AllLaws
+pub mod FoundLaws
