@@ -1,0 +1,10 @@
+pub mod Examples
+pub mod Reached
+pub mod Hierarchies
+pub mod Searches
+pub mod Lookups
+pub mod Overriding
+pub mod Selecting
+pub mod SelectionLaws
+pub mod NameLemmas
+pub mod PackageLemmas

@@ -1,0 +1,7 @@
+use Rattle.std.proofs.Common.{◌≡◌, map, take}
+use Rattle.class_lookup.specs.Parts.{superclass_name}
+use Rattle.class_lookup.specs.Hierarchy.{find_class}
+use Rattle.class_lookup.proofs.names.superclasses_of.Given as goal
+
+abbrev pub invariant-loop-class : goal.invariant-loop-class
+invariant-loop-class l = l.supers.items ≡ map (λ k. find_class l.classes (superclass_name k)) (take l.class-index l.classes)

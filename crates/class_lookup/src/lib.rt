@@ -1,0 +1,11 @@
+//! Members looked up and methods selected over a list of class files (JVM Specification SE 8, 5.4): the definitions stand
+//! in `specs/`, and their laws in `laws`. `Classes` is a list of class files with tables of what they name.
+#![tactic(auto)]
+
+mod classes;
+pub mod laws;
+mod names;
+pub mod parts;
+
+pub use class_pool::ClassFile;
+pub use classes::Classes;

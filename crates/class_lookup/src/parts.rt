@@ -1,0 +1,73 @@
+ghost use Rattle.std.specs.Prelude.{◌≡◌};
+ghost use Rattle.class_lookup.specs.Parts.{has, text_at, class_text, name_of, superclass_name, package_in, same_package, Signature, signature_of, same_signature};
+
+use class_pool::{ClassFile, Member, Pool};
+
+/// Whether some of these flags are set.
+pub fn has_flags(flags: u16, mask: u16) -> bool
+    ensures { result ≡ has flags mask }
+{
+    flags & mask != 0
+}
+
+/// The units of a text, or nothing where the index is that of no text.
+pub fn text_at(pool: &Pool, index: u16) -> &[u16]
+    ensures { result.now ≡ text_at pool.now index }
+{
+    match pool.utf8(index) {
+        Some(units) => units,
+        None => &[],
+    }
+}
+
+/// The name that a Class entry gives, or nothing where the index is that of no Class entry.
+pub fn class_text(pool: &Pool, index: u16) -> &[u16]
+    ensures { result.now ≡ class_text pool.now index }
+{
+    match pool.class_name(index) {
+        Some(name) => text_at(pool, name),
+        None => &[],
+    }
+}
+
+/// The name of a class.
+pub fn name_of(class: &ClassFile) -> &[u16]
+    ensures { result.now ≡ name_of class.now }
+{
+    class_text(&class.pool, class.this_class)
+}
+
+/// The name of its superclass.
+pub fn superclass_name(class: &ClassFile) -> &[u16]
+    ensures { result.now ≡ superclass_name class.now }
+{
+    class_text(&class.pool, class.super_class)
+}
+
+/// The part of a class's name before its last `/`.
+pub fn package_in(name: &[u16]) -> &[u16]
+    ensures { result.now ≡ package_in name.now }
+{
+    let mut length = 0;
+    for (i, unit) in name.iter().enumerate() {
+        if *unit == 47 {
+            length = i;
+        }
+    }
+    &name[..length]
+}
+
+/// Whether the classes are of one package.
+pub fn is_in_package_of(class: &ClassFile, other: &ClassFile) -> bool
+    ensures { result ≡ same_package class.now other.now }
+{
+    package_in(name_of(class)) == package_in(name_of(other))
+}
+
+/// Whether a member of the class has this name and this descriptor.
+pub fn has_signature(class: &ClassFile, member: &Member, name: &[u16], descriptor: &[u16]) -> bool
+    ensures { result ≡ same_signature (signature_of class.now member.now) (record { name = name.now; descriptor = descriptor.now }) }
+{
+    text_at(&class.pool, member.name) == name
+        && text_at(&class.pool, member.descriptor) == descriptor
+}

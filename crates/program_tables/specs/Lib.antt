@@ -1,0 +1,13 @@
+pub mod Lists
+pub mod Instructions
+pub mod Kinds
+pub mod Numbers
+pub mod Core
+pub mod Operands
+pub mod Resolved
+pub mod Unsupported
+pub mod FrameClasses
+pub mod Unresolved
+pub mod Placed
+pub mod Resolving
+pub mod Laws
