@@ -91,7 +91,7 @@ quiet_after zero = all_marked WORDS
 quiet_after (suc passes) = quiet_from (quiet_after passes) 0 WORDS
 
 abbrev pub quiet : List Bool
-quiet = quiet_after 2
+quiet = quiet_after 3
 
 pub quiet_words_stay : Shut quiet quiet
 quiet_words_stay = record { few = omega arith; leads = refl; within = refl }

@@ -3,5 +3,8 @@ pub mod Upper
 pub mod Lower
 pub mod Cert
 pub mod Rows
+pub mod Small
+pub mod Ceilings
+pub mod Invokes
 pub mod Marks
 pub mod Closed

@@ -1,3 +1,4 @@
 pub mod Walk
 pub mod Costs
+pub mod Ceilings
 pub mod Closed

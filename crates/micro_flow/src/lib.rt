@@ -4,7 +4,7 @@
 
 ghost use Rattle.std.specs.Prelude.{◌≡◌, ◌<◌, ◌≤◌};
 ghost use Rattle.micro_flow.specs.Walk.{IsCost, IsRaiseCost};
-ghost use Rattle.micro_flow.specs.Costs.{total};
+ghost use Rattle.micro_flow.specs.Costs.{total, IsGreatestInvoke};
 
 pub mod laws;
 mod price;
@@ -14,7 +14,7 @@ use price::RowCost;
 use table::{RAISE, cost_of};
 
 /// What a cost depends on.
-#[derive(Clone, Copy, Debug, PartialEq, Eq)]
+#[derive(Clone, Copy)]
 pub struct CostParams {
     /// The cycles that a read waits, at most 63.
     pub r: u32,
@@ -42,6 +42,18 @@ pub fn raise_cost(p: CostParams) -> u64
     ensures { IsRaiseCost p result }
 {
     RAISE.total(p)
+}
+
+/// The greatest of the costs of `invokevirtual`, `invokespecial`, `invokestatic` and `invokeinterface`.
+pub fn greatest_invoke_cost(p: CostParams) -> u64
+    requires r { p.r ≤ 63 }
+    requires w { p.w ≤ 63 }
+    ensures { IsGreatestInvoke p result }
+{
+    cost(182, p)
+        .max(cost(183, p))
+        .max(cost(184, p))
+        .max(cost(185, p))
 }
 
 #[cfg(test)]

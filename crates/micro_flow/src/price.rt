@@ -7,15 +7,16 @@ use crate::CostParams;
 use micro_isa::Turns;
 
 /// So many cycles, and the waits of so many reads and writes.
-#[derive(Clone, Copy, Debug, PartialEq, Eq)]
+#[derive(Clone, Copy)]
 pub struct Price {
     pub fixed: u16,
     pub reads: u8,
     pub writes: u8,
 }
 
-/// What a row costs: the larger of two prices, and one more for each turn of its loop.
-#[derive(Clone, Copy, Debug, PartialEq, Eq)]
+/// What a row costs: the larger of two prices, and one more for each turn of its loop. The two are the same
+/// unless the longest of its paths depends on the waits.
+#[derive(Clone, Copy)]
 pub struct RowCost {
     pub one: Price,
     pub other: Price,

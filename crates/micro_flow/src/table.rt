@@ -1,84 +1,8 @@
-//! What the rows of the microcode cost. All of it is one list, in the macro `costs`.
-ghost use Rattle.std.specs.Prelude.{◌≡◌, Some, slice_get, slice_index};
+//! What the opcodes cost.
+ghost use Rattle.std.specs.Prelude.{◌≡◌, Some, slice_get};
 
 use crate::price::{Price, RowCost};
 use micro_isa::Turns;
-
-// A row has its number, its opcodes and its price: cycles, waits of reads, waits of writes; and the turns
-// of its loop with the price of each, if it has one.
-macro_rules! costs {
-    ($reader:ident $($argument:tt)*) => {
-        $reader! {
-            $($argument)*
-            // nop, and every opcode that has no row
-            0: [0] (1 0 0);
-            // bipush
-            1: [16] (2 0 0);
-            // impdep2
-            2: [255] (1 0 0);
-            // impdep1
-            3: [254] (1 0 0);
-            // iadd
-            4: [96] (1 0 0);
-            // dup_x1
-            5: [90] (5 0 0);
-            // goto
-            6: [167] (4 0 0);
-            // iload, aload
-            7: [21 25] (2 0 0);
-            // ldc
-            8: [18] (9 1 0);
-            // return
-            9: [177] (2 0 0);
-            // idiv
-            10: [108] (84 0 0, 31 turns of 36 0 0);
-            // irem
-            11: [112] (81 0 0, 31 turns of 36 0 0);
-            // iconst_m1
-            12: [2] (1 0 0);
-            // iconst_0, aconst_null
-            13: [1 3] (1 0 0);
-            // iconst_1
-            14: [4] (1 0 0);
-            // iconst_2
-            15: [5] (1 0 0);
-            // iconst_3
-            16: [6] (1 0 0);
-            // iconst_4
-            17: [7] (1 0 0);
-            // iconst_5
-            18: [8] (1 0 0);
-            // iload_0, aload_0
-            19: [26 42] (1 0 0);
-            // iload_1, aload_1
-            20: [27 43] (1 0 0);
-            // iload_2, aload_2
-            21: [28 44] (1 0 0);
-            // iload_3, aload_3
-            22: [29 45] (1 0 0);
-            // istore_0, astore_0
-            23: [59 75] (1 0 0);
-            // istore_1, astore_1
-            24: [60 76] (1 0 0);
-            // istore_2, astore_2
-            25: [61 77] (1 0 0);
-            // istore_3, astore_3
-            26: [62 78] (1 0 0);
-            // pop
-            27: [87] (1 0 0);
-            // dup
-            28: [89] (1 0 0);
-            // isub
-            29: [100] (1 0 0);
-            // iand
-            30: [126] (1 0 0);
-            // ior
-            31: [128] (1 0 0);
-            // ixor
-            32: [130] (1 0 0);
-        }
-    };
-}
 
 macro_rules! price {
     ($fixed:literal $reads:literal $writes:literal) => {
@@ -91,75 +15,236 @@ macro_rules! price {
 }
 
 macro_rules! row {
+    (($($one:tt)*) ($($other:tt)*) ($($turn:tt)*) $turns:expr) => {
+        RowCost {
+            one: price!($($one)*),
+            other: price!($($other)*),
+            turn: price!($($turn)*),
+            turns: $turns,
+        }
+    };
+}
+
+// A price has its cycles, and the waits of reads and of writes that come on top.
+macro_rules! cost {
     ($fixed:literal $reads:literal $writes:literal) => {
-        RowCost {
-            one: price!($fixed $reads $writes),
-            other: price!($fixed $reads $writes),
-            turn: price!(0 0 0),
-            turns: Turns::Count(0),
-        }
+        row!(($fixed $reads $writes) ($fixed $reads $writes) (0 0 0) Turns::Count(0))
     };
-    (
-        $fixed:literal $reads:literal $writes:literal,
-        $count:literal turns of $turn:literal $turn_reads:literal $turn_writes:literal
-    ) => {
-        RowCost {
-            one: price!($fixed $reads $writes),
-            other: price!($fixed $reads $writes),
-            turn: price!($turn $turn_reads $turn_writes),
-            turns: Turns::Count($count),
-        }
+    ($fixed:literal $reads:literal $writes:literal or $($other:literal)*) => {
+        row!(($fixed $reads $writes) ($($other)*) (0 0 0) Turns::Count(0))
+    };
+    ($fixed:literal $reads:literal $writes:literal; $count:literal turns of $($turn:literal)*) => {
+        row!(($fixed $reads $writes) ($fixed $reads $writes) ($($turn)*) Turns::Count($count))
+    };
+    ($fixed:literal $reads:literal $writes:literal; pairs of $($turn:literal)*) => {
+        row!(($fixed $reads $writes) ($fixed $reads $writes) ($($turn)*) Turns::PerPair)
+    };
+    ($fixed:literal $reads:literal $writes:literal; entries of $($turn:literal)*) => {
+        row!(($fixed $reads $writes) ($fixed $reads $writes) ($($turn)*) Turns::PerEntry)
     };
 }
 
-macro_rules! rows {
-    ($($number:literal: [$($opcode:literal)*] ($($price:tt)*);)*) => {
-        [$(row!($($price)*)),*]
-    };
-}
-
-macro_rules! number_of {
-    ($op:literal $($number:literal: [$($opcode:literal)*] ($($price:tt)*);)*) => {
-        $($(($op == $opcode) as u8 * $number +)*)* 0
-    };
-}
-
-// What the list has for each opcode, in order.
-macro_rules! table {
-    ($reader:ident: $($op:literal)*) => {
-        [$(costs!($reader $op)),*]
-    };
-}
-
-/// What each row costs.
-pub static ROWS: [RowCost; 33] = costs!(rows);
+// An opcode that has no row goes to that of `nop`.
+const NONE: RowCost = cost!(1 0 0);
 
 /// What a step of the raise routine costs.
-pub const RAISE: RowCost = row!(2 0 0);
+pub const RAISE: RowCost = cost!(96 7 0; entries of 58 3 0);
 
-/// The number of the row of each opcode.
+/// What each opcode costs.
 #[rattlefmt::skip]
-pub static NUMBERS: [u8; 256] = table!(number_of:
-    0 1 2 3 4 5 6 7 8 9 10 11 12 13 14 15
-    16 17 18 19 20 21 22 23 24 25 26 27 28 29 30 31
-    32 33 34 35 36 37 38 39 40 41 42 43 44 45 46 47
-    48 49 50 51 52 53 54 55 56 57 58 59 60 61 62 63
-    64 65 66 67 68 69 70 71 72 73 74 75 76 77 78 79
-    80 81 82 83 84 85 86 87 88 89 90 91 92 93 94 95
-    96 97 98 99 100 101 102 103 104 105 106 107 108 109 110 111
-    112 113 114 115 116 117 118 119 120 121 122 123 124 125 126 127
-    128 129 130 131 132 133 134 135 136 137 138 139 140 141 142 143
-    144 145 146 147 148 149 150 151 152 153 154 155 156 157 158 159
-    160 161 162 163 164 165 166 167 168 169 170 171 172 173 174 175
-    176 177 178 179 180 181 182 183 184 185 186 187 188 189 190 191
-    192 193 194 195 196 197 198 199 200 201 202 203 204 205 206 207
-    208 209 210 211 212 213 214 215 216 217 218 219 220 221 222 223
-    224 225 226 227 228 229 230 231 232 233 234 235 236 237 238 239
-    240 241 242 243 244 245 246 247 248 249 250 251 252 253 254 255);
+pub static COSTS: [RowCost; 256] = [
+    cost!(1 0 0), // 0 nop
+    cost!(1 0 0), // 1 aconst_null
+    cost!(1 0 0), // 2 iconst_m1
+    cost!(1 0 0), // 3 iconst_0
+    cost!(1 0 0), // 4 iconst_1
+    cost!(1 0 0), // 5 iconst_2
+    cost!(1 0 0), // 6 iconst_3
+    cost!(1 0 0), // 7 iconst_4
+    cost!(1 0 0), // 8 iconst_5
+    cost!(2 0 0), // 9 lconst_0
+    cost!(2 0 0), // 10 lconst_1
+    // 11 to 15: no row
+    NONE, NONE, NONE, NONE, NONE,
+    cost!(2 0 0), // 16 bipush
+    cost!(3 0 0), // 17 sipush
+    cost!(9 1 0), // 18 ldc
+    cost!(10 1 0), // 19 ldc_w
+    cost!(18 2 0), // 20 ldc2_w
+    cost!(2 0 0), // 21 iload
+    cost!(8 0 0), // 22 lload
+    // 23 to 24: no row
+    NONE, NONE,
+    cost!(2 0 0), // 25 aload
+    cost!(1 0 0), // 26 iload_0
+    cost!(1 0 0), // 27 iload_1
+    cost!(1 0 0), // 28 iload_2
+    cost!(1 0 0), // 29 iload_3
+    cost!(2 0 0), // 30 lload_0
+    cost!(2 0 0), // 31 lload_1
+    cost!(2 0 0), // 32 lload_2
+    cost!(6 0 0), // 33 lload_3
+    // 34 to 41: no row
+    NONE, NONE, NONE, NONE, NONE, NONE, NONE, NONE,
+    cost!(1 0 0), // 42 aload_0
+    cost!(1 0 0), // 43 aload_1
+    cost!(1 0 0), // 44 aload_2
+    cost!(1 0 0), // 45 aload_3
+    cost!(25 2 0), // 46 iaload
+    cost!(31 3 0), // 47 laload
+    // 48 to 49: no row
+    NONE, NONE,
+    cost!(25 2 0), // 50 aaload
+    cost!(25 2 0), // 51 baload
+    cost!(25 2 0), // 52 caload
+    cost!(25 2 0), // 53 saload
+    cost!(2 0 0), // 54 istore
+    cost!(8 0 0), // 55 lstore
+    // 56 to 57: no row
+    NONE, NONE,
+    cost!(2 0 0), // 58 astore
+    cost!(1 0 0), // 59 istore_0
+    cost!(1 0 0), // 60 istore_1
+    cost!(1 0 0), // 61 istore_2
+    cost!(1 0 0), // 62 istore_3
+    cost!(2 0 0), // 63 lstore_0
+    cost!(2 0 0), // 64 lstore_1
+    cost!(2 0 0), // 65 lstore_2
+    cost!(6 0 0), // 66 lstore_3
+    // 67 to 74: no row
+    NONE, NONE, NONE, NONE, NONE, NONE, NONE, NONE,
+    cost!(1 0 0), // 75 astore_0
+    cost!(1 0 0), // 76 astore_1
+    cost!(1 0 0), // 77 astore_2
+    cost!(1 0 0), // 78 astore_3
+    cost!(26 2 0 or 23 1 1), // 79 iastore
+    cost!(27 2 0 or 35 1 2), // 80 lastore
+    // 81 to 82: no row
+    NONE, NONE,
+    cost!(60 6 0 or 57 5 1), // 83 aastore
+    cost!(33 2 0 or 30 1 1), // 84 bastore
+    cost!(31 2 0 or 28 1 1), // 85 castore
+    cost!(33 2 0 or 30 1 1), // 86 sastore
+    cost!(1 0 0), // 87 pop
+    cost!(2 0 0), // 88 pop2
+    cost!(1 0 0), // 89 dup
+    cost!(5 0 0), // 90 dup_x1
+    cost!(7 0 0), // 91 dup_x2
+    cost!(6 0 0), // 92 dup2
+    cost!(8 0 0), // 93 dup2_x1
+    cost!(10 0 0), // 94 dup2_x2
+    cost!(4 0 0), // 95 swap
+    cost!(1 0 0), // 96 iadd
+    cost!(16 0 0), // 97 ladd
+    // 98 to 99: no row
+    NONE, NONE,
+    cost!(1 0 0), // 100 isub
+    cost!(14 0 0), // 101 lsub
+    // 102 to 103: no row
+    NONE, NONE,
+    cost!(1 0 0), // 104 imul
+    // 105 to 107: no row
+    NONE, NONE, NONE,
+    cost!(84 0 0; 31 turns of 36 0 0), // 108 idiv
+    // 109 to 111: no row
+    NONE, NONE, NONE,
+    cost!(81 0 0; 31 turns of 36 0 0), // 112 irem
+    // 113 to 115: no row
+    NONE, NONE, NONE,
+    cost!(2 0 0), // 116 ineg
+    cost!(12 0 0), // 117 lneg
+    // 118 to 119: no row
+    NONE, NONE,
+    cost!(1 0 0), // 120 ishl
+    cost!(21 0 0), // 121 lshl
+    cost!(1 0 0), // 122 ishr
+    cost!(21 0 0), // 123 lshr
+    cost!(1 0 0), // 124 iushr
+    cost!(21 0 0), // 125 lushr
+    cost!(1 0 0), // 126 iand
+    cost!(8 0 0), // 127 land
+    cost!(1 0 0), // 128 ior
+    cost!(8 0 0), // 129 lor
+    cost!(1 0 0), // 130 ixor
+    cost!(8 0 0), // 131 lxor
+    cost!(8 0 0), // 132 iinc
+    cost!(5 0 0), // 133 i2l
+    // 134 to 135: no row
+    NONE, NONE,
+    cost!(3 0 0), // 136 l2i
+    // 137 to 144: no row
+    NONE, NONE, NONE, NONE, NONE, NONE, NONE, NONE,
+    cost!(4 0 0), // 145 i2b
+    cost!(2 0 0), // 146 i2c
+    cost!(4 0 0), // 147 i2s
+    cost!(29 0 0), // 148 lcmp
+    // 149 to 152: no row
+    NONE, NONE, NONE, NONE,
+    cost!(4 0 0), // 153 ifeq
+    cost!(4 0 0), // 154 ifne
+    cost!(4 0 0), // 155 iflt
+    cost!(4 0 0), // 156 ifge
+    cost!(4 0 0), // 157 ifgt
+    cost!(4 0 0), // 158 ifle
+    cost!(4 0 0), // 159 if_icmpeq
+    cost!(4 0 0), // 160 if_icmpne
+    cost!(4 0 0), // 161 if_icmplt
+    cost!(4 0 0), // 162 if_icmpge
+    cost!(4 0 0), // 163 if_icmpgt
+    cost!(4 0 0), // 164 if_icmple
+    cost!(4 0 0), // 165 if_acmpeq
+    cost!(4 0 0), // 166 if_acmpne
+    cost!(4 0 0), // 167 goto
+    // 168 to 169: no row
+    NONE, NONE,
+    cost!(57 0 0), // 170 tableswitch
+    cost!(47 0 0; pairs of 21 0 0), // 171 lookupswitch
+    cost!(52 1 0), // 172 ireturn
+    cost!(54 1 0), // 173 lreturn
+    // 174 to 175: no row
+    NONE, NONE,
+    cost!(52 1 0), // 176 areturn
+    cost!(52 1 0), // 177 return
+    cost!(30 4 0), // 178 getstatic
+    cost!(34 2 2), // 179 putstatic
+    cost!(35 4 0), // 180 getfield
+    cost!(39 2 2), // 181 putfield
+    cost!(118 6 0), // 182 invokevirtual
+    cost!(104 4 0), // 183 invokespecial
+    cost!(89 4 0), // 184 invokestatic
+    cost!(122 6 0), // 185 invokeinterface
+    // 186: no row
+    NONE,
+    cost!(36 3 0 or 32 2 1), // 187 new
+    cost!(58 3 0 or 61 2 2), // 188 newarray
+    cost!(48 2 0 or 51 1 2), // 189 anewarray
+    cost!(15 1 0), // 190 arraylength
+    cost!(15 1 0), // 191 athrow
+    cost!(50 5 0), // 192 checkcast
+    cost!(37 4 0), // 193 instanceof
+    cost!(13 1 0), // 194 monitorenter
+    cost!(13 1 0), // 195 monitorexit
+    cost!(34 0 0), // 196 wide
+    // 197: no row
+    NONE,
+    cost!(4 0 0), // 198 ifnull
+    cost!(4 0 0), // 199 ifnonnull
+    cost!(10 0 0), // 200 goto_w
+    // 201 to 253: no row
+    NONE, NONE, NONE, NONE, NONE, NONE, NONE, NONE,
+    NONE, NONE, NONE, NONE, NONE, NONE, NONE, NONE,
+    NONE, NONE, NONE, NONE, NONE, NONE, NONE, NONE,
+    NONE, NONE, NONE, NONE, NONE, NONE, NONE, NONE,
+    NONE, NONE, NONE, NONE, NONE, NONE, NONE, NONE,
+    NONE, NONE, NONE, NONE, NONE, NONE, NONE, NONE,
+    NONE, NONE, NONE, NONE, NONE,
+    cost!(1 0 0), // 254 impdep1
+    cost!(1 0 0), // 255 impdep2
+];
 
-/// What the row of an opcode costs.
+/// What an opcode costs.
 pub fn cost_of(op: u8) -> RowCost
-    ensures { slice_get ROWS (slice_index NUMBERS op) ≡ Some result }
+    ensures { slice_get COSTS op ≡ Some result }
 {
-    ROWS[NUMBERS[op as usize] as usize]
+    COSTS[op as usize]
 }
