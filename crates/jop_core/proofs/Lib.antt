@@ -1,6 +1,4 @@
-pub mod Tells
 pub mod OneCycle
 pub mod ResetWords
-pub mod Packs
-pub mod Scanned
-pub mod BareFiles
+pub mod Kept
+pub mod Tells

@@ -1,12 +1,9 @@
 -- How what a device tells goes on over several calls.
-use Rattle.std.proofs.Common.{◌≡◌, ℕ, Bool, false, List, [], ◌++◌, refl, sym, subst, ◌∙◌, arith}
+use Rattle.std.proofs.Common.{◌≡◌, ℕ, Bool, false, List, ◌++◌, sym, subst, ◌∙◌}
 use Rattle.std.specs.declared.option.Option.{Option}
-use Rattle.jop_outside.proofs.Told.{Grew-refl, Grew-trans}
-use Rattle.jop_core.specs.declared.seen.Seen.{Seen}
-use Rattle.jop_core.specs.Told.{Told, Note, Passed, Exchanged, GivesWhere, CountsRise}
-
-pub Passed-refl : (told : Told) → Passed told told [] [] []
-Passed-refl told = record { left = refl; held = Grew-refl told.held; noted = Grew-refl told.noted; handed = Grew-refl told.handed }
+use Rattle.telling.specs.Growing.{Grew-trans}
+use Rattle.jop_device.specs.declared.seen.Seen.{Seen}
+use Rattle.jop_device.specs.Told.{Told, Note, Passed, Exchanged, GivesWhere}
 
 pub Passed-trans : (t0 t1 t2 : Told) (out0 out1 out : List ℕ) (seen0 seen1 seen : List Seen) (notes0 notes1 notes : List Note)
     → Passed t0 t1 out0 seen0 notes0 → Passed t1 t2 out1 seen1 notes1
@@ -17,12 +14,6 @@ Passed-trans t0 t1 t2 out0 out1 out seen0 seen1 seen notes0 notes1 notes first s
   noted = Grew-trans _ _ _ notes0 notes1 notes first.noted second.noted all;
   handed = Grew-trans _ _ _ seen0 seen1 seen first.handed second.handed seens;
 }
-
-pub CountsRise-refl : (told : Told) → CountsRise told told
-CountsRise-refl told = record { reads = omega arith; writes = omega arith; sees = omega arith }
-
-pub CountsRise-trans : (t0 t1 t2 : Told) → CountsRise t0 t1 → CountsRise t1 t2 → CountsRise t0 t2
-CountsRise-trans t0 t1 t2 first second = record { reads = omega arith; writes = omega arith; sees = omega arith }
 
 -- what is given is what is left, where what was left before is known
 GivesWhere-left : (asked : Bool) (l0 l1 l2 : Option (List ℕ)) (byte : Option ℕ) → l1 ≡ l0 → GivesWhere asked l1 l2 byte → GivesWhere asked l0 l2 byte

@@ -3,10 +3,7 @@ pub mod Operations
 pub mod Cycle
 pub mod Reset
 pub mod Starts
-pub mod Shapes
-pub mod Bare
-pub mod Scan
-pub mod Told
 pub mod Ticked
 pub mod Scene
-pub mod Watched
+pub mod Meaning
+pub mod Keeps

@@ -1,5 +1,5 @@
 -- What the plain microinstructions do to the registers, the on-chip words and the memory.
-use Rattle.std.specs.Prelude.{ℕ, ◌+◌, ◌-◌, ◌*◌, ◌/◌, ◌%◌, ◌^◌, Bool, true, false, ◌==◌, ◌&&◌, ◌||◌, nat_lt, nat_le, if◌then◌else◌, List, length, bit_and, bit_or, bit_xor, slice_set, slice_index, slice_range, Some, None}
+use Rattle.std.specs.Prelude.{ℕ, ◌+◌, ◌-◌, ◌*◌, ◌/◌, ◌%◌, ◌^◌, Bool, true, false, ◌==◌, ◌&&◌, nat_lt, nat_le, if◌then◌else◌, List, length, bit_and, bit_or, bit_xor, slice_set, slice_index, slice_range, Some, None}
 use Rattle.std.specs.declared.option.Option.{Option}
 use Rattle.micro_isa.specs.declared.operation.Operation.{Operation}
 use Rattle.micro_isa.specs.declared.operation.Operation.TheVariants.{Nop, Pop, Dup, Add, Sub, And, Or, Xor, Shl, Shr, Ushr, Mul, Slt, Sltu, Ldo, Ldo8, Ldo16, Ldl, Stl, Ld0, Ld1, Ld2, Ld3, St0, St1, St2, St3, Ldvp, Stvp, Ldsp, Stsp, Ldjpc, Stjpc, Star, Ldmi, Stmi, Stmra, Stmwa, Stmwd, Wait, Ldmrd, Stbc, Jbr, Jbg, Ldin, Stout, Hltb, Hltu}
@@ -7,7 +7,9 @@ use Rattle.memory_timing.specs.Port.{Port, read_started, write_started}
 use Rattle.method_cache.specs.Contents.{can_load, is_cached, loaded}
 use Rattle.jop_core.specs.declared.halt.Halt.{Halt}
 use Rattle.jop_core.specs.declared.halt.Halt.TheVariants.{Ended, Uncaught}
+use Rattle.jop_core.specs.declared.places.TheConstants.{STACK}
 use Rattle.jop_core.specs.State.{State}
+pub use Rattle.core_words.specs.Signed.{sign_extended8, sign_extended16, is_negative, signed_lt, shifted_right, number_of, holds}
 
 -- the place below which each on-chip place stays
 abbrev pub place_of : State → ℕ → ℕ
@@ -27,28 +29,6 @@ popped s = record s { a = s.b; b = word_at s s.sp; sp = place_of s (s.sp + (leng
 -- pops into the on-chip word at a place
 abbrev pub stored : ℕ → State → State
 stored place s = record (popped s) { stack = slice_set s.stack (place_of s place) s.a }
-
--- the low 8 or 16 bits with their sign, as a word
-abbrev pub sign_extended8 : ℕ → ℕ
-sign_extended8 x = let low = x % 2 ^ 8 in if nat_lt low (2 ^ 7) then low else low + (2 ^ 32 - 2 ^ 8)
-
-abbrev pub sign_extended16 : ℕ → ℕ
-sign_extended16 x = let low = x % 2 ^ 16 in if nat_lt low (2 ^ 15) then low else low + (2 ^ 32 - 2 ^ 16)
-
-abbrev pub is_negative : ℕ → Bool
-is_negative x = nat_lt (2 ^ 31 - 1) x
-
--- a comparison of two words as signed numbers: moved up by 2 ^ 31 they compare as they stand
-abbrev pub signed_lt : ℕ → ℕ → Bool
-signed_lt x y = nat_lt ((x + 2 ^ 31) % 2 ^ 32) ((y + 2 ^ 31) % 2 ^ 32)
-
--- a shift to the right that brings in the sign
-abbrev pub shifted_right : ℕ → ℕ → ℕ
-shifted_right x k = if is_negative x then 2 ^ 32 - 1 - (2 ^ 32 - 1 - x) / 2 ^ k else x / 2 ^ k
-
-abbrev pub number_of : Bool → ℕ
-number_of true = 1
-number_of false = 0
 
 -- the result of a binary operation on B and A
 abbrev pub combined : Operation → ℕ → ℕ → ℕ
@@ -72,23 +52,6 @@ after_binary op s = record (popped s) { a = combined op s.b s.a }
 -- where a branch of a bytecode goes, whose opcode and offset were read
 abbrev pub branch_target : State → ℕ
 branch_target s = (s.jpc + (2 ^ 16 - 3) + sign_extended16 s.operand % 2 ^ 16) % 2 ^ 16
-
--- whether the current opcode, if it is a conditional branch, goes to its target (JVM Specification SE 8, chapter 6)
-abbrev pub holds : (opcode b a : ℕ) → Bool
-holds opcode b a =
-    if opcode == 153 || opcode == 198 then a == 0
-    else if opcode == 154 || opcode == 199 then nat_lt 0 a
-    else if opcode == 155 then is_negative a
-    else if opcode == 156 then nat_lt a (2 ^ 31)
-    else if opcode == 157 then nat_lt 0 a && nat_lt a (2 ^ 31)
-    else if opcode == 158 then a == 0 || is_negative a
-    else if opcode == 159 || opcode == 165 then b == a
-    else if opcode == 160 || opcode == 166 then nat_lt b a || nat_lt a b
-    else if opcode == 161 then signed_lt b a
-    else if opcode == 162 then (if signed_lt b a then false else true)
-    else if opcode == 163 then signed_lt a b
-    else if opcode == 164 then (if signed_lt a b then false else true)
-    else false
 
 -- the next byte of the input, and all bits at its end
 abbrev pub input_word : Option ℕ → ℕ
@@ -115,12 +78,12 @@ code_of s m = slice_range s.port.words (code_place s.port.words m) (code_place s
 abbrev pub load_stall : Port → ℕ → ℕ
 load_stall port n = 4 + n * (2 + port.read)
 
--- a look-up of a method that the cache holds, and of one that it loads
+-- A look-up of a method that the cache holds, and of one that it loads. The counts of both have 64 bits.
 abbrev pub looked_up : (is_hit : Bool) → ℕ → State → State
-looked_up true m s = record s { method = m; hits = s.hits + 1 }
+looked_up true m s = record s { method = m; hits = (s.hits + 1) % 2 ^ 64 }
 looked_up false m s = record s {
   method = m;
-  misses = s.misses + 1;
+  misses = (s.misses + 1) % 2 ^ 64;
   stall = load_stall s.port (code_words s.port.words m);
   cache = loaded m (code_of s m) s.cache;
 }
@@ -129,9 +92,9 @@ looked_up false m s = record s {
 abbrev pub switched : State → State
 switched s = if can_switch s s.a then looked_up (is_cached s.a s.cache) s.a (popped s) else popped s
 
--- the machine halts where the top frame is boot's, whose locals begin at place 64
+-- the machine halts where the top frame is boot's, whose locals are the first words of the stack
 abbrev pub halted_at_boot : Halt → State → State
-halted_at_boot halt s = if s.vp == 64 then record s { halt = halt } else s
+halted_at_boot halt s = if s.vp == STACK then record s { halt = halt } else s
 
 -- The effect of an operation, apart from the flags of its word and the next address, where `ldin` is given this input.
 abbrev pub operated : (input : Option ℕ) → Operation → State → State

@@ -1,32 +1,17 @@
 -- A machine at reset.
-use Rattle.std.specs.Prelude.{ℕ, zero, suc, ◌+◌, ◌-◌, ◌*◌, ◌/◌, ◌%◌, ◌^◌, ◌≤◌, List, [], ◌∷◌, ◌++◌, length, replicate, slice_index, slice_range, Some, None, IsTrue}
-use Rattle.std.specs.Int.{div_ceil}
+use Rattle.std.specs.Prelude.{ℕ, ◌+◌, ◌-◌, ◌/◌, ◌%◌, ◌^◌, ◌≤◌, List, [], ◌∷◌, ◌++◌, length, replicate, slice_index, slice_range, Some, None, IsTrue}
 use Rattle.std.specs.declared.option.Option.{Option}
 use Rattle.memory_timing.specs.declared.Config.{Config}
 use Rattle.memory_timing.specs.Port.{idle, padded}
 use Rattle.method_cache.specs.Contents.{empty, loaded, can_load}
 use Rattle.microcode_rom.specs.declared.TheConstants.{CONSTANTS}
 use Rattle.jop_core.specs.declared.halt.Halt.TheVariants.{Running, Uncaught}
+use Rattle.jop_core.specs.declared.places.TheConstants.{POOL, STACK, RAISED}
 use Rattle.jop_core.specs.State.{State}
+pub use Rattle.core_words.specs.Packed.{word_at_bytes, words_from, words_for, words_of_bytes}
 use Rattle.jop_core.specs.Operations.{code_words, code_place}
 use Rattle.jop_core.specs.Cycle.{byte_of, entry_of}
-use Rattle.jop_core.specs.Bare.{Image, frame_words}
-
--- four bytes as a word, the high one first; those past the end are 0
-abbrev pub word_at_bytes : List ℕ → ℕ → ℕ
-word_at_bytes bytes k = slice_index bytes k * 2 ^ 24 + slice_index bytes (k + 1) * 2 ^ 16 + slice_index bytes (k + 2) * 2 ^ 8 + slice_index bytes (k + 3)
-
--- the words of bytes, filled with zeros
-abbrev pub words_from : List ℕ → ℕ → ℕ → List ℕ
-words_from bytes k zero = []
-words_from bytes k (suc n) = word_at_bytes bytes k ∷ words_from bytes (k + 4) n
-
--- how many words hold so many bytes
-abbrev pub words_for : ℕ → ℕ
-words_for n = div_ceil n 4
-
-unfoldable pub words_of_bytes : List ℕ → List ℕ
-words_of_bytes bytes = words_from bytes 0 (words_for (length bytes))
+use Rattle.bare_image.specs.Bare.{Image, frame_words}
 
 -- What a machine begins with: the words of its image, boot's place, locals and frame, its code, and the places of boot's pool and of the raise list.
 pub record Start : Type 0 where
@@ -38,7 +23,7 @@ pub record Start : Type 0 where
   pub pool : ℕ
   pub raise_list : ℕ
 
--- The on-chip words from 24 on: the pool of the current class, the current method, the next heap word, the end of the memory,
+-- The on-chip words from POOL to RAISED: the pool of the current class, the current method, the next heap word, the end of the memory,
 -- the sum of the frames' words and its limit, the place of the raise list, the object that is raised.
 abbrev pub places : (n memory words : ℕ) → (pool boot frame raise_list : ℕ) → List ℕ
 places n memory words pool boot frame raise_list = pool ∷ boot ∷ words ∷ memory ∷ frame ∷ (n - 80) ∷ raise_list ∷ 0 ∷ []
@@ -46,7 +31,7 @@ places n memory words pool boot frame raise_list = pool ∷ boot ∷ words ∷ m
 -- the on-chip words, n of them: scratch, places, constants, and then the stack, all of whose words are 0
 abbrev pub reset_words : (n memory words : ℕ) → (pool boot frame raise_list : ℕ) → List ℕ
 reset_words n memory words pool boot frame raise_list =
-    replicate 24 0 ++ places n memory words pool boot frame raise_list ++ CONSTANTS ++ replicate (n - 64) 0
+    replicate POOL 0 ++ places n memory words pool boot frame raise_list ++ CONSTANTS ++ replicate (n - STACK) 0
 
 abbrev pub first_byte : List ℕ → ℕ
 first_byte code = byte_of (slice_index code 0) 0
@@ -56,8 +41,8 @@ abbrev pub reset_of : (n : ℕ) → Start → Config → State
 reset_of n start config = record {
   a = 0;
   b = 0;
-  sp = (64 + start.max_locals + 2) % n;
-  vp = 64;
+  sp = (STACK + start.max_locals + 2) % n;
+  vp = STACK;
   ar = 0;
   jpc = 1;
   mpc = entry_of (first_byte start.code);
@@ -115,6 +100,10 @@ pub record CanStart (image : List ℕ) (config : Config) : Type 0 where
   pub boot : code_place image (slice_index image 1) + code_words image (slice_index image 1) ≤ length image
   pub blocks : IsTrue (can_load (code_words image (slice_index image 1)) (empty config.blocks config.block_words))
 
+-- a bare image that a machine with these settings can begin with: its code fits the cache
+abbrev pub CanStartBare : Image → Config → Type 0
+CanStartBare image config = IsTrue (can_load (words_for (length image.code)) (empty config.blocks config.block_words))
+
 -- where the machine has halted uncaught, the number of the class of the object that was raised: the first word of its type
 abbrev pub uncaught_of : State → Option ℕ
-uncaught_of s = elim s.halt [ Uncaught ↦ Some (slice_index s.port.words (slice_index s.port.words (slice_index s.stack 31))) | _ ↦ None ]
+uncaught_of s = elim s.halt [ Uncaught ↦ Some (slice_index s.port.words (slice_index s.port.words (slice_index s.stack RAISED))) | _ ↦ None ]

@@ -1,10 +1,10 @@
 -- A state of the machine.
-use Rattle.std.specs.Prelude.{ℕ, ◌+◌, ◌<◌, ◌≤◌, List}
+use Rattle.std.specs.Prelude.{ℕ, ◌^◌, ◌<◌, List}
 use Rattle.stack_cache.specs.Size.{IsSize, HoldsWords}
 use Rattle.memory_timing.specs.Port.{Port, IsInRange}
 use Rattle.method_cache.specs.Contents.{Cache}
 use Rattle.jop_core.specs.declared.halt.Halt.{Halt}
-use Rattle.jop_core.specs.declared.seen.Seen.{Seen}
+use Rattle.jop_device.specs.declared.seen.Seen.{Seen}
 
 pub record State : Type 0 where
   -- the two top words of the stack
@@ -40,10 +40,6 @@ pub record State : Type 0 where
 abbrev pub seen_of : State → Seen
 seen_of s = record { clock = s.clock; mpc = s.mpc; a = s.a; b = s.b; sp = s.sp; vp = s.vp }
 
--- Of a state whose clock has counted the cycle under way: there is room to count a look-up.
-abbrev pub HasCounted : State → Type 0
-HasCounted s = s.hits + s.misses < s.clock
-
 -- what holds of each state of a machine with n on-chip words
 pub record IsState (n : ℕ) (s : State) : Type 0 where
   pub size : IsSize n
@@ -53,4 +49,5 @@ pub record IsState (n : ℕ) (s : State) : Type 0 where
   pub ar : s.ar < n
   pub mpc : s.mpc < 2048
   pub port : IsInRange s.port
-  pub lookups : s.hits + s.misses ≤ s.clock
+  pub hits : s.hits < 2 ^ 64
+  pub misses : s.misses < 2 ^ 64

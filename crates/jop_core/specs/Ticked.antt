@@ -2,13 +2,13 @@
 use Rattle.std.specs.Prelude.{◌≡◌, ◌≢◌, ℕ, Bool, true, List, [], ◌∷◌, Ok, Err}
 use Rattle.std.specs.declared.option.Option.{Option}
 use Rattle.std.specs.declared.result.Result.{Result}
-use Rattle.jop_outside.specs.Outside.{Rose}
+use Rattle.telling.specs.Telling.{Rose}
 use Rattle.jop_core.specs.declared.halt.Halt.TheVariants.{Running}
 use Rattle.jop_core.specs.declared.tick.Tick.{Tick}
 use Rattle.jop_core.specs.declared.tick.Tick.TheVariants.{Went, Halted, ReadFault, WriteFault, SeenFault}
 use Rattle.jop_core.specs.State.{State, seen_of}
 use Rattle.jop_core.specs.Cycle.{cycle_of, asks_input, output_of}
-use Rattle.jop_core.specs.Told.{Told, Note, Wrote, Saw, Passed, Exchanged, CountsRise, OnlyReads, OnlyWrites}
+use Rattle.jop_device.specs.Told.{Told, Note, Wrote, Saw, Passed, Exchanged, CountsRise, OnlyReads, OnlyWrites}
 
 abbrev pub writes_of : List ℕ → List Note
 writes_of [] = []

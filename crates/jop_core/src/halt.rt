@@ -1,7 +1,7 @@
 //! Whether the machine has halted.
 
 /// Whether the machine has halted, and how.
-#[derive(Clone, Copy, Debug, PartialEq, Eq)]
+#[derive(Clone, Copy, PartialEq, Eq)]
 pub enum Halt {
     Running,
     /// The program returned from boot.

@@ -3,20 +3,17 @@
 //! One call of [`Machine::cycle`] is one clock. The machine's outside is a [`Devices`].
 #![tactic(auto)]
 
-mod bare;
-mod device;
+mod code;
 mod halt;
+/// Laws of the machine's cycles. Each is a function without a body, whose contract says it.
+pub mod laws;
 mod machine;
-mod seen;
-mod shape;
+pub mod places;
 mod tick;
-mod watch;
 
-pub use bare::{Bare, BareFault, read_bare};
-pub use device::{DeviceFault, Devices};
+pub use bare_image::{Bare, BareFault, read_bare};
 pub use halt::Halt;
-pub use machine::{Machine, can_start};
+pub use jop_device::{DeviceFault, Devices, MemWatch, NoWatch, Seen, Watch};
+pub use machine::{Machine, can_start, can_start_bare};
 pub use memory_timing::Config;
-pub use seen::Seen;
 pub use tick::Tick;
-pub use watch::{MemWatch, NoWatch, Watch};

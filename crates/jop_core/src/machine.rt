@@ -3,7 +3,6 @@ ghost use Rattle.std.specs.Prelude.{◌≡◌, ◌<◌, ◌^◌, ◌+◌, ◌-�
 ghost use Rattle.std.specs.Option.{ForSome};
 ghost use Rattle.micro_isa.specs.Words.{IsMicro};
 ghost use Rattle.jop_core.specs.Cycle.{performed, waits, ran, asks, body_asks, puts, body_outputs, at_boundary};
-ghost use Rattle.jop_core.specs.State.{HasCounted};
 ghost use Rattle.jop_core.specs.Ticked.{Ticked, AskedIn, PutOut};
 
 mod control;
@@ -13,15 +12,14 @@ mod readers;
 mod reset;
 mod words;
 
-use crate::device::{DeviceFault, Devices};
 use crate::halt::Halt;
-use crate::seen::Seen;
 use crate::tick::Tick;
+use jop_device::{DeviceFault, Devices};
 use memory_timing::Memory;
 use method_cache::MethodCache;
 use micro_isa::{Body, Micro, Operation, decode, operation_at};
 use microcode_rom::{RAISE, entry, rom};
-pub use reset::can_start;
+pub use reset::{can_start, can_start_bare};
 use stack_cache::StackCache;
 use std::marker::Model;
 
@@ -50,62 +48,21 @@ pub struct Machine<const N: usize> {
 }
 
 impl<const N: usize> Model for Machine<N> {
-    ghost use Rattle.jop_core.specs.State.{State, IsState};
+    ghost use Rattle.jop_core.specs.State.{State};
+    ghost use Rattle.jop_core.specs.Meaning.{state_of, IsKept};
 
     ghost Value = { State };
 
-    ghost view = { λ m. record {
-      a = m.a;
-      b = m.b;
-      sp = m.sp;
-      vp = m.vp;
-      ar = m.ar;
-      jpc = m.jpc;
-      mpc = m.mpc;
-      operand = m.operand;
-      opcode = m.opcode;
-      method = m.method;
-      cache = m.cache;
-      stall = m.stall;
-      halt = m.halt;
-      stack = m.stack;
-      port = m.memory;
-      write_address = m.write_address;
-      clock = m.clock;
-      hits = m.hits;
-      misses = m.misses;
-    } };
+    ghost view = { state_of };
 
-    ghost invariant = { λ m. IsState N (record {
-      a = m.a;
-      b = m.b;
-      sp = m.sp;
-      vp = m.vp;
-      ar = m.ar;
-      jpc = m.jpc;
-      mpc = m.mpc;
-      operand = m.operand;
-      opcode = m.opcode;
-      method = m.method;
-      cache = m.cache;
-      stall = m.stall;
-      halt = m.halt;
-      stack = m.stack;
-      port = m.memory;
-      write_address = m.write_address;
-      clock = m.clock;
-      hits = m.hits;
-      misses = m.misses;
-    }) };
+    ghost invariant = { IsKept N };
 }
 
 impl<const N: usize> Machine<N> {
     // What a microinstruction does, where `ldin` is given this input.
     fn perform(&mut self, m: Micro, input: Option<u8>)
-        requires micro { IsMicro m }
-        requires room { HasCounted self.old }
-        ensures does { self.new ≡ performed input m self.old }
-        ensures clock { self.new.clock ≡ self.old.clock }
+        requires { IsMicro m }
+        ensures { self.new ≡ performed input m self.old }
     {
         match m.body {
             Body::Plain(code) => {
@@ -149,10 +106,8 @@ impl<const N: usize> Machine<N> {
 
     // Runs the microinstruction of a word of the ROM, if it has one.
     fn run(&mut self, m: Option<Micro>, input: Option<u8>)
-        requires micro { ForSome m IsMicro }
-        requires room { HasCounted self.old }
-        ensures does { self.new ≡ ran input m self.old }
-        ensures clock { self.new.clock ≡ self.old.clock }
+        requires { ForSome m IsMicro }
+        ensures { self.new ≡ ran input m self.old }
     {
         if let Some(m) = m
             && !self.waits_at(m)

@@ -1,7 +1,7 @@
 //! What a call of `cycle` answers.
 
 /// What a call of `cycle` answers.
-#[derive(Clone, Copy, Debug, PartialEq, Eq)]
+#[derive(Clone, Copy, PartialEq, Eq)]
 pub enum Tick {
     /// The cycle was done.
     Went,

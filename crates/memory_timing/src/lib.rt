@@ -9,7 +9,8 @@ ghost use Rattle.std.specs.Prelude.{◌≡◌, ◌+◌, ◌≤◌, ◌↔◌, []
 ghost use Rattle.memory_timing.specs.Port.{ReadIsReadyInTime, WriteIsReadyInTime, ReadStays};
 ghost use Rattle.memory_timing.specs.declared.TheConstants.{MIN_MEMORY, MAX_MEMORY, MAX_WAIT, MIN_BLOCKS, MAX_BLOCKS, MIN_BLOCK_WORDS, MAX_BLOCK_WORDS};
 
-use std::alloc::{AllocError, Global};
+use jop_base::NoMemory;
+use std::alloc::Global;
 use std::marker::Model;
 
 /// The fewest words of main memory.
@@ -28,7 +29,7 @@ pub const MIN_BLOCK_WORDS: u32 = 1;
 pub const MAX_BLOCK_WORDS: u32 = 1024;
 
 /// The settings of a machine that its user chooses.
-#[derive(Clone, Copy, Debug, PartialEq, Eq)]
+#[derive(Clone, Copy)]
 pub struct Config {
     /// The words of main memory.
     pub memory: u32,
@@ -67,7 +68,7 @@ impl Default for Config {
 }
 
 /// The main memory behind its port.
-#[derive(Debug, Drop)]
+#[derive(Drop)]
 pub struct Memory {
     words: Vec<u32>,
     read: u32,
@@ -105,7 +106,7 @@ impl Memory {
 
     /// A memory of `words` words that are all 0, behind an idle port. A read waits `r` cycles, and
     /// a write `w`. The only error is that there is no memory for the words.
-    pub fn new(alloc: Global, words: u32, r: u32, w: u32) -> Result<Self, AllocError>
+    pub fn new(alloc: Global, words: u32, r: u32, w: u32) -> Result<Self, NoMemory>
         requires read { r ≤ MAX_WAIT }
         requires write { w ≤ MAX_WAIT }
         ensures { IfOk result (λ m. m ≡ idle (padded [] words) r w) }
@@ -121,7 +122,7 @@ impl Memory {
         words: u32,
         r: u32,
         w: u32,
-    ) -> Result<Self, AllocError>
+    ) -> Result<Self, NoMemory>
         requires fits { length image.now ≤ words }
         requires read { r ≤ MAX_WAIT }
         requires write { w ≤ MAX_WAIT }
@@ -231,53 +232,3 @@ pub fn port_keeps_its_waits()
     ensures write { WriteIsReadyInTime }
     ensures stays { ReadStays }
 {}
-
-#[cfg(test)]
-mod tests {
-    use super::*;
-    use std::test::Fail;
-
-    // The cycles of `stmra`, `wait` and `ldmrd`: one, those until the port is ready, and one more.
-    fn cycles_of_a_read(memory: &mut Memory, place: u32) -> Option<u32> {
-        memory.start_read(place);
-        for waited in 1..100 {
-            memory.tick();
-            if memory.ready() {
-                return Some(1 + waited + 1);
-            }
-        }
-        None
-    }
-
-    #[test]
-    fn a_read_takes_its_wait(rt: HostRuntime) -> Result<(), Fail> {
-        for (wait, cycles) in [(3, 6), (0, 3)] {
-            let mut memory = Memory::with_image(rt.alloc(), &[5, 6, 7, 8], 4, wait, 0)?;
-            assert_eq!(rt;
-                cycles_of_a_read(&mut memory, 3),
-                Some(cycles),
-                "at a wait of {wait}"
-            );
-            assert_eq!(rt; memory.value(), 8);
-        }
-        Ok(())
-    }
-
-    #[test]
-    fn the_end_reads_zero_and_takes_no_write(rt: HostRuntime) -> Result<(), Fail> {
-        let mut memory = Memory::new(rt.alloc(), 4, 3, 2)?;
-        memory.start_write(4, 9);
-        memory.set(0, 1);
-        memory.start_read(4);
-        assert_eq!(rt; memory.value(), 0);
-        assert_eq!(rt; memory.word_count(), 4);
-        assert_eq!(rt; memory.peek(0), 1);
-        Ok(())
-    }
-
-    #[test]
-    fn the_default_settings(rt: HostRuntime) {
-        let config = Config::default();
-        assert_eq!(rt; config.memory, 262_144);
-    }
-}

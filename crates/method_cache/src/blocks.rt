@@ -8,7 +8,7 @@ ghost use Rattle.method_cache.specs.declared.TheConstants.{MAX_BLOCKS, MAX_BLOCK
 ghost use Rattle.method_cache.specs.Ring.{rotated, parts, begins, IsExtent, method_of, stale_of, stale_first, cleared};
 
 /// What a block holds: a part of a method.
-#[derive(Clone, Copy, Debug, PartialEq, Eq)]
+#[derive(Clone, Copy)]
 pub struct Tag {
     /// The method's place in main memory.
     pub method: u32,
@@ -19,7 +19,7 @@ pub struct Tag {
 }
 
 /// Where a method lies in the ring.
-#[derive(Clone, Copy, Debug, PartialEq, Eq)]
+#[derive(Clone, Copy)]
 pub struct Extent {
     /// The method's place in main memory.
     pub method: u32,

@@ -10,7 +10,8 @@ ghost use Rattle.method_cache.specs.Laws.{FittingIsLongest};
 ghost use Rattle.method_cache.specs.declared.TheConstants.{MAX_BLOCKS, MAX_BLOCK_WORDS};
 
 use blocks::{Extent, Tag, find, method_in, store, word_at};
-use std::alloc::{AllocError, Global};
+use jop_base::NoMemory;
+use std::alloc::Global;
 use std::marker::Model;
 
 mod blocks;
@@ -21,7 +22,7 @@ pub const MAX_BLOCKS: u32 = 256;
 pub const MAX_BLOCK_WORDS: u32 = 1024;
 
 /// A method cache.
-#[derive(Debug, Drop)]
+#[derive(Drop)]
 pub struct MethodCache {
     blocks: usize,
     block_words: usize,
@@ -53,7 +54,7 @@ impl MethodCache {
 
     /// A cache of `blocks` blocks of `block_words` words that holds no method. The only error is
     /// that there is no memory for the blocks.
-    pub fn new(alloc: Global, blocks: u32, block_words: u32) -> Result<Self, AllocError>
+    pub fn new(alloc: Global, blocks: u32, block_words: u32) -> Result<Self, NoMemory>
         requires some_blocks { 0 < blocks }
         requires most_blocks { blocks ≤ MAX_BLOCKS }
         requires some_words { 0 < block_words }
@@ -185,79 +186,3 @@ impl MethodCache {
 pub fn fitting_methods_are_longest()
     ensures { FittingIsLongest }
 {}
-
-#[cfg(test)]
-mod tests {
-    use super::*;
-    use std::test::Fail;
-
-    const A: u32 = 100;
-
-    const B: u32 = 200;
-
-    const C: u32 = 300;
-
-    // Loads a method where the cache doesn't hold it, as the machine does. Its words are its place
-    // and the next.
-    fn fetch(cache: &mut MethodCache, m: u32, count: u32) {
-        let words = [m, m.wrapping_add(1)];
-        if count <= 2 && !cache.select(m) && cache.can_load(count) {
-            cache.load(m, &words[..count as usize]);
-        }
-    }
-
-    fn tags(alloc: Global, cache: &MethodCache) -> Result<Vec<Option<u32>>, AllocError> {
-        let mut tags = Vec::new(alloc);
-        for block in 0..cache.blocks() {
-            tags.push(cache.tag(block))?;
-        }
-        Ok(tags)
-    }
-
-    #[test]
-    fn a_load_takes_the_blocks_of_the_oldest(rt: HostRuntime) -> Result<(), Fail> {
-        let mut cache = MethodCache::new(rt.alloc(), 4, 1)?;
-        let steps = [
-            (
-                A,
-                2,
-                [Some(A), Some(A), None, None],
-                2,
-                [true, false, false],
-            ),
-            (
-                B,
-                2,
-                [Some(A), Some(A), Some(B), Some(B)],
-                0,
-                [true, true, false],
-            ),
-            (
-                C,
-                1,
-                [Some(C), None, Some(B), Some(B)],
-                1,
-                [false, true, true],
-            ),
-            (
-                A,
-                2,
-                [Some(C), Some(A), Some(A), None],
-                3,
-                [true, false, true],
-            ),
-        ];
-        for (m, count, expected, next, cached) in steps {
-            fetch(&mut cache, m, count);
-            assert_eq!(rt; tags(rt.alloc(), &cache)?.as_slice(), expected.as_slice());
-            assert_eq!(rt; cache.next(), next);
-            let looked = [cache.look(A), cache.look(B), cache.look(C)];
-            assert_eq!(rt; looked.as_slice(), cached.as_slice());
-            assert_eq!(rt; cache.word(m, 0), m);
-        }
-        for (m, i, word) in [(A, 1, A + 1), (A, 2, 0), (B, 0, 0), (C, 0, C), (C, 1, 0)] {
-            assert_eq!(rt; cache.word(m, i), word, "word {i} of {m}");
-        }
-        Ok(())
-    }
-}

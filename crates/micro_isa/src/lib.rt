@@ -13,7 +13,7 @@ mod operation;
 pub use operation::{Operation, operation_at};
 
 /// What a microinstruction does, apart from its flags.
-#[derive(Clone, Copy, Debug, PartialEq, Eq)]
+#[derive(Clone, Copy)]
 pub enum Body {
     /// An operation by its code, below 48.
     Plain(u8),
@@ -32,7 +32,7 @@ pub enum Body {
 }
 
 /// A microinstruction. A branch carries neither flag.
-#[derive(Clone, Copy, Debug, PartialEq, Eq)]
+#[derive(Clone, Copy)]
 pub struct Micro {
     /// What it does first.
     pub body: Body,

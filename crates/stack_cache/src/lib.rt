@@ -7,14 +7,15 @@
 ghost use Rattle.std.specs.Prelude.{◌≡◌, ℕ, ◌+◌, ◌<◌, List, length, replicate, vec_len, slice_index, slice_set, IfOk};
 ghost use Rattle.stack_cache.specs.Size.{IsSize, HoldsWords};
 
-use std::alloc::{AllocError, Global};
+use jop_base::NoMemory;
+use std::alloc::Global;
 use std::marker::Model;
 
 /// The words that frames may not use: 64 below the stack, and 16 at the end for the microcode.
 pub const RESERVED_WORDS: usize = 80;
 
 /// An on-chip memory of `N` words, of which there are 256, 512 or 1,024.
-#[derive(Debug, Drop)]
+#[derive(Drop)]
 pub struct StackCache<const N: usize> {
     words: Vec<u32>,
 }
@@ -29,7 +30,7 @@ impl<const N: usize> Model for StackCache<N> {
 
 impl<const N: usize> StackCache<N> {
     /// A memory whose words are all 0. The only error is that there is no memory for them.
-    pub fn new(alloc: Global) -> Result<Self, AllocError>
+    pub fn new(alloc: Global) -> Result<Self, NoMemory>
         requires { IsSize N }
         ensures { IfOk result (λ s. s ≡ replicate N 0) }
     {
@@ -64,22 +65,5 @@ impl<const N: usize> StackCache<N> {
     {
         let _ = &self.words;
         (N - RESERVED_WORDS) as u32
-    }
-}
-
-#[cfg(test)]
-mod tests {
-    use super::*;
-    use std::test::Fail;
-
-    #[test]
-    fn a_write_is_read_back(rt: HostRuntime) -> Result<(), Fail> {
-        let mut cache: StackCache<1024> = StackCache::new(rt.alloc())?;
-        cache.write(1023, 7);
-        for (place, word) in [(0, 0), (1022, 0), (1023, 7)] {
-            assert_eq!(rt; cache.read(place), word, "at {place}");
-        }
-        assert_eq!(rt; cache.limit(), 944);
-        Ok(())
     }
 }

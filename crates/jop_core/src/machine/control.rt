@@ -4,7 +4,7 @@ ghost use Rattle.jop_core.specs.State.{seen_of};
 ghost use Rattle.jop_core.specs.Cycle.{advanced, branched, with_opd, with_nxt, with_flags, counted};
 
 use crate::machine::Machine;
-use crate::seen::Seen;
+use jop_device::Seen;
 use micro_isa::Micro;
 use microcode_rom::entry;
 
@@ -17,8 +17,7 @@ impl<const N: usize> Machine<N> {
 
     pub(super) fn branch(&mut self, taken: bool, to: u16)
         requires { to < 2048 }
-        ensures does { self.new ≡ branched taken to self.old }
-        ensures clock { self.new.clock ≡ self.old.clock }
+        ensures { self.new ≡ branched taken to self.old }
     {
         if taken {
             self.mpc = to;
@@ -29,8 +28,7 @@ impl<const N: usize> Machine<N> {
     }
 
     fn shift_operand(&mut self)
-        ensures does { self.new ≡ with_opd true self.old }
-        ensures clock { self.new.clock ≡ self.old.clock }
+        ensures { self.new ≡ with_opd true self.old }
     {
         let byte = self.byte();
         self.operand = self.operand.wrapping_mul(256).wrapping_add(byte as u32);
@@ -38,8 +36,7 @@ impl<const N: usize> Machine<N> {
     }
 
     fn dispatch(&mut self)
-        ensures does { self.new ≡ with_nxt true self.old }
-        ensures clock { self.new.clock ≡ self.old.clock }
+        ensures { self.new ≡ with_nxt true self.old }
     {
         let byte = self.byte();
         self.operand = 0;
@@ -49,8 +46,7 @@ impl<const N: usize> Machine<N> {
     }
 
     pub(super) fn follow_flags(&mut self, m: Micro)
-        ensures does { self.new ≡ with_flags m self.old }
-        ensures clock { self.new.clock ≡ self.old.clock }
+        ensures { self.new ≡ with_flags m self.old }
     {
         if m.opd {
             self.shift_operand();

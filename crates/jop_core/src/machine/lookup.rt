@@ -1,17 +1,15 @@
 //! The look-up of a method, and its load into the cache.
 ghost use Rattle.std.specs.Prelude.{◌≡◌, true, Some, None, if◌then◌else◌};
 ghost use Rattle.method_cache.specs.Contents.{is_cached};
-ghost use Rattle.jop_core.specs.State.{HasCounted};
 ghost use Rattle.jop_core.specs.Operations.{switched, looked_up, can_switch, code_place, code_words};
 
+use crate::code::code_at;
 use crate::machine::Machine;
 
 impl<const N: usize> Machine<N> {
     // Makes the method at A's place the current one, and loads it where the cache doesn't hold it.
     pub(super) fn switch(&mut self)
-        requires { HasCounted self.old }
-        ensures does { self.new ≡ switched self.old }
-        ensures clock { self.new.clock ≡ self.old.clock }
+        ensures { self.new ≡ switched self.old }
     {
         let m = self.a;
         let extent = self.extent(m);
@@ -29,10 +27,9 @@ impl<const N: usize> Machine<N> {
         if m as u64 + 4 > end {
             return None;
         }
-        let words = self.memory.peek(m + 1) % 65536;
-        let place = m as u64 + 4 + 3 * self.memory.peek(m + 3) as u64;
-        if self.cache.can_load(words) && place + words as u64 <= end {
-            Some((place as u32, words))
+        let code = code_at(m, self.memory.peek(m + 1), self.memory.peek(m + 3));
+        if self.cache.can_load(code.words) && code.place + code.words as u64 <= end {
+            Some((code.place as u32, code.words))
         } else {
             None
         }
@@ -40,7 +37,6 @@ impl<const N: usize> Machine<N> {
 
     // Looks up a method whose code lies at a place of memory.
     fn look_up(&mut self, m: u32, place: u32, words: u32)
-        requires room { HasCounted self.old }
         requires can { can_switch self.old m ≡ true }
         requires at { place ≡ code_place self.old.port.words m }
         requires count { words ≡ code_words self.old.port.words m }
@@ -48,10 +44,10 @@ impl<const N: usize> Machine<N> {
     {
         self.method = m;
         if self.cache.select(m) {
-            self.hits += 1;
+            self.hits = self.hits.wrapping_add(1);
         } else {
             self.cache.load(m, self.memory.words(place, words));
-            self.misses += 1;
+            self.misses = self.misses.wrapping_add(1);
             self.stall = 4 + words * (2 + self.memory.read_wait());
         }
     }

@@ -1,20 +1,17 @@
 //! The operations that have a code of their own.
 ghost use Rattle.std.specs.Prelude.{◌≡◌, ◌<◌};
-ghost use Rattle.jop_core.specs.State.{HasCounted};
-ghost use Rattle.jop_core.specs.Operations.{input_word, number_of, combined, after_binary, operated, halted_at_boot, branch_target, holds, sign_extended8, sign_extended16, is_negative, signed_lt, shifted_right};
+ghost use Rattle.jop_core.specs.Operations.{input_word, combined, after_binary, operated, halted_at_boot, branch_target};
 
 use crate::halt::Halt;
 use crate::machine::Machine;
+use crate::places::STACK;
+use core_words::{branch_holds, number, shift_right, sign_extend8, sign_extend16, signed_less};
 use micro_isa::Operation;
-
-/// The on-chip place of boot's locals.
-const BOOT_LOCALS: u32 = 64;
 
 impl<const N: usize> Machine<N> {
     // An operation on B and A.
     fn binary(&mut self, op: Operation)
-        ensures does { self.new ≡ after_binary op self.old }
-        ensures clock { self.new.clock ≡ self.old.clock }
+        ensures { self.new ≡ after_binary op self.old }
     {
         let a = self.pop();
         let b = self.a;
@@ -24,9 +21,7 @@ impl<const N: usize> Machine<N> {
     // What an operation does, apart from the flags of its word and the next address, where `ldin` is given
     // this input.
     pub(super) fn operate(&mut self, op: Operation, input: Option<u8>)
-        requires { HasCounted self.old }
-        ensures does { self.new ≡ operated input op self.old }
-        ensures clock { self.new.clock ≡ self.old.clock }
+        ensures { self.new ≡ operated input op self.old }
     {
         let vp = self.vp as u64;
         let ar = self.ar as u64;
@@ -153,10 +148,9 @@ impl<const N: usize> Machine<N> {
     }
 
     fn branch_if(&mut self)
-        ensures does { self.new ≡ operated None Operation.Jbr self.old }
-        ensures clock { self.new.clock ≡ self.old.clock }
+        ensures { self.new ≡ operated None Operation.Jbr self.old }
     {
-        let taken = holds_of(self.opcode, self.b, self.a);
+        let taken = branch_holds(self.opcode, self.b, self.a);
         let _ = self.pop();
         if taken {
             self.go_to_target();
@@ -172,10 +166,9 @@ impl<const N: usize> Machine<N> {
 
     // Halts, where the top frame is boot's.
     fn halt_at_boot(&mut self, halt: Halt)
-        ensures does { self.new ≡ halted_at_boot halt self.old }
-        ensures clock { self.new.clock ≡ self.old.clock }
+        ensures { self.new ≡ halted_at_boot halt self.old }
     {
-        if self.vp == BOOT_LOCALS {
+        if self.vp == STACK {
             self.halt = halt;
         }
     }
@@ -188,45 +181,6 @@ fn word_of_input(input: Option<u8>) -> u32
     match input {
         Some(byte) => byte as u32,
         None => u32::MAX,
-    }
-}
-
-// The low 8 bits with their sign, as a word.
-fn sign_extend8(x: u32) -> u32
-    ensures { result ≡ sign_extended8 x }
-{
-    let low = x % 256;
-    if low < 128 { low } else { low + 0xffff_ff00 }
-}
-
-// The low 16 bits with their sign, as a word.
-fn sign_extend16(x: u32) -> u32
-    ensures { result ≡ sign_extended16 x }
-{
-    let low = x % 65536;
-    if low < 32768 { low } else { low + 0xffff_0000 }
-}
-
-fn is_negative_word(x: u32) -> bool
-    ensures { result ≡ is_negative x }
-{
-    x > 0x7fff_ffff
-}
-
-fn signed_less(x: u32, y: u32) -> bool
-    ensures { result ≡ signed_lt x y }
-{
-    x.wrapping_add(0x8000_0000) < y.wrapping_add(0x8000_0000)
-}
-
-fn shift_right(x: u32, k: u32) -> u32
-    requires { k < 32 }
-    ensures { result ≡ shifted_right x k }
-{
-    if is_negative_word(x) {
-        u32::MAX - ((u32::MAX - x) >> k)
-    } else {
-        x >> k
     }
 }
 
@@ -246,32 +200,5 @@ fn combine(op: Operation, b: u32, a: u32) -> u32
         Operation::Slt => number(signed_less(b, a)),
         Operation::Sltu => number(b < a),
         _ => b,
-    }
-}
-
-fn number(holds: bool) -> u32
-    ensures { result ≡ number_of holds }
-{
-    if holds { 1 } else { 0 }
-}
-
-// Whether a conditional branch goes to its target.
-fn holds_of(opcode: u8, b: u32, a: u32) -> bool
-    ensures { result ≡ holds opcode b a }
-{
-    match opcode {
-        153 | 198 => a == 0,
-        154 | 199 => a > 0,
-        155 => is_negative_word(a),
-        156 => a < 0x8000_0000,
-        157 => a > 0 && a < 0x8000_0000,
-        158 => a == 0 || is_negative_word(a),
-        159 | 165 => b == a,
-        160 | 166 => b < a || a < b,
-        161 => signed_less(b, a),
-        162 => !signed_less(b, a),
-        163 => signed_less(a, b),
-        164 => !signed_less(a, b),
-        _ => false,
     }
 }

@@ -1,9 +1,10 @@
 //! What can be read of a machine.
-ghost use Rattle.std.specs.Prelude.{◌≡◌};
+ghost use Rattle.std.specs.Prelude.{◌≡◌, ◌<◌, slice_index};
 ghost use Rattle.jop_core.specs.Reset.{uncaught_of};
 
 use crate::halt::Halt;
 use crate::machine::Machine;
+use crate::places::RAISED;
 
 impl<const N: usize> Machine<N> {
     /// The top word of the stack.
@@ -83,6 +84,14 @@ impl<const N: usize> Machine<N> {
         self.misses
     }
 
+    /// The on-chip word at a place.
+    pub fn on_chip(&self, place: u32) -> u32
+        requires { place < N }
+        ensures { result ≡ slice_index self.now.stack place }
+    {
+        self.stack.read(place)
+    }
+
     /// Whether the machine has halted.
     pub fn halt(&self) -> Halt
         ensures { result ≡ self.now.halt }
@@ -96,7 +105,7 @@ impl<const N: usize> Machine<N> {
         ensures { result ≡ uncaught_of self.now }
     {
         if self.halt == Halt::Uncaught {
-            let object = self.word(31);
+            let object = self.on_chip(RAISED);
             Some(self.memory.peek(self.memory.peek(object)))
         } else {
             None

@@ -2,21 +2,25 @@
 ghost use Rattle.std.specs.Prelude.{◌≡◌, ◌↔◌, ◌<◌, ◌≤◌, length, IfOk, IsTrue, slice_index};
 ghost use Rattle.stack_cache.specs.Size.{IsSize};
 ghost use Rattle.method_cache.specs.Contents.{empty, can_load};
-ghost use Rattle.jop_core.specs.Reset.{reset_of, first_byte, bare_reset, linked_reset, CanStart, word_at_bytes, words_of_bytes};
+ghost use Rattle.jop_core.specs.Reset.{reset_of, first_byte, bare_reset, linked_reset, CanStart, CanStartBare, word_at_bytes, words_of_bytes};
 ghost use Rattle.jop_core.specs.Starts.{starts, IsLinkedBoot, first_words};
 
-use crate::bare::Bare;
+use crate::code::code_at;
 use crate::halt::Halt;
 use crate::machine::Machine;
-use jop_outside::NoMemory;
+use crate::places;
+use bare_image::Bare;
+use core_words::laws::packed_has_words;
+use core_words::pack;
+use jop_base::NoMemory;
 use memory_timing::{Config, Memory};
 use method_cache::MethodCache;
 use microcode_rom::{constant, entry};
 use stack_cache::StackCache;
-use std::alloc::{AllocError, Global};
+use std::alloc::Global;
 
 // What a machine begins with, but for the words of its image and of its code.
-#[derive(Clone, Copy, Debug, PartialEq, Eq)]
+#[derive(Clone, Copy)]
 pub(crate) struct Boot {
     // The place of boot's method, its locals, and the words of its frame.
     pub place: u32,
@@ -36,15 +40,16 @@ impl<const N: usize> Machine<N> {
     {
         let boot = boot_of(image);
         let place = boot.place as usize;
-        let words = (image[place + 1] % 65536) as usize;
-        let code = place + 4 + 3 * image[place + 3] as usize;
-        Machine::begin(alloc, boot, image, &image[code..code + words], config)
+        let code = code_at(boot.place, image[place + 1], image[place + 3]);
+        let start = code.place as usize;
+        let words = &image[start..start + code.words as usize];
+        Machine::begin(alloc, boot, image, words, config)
     }
 
     /// A machine at reset over a bare image. The only error is that there was no memory.
     pub fn bare(alloc: Global, bare: &Bare, config: Config) -> Result<Self, NoMemory>
         requires size { IsSize N }
-        requires blocks { IsTrue (can_load (length (words_of_bytes bare.now.code)) (empty config.blocks config.block_words)) }
+        requires blocks { CanStartBare bare.now config }
         ensures { IfOk result (λ m. m ≡ bare_reset N bare.now config) }
     {
         let max_locals = bare.max_locals();
@@ -55,6 +60,8 @@ impl<const N: usize> Machine<N> {
             pool: 0,
             raise_list: 0,
         };
+        // The law is for the proof.
+        packed_has_words();
         let code = pack(alloc, bare.code())?;
         Machine::begin(alloc, boot, &[], &code, config)
     }
@@ -80,8 +87,8 @@ impl<const N: usize> Machine<N> {
         Ok(Machine {
             a: 0,
             b: 0,
-            sp: (64 + boot.max_locals as u32 + 2) % N as u32,
-            vp: 64,
+            sp: (places::STACK + boot.max_locals as u32 + 2) % N as u32,
+            vp: places::STACK,
             ar: 0,
             jpc: 1,
             mpc: entry(opcode),
@@ -127,54 +134,26 @@ fn first_of(code: &[u32]) -> u8
     (code[0] / 16_777_216) as u8
 }
 
-// The bytes as words, filled with zeros.
-fn pack(alloc: Global, bytes: &[u8]) -> Result<Vec<u32>, AllocError>
-    requires { length bytes.now ≤ 4096 }
-    ensures { IfOk result (λ words. words.items ≡ words_of_bytes bytes.now) }
-{
-    let mut words = Vec::new(alloc);
-    for k in 0..bytes.len().div_ceil(4) {
-        words.push(word_at(bytes, 4 * k))?;
-    }
-    Ok(words)
-}
-
-// Four bytes from a place on as a word, the high one first. Those past the end are 0.
-fn word_at(bytes: &[u8], k: usize) -> u32
-    requires { k ≤ 8192 }
-    ensures { result ≡ word_at_bytes bytes.now k }
-{
-    let high = byte_at(bytes, k) as u32 * 256 + byte_at(bytes, k + 1) as u32;
-    let low = byte_at(bytes, k + 2) as u32 * 256 + byte_at(bytes, k + 3) as u32;
-    high * 65536 + low
-}
-
-fn byte_at(bytes: &[u8], k: usize) -> u8
-    ensures { result ≡ slice_index bytes.now k }
-{
-    bytes.get(k).copied().unwrap_or(0)
-}
-
 // The on-chip words at reset, of an image of so many words.
 fn reset_stack<const N: usize>(
     alloc: Global,
     boot: Boot,
     image_words: u32,
     config: Config,
-) -> Result<StackCache<N>, AllocError>
+) -> Result<StackCache<N>, NoMemory>
     requires { IsSize N }
     ensures { IfOk result (λ s. s ≡ first_words N config.memory boot image_words) }
 {
     let mut stack = StackCache::new(alloc)?;
-    stack.write(24, boot.pool);
-    stack.write(25, boot.place);
-    stack.write(26, image_words);
-    stack.write(27, config.memory);
-    stack.write(28, boot.frame);
-    stack.write(29, stack.limit());
-    stack.write(30, boot.raise_list);
+    stack.write(places::POOL, boot.pool);
+    stack.write(places::METHOD, boot.place);
+    stack.write(places::NEXT_FREE, image_words);
+    stack.write(places::MEMORY_END, config.memory);
+    stack.write(places::FRAME_SUM, boot.frame);
+    stack.write(places::FRAME_LIMIT, stack.limit());
+    stack.write(places::RAISE_LIST, boot.raise_list);
     for k in 0..32 {
-        stack.write(32 + k as u32, constant(k));
+        stack.write(places::CONSTANTS + k as u32, constant(k));
     }
     Ok(stack)
 }
@@ -190,9 +169,16 @@ pub fn can_start(image: &[u32], config: Config) -> bool
     if place + 4 > image.len() {
         return false;
     }
-    let words = image[place + 1] % 65536;
-    let code = place + 4 + 3 * image[place + 3] as usize;
-    code + words as usize <= image.len() && is_loadable(words, config)
+    let code = code_at(image[1], image[place + 1], image[place + 3]);
+    code.place + code.words as u64 <= image.len() as u64 && is_loadable(code.words, config)
+}
+
+/// Whether a machine can begin with this bare image and these settings: the test of what `Machine::bare`
+/// requires.
+pub fn can_start_bare(bare: &Bare, config: Config) -> bool
+    ensures { IsTrue result ↔ CanStartBare bare.now config }
+{
+    is_loadable(bare.code().len().div_ceil(4) as u32, config)
 }
 
 // Whether a method of so many words can be loaded into a cache with these settings.

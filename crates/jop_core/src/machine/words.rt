@@ -1,9 +1,10 @@
 //! The stack, the on-chip words and the bytes of the method.
 ghost use Rattle.std.specs.Prelude.{◌≡◌, ◌<◌, ◌%◌, length};
 ghost use Rattle.jop_core.specs.Operations.{pushed, popped, stored, word_at, place_of};
-ghost use Rattle.jop_core.specs.Cycle.{byte_of, byte_at};
+ghost use Rattle.jop_core.specs.Cycle.{byte_at};
 
 use crate::machine::Machine;
+use core_words::byte_of_word;
 
 impl<const N: usize> Machine<N> {
     // A place among the on-chip words.
@@ -66,14 +67,6 @@ impl<const N: usize> Machine<N> {
         ensures { result ≡ byte_at self.now }
     {
         let place = self.jpc as u32;
-        byte_at_word(self.cache.word(self.method, place / 4), place % 4)
+        byte_of_word(self.cache.word(self.method, place / 4), place % 4)
     }
-}
-
-// A byte of a word, the high one first.
-fn byte_at_word(word: u32, k: u32) -> u8
-    requires { k < 4 }
-    ensures { result ≡ byte_of word k }
-{
-    ((word >> (8 * (3 - k))) % 256) as u8
 }

@@ -1,8 +1,9 @@
-use Rattle.std.proofs.Common.{rules, ◌≡◌, ◌≤◌, ap, sym, arith, ◌∙◌}
+use Rattle.std.proofs.Common.{rules, ◌≡◌, ℕ, ◌≤◌, ap, sym, arith, ◌∙◌}
 use Rattle.jop_core.specs.declared.halt.Halt.TheVariants.{Running}
 use Rattle.jop_core.specs.State.{State}
 use Rattle.jop_core.specs.Cycle.{ran as runs}
 use Rattle.jop_core.proofs.OneCycle.{cycle_of-here, output_of-here, asks_input-here, begun, asks-puts, Ticked-refused, Ticked-went}
+use Rattle.jop_core.proofs.Kept.{ran_keeps}
 use Rattle.jop_core.proofs.machine.Machine.cycle.Goals as goal
 
 pub returns-in-Err-put_out-clause-ticked : goal.returns-in-Err-put_out-clause-ticked
@@ -26,4 +27,9 @@ returns-clause-ticked g c =
     let ran = cycle_of-here c.args.self.now c.rom.result c.decode-m.result c.in-Ok.input still (search rules) c.decode-m.ensures.micro in
     let after = ap (λ (s : State). runs c.in-Ok.input c.decode-m.result s) c.count-2.ensures in
     let start = begun c.args.self.now c.seen.result _ _ _ _ _ c.seen.ensures c.in_default.ensures.told.0 c.in_default.ensures.told.1 c.in-Ok.ensures.asked.0 c.in-Ok.ensures.asked.1 in
-    Ticked-went c.args.self.now c.run.new.self c.in-Ok.input _ _ _ _ _ running (c.run.ensures.does ∙ after ∙ sym ran) asking outputs start put.0 put.1
+    Ticked-went c.args.self.now c.run.new.self c.in-Ok.input _ _ _ _ _ running (c.run.ensures ∙ after ∙ sym ran) asking outputs start put.0 put.1
+
+pub returns-clause-clock : goal.returns-clause-clock
+returns-clause-clock g c = λ went.
+    let clock_of : State → ℕ = λ s. s.clock in
+    ap clock_of c.run.ensures ∙ (ran_keeps c.in-Ok.input c.decode-m.result c.count-2.new.self).clock ∙ ap clock_of c.count-2.ensures

@@ -1,0 +1,4 @@
+pub mod Shapes
+pub mod Bare
+pub mod Scan
+pub mod Meaning
