@@ -1,10 +1,9 @@
 -- What the opcodes of devices make of the words of the stack, and how boot's return ends the run.
-use Rattle.std.specs.Prelude.{ℕ, ◌≡◌, ◌%◌, ◌^◌, [], ◌∷◌, drop}
-use Rattle.jop_core.specs.declared.halt.Halt.TheVariants.{Ended}
+use Rattle.std.specs.Prelude.{ℕ, ◌%◌, ◌^◌, [], ◌∷◌}
 use Rattle.jop_core.specs.Operations.{input_word}
 use Rattle.jop_core.specs.Scene.{first_of, rest_of}
 use Rattle.micro_sketch.specs.Sketch.{Sketch}
-use Rattle.micro_sketch.specs.Row.{Effect, IsKept, unchanged, words_of}
+use Rattle.micro_sketch.specs.Row.{Effect, unchanged, words_of}
 
 -- impdep1 takes a byte of the input, impdep2 puts one out
 pub data DeviceOp : Type 0 where
@@ -28,14 +27,3 @@ answers_taken Impdep2 = 0
 -- the opcode of return
 abbrev pub return_code : ℕ
 return_code = 177
-
--- y is x halted, with all its words as they were
-pub record IsEnded (x y : Sketch) : Type 0 where
-  pub halt : y.halt ≡ Ended
-  pub words : words_of y ≡ words_of x
-  pub deep : y.deep ≡ x.deep
-  pub low : drop 24 y.low ≡ drop 24 x.low
-  pub memory : y.memory ≡ x.memory
-  pub answers : y.answers ≡ x.answers
-  pub output : y.output ≡ []
-  pub kept : IsKept x y

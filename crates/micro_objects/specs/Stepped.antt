@@ -1,17 +1,20 @@
 -- What a step over an opcode of devices or over boot's return does.
-use Rattle.std.specs.Prelude.{ℕ, ◌≡◌, ◌+◌, ◌≤◌, ◌⊎◌, length}
+use Rattle.std.specs.Prelude.{ℕ, ◌≡◌, ◌⊎◌, length}
 use Rattle.micro_flow.specs.declared.CostParams.{CostParams}
-use Rattle.micro_flow.specs.Walk.{IsCost}
+use Rattle.jop_core.specs.declared.halt.Halt.TheVariants.{Ended}
+use Rattle.jop_core.specs.declared.tick.Tick.TheVariants as ticks
 use Rattle.jop_core.specs.State.{State}
-use Rattle.jop_core.specs.Told.{Told}
+use Rattle.jop_device.specs.Told.{Told}
 use Rattle.jop_core.specs.Scene.{begun, output_during}
 use Rattle.micro_sketch.specs.Sketch.{Sketch}
-use Rattle.micro_sketch.specs.Stands.{Env, Shaped, IsDone, conc}
+use Rattle.micro_sketch.specs.Stands.{Env}
 use Rattle.micro_sketch.specs.Step.{Arrived}
 use Rattle.micro_sketch.specs.Row.{AreInRange, StandsAt, DidRow, WasSilent}
+use Rattle.micro_sketch.specs.Rows.{DidHalt}
+use Rattle.micro_sketch.specs.RowLaws.{FailsSilently}
 use Rattle.micro_sketch.specs.declared.step.Stepped.{Stepped}
 use Rattle.micro_sketch.specs.declared.step.Stepped.TheVariants.{Next, Raise, Halted, ReadFault, WriteFault, SeenFault}
-use Rattle.micro_objects.specs.Opcodes.{DeviceOp, Impdep1, Impdep2, code_of, effect, answers_taken, return_code, IsEnded}
+use Rattle.micro_objects.specs.Opcodes.{DeviceOp, Impdep1, Impdep2, code_of, effect, answers_taken, return_code}
 
 -- the machine is about to run an opcode of devices
 pub record IsDevice (n : ℕ) (s : State) : Type 0 where
@@ -47,18 +50,8 @@ DoesRow n old new told told' =
     → Transferred op x old new told told' a × DidRow n p (code_of op) (effect op x) x e a.cycles new
 
 -- the machine has halted as the return says, in at most the opcode's cost
-pub record DidReturn (n : ℕ) (p : CostParams) (x : Sketch) (e : Env) (cycles : ℕ) (new : State) : Type 0 where
-  pub after : Sketch
-  pub env : Env
-  pub same : new ≡ conc n after env
-  pub shape : Shaped n after
-  pub done : IsDone after
-  pub ended : IsEnded x after
-  pub idle : env.port ≡ 0
-  pub read : env.read ≡ e.read
-  pub write : env.write ≡ e.write
-  pub clock : env.clock ≡ e.clock + cycles
-  pub cost : (c : ℕ) → IsCost return_code p c → cycles ≤ c
+abbrev pub DidReturn : (n : ℕ) → CostParams → Sketch → Env → (cycles : ℕ) → State → Type 0
+DidReturn n p x e cycles new = DidHalt n p return_code Ended x e cycles new
 
 -- where it was about to return from boot's frame, it took no byte in and put none out
 abbrev pub DoesReturn : ℕ → State → State → Told → Told → Type 0
@@ -72,11 +65,11 @@ pub record IsOnly (op : DeviceOp) (n : ℕ) (s : State) : Type 0 where
   pub no_return : ¬ IsReturn n s
 
 -- What an answer says of the rows: only a return halts, and nothing raises. A read fails only at impdep1, and a write only at impdep2. A call on
--- the device that fails leaves the machine as it was.
+-- the device that fails leaves the machine as it was, and nothing was taken in or put out before it.
 abbrev pub Did : ℕ → State → State → Told → Told → Stepped → Type 0
 Did n old new told told' Next = DoesRow n old new told told' × ¬ IsReturn n old
 Did n old new told told' Raise = ⊥
 Did n old new told told' Halted = DoesReturn n old new told told' × ¬ IsDevice n old
-Did n old new told told' ReadFault = IsOnly Impdep1 n old × (new ≡ old)
-Did n old new told told' WriteFault = IsOnly Impdep2 n old × (new ≡ old)
-Did n old new told told' SeenFault = new ≡ old
+Did n old new told told' ReadFault = IsOnly Impdep1 n old × (new ≡ old) × FailsSilently old new told told' ticks.ReadFault
+Did n old new told told' WriteFault = IsOnly Impdep2 n old × (new ≡ old) × FailsSilently old new told told' ticks.WriteFault
+Did n old new told told' SeenFault = (new ≡ old) × FailsSilently old new told told' ticks.SeenFault

@@ -6,10 +6,10 @@ ghost use Rattle.micro_sketch.specs.Step.{Went};
 ghost use Rattle.micro_objects.specs.Stepped.{HasRow, Did};
 
 use jop_core::{Devices, Machine};
+use micro_sketch::laws::rows_are_steps;
 use micro_sketch::step::{Stepped, to_boundary};
 
 /// Runs one opcode, from its entry to the next boundary.
-#[tactic(auto, using(crate::proofs::Steps::went_did))]
 pub fn step<const N: usize, D: Devices>(machine: &mut Machine<N>, device: &mut D) -> Stepped
     requires row { HasRow N machine.old }
     requires clock { machine.old.clock < 2 ^ 63 }
@@ -17,5 +17,7 @@ pub fn step<const N: usize, D: Devices>(machine: &mut Machine<N>, device: &mut D
     ensures row { Did N machine.old machine.new (D.told device.old) (D.told device.new) result }
     ensures names { D.names device.new ≡ D.names device.old }
 {
+    // The law is for the proof.
+    rows_are_steps();
     to_boundary(machine, device)
 }

@@ -1,10 +1,9 @@
 -- What a device was told of a run, over one cycle and over several runs.
-use Rattle.std.proofs.Common.{◌≡◌, ℕ, Bool, true, false, List, [], ◌∷◌, ◌++◌, refl, subst}
+use Rattle.std.proofs.Common.{◌≡◌, ℕ, Bool, true, false, List, [], ◌∷◌, ◌++◌, refl, subst, arith}
 use Rattle.std.specs.declared.option.Option.{Option}
-use Rattle.jop_outside.proofs.Told.{Grew-refl, Grew-trans}
-use Rattle.jop_core.specs.declared.seen.Seen.{Seen}
-use Rattle.jop_core.specs.Told.{Told, Note, Exchanged, GivesWhere, GivesEach, Attended, CountsRise}
-use Rattle.jop_core.proofs.Tells.{CountsRise-refl, CountsRise-trans}
+use Rattle.telling.specs.Growing.{Grew-refl, Grew-trans}
+use Rattle.jop_device.specs.declared.seen.Seen.{Seen}
+use Rattle.jop_device.specs.Told.{Told, Note, Exchanged, GivesWhere, GivesEach, Attended, CountsRise}
 
 -- the answers of a cycle: one where it asks, and else none
 abbrev pub asked_for : (asks : Bool) → Option ℕ → List (Option ℕ)
@@ -20,7 +19,7 @@ GivesEach-one true l0 l1 input gives = (l1, gives, refl)
 GivesEach-one false l0 l1 input gives = gives.0
 
 pub Attended-refl : (told : Told) → Attended told told [] [] [] []
-Attended-refl told = record { left = refl; held = Grew-refl told.held; noted = Grew-refl told.noted; handed = Grew-refl told.handed; counts = CountsRise-refl told }
+Attended-refl told = record { left = refl; held = Grew-refl told.held; noted = Grew-refl told.noted; handed = Grew-refl told.handed; counts = record { reads = omega arith; writes = omega arith; sees = omega arith } }
 
 pub Attended-one : (t0 t1 : Told) (asks : Bool) (input : Option ℕ) (out : List ℕ) (seen : List Seen) (notes : List Note)
     → Exchanged t0 t1 asks input out seen notes → CountsRise t0 t1 → Attended t0 t1 (asked_for asks input) out seen notes
@@ -40,5 +39,5 @@ Attended-trans t0 t1 t2 answers0 answers1 out0 out1 out seen0 seen1 seen notes0 
   held = Grew-trans _ _ _ out0 out1 out first.held second.held outs;
   noted = Grew-trans _ _ _ notes0 notes1 notes first.noted second.noted all;
   handed = Grew-trans _ _ _ seen0 seen1 seen first.handed second.handed seens;
-  counts = CountsRise-trans t0 t1 t2 first.counts second.counts;
+  counts = let a = first.counts in let b = second.counts in record { reads = omega (arith, a.reads, b.reads); writes = omega (arith, a.writes, b.writes); sees = omega (arith, a.sees, b.sees) };
 }

@@ -1,5 +1,6 @@
 -- Where a boundary is, and what the flags of a microinstruction do.
 use Rattle.std.proofs.Common.{◌≡◌, ℕ, suc, zero, ◌+◌, ◌%◌, ◌&&◌, ◌||◌, ◌==◌, Bool, true, false, List, [], ◌∷◌, ◌⊎◌, inl, inr, get_or, if◌then◌else◌, refl, ap, ◌∙◌, Option, eq-eqb, eqb-true}
+use Rattle.std.proofs.lemmas.Bool.{and_parts}
 use Rattle.jop_core.specs.State.{State}
 use Rattle.jop_core.specs.Cycle.{with_nxt, with_opd, at_boundary, is_running, entry_of}
 use Rattle.jop_core.specs.declared.halt.Halt.TheVariants.{Running}
@@ -7,7 +8,6 @@ use Rattle.jop_core.specs.Scene.{Scene}
 use Rattle.micro_sketch.specs.Sketch.{Sketch, lead, opd_byte, settled, off_entry, off_raise, among, stopped}
 use Rattle.micro_sketch.specs.Stands.{Env, Shaped, conc, scene}
 use Rattle.microcode_rom.specs.declared.TheConstants.{ENTRIES, RAISE}
-use Rattle.micro_sketch.proofs.OnChip.{first, second}
 use Rattle.micro_sketch.proofs.Counts.{was_flags}
 
 -- a scene of a state
@@ -66,7 +66,7 @@ settled_on true false o c f g = ap (λ d. d || false) (g f)
 settled_on false r o c f g = refl
 
 pub settled_end : (n : ℕ) (y : Sketch) (e : Env) → (settled y).fine ≡ true → at_boundary (conc n y e) ≡ stopped y
-settled_end n y e f = settled_on (is_running y.halt) (y.mpc == RAISE) (off_entry y) (y.mpc == entry_of y.opcode) (first (stopped y || off_entry y) y.fine f) (off_cur y)
+settled_end n y e f = settled_on (is_running y.halt) (y.mpc == RAISE) (off_entry y) (y.mpc == entry_of y.opcode) ((and_parts (stopped y || off_entry y) y.fine f).0) (off_cur y)
 
 pub either_way : (b c : Bool) → c ≡ true → (if b then c else true) ≡ true
 either_way true c h = h
@@ -102,4 +102,4 @@ off_is false f = refl
 pub quiet_here : (n : ℕ) (x : Sketch) (e : Env) → x.halt ≡ Running → (off_entry x && off_raise x) ≡ true → at_boundary (conc n x e) ≡ false
 quiet_here n x e r f =
     ap (λ h. if is_running h then (x.mpc == entry_of x.opcode || x.mpc == RAISE) else true) r
-    ∙ ap (λ b. b || x.mpc == RAISE) (off_cur x (first (off_entry x) (off_raise x) f)) ∙ off_is (x.mpc == RAISE) (second (off_entry x) (off_raise x) f)
+    ∙ ap (λ b. b || x.mpc == RAISE) (off_cur x ((and_parts (off_entry x) (off_raise x) f).0)) ∙ off_is (x.mpc == RAISE) ((and_parts (off_entry x) (off_raise x) f).1)

@@ -1,5 +1,6 @@
 -- Branches of the microcode.
 use Rattle.std.proofs.Common.{◌≡◌, ℕ, suc, zero, ◌+◌, ◌-◌, ◌%◌, ◌<◌, ◌&&◌, ◌||◌, ◌==◌, Bool, true, false, [], ◌∷◌, get_or, nat_lt, if◌then◌else◌, refl, sym, ap, ◌∙◌, subst, arith, Some}
+use Rattle.std.proofs.lemmas.Bool.{and_parts}
 use Rattle.micro_isa.specs.declared.Micro.{Micro}
 use Rattle.micro_isa.specs.Words.{micro_of}
 use Rattle.jop_core.specs.Cycle.{branched, waits, at_boundary, is_running}
@@ -11,7 +12,6 @@ use Rattle.micro_flow.specs.Walk as f
 use Rattle.micro_sketch.specs.Sketch.{Sketch, jumped, aturned, settled, off_entry, stopped}
 use Rattle.micro_sketch.specs.Stands.{Env, Shaped, Goes, Reaches, Tells, PortFits, conc, scene, tick}
 use Rattle.microcode_rom.specs.declared.TheConstants.{WORDS, RAISE}
-use Rattle.micro_sketch.proofs.OnChip.{first, second}
 use Rattle.micro_sketch.proofs.Counts.{Keeps}
 use Rattle.micro_sketch.proofs.Boundaries.{Same, around, settled_end}
 use Rattle.micro_sketch.proofs.Cycles.{lead_runs, ran_scene, scene_runs, stalls_same, step_at, ticked_port}
@@ -46,7 +46,7 @@ turned_left false s y a l = ap (λ k. used k s.left) a ∙ ap (λ g. used y.mpc 
 pub turned_fine : (b : Bool) (s : Walker) (y : Sketch) → s.at ≡ y.mpc → s.left ≡ y.left → s.fine ≡ true → (aturned b y).fine ≡ true → (turned b s).fine ≡ true
 turned_fine true s y a l f g = f
 turned_fine false s y a l f g =
-    ap (λ k. nat_lt 0 (s.left k) && s.fine) a ∙ ap (λ (h : ℕ → ℕ). nat_lt 0 (h y.mpc) && s.fine) l ∙ ap (λ b. b && s.fine) (first (nat_lt 0 (y.left y.mpc)) y.fine g) ∙ f
+    ap (λ k. nat_lt 0 (s.left k) && s.fine) a ∙ ap (λ (h : ℕ → ℕ). nat_lt 0 (h y.mpc) && s.fine) l ∙ ap (λ b. b && s.fine) ((and_parts (nat_lt 0 (y.left y.mpc)) y.fine g).0) ∙ f
 
 pub turned_rest : (b : Bool) (s : Walker) → ((turned b s).clock ≡ s.clock) × ((turned b s).port ≡ s.port)
 turned_rest true s = (refl, refl)
@@ -90,7 +90,7 @@ branch_step n x y e m true to nd p d w q h g k sp f =
     }
   where
     was_jumped_turned : (b : Bool) (to : ℕ) (y : Sketch) → (settled (record (aturned b y) { mpc = to })).fine ≡ true → (aturned b y).fine ≡ true
-    was_jumped_turned b to y f = second (stopped (record (aturned b y) { mpc = to }) || off_entry (record (aturned b y) { mpc = to })) (aturned b y).fine f
+    was_jumped_turned b to y f = (and_parts (stopped (record (aturned b y) { mpc = to }) || off_entry (record (aturned b y) { mpc = to })) (aturned b y).fine f).1
 branch_step n x y e m false to nd p d w q h g k sp f =
     let z = jumped false to y in
     record {

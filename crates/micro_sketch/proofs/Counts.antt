@@ -1,5 +1,6 @@
 -- What a step of the sketch counts, and that one that ends well began well.
 use Rattle.std.proofs.Common.{◌^◌, ◌≡◌, ℕ, suc, zero, ◌+◌, ◌-◌, ◌&&◌, ◌||◌, ◌==◌, length, ◌%◌, Bool, true, false, List, [], ◌∷◌, ◌++◌, get_or, nat_lt, if◌then◌else◌, refl, ap, Option, Some, None}
+use Rattle.std.proofs.lemmas.Bool.{and_parts}
 use Rattle.micro_isa.specs.declared.Body.{Body}
 use Rattle.micro_isa.specs.declared.Body.TheVariants.{Plain, Stm, Ldm, Ldi, Bz, Bnz, Jmp}
 use Rattle.micro_isa.specs.declared.Micro.{Micro}
@@ -14,7 +15,6 @@ use Rattle.jop_core.specs.declared.halt.Halt.TheVariants.{Ended, Uncaught}
 use Rattle.jop_core.specs.Scene.{left_over, first_of, rest_of}
 use Rattle.micro_sketch.specs.Sketch.{Sketch, apush, apop, need, inside, astm, aplain, astep, exec, lead, opd_byte, jumped, same_bool, is_guessed, first_or, rest_if, settled, off_entry, off_raise, aturned, can_find, stopped, goes, going}
 use Rattle.microcode_rom.specs.declared.TheConstants.{WORDS, CONSTANTS}
-use Rattle.micro_sketch.proofs.OnChip.{second}
 
 -- what a microinstruction mostly keeps
 pub record Part : Type 0 where
@@ -178,7 +178,7 @@ pub was_pop : (x : Sketch) → (apop x).fine ≡ true → x.fine ≡ true
 was_pop x f = was_pop_on x.under x f
 
 pub was_settled : (x : Sketch) → (settled x).fine ≡ true → x.fine ≡ true
-was_settled x f = second (stopped x || off_entry x) x.fine f
+was_settled x f = (and_parts (stopped x || off_entry x) x.fine f).1
 
 pub was_plain : (op : Operation) (guess : Bool) (x : Sketch) → (aplain op guess x).fine ≡ true → x.fine ≡ true
 was_plain Nop guess x f = f
@@ -198,37 +198,37 @@ was_plain Sltu guess x f = was_pop x f
 was_plain Ldo guess x f = was_push x x.operand f
 was_plain Ldo8 guess x f = was_push x (sign_extended8 x.operand) f
 was_plain Ldo16 guess x f = was_push x (sign_extended16 x.operand) f
-was_plain Ldl guess x f = was_push x (get_or x.deep ((x.vp + x.operand) - 64) 0) (second (inside (x.vp + x.operand) x) (apush (get_or x.deep ((x.vp + x.operand) - 64) 0) x).fine f)
-was_plain Stl guess x f = was_pop x (second (inside (x.vp + x.operand) x) (apop x).fine f)
-was_plain Ld0 guess x f = was_push x (get_or x.deep (x.vp - 64) 0) (second (inside x.vp x) (apush (get_or x.deep (x.vp - 64) 0) x).fine f)
-was_plain Ld1 guess x f = was_push x (get_or x.deep ((x.vp + 1) - 64) 0) (second (inside (x.vp + 1) x) (apush (get_or x.deep ((x.vp + 1) - 64) 0) x).fine f)
-was_plain Ld2 guess x f = was_push x (get_or x.deep ((x.vp + 2) - 64) 0) (second (inside (x.vp + 2) x) (apush (get_or x.deep ((x.vp + 2) - 64) 0) x).fine f)
-was_plain Ld3 guess x f = was_push x (get_or x.deep ((x.vp + 3) - 64) 0) (second (inside (x.vp + 3) x) (apush (get_or x.deep ((x.vp + 3) - 64) 0) x).fine f)
-was_plain St0 guess x f = was_pop x (second (inside x.vp x) (apop x).fine f)
-was_plain St1 guess x f = was_pop x (second (inside (x.vp + 1) x) (apop x).fine f)
-was_plain St2 guess x f = was_pop x (second (inside (x.vp + 2) x) (apop x).fine f)
-was_plain St3 guess x f = was_pop x (second (inside (x.vp + 3) x) (apop x).fine f)
+was_plain Ldl guess x f = was_push x (get_or x.deep ((x.vp + x.operand) - 64) 0) ((and_parts (inside (x.vp + x.operand) x) (apush (get_or x.deep ((x.vp + x.operand) - 64) 0) x).fine f).1)
+was_plain Stl guess x f = was_pop x ((and_parts (inside (x.vp + x.operand) x) (apop x).fine f).1)
+was_plain Ld0 guess x f = was_push x (get_or x.deep (x.vp - 64) 0) ((and_parts (inside x.vp x) (apush (get_or x.deep (x.vp - 64) 0) x).fine f).1)
+was_plain Ld1 guess x f = was_push x (get_or x.deep ((x.vp + 1) - 64) 0) ((and_parts (inside (x.vp + 1) x) (apush (get_or x.deep ((x.vp + 1) - 64) 0) x).fine f).1)
+was_plain Ld2 guess x f = was_push x (get_or x.deep ((x.vp + 2) - 64) 0) ((and_parts (inside (x.vp + 2) x) (apush (get_or x.deep ((x.vp + 2) - 64) 0) x).fine f).1)
+was_plain Ld3 guess x f = was_push x (get_or x.deep ((x.vp + 3) - 64) 0) ((and_parts (inside (x.vp + 3) x) (apush (get_or x.deep ((x.vp + 3) - 64) 0) x).fine f).1)
+was_plain St0 guess x f = was_pop x ((and_parts (inside x.vp x) (apop x).fine f).1)
+was_plain St1 guess x f = was_pop x ((and_parts (inside (x.vp + 1) x) (apop x).fine f).1)
+was_plain St2 guess x f = was_pop x ((and_parts (inside (x.vp + 2) x) (apop x).fine f).1)
+was_plain St3 guess x f = was_pop x ((and_parts (inside (x.vp + 3) x) (apop x).fine f).1)
 was_plain Ldvp guess x f = was_push x x.vp f
-was_plain Stvp guess x f = was_pop x (second (inside x.top x) (apop x).fine f)
+was_plain Stvp guess x f = was_pop x ((and_parts (inside x.top x) (apop x).fine f).1)
 was_plain Ldsp guess x f = was_push x (length x.deep + 63 + length x.under) f
 was_plain Stsp guess x f = cc
 was_plain Ldjpc guess x f = was_push x x.jpc f
 was_plain Stjpc guess x f = was_pop x f
 was_plain Star guess x f = was_pop x f
-was_plain Ldmi guess x f = was_push x (get_or x.deep (x.ar - 64) 0) (second (inside x.ar x) (apush (get_or x.deep (x.ar - 64) 0) x).fine f)
-was_plain Stmi guess x f = was_pop x (second (inside x.ar x) (apop x).fine f)
+was_plain Ldmi guess x f = was_push x (get_or x.deep (x.ar - 64) 0) ((and_parts (inside x.ar x) (apush (get_or x.deep (x.ar - 64) 0) x).fine f).1)
+was_plain Stmi guess x f = was_pop x ((and_parts (inside x.ar x) (apop x).fine f).1)
 was_plain Stmra guess x f = was_pop x f
 was_plain Stmwa guess x f = was_pop x f
 was_plain Stmwd guess x f = was_pop x f
-was_plain Wait guess x f = second (off_entry x && off_raise x) x.fine f
+was_plain Wait guess x f = (and_parts (off_entry x && off_raise x) x.fine f).1
 was_plain Ldmrd guess x f = was_push x x.value f
-was_plain Stbc guess x f = was_pop x (second (can_find x x.top && (if x.busy then false else true)) (apop x).fine f)
+was_plain Stbc guess x f = was_pop x ((and_parts (can_find x x.top && (if x.busy then false else true)) (apop x).fine f).1)
 was_plain Jbr guess x f = was_pop x f
 was_plain Jbg guess x f = f
 was_plain Ldin guess x f = was_push x (input_word (first_of x.answers)) f
 was_plain Stout guess x f = was_pop x f
-was_plain Hltb guess x f = second (same_bool guess (x.vp == 64)) x.fine f
-was_plain Hltu guess x f = second (same_bool guess (x.vp == 64)) x.fine f
+was_plain Hltb guess x f = (and_parts (same_bool guess (x.vp == 64)) x.fine f).1
+was_plain Hltu guess x f = (and_parts (same_bool guess (x.vp == 64)) x.fine f).1
 
 pub was_opd : (b : Bool) (x : Sketch) → (opd_byte b x).fine ≡ true → x.fine ≡ true
 was_opd false x f = f
@@ -240,7 +240,7 @@ was_lead true x f = f
 
 pub was_turned : (b : Bool) (x : Sketch) → (aturned b x).fine ≡ true → x.fine ≡ true
 was_turned true x f = f
-was_turned false x f = second (nat_lt 0 (x.left x.mpc)) x.fine f
+was_turned false x f = (and_parts (nat_lt 0 (x.left x.mpc)) x.fine f).1
 
 pub was_jumped : (b : Bool) (to : ℕ) (x : Sketch) → (jumped b to x).fine ≡ true → x.fine ≡ true
 was_jumped false to x f = was_settled (record x { mpc = (x.mpc + 1) % 2048 }) f
@@ -251,11 +251,11 @@ was_flags a b x f = was_opd b x (was_lead a (opd_byte b x) f)
 
 pub was_body : (b : Body) (opd nxt guess : Bool) (x : Sketch) → (astep (Some (record { body = b; opd = opd; nxt = nxt })) guess x).fine ≡ true → x.fine ≡ true
 was_body (Plain code) opd nxt guess x f = was_plain (operation_of code) guess x (was_flags nxt opd (aplain (operation_of code) guess x) f)
-was_body (Stm k) opd nxt guess x f = was_pop x (second (nat_lt k 32) (astm k x).fine (was_flags nxt opd (need (nat_lt k 32) (astm k x)) f))
-was_body (Ldm k) opd nxt guess x f = was_push x (get_or x.low k 0) (second (nat_lt k 32) (apush (get_or x.low k 0) x).fine (was_flags nxt opd (need (nat_lt k 32) (apush (get_or x.low k 0) x)) f))
-was_body (Ldi k) opd nxt guess x f = was_push x (get_or CONSTANTS k 0) (second (nat_lt k 32) (apush (get_or CONSTANTS k 0) x).fine (was_flags nxt opd (need (nat_lt k 32) (apush (get_or CONSTANTS k 0) x)) f))
-was_body (Bz to) opd nxt guess x f = was_pop x (second (same_bool guess (x.top == 0)) (apop x).fine (was_jumped guess to (need (same_bool guess (x.top == 0)) (apop x)) f))
-was_body (Bnz to) opd nxt guess x f = was_pop x (second (same_bool guess (nat_lt 0 x.top)) (apop x).fine (was_jumped guess to (need (same_bool guess (nat_lt 0 x.top)) (apop x)) f))
+was_body (Stm k) opd nxt guess x f = was_pop x ((and_parts (nat_lt k 32) (astm k x).fine (was_flags nxt opd (need (nat_lt k 32) (astm k x)) f)).1)
+was_body (Ldm k) opd nxt guess x f = was_push x (get_or x.low k 0) ((and_parts (nat_lt k 32) (apush (get_or x.low k 0) x).fine (was_flags nxt opd (need (nat_lt k 32) (apush (get_or x.low k 0) x)) f)).1)
+was_body (Ldi k) opd nxt guess x f = was_push x (get_or CONSTANTS k 0) ((and_parts (nat_lt k 32) (apush (get_or CONSTANTS k 0) x).fine (was_flags nxt opd (need (nat_lt k 32) (apush (get_or CONSTANTS k 0) x)) f)).1)
+was_body (Bz to) opd nxt guess x f = was_pop x ((and_parts (same_bool guess (x.top == 0)) (apop x).fine (was_jumped guess to (need (same_bool guess (x.top == 0)) (apop x)) f)).1)
+was_body (Bnz to) opd nxt guess x f = was_pop x ((and_parts (same_bool guess (nat_lt 0 x.top)) (apop x).fine (was_jumped guess to (need (same_bool guess (nat_lt 0 x.top)) (apop x)) f)).1)
 was_body (Jmp to) opd nxt guess x f = was_jumped true to x f
 
 pub was_step : (m : Option Micro) (guess : Bool) (x : Sketch) → (astep m guess x).fine ≡ true → x.fine ≡ true
@@ -266,5 +266,4 @@ pub was_exec : (k : ℕ) (gs : List Bool) (x : Sketch) → (exec k gs x).fine �
 was_exec zero gs x f = f
 was_exec (suc k) gs x f =
     let m = micro_of (get_or WORDS x.mpc 0) in
-    second (goes x) x.fine
-    (was_step m (first_or gs) (going x) (was_exec k (rest_if (is_guessed m) gs) (astep m (first_or gs) (going x)) f))
+    (and_parts (goes x) x.fine (was_step m (first_or gs) (going x) (was_exec k (rest_if (is_guessed m) gs) (astep m (first_or gs) (going x)) f))).1

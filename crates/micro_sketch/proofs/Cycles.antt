@@ -3,8 +3,7 @@ use Rattle.std.proofs.Common.{◌≡◌, ℕ, ◌+◌, ◌%◌, ◌&&◌, ◌||�
 use Rattle.micro_isa.specs.declared.Micro.{Micro}
 use Rattle.micro_isa.specs.Words.{micro_of}
 use Rattle.jop_core.specs.State.{State}
-use Rattle.jop_core.specs.Cycle.{cycle_of, performed, with_nxt, with_opd, waits, ran, is_running, output_of, body_asks, puts}
-use Rattle.jop_core.proofs.OneCycle.{cycle_of-here, output_of-here, asks_input-here}
+use Rattle.jop_core.specs.Cycle.{cycle_of, performed, with_nxt, with_opd, waits, ran, is_running, output_of, asks_input, asks, body_asks, puts}
 use Rattle.jop_core.specs.declared.halt.Halt.{Halt}
 use Rattle.jop_core.specs.declared.halt.Halt.TheVariants.{Running, Ended, Uncaught}
 use Rattle.jop_core.specs.Scene.{Scene, next_scene, given, left_over}
@@ -22,7 +21,8 @@ ticked_port false e h = omega arith
 
 -- one cycle of a machine that hasn't halted
 pub cycle_runs : (n : ℕ) (x : Sketch) (e : Env) (m : Micro) (input : Option ℕ) → micro_of (get_or WORDS x.mpc 0) ≡ Some m → cycle_of input (conc n x e) ≡ ran input (Some m) (conc n x (tick e))
-cycle_runs n x e m input d = cycle_of-here (conc n x e) (get_or WORDS x.mpc 0) (Some m) input (omega arith) refl (sym d)
+unfolding cycle_of
+cycle_runs n x e m input d = ap (λ (o : Option Micro). ran input o (conc n x (tick e))) d
 
 -- the scene after a cycle that runs its word
 abbrev pub ran_scene : ℕ → Sketch → Env → Micro → Scene
@@ -32,6 +32,14 @@ ran_scene n x e m = record {
   output = puts (Some m) x.top ++ x.output;
 }
 
+asked_is : (n : ℕ) (x : Sketch) (e : Env) (m : Micro) → micro_of (get_or WORDS x.mpc 0) ≡ Some m → asks_input (conc n x e) ≡ body_asks m.body
+unfolding asks_input
+asked_is n x e m d = ap (λ (o : Option Micro). asks o) d
+
+put_is : (n : ℕ) (x : Sketch) (e : Env) (m : Micro) → micro_of (get_or WORDS x.mpc 0) ≡ Some m → output_of (conc n x e) ≡ puts (Some m) x.top
+unfolding output_of
+put_is n x e m d = ap (λ (o : Option Micro). puts o x.top) d
+
 pub next_is : (n : ℕ) (x : Sketch) (e : Env) (m : Micro) → micro_of (get_or WORDS x.mpc 0) ≡ Some m →
     next_scene (scene n x e) ≡ record {
       state = ran (given (body_asks m.body) x.answers) (Some m) (conc n x (tick e));
@@ -39,8 +47,8 @@ pub next_is : (n : ℕ) (x : Sketch) (e : Env) (m : Micro) → micro_of (get_or 
       output = puts (Some m) x.top ++ x.output;
     }
 next_is n x e m d =
-    let asked = asks_input-here (conc n x e) (get_or WORDS x.mpc 0) (Some m) (omega arith) refl (sym d) in
-    let put = output_of-here (conc n x e) (get_or WORDS x.mpc 0) (Some m) x.top (omega arith) refl (sym d) refl in
+    let asked = asked_is n x e m d in
+    let put = put_is n x e m d in
     ap (λ b. record { state = cycle_of (given b x.answers) (conc n x e); answers = left_over b x.answers; output = output_of (conc n x e) ++ x.output }) asked
     ∙ ap (λ (s : State). record { state = s; answers = left_over (body_asks m.body) x.answers; output = output_of (conc n x e) ++ x.output }) (cycle_runs n x e m (given (body_asks m.body) x.answers) d)
     ∙ ap (λ (o : List ℕ). record { state = ran (given (body_asks m.body) x.answers) (Some m) (conc n x (tick e)); answers = left_over (body_asks m.body) x.answers; output = o ++ x.output }) put

@@ -22,6 +22,5 @@ pub mod Stepping
 pub mod FirstBoundaries
 pub mod Rowing
 pub mod Making
-pub mod SmallCosts
+pub mod Breaking
 pub mod RowSteps
-pub mod Operands

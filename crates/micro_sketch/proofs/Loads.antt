@@ -1,5 +1,6 @@
 -- Look-ups of the method cache, and the stalls of its loads.
 use Rattle.std.proofs.Common.{◌^◌, ◌≡◌, ℕ, suc, ◌+◌, ◌-◌, ◌*◌, ◌%◌, ◌&&◌, Bool, true, false, List, [], ◌∷◌, ◌++◌, get_or, nat_lt, if◌then◌else◌, refl, sym, ap, ◌∙◌, subst, arith, Option, Some, None}
+use Rattle.std.proofs.lemmas.Bool.{and_parts}
 use Rattle.micro_isa.specs.declared.Body.TheVariants.{Plain}
 use Rattle.micro_isa.specs.declared.Micro.{Micro}
 use Rattle.micro_isa.specs.Operations.{operation_of}
@@ -14,7 +15,7 @@ use Rattle.micro_flow.specs.Walk.{Other, kind_of, Walker, onward, timed, stops, 
 use Rattle.micro_sketch.specs.Sketch.{Sketch, apop, aplain, lead, opd_byte, missed, can_find}
 use Rattle.micro_sketch.specs.Stands.{Env, Shaped, Goes, Reaches, Tells, PortFits, conc, scene, tick, stalls, stalls_for}
 use Rattle.microcode_rom.specs.declared.TheConstants.{WORDS}
-use Rattle.micro_sketch.proofs.OnChip.{first, second, pop_sim}
+use Rattle.micro_sketch.proofs.OnChip.{pop_sim}
 use Rattle.micro_sketch.proofs.Boundaries.{around, flags_end, flags_fine, flags_keep, flags_shape, off_is}
 use Rattle.micro_sketch.proofs.Cycles.{lead_runs, onward_clock, opd_halt, opd_left, opd_mpc, scene_runs, stalls_same, step_at}
 use Rattle.micro_sketch.proofs.Stalls.{stall_run, stalled_scene}
@@ -45,18 +46,15 @@ pub record Loaded (n : ℕ) (x : Sketch) (e : Env) : Type 0 where
 
 -- a hit and a miss, as the sketch counts them
 pub found_same : (b : Bool) (m : ℕ) (s : State) → s.stall ≡ 0 → let k : ℕ = if b then 0 else 1 in let w = code_words s.port.words m in
-    looked_up b m s ≡ record s { method = m; hits = s.hits + (1 - k); misses = s.misses + k; stall = stalls_for k (k * w) s.port.read; cache = if b then s.cache else loaded m (code_of s m) s.cache }
+    looked_up b m s ≡ record s { method = m; hits = if b then (s.hits + 1) % 2 ^ 64 else s.hits; misses = if b then s.misses else (s.misses + 1) % 2 ^ 64; stall = stalls_for k (k * w) s.port.read; cache = if b then s.cache else loaded m (code_of s m) s.cache }
 found_same true m s z =
     let w = code_words s.port.words m in
-    let a : s.misses ≡ s.misses + 0 = omega arith in
     let c : s.stall ≡ stalls_for 0 (0 * w) s.port.read = z ∙ omega arith in
-    ap (λ (i : ℕ). record s { method = m; hits = s.hits + 1; misses = i }) a ∙ ap (λ (i : ℕ). record s { method = m; hits = s.hits + 1; misses = s.misses + 0; stall = i }) c
+    ap (λ (i : ℕ). record s { method = m; hits = (s.hits + 1) % 2 ^ 64; stall = i }) c
 found_same false m s z =
     let w = code_words s.port.words m in
-    let a : s.hits ≡ s.hits + 0 = omega arith in
     let c : load_stall s.port w ≡ stalls_for 1 (1 * w) s.port.read = ap (λ i. 4 + i * (2 + s.port.read)) (let q : w ≡ 1 * w = omega arith in q) in
-    ap (λ (i : ℕ). record s { method = m; misses = s.misses + 1; stall = load_stall s.port w; cache = loaded m (code_of s m) s.cache; hits = i }) a
-    ∙ ap (λ (i : ℕ). record s { method = m; misses = s.misses + 1; stall = i; cache = loaded m (code_of s m) s.cache; hits = s.hits + 0 }) c
+    ap (λ (i : ℕ). record s { method = m; misses = (s.misses + 1) % 2 ^ 64; stall = i; cache = loaded m (code_of s m) s.cache }) c
 
 pub stbc_on : (us : List ℕ) (n : ℕ) (x : Sketch) (e : Env) → let y = record x { under = us } in Shaped n y → (aplain Stbc false y).fine ≡ true → Loaded n y e
 stbc_on [] n x e h f = absurd (no (can_find x x.top && (if x.busy then false else true)) f)
@@ -68,14 +66,14 @@ stbc_on (c ∷ cs) n x e h f =
     let y = record x { under = c ∷ cs } in
     let l = can_find x x.top in
     let free = if x.busy then false else true in
-    let g = first (l && free) x.fine f in
-    let d = pop_sim n y e h (second (l && free) x.fine f) in
+    let g = (and_parts (l && free) x.fine f).0 in
+    let d = pop_sim n y e h ((and_parts (l && free) x.fine f).1) in
     record {
-      same = ap (λ b. if b then looked_up (is_cached x.top x.cache) x.top (popped (conc n y e)) else popped (conc n y e)) (first l free g)
+      same = ap (λ b. if b then looked_up (is_cached x.top x.cache) x.top (popped (conc n y e)) else popped (conc n y e)) ((and_parts l free g).0)
           ∙ ap (λ (s : State). looked_up (is_cached x.top x.cache) x.top s) d.same ∙ found_same (is_cached x.top x.cache) x.top (conc n (apop y) e) refl;
       shape = record { low = d.shape.low; total = d.shape.total };
-      was = second (l && free) x.fine f;
-      idle = off_is x.busy (second l free g);
+      was = (and_parts (l && free) x.fine f).1;
+      idle = off_is x.busy ((and_parts l free g).1);
       loads = refl;
       words = refl;
       left = refl;

@@ -1,5 +1,6 @@
 -- The on-chip words of a sketch.
-use Rattle.std.proofs.Common.{◌≡◌, ℕ, suc, ◌+◌, ◌-◌, ◌%◌, ◌<◌, ◌≤◌, Bool, true, false, List, [], ◌∷◌, ◌++◌, length, get_or, slice_set, refl, sym, ap, ◌∙◌, arith, append_assoc, length-append, ◌&&◌, nat_lt, if◌then◌else◌, ltb-true}
+use Rattle.std.proofs.Common.{◌≡◌, ℕ, suc, ◌+◌, ◌-◌, ◌%◌, ◌<◌, ◌≤◌, true, false, List, [], ◌∷◌, ◌++◌, length, get_or, slice_set, refl, sym, ap, ◌∙◌, arith, append_assoc, length-append, nat_lt, if◌then◌else◌, ltb-true}
+use Rattle.std.proofs.lemmas.Bool.{and_parts}
 use mathlib.Core.List.{reverse_aux, reverse}
 use Rattle.std.proofs.Math.ListN.{set, length-set, length-reverse_aux, get_or-append}
 use Rattle.std.proofs.Math.Seq.{set-append_seam, get_or-append_seam, get_or-append_right}
@@ -100,14 +101,6 @@ pub pop_sim : (n : ℕ) (x : Sketch) (e : Env) →
     Shaped n x → (apop x).fine ≡ true → Does n x (apop x) e (popped (conc n x e))
 pop_sim n x e h f = pop_on n x.under x e h f
 
-pub first : (a b : Bool) → (a && b) ≡ true → a ≡ true
-first true b e = refl
-first false b e = cc
-
-pub second : (a b : Bool) → (a && b) ≡ true → b ≡ true
-second true b e = e
-second false b e = cc
-
 -- reading and writing the words 0 to 31
 pub read_low : (n : ℕ) (x : Sketch) (e : Env) (k : ℕ) → Shaped n x → k < 32 → word_in k (conc n x e) ≡ get_or x.low k 0
 read_low n x e k h b =
@@ -141,8 +134,8 @@ inside_low k e = grind (arith, nat_tests, e)
 pub read_deep : (n : ℕ) (x : Sketch) (e : Env) (k : ℕ) → Shaped n x → inside k x ≡ true → word_in k (conc n x e) ≡ get_or x.deep (k - 64) 0
 read_deep n x e k h b =
     let total = h.total in
-    let lo : 64 ≤ k = inside_low k (first (if nat_lt k 64 then false else true) (nat_lt k (64 + length x.deep)) b) in
-    let hi : k < 64 + length x.deep = ltb-true k (64 + length x.deep) (second (if nat_lt k 64 then false else true) (nat_lt k (64 + length x.deep)) b) in
+    let lo : 64 ≤ k = inside_low k ((and_parts (if nat_lt k 64 then false else true) (nat_lt k (64 + length x.deep)) b).0) in
+    let hi : k < 64 + length x.deep = ltb-true k (64 + length x.deep) ((and_parts (if nat_lt k 64 then false else true) (nat_lt k (64 + length x.deep)) b).1) in
     let lt : k < n = omega arith in
     let l2 : k < length (base x) = omega (arith, length_base x h.low) in
     let l3 : length x.low ≤ k = omega (arith, h.low) in
@@ -172,8 +165,8 @@ write_low n x e k v h b =
 pub write_deep : (n : ℕ) (x : Sketch) (e : Env) (k v : ℕ) → Shaped n x → inside k x ≡ true → put_in k v (conc n x e) ≡ conc n (record x { deep = slice_set x.deep (k - 64) v }) e
 write_deep n x e k v h b =
     let total = h.total in
-    let lo : 64 ≤ k = inside_low k (first (if nat_lt k 64 then false else true) (nat_lt k (64 + length x.deep)) b) in
-    let hi : k < 64 + length x.deep = ltb-true k (64 + length x.deep) (second (if nat_lt k 64 then false else true) (nat_lt k (64 + length x.deep)) b) in
+    let lo : 64 ≤ k = inside_low k ((and_parts (if nat_lt k 64 then false else true) (nat_lt k (64 + length x.deep)) b).0) in
+    let hi : k < 64 + length x.deep = ltb-true k (64 + length x.deep) ((and_parts (if nat_lt k 64 then false else true) (nat_lt k (64 + length x.deep)) b).1) in
     let lt : k < n = omega arith in
     let l2 : k < length (base x) = omega (arith, length_base x h.low) in
     let l3 : 32 ≤ k = omega arith in

@@ -1,5 +1,6 @@
 -- The microinstructions of one cycle.
 use Rattle.std.proofs.Common.{◌≡◌, ℕ, ◌+◌, ◌-◌, ◌<◌, ◌&&◌, ◌||◌, Bool, true, false, get_or, nat_lt, refl, sym, ap, ◌∙◌, subst, Some, ltb-true}
+use Rattle.std.proofs.lemmas.Bool.{and_parts}
 use Rattle.micro_isa.specs.declared.Body.TheVariants.{Plain}
 use Rattle.micro_isa.specs.declared.Micro.{Micro}
 use Rattle.micro_isa.specs.Operations.{operation_of}
@@ -17,7 +18,7 @@ use Rattle.micro_flow.specs.Walk.{Kind, Waits, Reads, Writes, Halts, Other, kind
 use Rattle.micro_sketch.specs.Sketch.{Sketch, apush, apop, need, astm, aplain, lead, opd_byte}
 use Rattle.micro_sketch.specs.Stands.{Env, Shaped, Does, Goes, Reaches, PortFits, conc, tick, env_after, env_kind, constants}
 use Rattle.microcode_rom.specs.declared.TheConstants.{WORDS, CONSTANTS}
-use Rattle.micro_sketch.proofs.OnChip.{fetched, put_in, first, second, push_sim, pop_sim, read_low, read_constant, write_low}
+use Rattle.micro_sketch.proofs.OnChip.{fetched, put_in, push_sim, pop_sim, read_low, read_constant, write_low}
 use Rattle.micro_sketch.proofs.Plain.{plain_sim}
 use Rattle.micro_sketch.proofs.Counts.{counts_plain, busy_after, halt_after}
 use Rattle.micro_sketch.proofs.Boundaries.{flags_fine}
@@ -25,8 +26,8 @@ use Rattle.micro_sketch.proofs.Cycles.{Timed, ended, one_cycle, ticked_port}
 
 pub stm_sim : (n : ℕ) (x : Sketch) (e : Env) (k : ℕ) → Shaped n x → (need (nat_lt k 32) (astm k x)).fine ≡ true → Does n x (need (nat_lt k 32) (astm k x)) e (stored k (conc n x e))
 stm_sim n x e k h f =
-    let lt : k < 32 = ltb-true k 32 (first (nat_lt k 32) (astm k x).fine f) in
-    let d = pop_sim n x e h (second (nat_lt k 32) (astm k x).fine f) in
+    let lt : k < 32 = ltb-true k 32 ((and_parts (nat_lt k 32) (astm k x).fine f).0) in
+    let d = pop_sim n x e h ((and_parts (nat_lt k 32) (astm k x).fine f).1) in
     record {
       same = ap (λ (s : State). put_in k x.top s) d.same ∙ write_low n (apop x) e k x.top d.shape lt;
       shape = record { low = length-set (apop x).low k x.top ∙ d.shape.low; total = d.shape.total };
@@ -35,8 +36,8 @@ stm_sim n x e k h f =
 
 pub ldm_sim : (n : ℕ) (x : Sketch) (e : Env) (k : ℕ) → Shaped n x → (need (nat_lt k 32) (apush (get_or x.low k 0) x)).fine ≡ true → Does n x (need (nat_lt k 32) (apush (get_or x.low k 0) x)) e (fetched k (conc n x e))
 ldm_sim n x e k h f =
-    let lt : k < 32 = ltb-true k 32 (first (nat_lt k 32) (apush (get_or x.low k 0) x).fine f) in
-    let d = push_sim n x e (get_or x.low k 0) h (second (nat_lt k 32) (apush (get_or x.low k 0) x).fine f) in
+    let lt : k < 32 = ltb-true k 32 ((and_parts (nat_lt k 32) (apush (get_or x.low k 0) x).fine f).0) in
+    let d = push_sim n x e (get_or x.low k 0) h ((and_parts (nat_lt k 32) (apush (get_or x.low k 0) x).fine f).1) in
     record { same = ap (λ v. pushed v (conc n x e)) (read_low n x e k h lt) ∙ d.same; shape = record { low = d.shape.low; total = d.shape.total }; was = d.was }
 
 pub constants_are : (k : ℕ) → get_or constants k 0 ≡ get_or CONSTANTS k 0
@@ -45,8 +46,8 @@ constants_are k = refl
 
 pub ldi_sim : (n : ℕ) (x : Sketch) (e : Env) (k : ℕ) → Shaped n x → (need (nat_lt k 32) (apush (get_or CONSTANTS k 0) x)).fine ≡ true → Does n x (need (nat_lt k 32) (apush (get_or CONSTANTS k 0) x)) e (fetched (32 + k) (conc n x e))
 ldi_sim n x e k h f =
-    let lt : k < 32 = ltb-true k 32 (first (nat_lt k 32) (apush (get_or CONSTANTS k 0) x).fine f) in
-    let d = push_sim n x e (get_or CONSTANTS k 0) h (second (nat_lt k 32) (apush (get_or CONSTANTS k 0) x).fine f) in
+    let lt : k < 32 = ltb-true k 32 ((and_parts (nat_lt k 32) (apush (get_or CONSTANTS k 0) x).fine f).0) in
+    let d = push_sim n x e (get_or CONSTANTS k 0) h ((and_parts (nat_lt k 32) (apush (get_or CONSTANTS k 0) x).fine f).1) in
     record { same = ap (λ v. pushed v (conc n x e)) (read_constant n x e k h lt ∙ constants_are k) ∙ d.same; shape = record { low = d.shape.low; total = d.shape.total }; was = d.was }
 
 pub kind_clock : (k : Kind) (e : Env) → (env_kind k e).clock ≡ e.clock

@@ -1,5 +1,6 @@
 -- Each plain microinstruction does to the machine what it does to the sketch.
 use Rattle.std.proofs.Common.{◌^◌, None, ◌≡◌, ℕ, ◌+◌, ◌-◌, ◌%◌, ◌<◌, ◌&&◌, ◌==◌, Bool, true, false, List, [], ◌∷◌, length, get_or, slice_set, nat_lt, if◌then◌else◌, refl, ap, ◌∙◌, arith, ltb-true}
+use Rattle.std.proofs.lemmas.Bool.{and_parts}
 use Rattle.std.proofs.Math.ListN.{length-set}
 use Rattle.std.proofs.Math.Nat.{mod-eq_of_lt}
 use Rattle.micro_isa.specs.declared.operation.Operation.{Operation}
@@ -14,7 +15,7 @@ use Rattle.std.specs.declared.option.Option.{Option}
 use Rattle.jop_core.specs.Scene.{given, first_of}
 use Rattle.micro_sketch.specs.Sketch.{Sketch, apush, apop, inside, aload, astore, abinary, aplain, atarget, off_entry, off_raise, same_bool, ahalt}
 use Rattle.micro_sketch.specs.Stands.{Env, Shaped, Does, conc, port_of, env_after}
-use Rattle.micro_sketch.proofs.OnChip.{fetched, put_in, push_sim, pop_sim, first, second, read_deep, write_deep, length_stack}
+use Rattle.micro_sketch.proofs.OnChip.{fetched, put_in, push_sim, pop_sim, read_deep, write_deep, length_stack}
 
 -- what a pop is followed by, where it leaves the stack as it is
 pub then_set : (n : ℕ) (x : Sketch) (e e' : Env) (t : State → State) (u : Sketch → Sketch) → ((y : Sketch) → t (conc n y e) ≡ conc n (u y) e') → Shaped n (u (apop x)) →
@@ -23,8 +24,8 @@ then_set n x e e' t u h s d = record { same = ap t d.same ∙ h (apop x); shape 
 
 pub load_sim : (n : ℕ) (x : Sketch) (e : Env) (k : ℕ) → Shaped n x → (aload k x).fine ≡ true → Does n x (aload k x) e (fetched k (conc n x e))
 load_sim n x e k h f =
-    let i : inside k x ≡ true = first (inside k x) (apush (get_or x.deep (k - 64) 0) x).fine f in
-    let d = push_sim n x e (get_or x.deep (k - 64) 0) h (second (inside k x) (apush (get_or x.deep (k - 64) 0) x).fine f) in
+    let i : inside k x ≡ true = (and_parts (inside k x) (apush (get_or x.deep (k - 64) 0) x).fine f).0 in
+    let d = push_sim n x e (get_or x.deep (k - 64) 0) h ((and_parts (inside k x) (apush (get_or x.deep (k - 64) 0) x).fine f).1) in
     record { same = ap (λ v. pushed v (conc n x e)) (read_deep n x e k h i) ∙ d.same; shape = record { low = d.shape.low; total = d.shape.total }; was = d.was }
 
 pub shape_deep : (n : ℕ) (x : Sketch) (k v : ℕ) → Shaped n x → Shaped n (record x { deep = slice_set x.deep k v })
@@ -51,8 +52,8 @@ pub store_on : (n : ℕ) (us : List ℕ) (x : Sketch) (e : Env) (k : ℕ) → le
 store_on n [] x e k h f = absurd (no_both (inside k x) false (cc) f)
 store_on n (c ∷ cs) x e k h f =
     let y = record x { under = c ∷ cs } in
-    let i : inside k x ≡ true = first (inside k x) x.fine f in
-    let g : x.fine ≡ true = second (inside k x) x.fine f in
+    let i : inside k x ≡ true = (and_parts (inside k x) x.fine f).0 in
+    let g : x.fine ≡ true = (and_parts (inside k x) x.fine f).1 in
     let d = pop_sim n y e h g in
     let here : inside k (apop y) ≡ true = i in
     record { same = ap (λ (s : State). put_in k x.top s) d.same ∙ write_deep n (apop y) e k x.top d.shape here; shape = record { low = d.shape.low; total = (shape_deep n (apop y) (k - 64) x.top d.shape).total }; was = g }
@@ -67,7 +68,7 @@ binary_sim op n x e h f =
 
 pub ar_sim : (n : ℕ) (x : Sketch) → Shaped n x → inside x.ar x ≡ true → x.ar % n ≡ x.ar
 ar_sim n x h i =
-    let hi : x.ar < 64 + length x.deep = ltb-true x.ar (64 + length x.deep) (second (if nat_lt x.ar 64 then false else true) (nat_lt x.ar (64 + length x.deep)) i) in
+    let hi : x.ar < 64 + length x.deep = ltb-true x.ar (64 + length x.deep) ((and_parts (if nat_lt x.ar 64 then false else true) (nat_lt x.ar (64 + length x.deep)) i).1) in
     let total = h.total in
     let lt : x.ar < n = omega arith in
     mod-eq_of_lt lt
@@ -88,9 +89,9 @@ jbr_sim i n x e h f = jbr_on i x.under n x e h f
 
 pub vp_sim : (input : Option ℕ) (n : ℕ) (x : Sketch) (e : Env) → Shaped n x → (aplain Stvp false x).fine ≡ true → Does n x (aplain Stvp false x) e (operated input Stvp (conc n x e))
 vp_sim input n x e h f =
-    let i = first (inside x.top x) (apop x).fine f in
-    let d = pop_sim n x e h (second (inside x.top x) (apop x).fine f) in
-    let hi : x.top < 64 + length x.deep = ltb-true x.top (64 + length x.deep) (second (if nat_lt x.top 64 then false else true) (nat_lt x.top (64 + length x.deep)) i) in
+    let i = (and_parts (inside x.top x) (apop x).fine f).0 in
+    let d = pop_sim n x e h ((and_parts (inside x.top x) (apop x).fine f).1) in
+    let hi : x.top < 64 + length x.deep = ltb-true x.top (64 + length x.deep) ((and_parts (if nat_lt x.top 64 then false else true) (nat_lt x.top (64 + length x.deep)) i).1) in
     let total = h.total in
     let lt : x.top < n = omega arith in
     record {
@@ -107,9 +108,9 @@ same_is false false e = refl
 pub halt_sim : (outcome : Halt) (guess : Bool) (n : ℕ) (x : Sketch) (e : Env) → Shaped n x → (ahalt outcome guess x).fine ≡ true →
     Does n x (ahalt outcome guess x) e (if x.vp == 64 then record (conc n x e) { halt = outcome } else conc n x e)
 halt_sim outcome guess n x e h f = record {
-  same = ap (λ b. if b then record (conc n x e) { halt = outcome } else conc n x e) (same_is guess (x.vp == 64) (first (same_bool guess (x.vp == 64)) x.fine f)) ∙ by guess;
+  same = ap (λ b. if b then record (conc n x e) { halt = outcome } else conc n x e) (same_is guess (x.vp == 64) ((and_parts (same_bool guess (x.vp == 64)) x.fine f).0)) ∙ by guess;
   shape = record { low = h.low; total = h.total };
-  was = second (same_bool guess (x.vp == 64)) x.fine f;
+  was = (and_parts (same_bool guess (x.vp == 64)) x.fine f).1;
 }
   where
     by : (b : Bool) → (if b then record (conc n x e) { halt = outcome } else conc n x e) ≡ record (conc n x e) { halt = if b then outcome else x.halt }
@@ -153,16 +154,16 @@ plain_sim Stjpc guess n x e b h f = let d = pop_sim n x e h f in record { same =
 plain_sim Star guess n x e b h f = let d = pop_sim n x e h f in record { same = ap (λ (k : ℕ). record (popped (conc n x e)) { ar = x.top % k }) (length_stack n x h) ∙ ap (λ (s : State). record s { ar = x.top % n }) d.same; shape = record { low = d.shape.low; total = d.shape.total }; was = d.was }
 plain_sim Ldmi guess n x e b h f =
     let d = load_sim n x e x.ar h f in
-    record { same = ap (λ k. fetched k (conc n x e)) (ar_sim n x h (first (inside x.ar x) (apush (get_or x.deep (x.ar - 64) 0) x).fine f)) ∙ d.same; shape = d.shape; was = d.was }
+    record { same = ap (λ k. fetched k (conc n x e)) (ar_sim n x h ((and_parts (inside x.ar x) (apush (get_or x.deep (x.ar - 64) 0) x).fine f).0)) ∙ d.same; shape = d.shape; was = d.was }
 plain_sim Stmi guess n x e b h f =
     let d = store_sim n x e x.ar h f in
-    record { same = ap (λ k. stored k (conc n x e)) (ar_sim n x h (first (inside x.ar x) (apop x).fine f)) ∙ d.same; shape = d.shape; was = d.was }
+    record { same = ap (λ k. stored k (conc n x e)) (ar_sim n x h ((and_parts (inside x.ar x) (apop x).fine f).0)) ∙ d.same; shape = d.shape; was = d.was }
 plain_sim Stmra guess n x e b h f =
     let d = pop_sim n x e h f in
     record { same = ap (λ (s : State). record s { port = read_started x.top (port_of x e) }) d.same; shape = record { low = d.shape.low; total = d.shape.total }; was = d.was }
 plain_sim Stmwa guess n x e b h f = let d = pop_sim n x e h f in record { same = ap (λ (s : State). record s { write_address = x.top }) d.same; shape = record { low = d.shape.low; total = d.shape.total }; was = d.was }
 plain_sim Stmwd guess n x e b h f = let d = pop_sim n x e h f in record { same = ap (λ (s : State). record s { port = write_started x.write_address x.top (port_of x e) }) d.same; shape = record { low = d.shape.low; total = d.shape.total }; was = d.was }
-plain_sim Wait guess n x e b h f = record { same = refl; shape = record { low = h.low; total = h.total }; was = second (off_entry x && off_raise x) x.fine f }
+plain_sim Wait guess n x e b h f = record { same = refl; shape = record { low = h.low; total = h.total }; was = (and_parts (off_entry x && off_raise x) x.fine f).1 }
 plain_sim Ldmrd guess n x e b h f = push_sim n x e x.value h f
 plain_sim Stbc guess n x e b h f = absurd (b refl)
 plain_sim Jbr guess n x e b h f = jbr_sim None n x e h f

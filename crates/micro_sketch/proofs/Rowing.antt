@@ -5,16 +5,17 @@ use Rattle.std.proofs.lemmas.List.{length-reverse}
 use Rattle.microcode_rom.specs.declared.TheConstants.{ENTRIES, RAISE}
 use Rattle.micro_flow.specs.declared.CostParams.{CostParams}
 use Rattle.micro_flow.specs.Walk.{IsGreatest}
-use Rattle.jop_core.specs.declared.tick.Tick.TheVariants.{ReadFault, WriteFault}
 use Rattle.jop_core.specs.State.{State}
 use Rattle.jop_core.specs.Cycle.{at_boundary, asks_input, output_of, entry_of}
 use Rattle.jop_core.specs.Scene.{Scene, begun, left_over, next_scene, run, output_during}
-use Rattle.jop_core.specs.Told.{Told}
+use Rattle.jop_device.specs.Told.{Told}
 use Rattle.micro_sketch.specs.Sketch.{Sketch, exec, among}
 use Rattle.micro_sketch.specs.Stands.{Env, Shaped, Reaches, PortFits, IsDone, conc, scene, stalls}
 use Rattle.micro_sketch.specs.Laws.{StartsAt}
 use Rattle.micro_sketch.specs.Ends.{ComesToBoundary}
-use Rattle.micro_sketch.specs.Step.{Ran, IsQuiet, Arrived, Broke}
+use Rattle.micro_sketch.specs.Step.{Ran, IsQuiet, Arrived}
+use Rattle.micro_sketch.specs.Rows.{expecting}
+use Rattle.micro_sketch.specs.RowLaws.{AlwaysSilent, ReadsNothing, WritesNothing}
 use Rattle.micro_sketch.proofs.Scenes.{run-add, run-length}
 use Rattle.micro_sketch.proofs.Boundaries.{entry_among}
 use Rattle.micro_sketch.proofs.Runs.{exec_sim}
@@ -102,29 +103,17 @@ broke_before cycles m old new t0 t1 answers more ran quiet comes =
     cc)
     (below_or_from m cycles)
 
--- a sketch that expects other answers stands for the same machine
-abbrev pub expecting : List (Option ℕ) → Sketch → Sketch
-expecting answers x = record x { answers = answers }
-
--- a run from x, which puts nothing out and takes no answer
-pub record Silent (n : ℕ) (x : Sketch) (e : Env) : Type 0 where
-  pub after : Sketch
-  pub reaches : Reaches n x after e
-  pub done : IsDone after
-  pub answers : after.answers ≡ x.answers
-  pub output : after.output ≡ x.output
-
--- the fault of a call that a silent run doesn't make
-pub silent_reads_nothing : (n : ℕ) (x : Sketch) (e : Env) (old new : State) (t0 t1 : Told) → old ≡ conc n x e → x.output ≡ []
-    → ((answers : List (Option ℕ)) → Silent n (expecting answers x) e) → Broke old new t0 t1 ReadFault → ⊥
-silent_reads_nothing n x e old new t0 t1 same none silent broke =
+-- the fault of a call that a run doesn't make
+pub reads_nothing : ReadsNothing
+reads_nothing n x e old new t0 t1 same none takes broke =
     let all = broke.answers ++ None ∷ [] in
-    let s = silent all in
+    let t = takes all in
+    let s = t.run in
     let c = begun old all in
     let P : State → Type 0 = λ z. (ComesAfter s.reaches.cycles z all) × ((run s.reaches.cycles (record { state = z; answers = all; output = x.output })).answers ≡ all) in
     let there = subst P (sym same) (
       Leads-comes s.reaches.cycles (scene n (expecting all x) e) (scene n s.after s.reaches.env) (leads n (expecting all x) s.after e s.reaches s.done),
-      ap (λ (z : Scene). z.answers) s.reaches.same ∙ s.answers,
+      ap (λ (z : Scene). z.answers) s.reaches.same ∙ t.answers,
     ) in
     let Q : List ℕ → Type 0 = λ z. (run s.reaches.cycles (record { state = old; answers = all; output = z })).answers ≡ all in
     let kept : (run s.reaches.cycles c).answers ≡ all = subst Q none there.1 in
@@ -132,16 +121,16 @@ silent_reads_nothing n x e old new t0 t1 same none silent broke =
     let fewer = asking_takes_one broke.cycles s.reaches.cycles c None [] before (broke.ran.left (None ∷ [])) (ap (λ (z : State). asks_input z) (broke.ran.state (None ∷ [])) ∙ broke.tried.4) in
     absurd (omega (arith, fewer, ap (λ (z : List (Option ℕ)). length z) kept))
 
-pub silent_writes_nothing : (n : ℕ) (x : Sketch) (e : Env) (old new : State) (t0 t1 : Told) → old ≡ conc n x e → x.output ≡ []
-    → ((answers : List (Option ℕ)) → Silent n (expecting answers x) e) → Broke old new t0 t1 WriteFault → ⊥
-silent_writes_nothing n x e old new t0 t1 same none silent broke =
+pub writes_nothing : WritesNothing
+writes_nothing n x e old new t0 t1 same none puts broke =
     let all = broke.answers ++ [] in
-    let s = silent all in
+    let t = puts all in
+    let s = t.run in
     let c = begun old all in
     let P : State → Type 0 = λ z. (ComesAfter s.reaches.cycles z all) × ((run s.reaches.cycles (record { state = z; answers = all; output = x.output })).output ≡ x.output) in
     let there = subst P (sym same) (
       Leads-comes s.reaches.cycles (scene n (expecting all x) e) (scene n s.after s.reaches.env) (leads n (expecting all x) s.after e s.reaches s.done),
-      ap (λ (z : Scene). z.output) s.reaches.same ∙ s.output,
+      ap (λ (z : Scene). z.output) s.reaches.same ∙ t.output,
     ) in
     let Q : List ℕ → Type 0 = λ z. (run s.reaches.cycles (record { state = old; answers = all; output = z })).output ≡ z in
     let kept : (run s.reaches.cycles c).output ≡ [] = subst Q none there.1 in
@@ -151,7 +140,7 @@ silent_writes_nothing n x e old new t0 t1 same none silent broke =
 
 -- and a step that comes to the next boundary so took no answer
 pub silent_takes_nothing : (n : ℕ) (x : Sketch) (e : Env) (old new : State) (t0 t1 : Told) → old ≡ conc n x e
-    → ((answers : List (Option ℕ)) → Silent n (expecting answers x) e) → (far : Arrived old new t0 t1) → far.answers ≡ []
+    → AlwaysSilent n x e → (far : Arrived old new t0 t1) → far.answers ≡ []
 silent_takes_nothing n x e old new t0 t1 same silent far =
     let s = silent far.answers in
     let landed = arrives n (expecting far.answers x) s.after e old new t0 t1 same s.reaches s.done far [] (sym (append-nil far.answers)) in
@@ -163,7 +152,7 @@ empty_before (x ∷ out) before h = absurd (omega (arith, ap (λ (z : List ℕ).
 
 -- and put nothing out
 pub silent_puts_nothing : (n : ℕ) (x : Sketch) (e : Env) (old new : State) (t0 t1 : Told) → old ≡ conc n x e
-    → ((answers : List (Option ℕ)) → Silent n (expecting answers x) e) → (far : Arrived old new t0 t1) → output_during far.cycles (begun old far.answers) ≡ []
+    → AlwaysSilent n x e → (far : Arrived old new t0 t1) → output_during far.cycles (begun old far.answers) ≡ []
 silent_puts_nothing n x e old new t0 t1 same silent far =
     let s = silent far.answers in
     let landed = arrives n (expecting far.answers x) s.after e old new t0 t1 same s.reaches s.done far [] (sym (append-nil far.answers)) in

@@ -1,5 +1,6 @@
 -- Runs put together.
 use Rattle.std.proofs.Common.{◌≡◌, ℕ, suc, zero, ◌+◌, ◌<◌, Bool, true, false, List, [], ◌∷◌, ◌++◌, get_or, if◌then◌else◌, refl, sym, ap, ◌∙◌, subst, arith, zero-add}
+use Rattle.std.proofs.lemmas.Bool.{and_parts}
 use Rattle.micro_isa.specs.Words.{micro_of}
 use Rattle.jop_core.specs.Cycle.{at_boundary, is_running}
 use Rattle.jop_core.specs.declared.halt.Halt.{Halt}
@@ -11,7 +12,6 @@ use Rattle.micro_sketch.specs.Sketch.{Sketch, astep, exec, is_guessed, first_or,
 use Rattle.micro_sketch.specs.Laws.{RunsFor}
 use Rattle.micro_sketch.specs.Stands.{Env, Shaped, Goes, Reaches, Tells, Walked, PortFits, scene}
 use Rattle.microcode_rom.specs.declared.TheConstants.{WORDS}
-use Rattle.micro_sketch.proofs.OnChip.{first, second}
 use Rattle.micro_sketch.proofs.Counts.{was_exec, was_step}
 use Rattle.micro_sketch.proofs.Boundaries.{off_is}
 use Rattle.micro_sketch.proofs.Words.{step_sim}
@@ -74,7 +74,7 @@ going_same n x z e r = record {
   write = r.write;
   port = r.port;
   shape = r.shape;
-  was = second (goes x) x.fine r.was;
+  was = (and_parts (goes x) x.fine r.was).1;
   quiet = r.quiet;
   ending = r.ending;
   way = λ p q w s t. let f = r.way p q w s (record { at = t.at; port = t.port; left = t.left; over = t.over; fine = t.fine }) in record { choices = f.choices; tells = f.tells; clock = f.clock };
@@ -94,8 +94,8 @@ pub is_going : (k : ℕ) (gs : List Bool) (x : Sketch) → (exec (suc k) gs x).f
 is_going k gs x f =
     let o = micro_of (get_or WORDS x.mpc 0) in
     let ahead = if x.done then false else true in
-    let g = first (goes x) x.fine (was_step o (first_or gs) (going x) (going_fine k gs x f)) in
-    record { not_done = off_is x.done (first ahead (is_running x.halt) g); running = running_is x.halt (second ahead (is_running x.halt) g) }
+    let g = (and_parts (goes x) x.fine (was_step o (first_or gs) (going x) (going_fine k gs x f))).0 in
+    record { not_done = off_is x.done ((and_parts ahead (is_running x.halt) g).0); running = running_is x.halt ((and_parts ahead (is_running x.halt) g).1) }
 
 pub first_sim : (k : ℕ) (gs : List Bool) (n : ℕ) (x : Sketch) (e : Env) → Shaped n x → PortFits x.busy e → (exec (suc k) gs x).fine ≡ true →
     Reaches n x (astep (micro_of (get_or WORDS x.mpc 0)) (first_or gs) (going x)) e

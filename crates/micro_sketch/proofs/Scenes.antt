@@ -4,6 +4,7 @@ use Rattle.std.specs.declared.option.Option.{Option}
 use Rattle.jop_core.specs.State.{State}
 use Rattle.jop_core.specs.Cycle.{cycle_of, asks_input, output_of}
 use Rattle.jop_core.specs.Scene.{Scene, begun, rest_of, given, left_over, next_scene, run}
+pub use Rattle.micro_sketch.specs.StepLaws.{after_output}
 
 pub run-suc : (k : ℕ) (c : Scene) → run (suc k) c ≡ next_scene (run k c)
 run-suc zero c = refl
@@ -23,9 +24,6 @@ scene_is c s answers output states answered put =
     subst R put (subst Q answered (subst P states refl))
 
 -- What was put out before a run doesn't matter to it.
-
-abbrev pub after_output : List ℕ → Scene → Scene
-after_output before c = record c { output = c.output ++ before }
 
 pub run-after_output : (k : ℕ) (before : List ℕ) (c : Scene) → run k (after_output before c) ≡ after_output before (run k c)
 run-after_output zero before c = refl

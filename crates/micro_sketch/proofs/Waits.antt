@@ -1,5 +1,6 @@
 -- Waits for the memory.
 use Rattle.std.proofs.Common.{◌^◌, ◌≡◌, ℕ, suc, zero, pred, ◌+◌, ◌-◌, ◌%◌, ◌<◌, ◌≤◌, ◌&&◌, Bool, true, false, [], ◌∷◌, ◌++◌, get_or, nat_lt, if◌then◌else◌, refl, sym, ap, ◌∙◌, subst, arith, Some, lt-ltb}
+use Rattle.std.proofs.lemmas.Bool.{and_parts}
 use Rattle.micro_isa.specs.declared.Body.TheVariants.{Plain}
 use Rattle.micro_isa.specs.declared.Micro.{Micro}
 use Rattle.micro_isa.specs.Operations.{operation_of}
@@ -12,7 +13,6 @@ use Rattle.micro_flow.specs.Walk.{Waits, kind_of, Walker, onward, timed, stops}
 use Rattle.micro_sketch.specs.Sketch.{Sketch, aplain, lead, opd_byte, off_entry, off_raise}
 use Rattle.micro_sketch.specs.Stands.{Env, Shaped, Goes, Reaches, Tells, PortFits, conc, scene, tick}
 use Rattle.microcode_rom.specs.declared.TheConstants.{WORDS}
-use Rattle.micro_sketch.proofs.OnChip.{first, second}
 use Rattle.micro_sketch.proofs.Boundaries.{around, flags_end, flags_fine, flags_keep, flags_same, flags_shape, quiet_here}
 use Rattle.micro_sketch.proofs.Cycles.{lead_runs, next_is, onward_clock, opd_halt, opd_left, opd_mpc, scene_runs, stalls_same, step_at}
 
@@ -100,8 +100,8 @@ wait_step n x e code opd nxt nd h p d w f =
       write = r.write;
       port = subst (λ b. PortFits b r.env) (sym k.busy) r.port;
       shape = flags_shape opd nxt n y (record { low = h.low; total = h.total });
-      was = second (off_entry x && off_raise x) x.fine (flags_fine opd nxt y f);
-      quiet = r.quiet (quiet_here n x e nd.running (first (off_entry x && off_raise x) x.fine (flags_fine opd nxt y f)));
+      was = (and_parts (off_entry x && off_raise x) x.fine (flags_fine opd nxt y f)).1;
+      quiet = r.quiet (quiet_here n x e nd.running ((and_parts (off_entry x && off_raise x) x.fine (flags_fine opd nxt y f)).0));
       ending = flags_end opd nxt n y r.env f;
       way = λ q qr qw v tells.
           let u = timed Waits q v in

@@ -1,5 +1,6 @@
 -- Any microinstruction.
 use Rattle.std.proofs.Common.{◌≡◌, ℕ, ◌+◌, ◌-◌, ◌||◌, ◌==◌, Bool, true, List, get_or, nat_lt, refl, sym, ap, ◌∙◌, subst, Option, Some, None}
+use Rattle.std.proofs.lemmas.Bool.{and_parts}
 use Rattle.micro_isa.specs.declared.Body.{Body}
 use Rattle.micro_isa.specs.declared.Body.TheVariants.{Plain, Stm, Ldm, Ldi, Bz, Bnz, Jmp}
 use Rattle.micro_isa.specs.declared.Micro.{Micro}
@@ -12,7 +13,7 @@ use Rattle.micro_flow.specs.Walk.{passed, onward}
 use Rattle.micro_sketch.specs.Sketch.{Sketch, apush, apop, need, astm, aplain, astep, lead, opd_byte, same_bool}
 use Rattle.micro_sketch.specs.Stands.{Env, Shaped, Goes, Reaches, PortFits, conc, tick}
 use Rattle.microcode_rom.specs.declared.TheConstants.{WORDS, CONSTANTS}
-use Rattle.micro_sketch.proofs.OnChip.{fetched, first, second, pop_sim}
+use Rattle.micro_sketch.proofs.OnChip.{fetched, pop_sim}
 use Rattle.micro_sketch.proofs.Plain.{same_is}
 use Rattle.micro_sketch.proofs.Counts.{keeps_push, keeps_pop, was_jumped}
 use Rattle.micro_sketch.proofs.Boundaries.{around, flags_fine}
@@ -56,8 +57,8 @@ some_step (Bz to) opd nxt guess n x e nd h p d f =
     let t = x.top == 0 in
     let y = need (same_bool guess t) (apop x) in
     let g : y.fine ≡ true = was_jumped guess to y f in
-    let way : t ≡ guess = same_is guess t (first (same_bool guess t) (apop x).fine g) in
-    let s = pop_sim n x (tick e) h (second (same_bool guess t) (apop x).fine g) in
+    let way : t ≡ guess = same_is guess t ((and_parts (same_bool guess t) (apop x).fine g).0) in
+    let s = pop_sim n x (tick e) h ((and_parts (same_bool guess t) (apop x).fine g).1) in
     let k = keeps_pop x in
     branch_step n x y e m guess to nd p d refl (ap (λ b. around (branched b to (popped (conc n x (tick e)))) x.answers x.output) way ∙ ap (λ (z : State). around (branched guess to z) x.answers x.output) s.same
     ∙ ap (λ (i : List (Option ℕ)). around (branched guess to (conc n (apop x) (tick e))) i x.output) (sym k.answers) ∙ ap (λ (o : List ℕ). around (branched guess to (conc n (apop x) (tick e))) (apop x).answers o) (sym k.output))
@@ -67,8 +68,8 @@ some_step (Bnz to) opd nxt guess n x e nd h p d f =
     let t = nat_lt 0 x.top in
     let y = need (same_bool guess t) (apop x) in
     let g : y.fine ≡ true = was_jumped guess to y f in
-    let way : t ≡ guess = same_is guess t (first (same_bool guess t) (apop x).fine g) in
-    let s = pop_sim n x (tick e) h (second (same_bool guess t) (apop x).fine g) in
+    let way : t ≡ guess = same_is guess t ((and_parts (same_bool guess t) (apop x).fine g).0) in
+    let s = pop_sim n x (tick e) h ((and_parts (same_bool guess t) (apop x).fine g).1) in
     let k = keeps_pop x in
     branch_step n x y e m guess to nd p d refl (ap (λ b. around (branched b to (popped (conc n x (tick e)))) x.answers x.output) way ∙ ap (λ (z : State). around (branched guess to z) x.answers x.output) s.same
     ∙ ap (λ (i : List (Option ℕ)). around (branched guess to (conc n (apop x) (tick e))) i x.output) (sym k.answers) ∙ ap (λ (o : List ℕ). around (branched guess to (conc n (apop x) (tick e))) (apop x).answers o) (sym k.output))

@@ -7,3 +7,5 @@ pub mod Ends
 pub mod Step
 pub mod StepLaws
 pub mod Row
+pub mod Rows
+pub mod RowLaws

@@ -1,25 +1,19 @@
 -- How a row of the microcode is told: what an opcode makes of the words of the stack, and what stays.
-use Rattle.std.specs.Prelude.{ℕ, ◌≡◌, ◌+◌, ◌%◌, ◌^◌, ◌<◌, ◌≤◌, true, false, List, [], ◌∷◌, length, drop}
+use Rattle.std.specs.Prelude.{ℕ, ◌≡◌, ◌+◌, ◌%◌, ◌^◌, ◌≤◌, true, false, List, [], ◌∷◌, length, drop}
 use Rattle.std.specs.declared.option.Option.{Option}
 use Rattle.micro_flow.specs.declared.CostParams.{CostParams}
 use Rattle.micro_flow.specs.Walk.{turns_at, IsCost}
+pub use Rattle.micro_flow.specs.Costs.{AreInRange}
 use Rattle.jop_core.specs.declared.halt.Halt.TheVariants.{Running}
 use Rattle.jop_core.specs.State.{State}
 use Rattle.jop_core.specs.Cycle.{entry_of}
 use Rattle.jop_core.specs.Scene.{begun, output_during}
-use Rattle.jop_core.specs.Told.{Told}
+use Rattle.jop_device.specs.Told.{Told}
 use Rattle.micro_sketch.specs.Sketch.{Sketch, abyte}
 use Rattle.micro_sketch.specs.Stands.{Env, Shaped, IsDone, conc}
 use Rattle.micro_sketch.specs.Laws.{AtEntry}
 use Rattle.micro_sketch.specs.Step.{Arrived}
 use Rattle.micro_sketch.specs.View.{Viewable, sketch_of, env_of}
-
--- the waits of a machine's memory, and the pairs and entries that its code can have
-pub record AreInRange (p : CostParams) : Type 0 where
-  pub r : p.r ≤ 63
-  pub w : p.w ≤ 63
-  pub pairs : p.pairs < 2 ^ 32
-  pub entries : p.entries < 2 ^ 32
 
 -- The machine with n on-chip words is what the sketch stands for. It is about to run the opcode, with nothing under way, and there is room on
 -- its stack: for at least three words that may be taken off below the two on top, and for sixteen more.

@@ -128,8 +128,8 @@ abbrev pub found : Sketch → Sketch
 found x = let y = apop x in record y {
   method = x.top;
   cache = cached x.top (found_words x x.top) x.cache;
-  hits = x.hits + (1 - missed x.top x.cache);
-  misses = x.misses + missed x.top x.cache;
+  hits = if is_cached x.top x.cache then (x.hits + 1) % 2 ^ 64 else x.hits;
+  misses = if is_cached x.top x.cache then x.misses else (x.misses + 1) % 2 ^ 64;
   loads = x.loads + missed x.top x.cache;
   words = x.words + missed x.top x.cache * code_words x.memory x.top;
 }

@@ -8,7 +8,7 @@ use Rattle.jop_core.specs.declared.tick.Tick.TheVariants as ticks
 use Rattle.jop_core.specs.State.{State}
 use Rattle.jop_core.specs.Cycle.{at_boundary, entry_of}
 use Rattle.jop_core.specs.Scene.{begun, run, output_during, seen_during, notes_during}
-use Rattle.jop_core.specs.Told.{Told, Attended}
+use Rattle.jop_device.specs.Told.{Told, Attended}
 use Rattle.jop_core.specs.Ticked.{Ticked}
 use Rattle.micro_sketch.specs.declared.step.Stepped.{Stepped}
 use Rattle.micro_sketch.specs.declared.step.Stepped.TheVariants.{Next, Raise, Halted, ReadFault, WriteFault, SeenFault}

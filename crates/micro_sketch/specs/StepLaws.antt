@@ -1,11 +1,28 @@
 -- What follows of steps.
-use Rattle.std.specs.Prelude.{ℕ, ◌+◌, List, ◌++◌}
+use Rattle.std.specs.Prelude.{ℕ, suc, ◌≡◌, ◌+◌, List, [], ◌∷◌, ◌++◌}
 use Rattle.std.specs.declared.option.Option.{Option}
-use Rattle.jop_core.specs.State.{State}
-use Rattle.jop_core.specs.Told.{Told}
+use Rattle.jop_core.specs.State.{State, seen_of}
+use Rattle.jop_core.specs.Scene.{Scene, begun, run, output_during, seen_during}
+use Rattle.jop_device.specs.Told.{Told}
 use Rattle.micro_sketch.specs.Step.{Ran}
 
 -- cycles that follow others make one run with them
 abbrev pub StepsAddUp : Type 0
 StepsAddUp = (m n : ℕ) (old mid new : State) (t0 t1 t2 : Told) (earlier later : List (Option ℕ))
     → Ran m old mid t0 t1 earlier → Ran n mid new t1 t2 later → Ran (m + n) old new t0 t2 (earlier ++ later)
+
+-- a scene before which these bytes were put out
+abbrev pub after_output : List ℕ → Scene → Scene
+after_output before c = record c { output = c.output ++ before }
+
+-- Runs in parts: what they come to, what they put out and which states they hand over, and what was put out before them doesn't matter to them.
+pub record AreRunLaws : Type 0 where
+  pub run_adds : (m n : ℕ) (c : Scene) → run (m + n) c ≡ run n (run m c)
+  pub run_after_output : (k : ℕ) (before : List ℕ) (c : Scene) → run k (after_output before c) ≡ after_output before (run k c)
+  pub output_of_none : (c : Scene) → output_during 0 c ≡ []
+  pub output_adds : (m n : ℕ) (c : Scene) → output_during (m + n) c ≡ output_during m c ++ output_during n (run m c)
+  pub output_after_output : (k : ℕ) (before : List ℕ) (c : Scene) → output_during k (after_output before c) ≡ output_during k c
+  pub seen_one_more : (k : ℕ) (c : Scene) → seen_during (suc k) c ≡ seen_during k c ++ seen_of (run k c).state ∷ []
+  pub ran_none : (s : State) (told : Told) → Ran 0 s s told told []
+  pub ran_adds : StepsAddUp
+  pub ran_ends : (n : ℕ) (old new : State) (t0 t1 : Told) (answers : List (Option ℕ)) → Ran n old new t0 t1 answers → (run n (begun old answers)).state ≡ new

@@ -1,5 +1,8 @@
 ghost use Rattle.micro_sketch.specs.Laws.{MachineFollows, SplitsAnywhere, Reframes, StackPointerMoves, StackPointerComesDown, SeenAsSketch, RunsGoOn, RunsBetweenAlike, CostsHold, RaiseCostHolds, FirstIsReached, BoundaryComesSoon};
-ghost use Rattle.micro_sketch.specs.StepLaws.{StepsAddUp};
+ghost use Rattle.micro_sketch.specs.StepLaws.{StepsAddUp, AreRunLaws};
+ghost use Rattle.micro_sketch.specs.RowLaws.{AreRowLaws};
+
+use micro_flow::laws::costs_are_small;
 
 /// What the sketch comes to in some words, the machine comes to, and a walk of the ROM with it.
 pub fn machine_follows_the_sketch()
@@ -65,4 +68,16 @@ pub fn a_boundary_comes_soon()
 /// Cycles that follow others make one run with them.
 pub fn steps_add_up()
     ensures { StepsAddUp }
+{}
+
+/// What some words make of an opcode's entry, a step of the machine does.
+pub fn rows_are_steps()
+    ensures { AreRowLaws }
+{
+    costs_are_small();
+}
+
+/// Runs in parts make whole runs, and what was put out before doesn't matter to them.
+pub fn runs_add_up()
+    ensures { AreRunLaws }
 {}
