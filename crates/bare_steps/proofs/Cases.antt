@@ -1,7 +1,7 @@
 -- The three kinds of instruction: a plain opcode, impdep2, and the return at the end.
 use Rattle.std.proofs.Common.{◌≡◌, ℕ, ◌<◌, Bool, false, cond, List, [], ◌∷◌, ◌++◌, length, drop, sym, ◌∙◌, ap, arith, ⊎_elim, ◌⊎◌, inl, inr}
-use Rattle.jop_core.specs.declared.shape.Shape.{Shape}
-use Rattle.jop_core.specs.Bare.{Image, Instruction, StayWithin, spelled, return_code}
+use Rattle.bare_image.specs.declared.shape.Shape.{Shape}
+use Rattle.bare_image.specs.Bare.{Image, Instruction, StayWithin, spelled, return_code}
 use Rattle.micro_plain.specs.Opcodes as plain
 use Rattle.bare_steps.specs.Bytecode.{State, opcode_at, row, step}
 use Rattle.bare_steps.specs.Step.{Fits}
@@ -45,12 +45,8 @@ put_opcode image s put = opcode_is image s put.instruction put.shape put.at ∙ 
 pub line_opcode : (image : Image) (s : State) (l : IsLine image s) → opcode_at image s ≡ plain.code_of l.line.plain
 line_opcode image s l = opcode_is image s l.instruction l.shape l.at ∙ sym l.line.code
 
-small_code : (op : plain.PlainOp) → plain.code_of op < 177
-small_code plain.Nop = omega arith
-small_code op = omega arith
-
 pub line_is_small : (image : Image) (s : State) → IsLine image s → opcode_at image s < 177
-line_is_small image s l = omega (arith, line_opcode image s l, small_code l.line.plain)
+line_is_small image s l = omega (arith, line_opcode image s l, l.line.code, l.line.small)
 
 -- the step is the opcode's row
 pub step_is : (image : Image) (s : State) (op : ℕ) → s.ended ≡ false → opcode_at image s ≡ op → step image s ≡ row op image s

@@ -2,7 +2,7 @@
 use Rattle.std.proofs.Common.{◌≡◌, ℕ, true, false, List, [], ◌∷◌, refl}
 use Rattle.std.specs.Prelude.{ℤ, pos, negsuc}
 use Rattle.std.specs.Int.{int_wrap}
-use Rattle.jop_core.specs.Bare.{Image}
+use Rattle.bare_image.specs.Bare.{Image}
 use Rattle.bare_steps.specs.Bytecode.{State, step, run_of, run_from}
 
 -- a frame of two locals, at the instruction at place 1 of this code

@@ -1,14 +1,19 @@
 -- The words of the frame, as the machine has them and as its sketch has them.
-use Rattle.std.proofs.Common.{◌≡◌, ℕ, ◌+◌, ◌-◌, List, ◌∷◌, ◌++◌, length, take, drop, reverse, sym, ◌∙◌, ap, arith, append_assoc, length-append}
+use Rattle.std.proofs.Common.{◌≡◌, ℕ, ◌+◌, ◌-◌, List, ◌∷◌, ◌++◌, length, take, drop, reverse, refl, sym, ◌∙◌, ap, arith, append_assoc, length-append}
 use mathlib.Core.List.{reverse_aux, reverse_aux-eq}
 use Rattle.std.proofs.Math.Seq.{take-append_seam, drop-append_seam}
 use Rattle.std.proofs.lemmas.List.{reverse-reverse, reverse-append, length-reverse}
 use Rattle.micro_sketch.specs.Sketch.{Sketch}
 use Rattle.micro_sketch.specs.Stands.{Env, Shaped, conc, constants, stack_of}
 use Rattle.micro_sketch.specs.Row as row
-use Rattle.micro_sketch.proofs.OnChip.{length_constants}
-use Rattle.micro_sketch.proofs.Frames.{regroup}
 use Rattle.bare_steps.specs.StandsFor.{words_of}
+
+regroup : (a b c z : List ℕ) → (a ++ (b ++ c)) ++ z ≡ a ++ (b ++ (c ++ z))
+regroup a b c z = simp append_assoc
+
+length_constants : length constants ≡ 32
+unfolding constants
+length_constants = refl
 
 -- behind the scratch words and the constants
 pub behind_constants : (n : ℕ) (x : Sketch) → Shaped n x → drop 64 (stack_of x) ≡ x.deep ++ reverse_aux x.under x.above

@@ -7,8 +7,7 @@ pub mod Seen
 pub mod Underway
 pub mod Cases
 pub mod PlainSteps
-pub mod OneCycle
 pub mod DeviceSteps
 pub mod Resets
 pub mod Examples
-pub mod Cuts
+pub mod Nothing

@@ -1,15 +1,16 @@
 -- A bare machine at reset is underway in boot's state.
-use Rattle.std.proofs.Common.{◌≡◌, ℕ, zero, suc, ◌+◌, ◌-◌, ◌/◌, ◌%◌, ◌≤◌, Bool, true, false, cond, nat_lt, ◌&&◌, List, [], ◌∷◌, ◌++◌, length, map, take, drop, reverse, replicate, refl, sym, ◌∙◌, ap, arith, length-append}
+use Rattle.std.proofs.Common.{◌≡◌, ℕ, zero, suc, ◌+◌, ◌-◌, ◌/◌, ◌%◌, ◌≤◌, true, cond, nat_lt, List, [], ◌∷◌, ◌++◌, length, map, take, drop, reverse, replicate, refl, sym, ◌∙◌, ap, subst, arith, length-append}
 use Rattle.std.specs.Prelude.{pos, slice_index, unwrap_or, is_some, nat_le, IsTrue}
 use mathlib.Core.List.{reverse_aux}
 use Rattle.std.proofs.Math.Nat.{mod-eq_of_lt}
+use Rattle.std.proofs.lemmas.Bool.{and_parts}
 use Rattle.std.proofs.lemmas.List.{take-replicate, length-replicate, replicate-append-replicate, take-append-drop}
 use Rattle.memory_timing.specs.declared.Config.{Config}
 use Rattle.method_cache.specs.Contents.{Entry, is_cached, can_load, empty, blocks_for, find_words}
-use Rattle.jop_core.specs.Bare.{Image, IsImage}
-use Rattle.jop_core.specs.Reset.{bare_reset, first_byte, words_of_bytes}
+use Rattle.bare_image.specs.Bare.{Image, IsImage}
+use Rattle.jop_core.specs.Reset.{bare_reset, first_byte, words_of_bytes, CanStartBare}
 use Rattle.jop_core.specs.Cycle.{byte_of, code_byte, entry_of}
-use Rattle.jop_core.proofs.Packs.{byte_of-packed}
+use Rattle.core_words.specs.Packed.{PackedHasWords, PackedHasBytes}
 use Rattle.micro_sketch.specs.Stands.{constants}
 use Rattle.bare_steps.specs.Bytecode.{boot}
 use Rattle.bare_steps.specs.StandsFor.{StandsFor, HasFrame, word_of}
@@ -75,48 +76,6 @@ frame_there n image config size grammar =
       locals = refl;
     }
 
--- boot's method is in the cache, and its bytes are the code
-
-both : (a b : Bool) → (a && b) ≡ true → (a ≡ true) × (b ≡ true)
-both true b h = (refl, h)
-both false b h = absurd (cc)
-
-code_there : (n : ℕ) (image : Image) (config : Config) → IsImage image → IsTrue (can_load (length (words_of_bytes image.code)) (empty config.blocks config.block_words))
-    → (k : ℕ) → code_byte (bare_reset n image config) k ≡ slice_index image.code k
-code_there n image config grammar fits k =
-    let words : List ℕ = words_of_bytes image.code in
-    let entry : Entry = record { method = 0; words = words } in
-    let none : List Entry = [] in
-    let held = both (nat_lt 0 (length words)) (nat_le (blocks_for config.block_words (length words)) config.blocks) fits in
-    ap (λ b. byte_of (slice_index (unwrap_or (find_words 0 (cond b (entry ∷ none) none)) []) (k / 4)) (k % 4)) held.1 ∙ byte_of-packed image.code grammar.bytes k
-
-cached_there : (n : ℕ) (image : Image) (config : Config) → IsTrue (can_load (length (words_of_bytes image.code)) (empty config.blocks config.block_words))
-    → is_cached (bare_reset n image config).method (bare_reset n image config).cache ≡ true
-cached_there n image config fits =
-    let words : List ℕ = words_of_bytes image.code in
-    let entry : Entry = record { method = 0; words = words } in
-    let none : List Entry = [] in
-    ap (λ b. is_some (find_words 0 (cond b (entry ∷ none) none))) (both (nat_lt 0 (length words)) (nat_le (blocks_for config.block_words (length words)) config.blocks) fits).1
-
-opcode_there : (image : Image) → IsImage image → first_byte (words_of_bytes image.code) ≡ slice_index image.code 0
-opcode_there image grammar = byte_of-packed image.code grammar.bytes 0
-
-stands_there : (n : ℕ) (image : Image) (config : Config) → 256 ≤ n → IsImage image → IsTrue (can_load (length (words_of_bytes image.code)) (empty config.blocks config.block_words))
-    → StandsFor image (bare_reset n image config) (boot image)
-stands_there n image config size grammar fits = record {
-  stall = refl;
-  idle = refl;
-  code = code_there n image config grammar fits;
-  frame = frame_there n image config size grammar;
-  place = record {
-    running = refl;
-    opcode = opcode_there image grammar;
-    mpc = ap entry_of (opcode_there image grammar);
-    jpc = refl;
-    operand = refl;
-  };
-}
-
 fits_there : (image : Image) → IsImage image → Fits image (boot image)
 fits_there image grammar = record {
   locals = length-replicate image.max_locals (pos 0);
@@ -128,19 +87,62 @@ fits_there image grammar = record {
   depth = omega arith;
 }
 
-pub reset_is_underway : ResetIsUnderway
-reset_is_underway n image config size grammar fits = (
-  record {
-    image_is = grammar;
-    stands = stands_there n image config size grammar fits;
-    fits = fits_there image grammar;
-    size = size;
-    words = count n image config size;
-    constants_in = constants_there n image config;
-    ar = omega (arith, size);
-    cached = cached_there n image config fits;
-    read = config.most_read;
-    write = config.most_write;
-  },
-  refl,
-)
+module _ (words : PackedHasWords) (bytes : PackedHasBytes) where
+  -- the words of the code fit the cache
+  fits_words : (image : Image) (config : Config) → CanStartBare image config → IsTrue (can_load (length (words_of_bytes image.code)) (empty config.blocks config.block_words))
+  fits_words image config can = let P : ℕ → Type 0 = λ k. IsTrue (can_load k (empty config.blocks config.block_words)) in subst P (sym (words image.code)) can
+
+  -- boot's method is in the cache, and its bytes are the code
+
+  code_there : (n : ℕ) (image : Image) (config : Config) → IsImage image → IsTrue (can_load (length (words_of_bytes image.code)) (empty config.blocks config.block_words))
+      → (k : ℕ) → code_byte (bare_reset n image config) k ≡ slice_index image.code k
+  code_there n image config grammar fits k =
+      let packed : List ℕ = words_of_bytes image.code in
+      let entry : Entry = record { method = 0; words = packed } in
+      let none : List Entry = [] in
+      let held = and_parts (nat_lt 0 (length packed)) (nat_le (blocks_for config.block_words (length packed)) config.blocks) fits in
+      ap (λ b. byte_of (slice_index (unwrap_or (find_words 0 (cond b (entry ∷ none) none)) []) (k / 4)) (k % 4)) held.1 ∙ bytes image.code grammar.bytes k
+
+  cached_there : (n : ℕ) (image : Image) (config : Config) → IsTrue (can_load (length (words_of_bytes image.code)) (empty config.blocks config.block_words))
+      → is_cached (bare_reset n image config).method (bare_reset n image config).cache ≡ true
+  cached_there n image config fits =
+      let packed : List ℕ = words_of_bytes image.code in
+      let entry : Entry = record { method = 0; words = packed } in
+      let none : List Entry = [] in
+      ap (λ b. is_some (find_words 0 (cond b (entry ∷ none) none))) (and_parts (nat_lt 0 (length packed)) (nat_le (blocks_for config.block_words (length packed)) config.blocks) fits).1
+
+  opcode_there : (image : Image) → IsImage image → first_byte (words_of_bytes image.code) ≡ slice_index image.code 0
+  opcode_there image grammar = bytes image.code grammar.bytes 0
+
+  stands_there : (n : ℕ) (image : Image) (config : Config) → 256 ≤ n → IsImage image → IsTrue (can_load (length (words_of_bytes image.code)) (empty config.blocks config.block_words))
+      → StandsFor image (bare_reset n image config) (boot image)
+  stands_there n image config size grammar fits = record {
+    stall = refl;
+    idle = refl;
+    code = code_there n image config grammar fits;
+    frame = frame_there n image config size grammar;
+    place = record {
+      running = refl;
+      opcode = opcode_there image grammar;
+      mpc = ap entry_of (opcode_there image grammar);
+      jpc = refl;
+      operand = refl;
+    };
+  }
+
+  pub reset_is_underway : ResetIsUnderway
+  reset_is_underway n image config size grammar can = let fits = fits_words image config can in (
+    record {
+      image_is = grammar;
+      stands = stands_there n image config size grammar fits;
+      fits = fits_there image grammar;
+      size = size;
+      words = count n image config size;
+      constants_in = constants_there n image config;
+      ar = omega (arith, size);
+      cached = cached_there n image config fits;
+      read = config.most_read;
+      write = config.most_write;
+    },
+    refl,
+  )

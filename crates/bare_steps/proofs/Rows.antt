@@ -1,14 +1,17 @@
 -- The plain opcode of each instruction of a bare image, and that its effect is the step's.
-use Rattle.std.proofs.Common.{◌≡◌, ℕ, zero, suc, ◌+◌, ◌-◌, ◌%◌, ◌^◌, ◌≤◌, Bool, true, false, cond, nat_lt, ◌==◌, ◌||◌, ◌&&◌, [], length, Some, None, refl, sym, ◌∙◌, ap, subst, arith, eqb-true, lt-ltb, ◌⊎◌, inl, inr}
+use Rattle.std.proofs.Common.{◌≡◌, ℕ, zero, suc, ◌+◌, ◌-◌, ◌%◌, ◌^◌, ◌<◌, ◌≤◌, Bool, true, false, cond, nat_lt, ◌==◌, ◌||◌, ◌&&◌, [], length, Some, None, refl, sym, ◌∙◌, ap, subst, arith, eqb-true, lt-ltb, ◌⊎◌, inl, inr}
 use Rattle.std.specs.Prelude.{nat_le, bit_and, bit_or, bit_xor}
 use Rattle.std.specs.declared.option.Option.{Option}
 use Rattle.std.proofs.lemmas.Bool.{leb-true, le-ltb}
-use Rattle.jop_core.specs.declared.shape.Shape.{Shape}
-use Rattle.jop_core.specs.Shapes.{shape_of, is_within}
-use Rattle.jop_core.specs.Bare.{Image}
+use Rattle.bare_image.specs.declared.shape.Shape.{Shape}
+use Rattle.bare_image.specs.Shapes.{shape_of, is_within}
+use Rattle.bare_image.specs.Bare.{Image}
 use Rattle.micro_sketch.specs.Sketch.{Sketch, inside}
+use Rattle.micro_plain.specs.NumberOps as number
+use Rattle.micro_plain.specs.LocalOps as local
+use Rattle.micro_plain.specs.StackOps as stack
 use Rattle.micro_plain.specs.Opcodes as plain
-use Rattle.micro_plain.specs.Opcodes.{PlainOp, IsReady, code_of, effect}
+use Rattle.micro_plain.specs.Opcodes.{PlainOp, IsReady, code_of, effect, raises}
 use Rattle.bare_steps.specs.Bytecode.{State, row, constant, added, subtracted, bitwise}
 use Rattle.bare_steps.proofs.Ints.{adds, subtracts, ands, ors, xors}
 use Rattle.bare_steps.proofs.Shows.{Shows, Does, does_nothing, does_push, does_push_byte, does_load, does_store, does_pop, does_double, does_combine}
@@ -17,9 +20,10 @@ use Rattle.bare_steps.proofs.Shows.{Shows, Does, does_nothing, does_push, does_p
 pub record Line (op : ℕ) (t : Shape) : Type 0 where
   pub plain : PlainOp
   pub code : code_of plain ≡ op
+  pub small : op < 177
+  pub calm : (x : Sketch) → raises plain x ≡ false
   pub ready : (x : Sketch) → x.vp ≡ 64 → t.locals ≤ length x.deep → IsReady plain x
   pub silent : (x : Sketch) → (effect plain x).output ≡ []
-  pub takes : (x : Sketch) → (effect plain x).answers ≡ x.answers
   pub does : (image : Image) (x : Sketch) (s : State) → Shows image x s → t.pops ≤ length s.operands → Does (effect plain x) s (row op image s) t.bytes t.pops t.pushes
 
 abbrev shape : (bytes locals popped pushed : ℕ) → Shape
@@ -33,76 +37,76 @@ local_inside k x vp few =
     subst P (sym vp) (rw (low, high) refl)
 
 line_0 : Line 0 (shape 0 0 0 0)
-line_0 = record { plain = plain.Nop; code = refl; ready = λ x vp few. tt; silent = λ x. refl; takes = λ x. refl; does = λ image x s h few. does_nothing image x s h }
+line_0 = record { plain = plain.OfNumber number.Nop; code = refl; small = omega arith; calm = λ x. refl; ready = λ x vp few. tt; silent = λ x. refl; does = λ image x s h few. does_nothing image x s h }
 
 line_2 : Line 2 (shape 0 0 0 1)
-line_2 = record { plain = plain.IconstM1; code = refl; ready = λ x vp few. tt; silent = λ x. refl; takes = λ x. refl; does = λ image x s h few. does_push image x s h (2 ^ 32 - 1) (constant 2) refl (omega arith) }
+line_2 = record { plain = plain.OfNumber number.IconstM1; code = refl; small = omega arith; calm = λ x. refl; ready = λ x vp few. tt; silent = λ x. refl; does = λ image x s h few. does_push image x s h (2 ^ 32 - 1) (constant 2) refl (omega arith) }
 
 line_3 : Line 3 (shape 0 0 0 1)
-line_3 = record { plain = plain.Iconst0; code = refl; ready = λ x vp few. tt; silent = λ x. refl; takes = λ x. refl; does = λ image x s h few. does_push image x s h 0 (constant 3) refl (omega arith) }
+line_3 = record { plain = plain.OfNumber number.Iconst0; code = refl; small = omega arith; calm = λ x. refl; ready = λ x vp few. tt; silent = λ x. refl; does = λ image x s h few. does_push image x s h 0 (constant 3) refl (omega arith) }
 
 line_4 : Line 4 (shape 0 0 0 1)
-line_4 = record { plain = plain.Iconst1; code = refl; ready = λ x vp few. tt; silent = λ x. refl; takes = λ x. refl; does = λ image x s h few. does_push image x s h 1 (constant 4) refl (omega arith) }
+line_4 = record { plain = plain.OfNumber number.Iconst1; code = refl; small = omega arith; calm = λ x. refl; ready = λ x vp few. tt; silent = λ x. refl; does = λ image x s h few. does_push image x s h 1 (constant 4) refl (omega arith) }
 
 line_5 : Line 5 (shape 0 0 0 1)
-line_5 = record { plain = plain.Iconst2; code = refl; ready = λ x vp few. tt; silent = λ x. refl; takes = λ x. refl; does = λ image x s h few. does_push image x s h 2 (constant 5) refl (omega arith) }
+line_5 = record { plain = plain.OfNumber number.Iconst2; code = refl; small = omega arith; calm = λ x. refl; ready = λ x vp few. tt; silent = λ x. refl; does = λ image x s h few. does_push image x s h 2 (constant 5) refl (omega arith) }
 
 line_6 : Line 6 (shape 0 0 0 1)
-line_6 = record { plain = plain.Iconst3; code = refl; ready = λ x vp few. tt; silent = λ x. refl; takes = λ x. refl; does = λ image x s h few. does_push image x s h 3 (constant 6) refl (omega arith) }
+line_6 = record { plain = plain.OfNumber number.Iconst3; code = refl; small = omega arith; calm = λ x. refl; ready = λ x vp few. tt; silent = λ x. refl; does = λ image x s h few. does_push image x s h 3 (constant 6) refl (omega arith) }
 
 line_7 : Line 7 (shape 0 0 0 1)
-line_7 = record { plain = plain.Iconst4; code = refl; ready = λ x vp few. tt; silent = λ x. refl; takes = λ x. refl; does = λ image x s h few. does_push image x s h 4 (constant 7) refl (omega arith) }
+line_7 = record { plain = plain.OfNumber number.Iconst4; code = refl; small = omega arith; calm = λ x. refl; ready = λ x vp few. tt; silent = λ x. refl; does = λ image x s h few. does_push image x s h 4 (constant 7) refl (omega arith) }
 
 line_8 : Line 8 (shape 0 0 0 1)
-line_8 = record { plain = plain.Iconst5; code = refl; ready = λ x vp few. tt; silent = λ x. refl; takes = λ x. refl; does = λ image x s h few. does_push image x s h 5 (constant 8) refl (omega arith) }
+line_8 = record { plain = plain.OfNumber number.Iconst5; code = refl; small = omega arith; calm = λ x. refl; ready = λ x vp few. tt; silent = λ x. refl; does = λ image x s h few. does_push image x s h 5 (constant 8) refl (omega arith) }
 
 line_16 : Line 16 (shape 1 0 0 1)
-line_16 = record { plain = plain.Bipush; code = refl; ready = λ x vp few. tt; silent = λ x. refl; takes = λ x. refl; does = λ image x s h few. does_push_byte image x s h }
+line_16 = record { plain = plain.OfNumber number.Bipush; code = refl; small = omega arith; calm = λ x. refl; ready = λ x vp few. tt; silent = λ x. refl; does = λ image x s h few. does_push_byte image x s h }
 
 line_26 : Line 26 (shape 0 1 0 1)
-line_26 = record { plain = plain.Iload0; code = refl; ready = λ x vp few. local_inside 0 x vp few; silent = λ x. refl; takes = λ x. refl; does = λ image x s h few. does_load image x s h 0 }
+line_26 = record { plain = plain.OfLocal local.Iload0; code = refl; small = omega arith; calm = λ x. refl; ready = λ x vp few. local_inside 0 x vp few; silent = λ x. refl; does = λ image x s h few. does_load image x s h 0 }
 
 line_27 : Line 27 (shape 0 2 0 1)
-line_27 = record { plain = plain.Iload1; code = refl; ready = λ x vp few. local_inside 1 x vp few; silent = λ x. refl; takes = λ x. refl; does = λ image x s h few. does_load image x s h 1 }
+line_27 = record { plain = plain.OfLocal local.Iload1; code = refl; small = omega arith; calm = λ x. refl; ready = λ x vp few. local_inside 1 x vp few; silent = λ x. refl; does = λ image x s h few. does_load image x s h 1 }
 
 line_28 : Line 28 (shape 0 3 0 1)
-line_28 = record { plain = plain.Iload2; code = refl; ready = λ x vp few. local_inside 2 x vp few; silent = λ x. refl; takes = λ x. refl; does = λ image x s h few. does_load image x s h 2 }
+line_28 = record { plain = plain.OfLocal local.Iload2; code = refl; small = omega arith; calm = λ x. refl; ready = λ x vp few. local_inside 2 x vp few; silent = λ x. refl; does = λ image x s h few. does_load image x s h 2 }
 
 line_29 : Line 29 (shape 0 4 0 1)
-line_29 = record { plain = plain.Iload3; code = refl; ready = λ x vp few. local_inside 3 x vp few; silent = λ x. refl; takes = λ x. refl; does = λ image x s h few. does_load image x s h 3 }
+line_29 = record { plain = plain.OfLocal local.Iload3; code = refl; small = omega arith; calm = λ x. refl; ready = λ x vp few. local_inside 3 x vp few; silent = λ x. refl; does = λ image x s h few. does_load image x s h 3 }
 
 line_59 : Line 59 (shape 0 1 1 0)
-line_59 = record { plain = plain.Istore0; code = refl; ready = λ x vp few. local_inside 0 x vp few; silent = λ x. refl; takes = λ x. refl; does = λ image x s h few. does_store image x s h 0 s.operands refl few }
+line_59 = record { plain = plain.OfLocal local.Istore0; code = refl; small = omega arith; calm = λ x. refl; ready = λ x vp few. local_inside 0 x vp few; silent = λ x. refl; does = λ image x s h few. does_store image x s h 0 s.operands refl few }
 
 line_60 : Line 60 (shape 0 2 1 0)
-line_60 = record { plain = plain.Istore1; code = refl; ready = λ x vp few. local_inside 1 x vp few; silent = λ x. refl; takes = λ x. refl; does = λ image x s h few. does_store image x s h 1 s.operands refl few }
+line_60 = record { plain = plain.OfLocal local.Istore1; code = refl; small = omega arith; calm = λ x. refl; ready = λ x vp few. local_inside 1 x vp few; silent = λ x. refl; does = λ image x s h few. does_store image x s h 1 s.operands refl few }
 
 line_61 : Line 61 (shape 0 3 1 0)
-line_61 = record { plain = plain.Istore2; code = refl; ready = λ x vp few. local_inside 2 x vp few; silent = λ x. refl; takes = λ x. refl; does = λ image x s h few. does_store image x s h 2 s.operands refl few }
+line_61 = record { plain = plain.OfLocal local.Istore2; code = refl; small = omega arith; calm = λ x. refl; ready = λ x vp few. local_inside 2 x vp few; silent = λ x. refl; does = λ image x s h few. does_store image x s h 2 s.operands refl few }
 
 line_62 : Line 62 (shape 0 4 1 0)
-line_62 = record { plain = plain.Istore3; code = refl; ready = λ x vp few. local_inside 3 x vp few; silent = λ x. refl; takes = λ x. refl; does = λ image x s h few. does_store image x s h 3 s.operands refl few }
+line_62 = record { plain = plain.OfLocal local.Istore3; code = refl; small = omega arith; calm = λ x. refl; ready = λ x vp few. local_inside 3 x vp few; silent = λ x. refl; does = λ image x s h few. does_store image x s h 3 s.operands refl few }
 
 line_87 : Line 87 (shape 0 0 1 0)
-line_87 = record { plain = plain.Pop; code = refl; ready = λ x vp few. tt; silent = λ x. refl; takes = λ x. refl; does = λ image x s h few. does_pop image x s h s.operands refl few }
+line_87 = record { plain = plain.OfStack stack.Pop; code = refl; small = omega arith; calm = λ x. refl; ready = λ x vp few. tt; silent = λ x. refl; does = λ image x s h few. does_pop image x s h s.operands refl few }
 
 line_89 : Line 89 (shape 0 0 1 2)
-line_89 = record { plain = plain.Dup; code = refl; ready = λ x vp few. tt; silent = λ x. refl; takes = λ x. refl; does = λ image x s h few. does_double image x s h s.operands refl few }
+line_89 = record { plain = plain.OfStack stack.Dup; code = refl; small = omega arith; calm = λ x. refl; ready = λ x vp few. tt; silent = λ x. refl; does = λ image x s h few. does_double image x s h s.operands refl few }
 
 line_96 : Line 96 (shape 0 0 2 1)
-line_96 = record { plain = plain.Iadd; code = refl; ready = λ x vp few. tt; silent = λ x. refl; takes = λ x. refl; does = λ image x s h few. does_combine added (λ b a. (b + a) % 2 ^ 32) adds image x s h s.operands refl few }
+line_96 = record { plain = plain.OfStack stack.Iadd; code = refl; small = omega arith; calm = λ x. refl; ready = λ x vp few. tt; silent = λ x. refl; does = λ image x s h few. does_combine added (λ b a. (b + a) % 2 ^ 32) adds image x s h s.operands refl few }
 
 line_100 : Line 100 (shape 0 0 2 1)
-line_100 = record { plain = plain.Isub; code = refl; ready = λ x vp few. tt; silent = λ x. refl; takes = λ x. refl; does = λ image x s h few. does_combine subtracted (λ b a. (b + (2 ^ 32 - a)) % 2 ^ 32) subtracts image x s h s.operands refl few }
+line_100 = record { plain = plain.OfStack stack.Isub; code = refl; small = omega arith; calm = λ x. refl; ready = λ x vp few. tt; silent = λ x. refl; does = λ image x s h few. does_combine subtracted (λ b a. (b + (2 ^ 32 - a)) % 2 ^ 32) subtracts image x s h s.operands refl few }
 
 line_126 : Line 126 (shape 0 0 2 1)
-line_126 = record { plain = plain.Iand; code = refl; ready = λ x vp few. tt; silent = λ x. refl; takes = λ x. refl; does = λ image x s h few. does_combine (bitwise bit_and) bit_and ands image x s h s.operands refl few }
+line_126 = record { plain = plain.OfStack stack.Iand; code = refl; small = omega arith; calm = λ x. refl; ready = λ x vp few. tt; silent = λ x. refl; does = λ image x s h few. does_combine (bitwise bit_and) bit_and ands image x s h s.operands refl few }
 
 line_128 : Line 128 (shape 0 0 2 1)
-line_128 = record { plain = plain.Ior; code = refl; ready = λ x vp few. tt; silent = λ x. refl; takes = λ x. refl; does = λ image x s h few. does_combine (bitwise bit_or) bit_or ors image x s h s.operands refl few }
+line_128 = record { plain = plain.OfStack stack.Ior; code = refl; small = omega arith; calm = λ x. refl; ready = λ x vp few. tt; silent = λ x. refl; does = λ image x s h few. does_combine (bitwise bit_or) bit_or ors image x s h s.operands refl few }
 
 line_130 : Line 130 (shape 0 0 2 1)
-line_130 = record { plain = plain.Ixor; code = refl; ready = λ x vp few. tt; silent = λ x. refl; takes = λ x. refl; does = λ image x s h few. does_combine (bitwise bit_xor) bit_xor xors image x s h s.operands refl few }
+line_130 = record { plain = plain.OfStack stack.Ixor; code = refl; small = omega arith; calm = λ x. refl; ready = λ x vp few. tt; silent = λ x. refl; does = λ image x s h few. does_combine (bitwise bit_xor) bit_xor xors image x s h s.operands refl few }
 
 -- Each opcode of the bare grammar is one of these, or impdep2.
 

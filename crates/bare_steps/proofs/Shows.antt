@@ -3,10 +3,12 @@ use Rattle.std.proofs.Common.{◌≡◌, ℕ, zero, suc, ◌+◌, ◌-◌, ◌%�
 use Rattle.std.specs.Prelude.{ℤ, pos, slice_index, slice_index_or, slice_set}
 use Rattle.std.proofs.Math.Nat.{mod-eq_of_lt}
 use Rattle.std.proofs.lemmas.List.{map-set, length-set}
-use Rattle.jop_core.specs.Bare.{Image}
+use Rattle.bare_image.specs.Bare.{Image}
 use Rattle.micro_sketch.specs.Sketch.{Sketch, abyte}
 use Rattle.micro_sketch.specs.Row.{Effect, unchanged, words_of}
-use Rattle.micro_plain.specs.Opcodes as plain
+use Rattle.micro_plain.specs.Operand as plain
+use Rattle.micro_plain.specs.NumberOps as number
+use Rattle.micro_plain.specs.StackOps as stack
 use Rattle.micro_objects.specs.Opcodes as devices
 use Rattle.bare_steps.specs.Bytecode.{State, onward, pushes, loads, stores, pops, doubles, combines, puts_out, signed_byte}
 use Rattle.bare_steps.specs.StandsFor.{word_of}
@@ -99,7 +101,7 @@ does_push image x s h w y is int = record {
 }
 
 pub does_push_byte : (image : Image) (x : Sketch) (s : State) → Shows image x s
-    → Does (plain.effect plain.Bipush x) s (onward 2 (pushes (signed_byte (slice_index image.code (s.pc + 1))) s)) 1 0 1
+    → Does (number.number_effect number.Bipush x) s (onward 2 (pushes (signed_byte (slice_index image.code (s.pc + 1))) s)) 1 0 1
 does_push_byte image x s h =
     let byte : abyte x ≡ slice_index image.code (s.pc + 1) = h.code x.jpc ∙ ap (slice_index image.code) h.jpc in
     let small = h.small in
@@ -162,7 +164,7 @@ does_store image x s h k (y ∷ ys) is some =
     }
 
 pub does_pop : (image : Image) (x : Sketch) (s : State) → Shows image x s → (operands : List ℤ) → s.operands ≡ operands → 1 ≤ length operands
-    → Does (plain.effect plain.Pop x) s (onward 1 (pops s operands)) 0 1 0
+    → Does (stack.stack_effect stack.Pop x) s (onward 1 (pops s operands)) 0 1 0
 does_pop image x s h [] is some = absurd (omega (arith, some))
 does_pop image x s h (y ∷ ys) is some = record {
   holds = (top_of x s.operands y ys h.holds is).rest;
@@ -178,7 +180,7 @@ does_pop image x s h (y ∷ ys) is some = record {
 }
 
 pub does_double : (image : Image) (x : Sketch) (s : State) → Shows image x s → (operands : List ℤ) → s.operands ≡ operands → 1 ≤ length operands
-    → Does (plain.effect plain.Dup x) s (onward 1 (doubles s operands)) 0 1 2
+    → Does (stack.stack_effect stack.Dup x) s (onward 1 (doubles s operands)) 0 1 2
 does_double image x s h [] is some = absurd (omega (arith, some))
 does_double image x s h (y ∷ ys) is some =
     let t = top_of x s.operands y ys h.holds is in

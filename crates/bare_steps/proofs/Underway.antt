@@ -6,9 +6,9 @@ use Rattle.std.proofs.Math.Seq.{drop-append_seam}
 use Rattle.std.proofs.lemmas.List.{length-map, drop-drop}
 use Rattle.method_cache.specs.Contents.{Cache, is_cached, word_of as cached_word}
 use Rattle.micro_flow.specs.declared.CostParams.{CostParams}
-use Rattle.jop_core.specs.declared.shape.Shape.{Shape}
-use Rattle.jop_core.specs.Bare as bare
-use Rattle.jop_core.specs.Bare.{Image, IsImage, Instruction, StayWithin, spelled, return_code}
+use Rattle.bare_image.specs.declared.shape.Shape.{Shape}
+use Rattle.bare_image.specs.Bare as bare
+use Rattle.bare_image.specs.Bare.{Image, IsImage, Instruction, StayWithin, spelled, return_code}
 use Rattle.jop_core.specs.State as machine
 use Rattle.jop_core.specs.Cycle.{byte_of, code_byte, entry_of}
 use Rattle.micro_sketch.specs.Sketch.{Sketch, abyte}
@@ -16,7 +16,7 @@ use Rattle.micro_sketch.specs.Stands.{Env, Shaped, conc}
 use Rattle.micro_sketch.specs.View.{env_of}
 use Rattle.micro_sketch.specs.Row as row
 use Rattle.micro_sketch.specs.Row.{Effect, IsKept, DidRow}
-use Rattle.micro_sketch.proofs.OnChip.{length_stack}
+use Rattle.micro_sketch.specs.RowLaws.{StackHasWords}
 use Rattle.bare_steps.specs.Bytecode.{State, opcode_at}
 use Rattle.bare_steps.specs.StandsFor.{StandsFor, StandsAtPlace, HasFrame, word_of}
 use Rattle.bare_steps.specs.Step.{Fits, IsUnderway, params_of}
@@ -99,9 +99,9 @@ stands_after n p op cycles f image x e new s after bytes popped pushed shows sma
 cached_after : (x y : Sketch) → IsKept x y → is_cached x.method x.cache ≡ true → is_cached y.method y.cache ≡ true
 cached_after x y kept held = ap (λ m. is_cached m y.cache) kept.method ∙ ap (λ (c : Cache). is_cached x.method c) kept.cache ∙ held
 
-pub underway_after : (n : ℕ) (p : CostParams) (op cycles : ℕ) (f : Effect) (image : Image) (x : Sketch) (m new : machine.State) (s after : State) (i : Instruction) (t : Shape)
+pub underway_after : StackHasWords → (n : ℕ) (p : CostParams) (op cycles : ℕ) (f : Effect) (image : Image) (x : Sketch) (m new : machine.State) (s after : State) (i : Instruction) (t : Shape)
     → IsUnderway n image m s → m ≡ conc n x (env_of m) → Shows image x s → At image s i t → Does f s after t.bytes t.pops t.pushes → DidRow n p op f x (env_of m) cycles new → IsUnderway n image new after
-underway_after n p op cycles f image x m new s after i t old same shows at does did =
+underway_after stack_has_words n p op cycles f image x m new s after i t old same shows at does did =
     let fits = fits_after image f s after i t old.fits at does in
     let size = old.size in
     let U : machine.State → Type 0 = λ z. IsUnderway n image z after in
@@ -110,7 +110,7 @@ underway_after n p op cycles f image x m new s after i t old same shows at does 
       stands = stands_after n p op cycles f image x (env_of m) new s after t.bytes t.pops t.pushes shows (within_code image old.image_is after.pc fits.instructions fits.rest) does did;
       fits = fits;
       size = old.size;
-      words = length_stack n did.after did.shape;
+      words = stack_has_words n did.after did.shape;
       constants_in = constants_of n did.after did.shape;
       ar = mod-lt did.after.ar (omega arith);
       cached = cached_after x did.after did.follows.kept (ap (λ (z : machine.State). is_cached z.method z.cache) (sym same) ∙ old.cached);

@@ -1,7 +1,7 @@
 -- What a bare image means: states of one frame of ints, and a step with a row per opcode (JVM Specification SE 8, chapter 6).
 use Rattle.std.specs.Prelude.{ℕ, zero, suc, ◌+◌, ◌-◌, ◌%◌, ◌^◌, ℤ, pos, negsuc, ◌+ℤ◌, ◌-ℤ◌, Bool, true, false, ◌==◌, ◌&&◌, nat_le, nat_lt, if◌then◌else◌, List, [], ◌∷◌, ◌++◌, slice_index, slice_index_or, slice_set, replicate, bit_and, bit_or, bit_xor}
 use Rattle.std.specs.Int.{w32, int_wrap, cast_signed, cast_unsigned}
-use Rattle.jop_core.specs.Bare.{Image}
+use Rattle.bare_image.specs.Bare.{Image}
 
 pub record State : Type 0 where
   -- the place of the instruction

@@ -2,7 +2,7 @@
 use Rattle.std.specs.Prelude.{ℕ, ◌≡◌, ◌+◌, ◌-◌, Bool, true, false, List, ◌∷◌, ◌++◌, length, map, take, drop, reverse, slice_index, ℤ}
 use Rattle.std.specs.Int.{w32, cast_unsigned}
 use Rattle.jop_core.specs.declared.halt.Halt.TheVariants.{Running, Ended}
-use Rattle.jop_core.specs.Bare.{Image}
+use Rattle.bare_image.specs.Bare.{Image}
 use Rattle.jop_core.specs.State as machine
 use Rattle.jop_core.specs.Cycle.{entry_of, code_byte}
 use Rattle.bare_steps.specs.Bytecode.{State, opcode_at}

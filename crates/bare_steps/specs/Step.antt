@@ -3,10 +3,10 @@ use Rattle.std.specs.Prelude.{ℕ, ◌≡◌, ◌≤◌, ◌<◌, ◌^◌, true,
 use Rattle.method_cache.specs.Contents.{is_cached}
 use Rattle.micro_flow.specs.declared.CostParams.{CostParams}
 use Rattle.micro_flow.specs.Walk.{IsCost}
-use Rattle.jop_core.specs.Bare.{Image, IsImage, Instruction, StayWithin, spelled, return_code}
+use Rattle.bare_image.specs.Bare.{Image, IsImage, Instruction, StayWithin, spelled, return_code}
 use Rattle.jop_core.specs.State as machine
 use Rattle.jop_core.specs.Scene.{begun, output_during}
-use Rattle.jop_core.specs.Told.{Told}
+use Rattle.jop_device.specs.Told.{Told}
 use Rattle.jop_core.specs.declared.tick.Tick.{Tick}
 use Rattle.jop_core.specs.declared.tick.Tick.TheVariants as ticks
 use Rattle.micro_sketch.specs.Stands.{constants}

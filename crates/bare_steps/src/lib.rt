@@ -9,6 +9,7 @@ ghost use Rattle.bare_steps.specs.Step.{HasImage, StepsAll};
 pub mod laws;
 
 use jop_core::{Devices, Machine};
+use micro_sketch::laws::rows_are_steps;
 use micro_sketch::step::Stepped;
 
 // the opcodes that have to do with the outside, or end the run
@@ -24,6 +25,8 @@ pub fn step<const N: usize, D: Devices>(machine: &mut Machine<N>, device: &mut D
     ensures steps { StepsAll N machine.old machine.new (D.told device.old) (D.told device.new) result }
     ensures names { D.names device.new ≡ D.names device.old }
 {
+    // The law is for the proof.
+    rows_are_steps();
     let opcode = machine.opcode();
     if opcode == IMPDEP2 || opcode == RETURN {
         micro_objects::step(machine, device)

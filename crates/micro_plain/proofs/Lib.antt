@@ -1,3 +1,23 @@
-pub mod Rows
-pub mod Steps
-pub mod Examples
+mod Shaping
+mod Numbers
+mod Locals
+mod Stacks
+mod Longs
+mod Shifts
+mod ShiftRows
+mod Branches
+mod Wides
+mod Switches
+mod Lookups
+mod DivideTurn
+mod DivideMath
+mod DivideSigns
+mod DivideOpened
+mod DivideRunning
+mod DivideLoop
+mod DivideRaising
+mod DivideRaises
+mod DivideRows
+mod LongRows
+mod Steps
+mod Examples

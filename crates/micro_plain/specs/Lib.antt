@@ -1,2 +1,11 @@
+pub mod Operand
+pub mod NumberOps
+pub mod LocalOps
+pub mod StackOps
+pub mod LongOps
+pub mod DivisionOps
+pub mod BranchOps
+pub mod SwitchOps
+pub mod WideOps
 pub mod Opcodes
 pub mod Stepped

@@ -1,14 +1,12 @@
-//! Steps of the machine over plain opcodes: numbers, locals, the stack and jumps.
+//! Steps of the machine over plain opcodes: numbers, locals, the stack, ints and longs, division, jumps and switches.
 #![tactic(auto)]
 
 ghost use Rattle.std.specs.Prelude.{◌≡◌, ◌<◌, ◌^◌};
 ghost use Rattle.micro_sketch.specs.Step.{Went};
 ghost use Rattle.micro_plain.specs.Stepped.{IsPlain, DidPlain};
 
-/// Laws of rows. Each is a function without a body, whose contract says it.
-pub mod laws;
-
 use jop_core::{Devices, Machine};
+use micro_sketch::laws::rows_are_steps;
 use micro_sketch::step::{Stepped, to_boundary};
 
 /// Runs one plain opcode, from its entry to the next boundary.
@@ -19,5 +17,7 @@ pub fn step<const N: usize, D: Devices>(machine: &mut Machine<N>, device: &mut D
     ensures row { DidPlain N machine.old machine.new (D.told device.old) (D.told device.new) result }
     ensures names { D.names device.new ≡ D.names device.old }
 {
+    // The law is for the proof.
+    rows_are_steps();
     to_boundary(machine, device)
 }
