@@ -1,0 +1,5 @@
+pub mod Within
+pub mod Words
+pub mod Places
+pub mod Says
+pub mod Laws

@@ -1,0 +1,43 @@
+//! What the words of an image say of a program: where its methods, types, pools and tables lie, and what stands there. The
+//! definitions stand in `specs/`, over a resolved program, without bytes and class files. The functions here do nothing; a
+//! caller whose proof needs a law calls its function.
+#![tactic(auto)]
+
+ghost use Rattle.image_facts.specs.Laws.{FieldsAreWide, FixedWordsLie, LieThrough, ListsGoOn, ObjectsFollow, ObjectsLie, PairsAreWritten, PartsDiffer, PartsLie, PiecesDiffer, PiecesLie, RangesAreRead, StaticsDiffer, StaticsLie, WordsAreRead, WordsAreWritten, WordsEnd};
+
+/// Words that lie in others are read from there, and written there.
+pub fn words_are_read_and_written()
+    ensures words { WordsAreRead }
+    ensures ranges { RangesAreRead }
+    ensures written { WordsAreWritten }
+    ensures pairs { PairsAreWritten }
+{}
+
+/// A piece of a list of words lies behind those before it, and can be replaced alone.
+pub fn words_lie()
+    ensures pieces { PiecesLie }
+    ensures replaced { PiecesDiffer }
+    ensures through { LieThrough }
+    ensures ahead { ListsGoOn }
+{}
+
+/// Fixed words, objects and static fields lie at their places in the words of an image.
+pub fn image_words_lie()
+    ensures fixed { FixedWordsLie }
+    ensures objects { ObjectsLie }
+    ensures parts { PartsLie }
+    ensures statics { StaticsLie }
+    ensures widths { FieldsAreWide }
+{}
+
+/// Where a value of an object or a static field is written, its words alone differ.
+pub fn image_words_differ()
+    ensures parts { PartsDiffer }
+    ensures statics { StaticsDiffer }
+{}
+
+/// The words of an image end behind the last object, where those of an object that is made follow.
+pub fn image_words_grow()
+    ensures end { WordsEnd }
+    ensures made { ObjectsFollow }
+{}

@@ -1,0 +1,14 @@
+pub mod Memory
+pub mod Defined
+pub mod LongField
+pub mod Counting
+pub mod Seeing
+pub mod Copies
+pub mod Registers
+pub mod Standing
+pub mod Coming
+pub mod Beginning
+pub mod Stopping
+pub mod Loading
+pub mod Switching
+pub mod Calling

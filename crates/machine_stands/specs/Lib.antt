@@ -1,0 +1,11 @@
+pub mod Frames
+pub mod StandsFor
+pub mod Comes
+pub mod Simulates
+pub mod Bare
+pub mod Memory
+pub mod Seen
+pub mod Again
+pub mod Stopping
+pub mod Switching
+pub mod Calling

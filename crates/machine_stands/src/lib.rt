@@ -1,0 +1,87 @@
+//! When a machine stands for a state of a program, and what a step of the bytecode is as a run of the machine to the next
+//! boundary. The definitions stand in `specs/`. The functions here do nothing; a caller whose proof needs a law calls its
+//! function.
+#![tactic(auto)]
+
+ghost use Rattle.machine_stands.specs.Again.{MachinesStandAgain, MadeRowsRun, RowsCome};
+ghost use Rattle.machine_stands.specs.Bare.{BareImagesBegin, BareImagesSay};
+ghost use Rattle.machine_stands.specs.Calling.{ArgumentsArePassed};
+ghost use Rattle.machine_stands.specs.Memory.{LongFieldsAreWritten};
+ghost use Rattle.machine_stands.specs.Seen.{MachinesAreSeen};
+ghost use Rattle.machine_stands.specs.Stopping.{EndsCome, RaisesCome};
+ghost use Rattle.machine_stands.specs.Switching.{SwitchesCome};
+
+/// A bare image, seen as a program, has no words that could say anything else.
+pub fn bare_images_say()
+    ensures { BareImagesSay }
+{}
+
+/// A machine at reset with a bare image stands for the state with which its program begins.
+pub fn bare_images_begin()
+    ensures { BareImagesBegin }
+{
+    core_words::laws::packed_has_words();
+    core_words::laws::packed_has_bytes();
+}
+
+/// A `putfield` of a long, as two writes of the memory.
+pub fn long_fields_are_written()
+    ensures { LongFieldsAreWritten }
+{
+    image_facts::words_lie();
+    image_facts::words_are_read_and_written();
+    image_facts::image_words_lie();
+    image_facts::image_words_differ();
+}
+
+/// A machine that stands for a running state is what a sketch of it stands for, at the entry of its opcode.
+pub fn machines_are_seen()
+    ensures { MachinesAreSeen }
+{
+    micro_sketch::laws::rows_are_steps();
+}
+
+/// After a row that stays in its frame the machine stands for the next state, where the row makes the words of that.
+pub fn machines_stand_again()
+    ensures { MachinesStandAgain }
+{
+    jop_opcodes::laws::starts_follow_one_another();
+    core_words::laws::packed_has_bytes();
+    micro_sketch::laws::rows_are_steps();
+}
+
+/// A row on the sketch, as a run of the machine to where it stands for the next state.
+pub fn rows_come()
+    ensures runs { MadeRowsRun }
+    ensures comes { RowsCome }
+{
+    micro_sketch::laws::rows_are_steps();
+    micro_sketch::laws::opcodes_keep_their_costs();
+    machines_are_seen();
+    machines_stand_again();
+}
+
+/// A row that raises or halts, as a run of the machine to where it stands so.
+pub fn rows_stop()
+    ensures raises { RaisesCome }
+    ensures ends { EndsCome }
+{
+    micro_sketch::laws::rows_are_steps();
+    machines_are_seen();
+}
+
+/// A row that calls or returns, as a run of the machine to where it stands so, with its look-up.
+pub fn rows_switch()
+    ensures { SwitchesCome }
+{
+    jop_opcodes::laws::starts_follow_one_another();
+    core_words::laws::packed_has_bytes();
+    core_words::laws::packed_has_words();
+    micro_sketch::laws::rows_are_steps();
+    machines_are_seen();
+}
+
+/// The arguments of a call, as they stand on the stack of the caller, are the first local variables of the new frame.
+pub fn arguments_are_passed()
+    ensures { ArgumentsArePassed }
+{}
