@@ -83,9 +83,9 @@ module _ (g : Digraph) (wf : IsDigraph g) (reached : AreReached g) (x : ℕ) (ol
   ahead n m None apart h mem = h (header_at old n) (tt, apart) mem
   ahead n m (Some p) apart h mem = h.3 (header_at old n) (tt, apart) mem
 
-  passed : (m : ℕ) (o : Option ℕ) → IsInnermost g (λ k. every_node k × (k ≢ header_at old m)) (headers_of old) (header_at old m) o → IsToCome g old m o → ⊥
-  passed m None h to_come = to_come
-  passed m (Some p) h to_come = h.1.1 (sym (one_header g wf reached (header_at old m) (header_at old p) to_come h.2))
+  tried : (m : ℕ) (o : Option ℕ) → IsInnermost g (λ k. every_node k × (k ≢ header_at old m)) (headers_of old) (header_at old m) o → IsToCome g old m o → ⊥
+  tried m None h to_come = to_come
+  tried m (Some p) h to_come = h.1.1 (sym (one_header g wf reached (header_at old m) (header_at old p) to_come h.2))
 
   on_to : (m : ℕ) (o : Option ℕ) → IsInnermost g (λ k. every_node k × (k ≢ header_at old m)) (headers_of old) (header_at old m) o → IsMember g (header_at old m) x → MatchOption o (Unit {0}) (λ p. (p < length old) × IsMember g (header_at old p) x)
   on_to m None h mem = tt
@@ -107,7 +107,7 @@ module _ (g : Digraph) (wf : IsDigraph g) (reached : AreReached g) (x : ℕ) (ol
                   subst P (sym same) (
                   elim (a.each m lt_m) [
                     | inl done ↦ absurd (done.1 (own_member g (header_at old m) mem_m.0))
-                    | inr waits ↦ inl (mem_m, passed m o inner, here ∙ ap (λ (ys : List ℕ). ys ++ x ∷ []) waits.1)
+                    | inr waits ↦ inl (mem_m, tried m o inner, here ∙ ap (λ (ys : List ℕ). ys ++ x ∷ []) waits.1)
                   ])
               | inr other ↦
                   let apart : header_at old n ≢ header_at old m = λ e. other (rising_apart (headers_of old) rising n m (omega arith) (omega arith) e) in

@@ -8,28 +8,28 @@ use Rattle.loop_nest.proofs.Elements.{at_head, in_tail, cons_cases, nil_contains
 -- a walk from a node to a node that doesn't visit h
 pub data Around (g : Digraph) (h : ℕ) : ℕ → ℕ → Type 0 where
   rest : {u : ℕ} → u ≢ h → Around g h u u
-  pass : {u v w : ℕ} → u ≢ h → Edge g u v → Around g h v w → Around g h u w
+  through : {u v w : ℕ} → u ≢ h → Edge g u v → Around g h v w → Around g h u w
 
 pub ends_elsewhere : {g : Digraph} {h u v : ℕ} → Around g h u v → v ≢ h
 ends_elsewhere (rest ne) = ne
-ends_elsewhere (pass ne e a) = ends_elsewhere a
+ends_elsewhere (through ne e a) = ends_elsewhere a
 
 pub joined : {g : Digraph} {h u v w : ℕ} → Around g h u v → Around g h v w → Around g h u w
 joined (rest ne) b = b
-joined (pass ne e a) b = pass ne e (joined a b)
+joined (through ne e a) b = through ne e (joined a b)
 
 pub joined_by : {g : Digraph} {h u v w x : ℕ} → Around g h u v → Edge g v w → Around g h w x → Around g h u x
-joined_by a e b = joined a (pass (ends_elsewhere a) e b)
+joined_by a e b = joined a (through (ends_elsewhere a) e b)
 
 pub around_from : {g : Digraph} {h u v : ℕ} {ns : List ℕ} → Walk g u v ns → (Contains ns h → ⊥) → Around g h u v
 around_from {h} (stay {u}) never = rest (λ same. never (let P : ℕ → Type 0 = λ y. Contains (u ∷ []) y in subst P same (at_head u [])))
 around_from {h} (along {u} {v} {w} {ns} e t) never =
-    pass (λ same. never (let P : ℕ → Type 0 = λ y. Contains (u ∷ ns) y in subst P same (at_head u ns))) e (around_from t (λ c. never (in_tail u h ns c)))
+    through (λ same. never (let P : ℕ → Type 0 = λ y. Contains (u ∷ ns) y in subst P same (at_head u ns))) e (around_from t (λ c. never (in_tail u h ns c)))
 
 pub leads_around : {g : Digraph} {h u v : ℕ} → Around g h u v → LeadsAround g h u v
 leads_around {g} {h} (rest {u} ne) =
     (u ∷ [], stay, λ c. elim (cons_cases u h [] c) [ inl same ↦ ne same | inr there ↦ nil_contains h there ])
-leads_around {g} {h} (pass {u} ne e a) =
+leads_around {g} {h} (through {u} ne e a) =
     let r = leads_around a in
     (u ∷ r.0, along e r.1, λ c. elim (cons_cases u h r.0 c) [ inl same ↦ ne same | inr there ↦ r.2 there ])
 

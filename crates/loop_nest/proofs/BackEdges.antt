@@ -1,19 +1,18 @@
 -- Which edges are back edges, told when their targets are merged into other nodes.
-use Rattle.std.proofs.Common.{◌≡◌, ◌≢◌, ℕ, ◌<◌, Bool, List, length, map, refl, sym, ap, ◌∙◌, subst, inl, inr, arith}
+use Rattle.std.proofs.Common.{◌≡◌, ◌≢◌, ℕ, ◌<◌, Bool, List, refl, sym, ap, ◌∙◌, subst, inl, inr, arith}
 use Rattle.std.proofs.lemmas.Bool.{cases_eq}
 use Rattle.std.proofs.lemmas.List.Elements.{Contains-get_or}
-use Rattle.loop_nest.specs.Digraph.{Digraph, Edge, IsDigraph}
+use Rattle.loop_nest.specs.Digraph.{Digraph, Edge}
 use Rattle.loop_nest.specs.Walks.{Dominates, IsReachable}
 use Rattle.loop_nest.specs.Reduction.{renamed}
 use Rattle.loop_nest.specs.Classes.{CanMergeClass, AreMerged}
 use Rattle.loop_nest.specs.Classes.AreMerged.{apart, merged}
-use Rattle.loop_nest.specs.Entered.{class_of, edge_at, IsClassList, AreMarkedBy, AreBackEdgesMarked, MarksEdgesTo}
+use Rattle.loop_nest.specs.Entered.{edge_at, AreMarkedBy, MarksEdgesTo}
 use Rattle.loop_nest.proofs.Elements.{has_or_not}
 use Rattle.loop_nest.proofs.Around.{Around, joined, joined_by, around_from, not_around}
 use Rattle.loop_nest.proofs.Around.Around.{rest}
 use Rattle.loop_nest.proofs.Nesting.{first_of}
 use Rattle.loop_nest.proofs.Classes.{class_cases, renamed_same, renamed_other, idempotent, enters_at_name, name_dominates, name_of_target}
-use Rattle.loop_nest.proofs.ClassLists.{class_of_map, target_below}
 
 -- a node is reached from the node into which it is merged without any that is merged elsewhere
 around_others : {g : Digraph} {c : ℕ → ℕ} → AreMerged g c → (u k : ℕ) → c k ≢ c u → Around g k (c u) u
@@ -89,10 +88,3 @@ marked_by {g} {c} {d} {x} {p} {old} {new} m can is below back marks =
                 (λ t. told.0 (sym (marks.others i off_x) ∙ t), λ b. marks.others i off_x ∙ told.1 b)
           ];
     }
-
-pub marked_merged : {g : Digraph} {class : List ℕ} {x p : ℕ} {old new : List Bool} → IsDigraph g → IsClassList g class → CanMergeClass g (class_of class) p x → AreBackEdgesMarked g class old → MarksEdgesTo g.edges (class_of class) x old new → AreBackEdgesMarked g (map (renamed x p) class) new
-marked_merged {g} {class} {x} {p} {old} {new} wf h can back marks =
-    let long = h.long in
-    let below = target_below wf h can in
-    let short : x < length class = omega arith in
-    marked_by {c = class_of class} {d = class_of (map (renamed x p) class)} h.merged can (class_of_map class x p short) below.0 back marks

@@ -4,10 +4,10 @@ use Rattle.std.specs.List.Sorted.{IsStrictlyIncreasing}
 use Rattle.std.proofs.lemmas.Bool.{cases_lt, cases_eq}
 use Rattle.std.proofs.lemmas.List.{map-append, length-map, get_or_append_left, get_or_push, length_push, get_or-set_same, get_or-set_other, length-set, get_or_default, get_or-map, map-set, set-get_or}
 use Rattle.std.proofs.lemmas.List.Elements.{All-push, All-set, All-get_or, All-weaker, All-from_get_or, Contains-append_left, Contains-push, Contains-push_cases, Contains-get_or}
-use Rattle.loop_nest.specs.Digraph.{Digraph, IsDigraph}
+use Rattle.loop_nest.specs.Digraph.{Digraph, IsDigraph, sources_of}
 use Rattle.loop_nest.specs.Walks.{IsHeader, IsMember}
 use Rattle.loop_nest.specs.Entered.{AreBackEdges}
-use Rattle.loop_nest.specs.Search.{sources_of, mark_at, AreFound}
+use Rattle.loop_nest.specs.Search.{mark_at, AreFound}
 use Rattle.loop_nest.specs.Nest.{NaturalLoop, headers_of, outers_of}
 use Rattle.loop_nest.specs.Nesting.{AreHeadersBelow}
 use Rattle.loop_nest.proofs.Ends.{ends_within}

@@ -1,5 +1,5 @@
 -- The elements of a list, case by case.
-use Rattle.std.proofs.Common.{◌≡◌, ℕ, zero, suc, ◌+◌, ◌<◌, ◌⊎◌, Bool, true, false, cond, List, [], ◌∷◌, length, get_or, map, filter, Contains, refl, sym, ap, ◌∙◌, subst, inl, inr, arith}
+use Rattle.std.proofs.Common.{◌≡◌, ℕ, zero, suc, ◌+◌, ◌<◌, ◌≤◌, ◌⊎◌, Bool, true, false, cond, List, [], ◌∷◌, length, get_or, map, filter, Contains, refl, sym, ap, ◌∙◌, subst, inl, inr, arith}
 use Rattle.std.specs.List.{range_with_len}
 use Rattle.std.proofs.lemmas.Bool.{cases_eq, cases_Bool}
 use Rattle.std.proofs.lemmas.List.FromFn.{length-range_with_len, get_or-range_with_len}
@@ -118,3 +118,65 @@ from_range n x c =
     let at = c.2 in
     let short : c.0 < n = omega (arith, length-range_with_len 0 n) in
     omega (arith, get_or-range_with_len 0 n c.0 x short)
+
+pub filter_at_most : {X : Type 0} (p : X → Bool) (xs : List X) → length (filter p xs) ≤ length xs
+filter_at_most p [] = omega arith
+filter_at_most p (x ∷ xs) =
+    let rest = filter_at_most p xs in
+    elim (cases_Bool (p x)) [
+      | inl yes' ↦ let e = ap length (kept_at p x xs yes') in omega arith
+      | inr no' ↦ let e = ap length (dropped_at p x xs no') in omega arith
+    ]
+
+-- a filter that lets less pass keeps no more
+pub less_kept : {X : Type 0} (p q : X → Bool) (xs : List X) → ((y : X) → q y ≡ true → p y ≡ true) → length (filter q xs) ≤ length (filter p xs)
+less_kept p q [] less = omega arith
+less_kept p q (y ∷ ys) less =
+    let rest = less_kept p q ys less in
+    elim (cases_Bool (q y)) [
+      | inl yes' ↦ let e = ap length (kept_at q y ys yes') in let f = ap length (kept_at p y ys (less y yes')) in omega arith
+      | inr no' ↦
+          let e = ap length (dropped_at q y ys no') in
+          elim (cases_Bool (p y)) [
+            | inl too' ↦ let f = ap length (kept_at p y ys too') in omega arith
+            | inr fail' ↦ let f = ap length (dropped_at p y ys fail') in omega arith
+          ]
+    ]
+
+-- a filter that lets less pass, and not x, keeps fewer
+pub fewer_kept : {X : Type 0} (p q : X → Bool) (xs : List X) (x : X) → ((y : X) → q y ≡ true → p y ≡ true) → p x ≡ true → q x ≡ false → Contains xs x → length (filter q xs) < length (filter p xs)
+fewer_kept p q [] x less passes fails has = absurd (nil_contains x has)
+fewer_kept p q (y ∷ ys) x less passes fails has =
+    elim (cons_cases y x ys has) [
+      | inl same ↦
+          let e = ap length (dropped_at q y ys (ap q same ∙ fails)) in
+          let f = ap length (kept_at p y ys (ap p same ∙ passes)) in
+          let most = less_kept p q ys less in
+          omega arith
+      | inr there ↦
+          let rest = fewer_kept p q ys x less passes fails there in
+          elim (cases_Bool (q y)) [
+            | inl yes' ↦ let e = ap length (kept_at q y ys yes') in let f = ap length (kept_at p y ys (less y yes')) in omega arith
+            | inr no' ↦
+                let e = ap length (dropped_at q y ys no') in
+                elim (cases_Bool (p y)) [
+                  | inl too' ↦ let f = ap length (kept_at p y ys too') in omega arith
+                  | inr fail' ↦ let f = ap length (dropped_at p y ys fail') in omega arith
+                ]
+          ]
+    ]
+
+-- a filter that lets less of a list pass keeps no more of it
+pub less_within : (p q : ℕ → Bool) (xs : List ℕ) → ((y : ℕ) → Contains xs y → q y ≡ true → p y ≡ true) → length (filter q xs) ≤ length (filter p xs)
+less_within p q [] less = omega arith
+less_within p q (y ∷ ys) less =
+    let rest = less_within p q ys (λ z has. less z (in_tail y z ys has)) in
+    elim (cases_Bool (q y)) [
+      | inl yes' ↦ let e = ap length (kept_at q y ys yes') in let f = ap length (kept_at p y ys (less y (at_head y ys) yes')) in omega arith
+      | inr no' ↦
+          let e = ap length (dropped_at q y ys no') in
+          elim (cases_Bool (p y)) [
+            | inl too' ↦ let f = ap length (kept_at p y ys too') in omega arith
+            | inr fail' ↦ let f = ap length (dropped_at p y ys fail') in omega arith
+          ]
+    ]

@@ -1,12 +1,10 @@
 -- From where classes are entered, edge by edge.
-use Rattle.std.proofs.Common.{◌≡◌, ◌≢◌, ℕ, ◌<◌, ◌⊎◌, cond, List, [], ◌∷◌, ◌++◌, length, get_or, set, replicate, Contains, refl, sym, ap, ◌∙◌, subst, inl, inr, arith}
+use Rattle.std.proofs.Common.{◌≡◌, ◌≢◌, ℕ, ◌⊎◌, cond, List, [], ◌∷◌, ◌++◌, Contains, refl, sym, ap, ◌∙◌, subst, inl, inr}
 use Rattle.std.proofs.lemmas.Bool.{cases_eq, eq-eqb, ne_eqb}
-use Rattle.std.proofs.lemmas.List.{length-set, length-replicate, get_or-set_same, get_or-set_other, get_or-replicate}
 use Rattle.std.proofs.lemmas.List.Elements.{Contains-append_left, Contains-push, Contains-push_cases}
 use Rattle.loop_nest.specs.declared.merging.Entered.{Entered}
 use Rattle.loop_nest.specs.declared.merging.Entered.TheVariants.{Nowhere, From, FromSeveral}
-use Rattle.loop_nest.specs.Entered.{entered_and_from, noted, class_of, IsNotEntered, IsEnteredFromOne, IsEnteredFromTwo, IsEnteredAs, AreEnteredAs}
-use Rattle.loop_nest.proofs.Elements.{nil_contains}
+use Rattle.loop_nest.specs.Entered.{entered_and_from, IsNotEntered, IsEnteredFromOne, IsEnteredFromTwo, IsEnteredAs}
 
 module _ (es : List (ℕ × ℕ)) (c : ℕ → ℕ) (x u v : ℕ) where
   -- an edge that is not one more is an old one or the new one
@@ -59,10 +57,10 @@ module _ (es : List (ℕ × ℕ)) (c : ℕ → ℕ) (x u v : ℕ) where
   }
 
   -- an edge that doesn't enter the class from outside
-  pub passed_over : (e : Entered) → (c v ≡ x → c u ≡ x) → IsEnteredAs es c x e → IsEnteredAs (es ++ (u, v) ∷ []) c x e
-  passed_over Nowhere new h = not_entered_on new h
-  passed_over (From p) new h = one_on p (λ at. inl (new at)) h
-  passed_over FromSeveral new h = two_on h
+  pub skipped_over : (e : Entered) → (c v ≡ x → c u ≡ x) → IsEnteredAs es c x e → IsEnteredAs (es ++ (u, v) ∷ []) c x e
+  skipped_over Nowhere new h = not_entered_on new h
+  skipped_over (From p) new h = one_on p (λ at. inl (new at)) h
+  skipped_over FromSeveral new h = two_on h
 
   -- an edge that does
   pub one_more : (e : Entered) → c v ≡ x → c u ≢ x → IsEnteredAs es c x e → IsEnteredAs (es ++ (u, v) ∷ []) c x (entered_and_from e (c u))
@@ -101,48 +99,3 @@ module _ (es : List (ℕ × ℕ)) (c : ℕ → ℕ) (x u v : ℕ) where
             })
       ]
   one_more FromSeveral enters outside h = two_on h
-
-pub noted_more : (es : List (ℕ × ℕ)) (class : List ℕ) (entered : List Entered) (u v : ℕ) → class_of class v < length class → AreEnteredAs es class entered → AreEnteredAs (es ++ (u, v) ∷ []) class (noted entered (class_of class u) (class_of class v))
-noted_more es class entered u v below h =
-    let c = class_of class in
-    let long = h.long in
-    let at = set entered (c v) (entered_and_from (get_or entered (c v) Nowhere) (c u)) in
-    elim (cases_eq (c u) (c v)) [
-      | inl same ↦
-          let is : noted entered (c u) (c v) ≡ entered = ap (λ b. cond b entered at) (eq-eqb (c u) (c v) same) in
-          record {
-            long = ap length is ∙ long;
-            each = λ x lt.
-                let P : List Entered → Type 0 = λ ls. IsEnteredAs (es ++ (u, v) ∷ []) c x (get_or ls x Nowhere) in
-                subst P (sym is) (passed_over es c x u v (get_or entered x Nowhere) (λ enters. same ∙ enters) (h.each x lt));
-          }
-      | inr other ↦
-          let is : noted entered (c u) (c v) ≡ at = ap (λ b. cond b entered at) (ne_eqb (c u) (c v) other) in
-          record {
-            long = ap length is ∙ length-set entered (c v) _ ∙ long;
-            each = λ x lt.
-                let P : List Entered → Type 0 = λ ls. IsEnteredAs (es ++ (u, v) ∷ []) c x (get_or ls x Nowhere) in
-                let Q : Entered → Type 0 = λ e. IsEnteredAs (es ++ (u, v) ∷ []) c x e in
-                subst P (sym is) (
-                elim (cases_eq x (c v)) [
-                  | inl here ↦
-                      let inside : c v < length entered = omega arith in
-                      let value : get_or at x Nowhere ≡ entered_and_from (get_or entered (c v) Nowhere) (c u) =
-                      ap (λ (y : ℕ). get_or at y Nowhere) here ∙ get_or-set_same entered (c v) (entered_and_from (get_or entered (c v) Nowhere) (c u)) Nowhere inside in
-                      subst Q (sym value ∙ refl) (
-                      let P' : ℕ → Type 0 = λ y. IsEnteredAs (es ++ (u, v) ∷ []) c y (entered_and_from (get_or entered (c v) Nowhere) (c u)) in
-                      subst P' (sym here) (one_more es c (c v) u v (get_or entered (c v) Nowhere) refl other (h.each (c v) (omega arith))))
-                  | inr there ↦
-                      subst Q (sym (get_or-set_other entered (c v) x (entered_and_from (get_or entered (c v) Nowhere) (c u)) Nowhere there))
-                      (passed_over es c x u v (get_or entered x Nowhere) (λ enters. absurd (there (sym enters))) (h.each x lt))
-                ]);
-          }
-    ]
-
-pub none_noted : (class : List ℕ) → AreEnteredAs [] class (replicate (length class) Nowhere)
-none_noted class = record {
-  long = length-replicate (length class) Nowhere;
-  each = λ x lt.
-      let P : Entered → Type 0 = λ e. IsEnteredAs [] (class_of class) x e in
-      subst P (sym (get_or-replicate (length class) x Nowhere Nowhere lt)) (λ u v has _. absurd (nil_contains (u, v) has));
-}

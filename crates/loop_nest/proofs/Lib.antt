@@ -1,6 +1,8 @@
 mod Elements
+mod Grouping
 mod Around
 mod Nesting
+mod WalkParts
 mod Classes
 mod Cycles
 mod Quotients

@@ -1,6 +1,5 @@
 -- Links of a graph, chains of them, and blocks.
-use Rattle.std.proofs.Common.{◌≡◌, ◌≢◌, ℕ, zero, suc, ◌+◌, ◌-◌, ◌<◌, ◌≤◌, ◌⊎◌, Bool, true, eqb, ◌||◌, List, [], ◌∷◌, ◌++◌, length, get_or, map, filter, All, Contains, Vec, refl, sym, ap, ◌∙◌, subst, inl, inr, arith}
-use Rattle.std.specs.declared.alloc.Global.{Global}
+use Rattle.std.proofs.Common.{◌≡◌, ◌≢◌, ℕ, zero, suc, ◌+◌, ◌-◌, ◌<◌, ◌≤◌, ◌⊎◌, Bool, true, eqb, ◌||◌, List, [], ◌∷◌, ◌++◌, length, get_or, map, filter, All, Contains, refl, sym, ap, ◌∙◌, subst, inl, inr, arith}
 use Rattle.std.specs.List.{list_any}
 use Rattle.std.specs.List.Sorted.{IsStrictlyIncreasing}
 use Rattle.std.proofs.lemmas.Bool.{cases_eq, cases_lt, cases_Bool, eq-eqb, ne_eqb, eqb-true}
@@ -8,18 +7,17 @@ use Rattle.std.proofs.lemmas.List.{get_or_append_left, get_or_push, length_push,
 use Rattle.std.proofs.lemmas.List.Elements.{All-push, All-map, All-weaker, All-contains, Contains-append_left, Contains-push, Contains-get_or}
 use Rattle.std.proofs.lemmas.Map.Keys.{IsDistinct-from_apart}
 use Rattle.std.proofs.lemmas.Map.Steps.{length-le_from_distinct_below}
-use Rattle.loop_nest.specs.Digraph.{Digraph, Edge, IsDigraph}
+use Rattle.loop_nest.specs.Digraph.{Digraph, Edge, IsDigraph, sources_of, AreSources, targets_of, turned}
 use Rattle.loop_nest.specs.Walks.{Walk}
 use Rattle.loop_nest.specs.Walks.Walk.{stay, along}
-use Rattle.loop_nest.specs.Search.{sources_of, AreSources}
-use Rattle.loop_nest.specs.Chains.{targets_of, IsLink, IsChain, IsBlock, firsts_of, AreBlocks, IsChainFrom, IsLater, AreBlocksBelow}
-use Rattle.loop_nest.proofs.Elements.{at_head, in_tail, cons_cases, nil_contains, map_contains, from_map, filter_contains, from_filter, kept_at, dropped_at}
-use Rattle.loop_nest.proofs.Searching.{filter_at_most, sources_has, from_sources}
+use Rattle.loop_nest.specs.Chains.{IsLink, IsChain, IsBlock, firsts_of, AreBlocks, IsChainFrom, IsLater, AreBlocksBelow}
+use Rattle.loop_nest.proofs.Elements.{at_head, in_tail, cons_cases, nil_contains, map_contains, from_map, filter_contains, from_filter, kept_at, dropped_at, filter_at_most}
+use Rattle.loop_nest.proofs.Searching.{sources_has, from_sources}
 use Rattle.loop_nest.proofs.Ends.{ends_within}
 use Rattle.loop_nest.proofs.Rising.{rising_push}
 
 -- edges turned around have targets for sources
-pub sources_of-turned : (es : List (ℕ × ℕ)) (u : ℕ) → sources_of (map (λ (e : ℕ × ℕ). (e.1, e.0)) es) u ≡ targets_of es u
+pub sources_of-turned : (es : List (ℕ × ℕ)) (u : ℕ) → sources_of (turned es) u ≡ targets_of es u
 sources_of-turned [] u = refl
 sources_of-turned (e ∷ es) u =
     let rest = sources_of-turned es u in
@@ -27,18 +25,18 @@ sources_of-turned (e ∷ es) u =
     let q : ℕ × ℕ → Bool = λ x. eqb x.0 u in
     let turn : ℕ × ℕ → ℕ × ℕ = λ x. (x.1, x.0) in
     let e' : ℕ × ℕ = (e.1, e.0) in
-    let turned : List (ℕ × ℕ) = map turn es in
+    let around : List (ℕ × ℕ) = map turn es in
     elim (cases_Bool (eqb e.0 u)) [
       | inl yes' ↦
-          let a : filter p (e' ∷ turned) ≡ e' ∷ filter p turned = kept_at p e' turned yes' in
+          let a : filter p (e' ∷ around) ≡ e' ∷ filter p around = kept_at p e' around yes' in
           let b : filter q (e ∷ es) ≡ e ∷ filter q es = kept_at q e es yes' in
-          let c : sources_of (e' ∷ turned) u ≡ e.1 ∷ sources_of turned u = ap (λ (xs : List (ℕ × ℕ)). map (λ (x : ℕ × ℕ). x.0) xs) a in
+          let c : sources_of (e' ∷ around) u ≡ e.1 ∷ sources_of around u = ap (λ (xs : List (ℕ × ℕ)). map (λ (x : ℕ × ℕ). x.0) xs) a in
           let d : targets_of (e ∷ es) u ≡ e.1 ∷ targets_of es u = ap (λ (xs : List (ℕ × ℕ)). map (λ (x : ℕ × ℕ). x.1) xs) b in
           c ∙ ap (λ (ns : List ℕ). e.1 ∷ ns) rest ∙ sym d
       | inr no' ↦
-          let a : filter p (e' ∷ turned) ≡ filter p turned = dropped_at p e' turned no' in
+          let a : filter p (e' ∷ around) ≡ filter p around = dropped_at p e' around no' in
           let b : filter q (e ∷ es) ≡ filter q es = dropped_at q e es no' in
-          let c : sources_of (e' ∷ turned) u ≡ sources_of turned u = ap (λ (xs : List (ℕ × ℕ)). map (λ (x : ℕ × ℕ). x.0) xs) a in
+          let c : sources_of (e' ∷ around) u ≡ sources_of around u = ap (λ (xs : List (ℕ × ℕ)). map (λ (x : ℕ × ℕ). x.0) xs) a in
           let d : targets_of (e ∷ es) u ≡ targets_of es u = ap (λ (xs : List (ℕ × ℕ)). map (λ (x : ℕ × ℕ). x.1) xs) b in
           c ∙ rest ∙ sym d
     ]
@@ -326,12 +324,9 @@ are_blocks g bs wf h = record {
       on_walk g bs wf h (reached u lt).1 entry;
 }
 
--- what is read at a node of the lists of sources
-pub read_sources : (es : List (ℕ × ℕ)) (n v : ℕ) (ss : List (Vec ℕ Global)) (w : Vec ℕ Global) → AreSources es n ss → v < n → w ≡ get_or ss v w → w.items ≡ sources_of es v
-read_sources es n v ss w h lt is = ap (λ (x : Vec ℕ Global). x.items) is ∙ h.each v w lt
-
-pub read_targets : (es : List (ℕ × ℕ)) (n v : ℕ) (ss : List (Vec ℕ Global)) (w : Vec ℕ Global) → AreSources (map (λ (e : ℕ × ℕ). (e.1, e.0)) es) n ss → v < n → w ≡ get_or ss v w → w.items ≡ targets_of es v
-read_targets es n v ss w h lt is = ap (λ (x : Vec ℕ Global). x.items) is ∙ h.each v w lt ∙ sources_of-turned es v
+-- what is read at a node of the lists of targets
+pub read_targets : (es : List (ℕ × ℕ)) (n u : ℕ) (ss : List (List ℕ)) → AreSources (turned es) n ss → u < n → get_or ss u [] ≡ targets_of es u
+read_targets es n u ss h lt = h.each u lt ∙ sources_of-turned es u
 
 pub target_within : (g : Digraph) (u v : ℕ) → IsDigraph g → length (targets_of g.edges u) ≡ 1 → v ≡ get_or (targets_of g.edges u) 0 v → v < g.nodes
 target_within g u v wf one is =
@@ -345,5 +340,5 @@ source_within g u v wf one is =
     let P : ℕ → Type 0 = λ z. Contains ss z in
     (ends_within wf u v (from_sources g.edges u v (subst P (sym is) (Contains-get_or ss 0 u (omega arith))))).0
 
-pub turned_within : (g : Digraph) → IsDigraph g → All (λ (e : ℕ × ℕ). e.1 < g.nodes) (map (λ (e : ℕ × ℕ). (e.1, e.0)) g.edges)
+pub turned_within : (g : Digraph) → IsDigraph g → All (λ (e : ℕ × ℕ). e.1 < g.nodes) (turned g.edges)
 turned_within g wf = All-map (λ (e : ℕ × ℕ). e.1 < g.nodes) (λ (e : ℕ × ℕ). (e.1, e.0)) g.edges (All-weaker (λ (e : ℕ × ℕ). (e.0 < g.nodes) × (e.1 < g.nodes)) (λ (e : ℕ × ℕ). e.0 < g.nodes) (λ e h. h.0) g.edges wf.edges.ends)

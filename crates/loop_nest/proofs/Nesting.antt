@@ -7,7 +7,7 @@ use Rattle.loop_nest.specs.Walks.Walk.{stay, along}
 use Rattle.loop_nest.specs.Laws.{HeaderDominatesMembers, LoopIsEnteredAtHeader, EdgesToHeaderAreBackEdges, LoopsAreNested}
 use Rattle.loop_nest.proofs.Elements.{cons_cases}
 use Rattle.loop_nest.proofs.Around.{Around, ends_elsewhere, joined, joined_by, around_from, leads_around, end_visited, not_around, dominates_from}
-use Rattle.loop_nest.proofs.Around.Around.{rest, pass}
+use Rattle.loop_nest.proofs.Around.Around.{rest, through}
 
 pub header_dominates_members : HeaderDominatesMembers
 header_dominates_members g h x m =
@@ -24,7 +24,7 @@ loop_is_entered_at_header g h u v e =
           elim (cases_eq u h) [
             | inl at_header ↦ absurd (e.outside (e.inside.0, inl at_header))
             | inr other ↦
-                absurd (e.outside (e.inside.0, inr (record { source = r.source; back_edge = r.back_edge; leads = leads_around (pass other e.edge (around_from r.leads.1 r.leads.2)) })))
+                absurd (e.outside (e.inside.0, inr (record { source = r.source; back_edge = r.back_edge; leads = leads_around (through other e.edge (around_from r.leads.1 r.leads.2)) })))
           ]
     ]
 
@@ -55,12 +55,12 @@ last_of {g} h k apart (along {u} {v} {w} {ns} e t) =
                 elim (cases_eq u h) [
                   | inl at_h ↦
                       let P : ℕ → Type 0 = λ y. Around g k y w in
-                      inr (inl (subst P at_h (pass (λ same. apart (sym at_h ∙ same)) e (around_from t none.1))))
+                      inr (inl (subst P at_h (through (λ same. apart (sym at_h ∙ same)) e (around_from t none.1))))
                   | inr not_h ↦
                       elim (cases_eq u k) [
                         | inl at_k ↦
                             let P : ℕ → Type 0 = λ y. Around g h y w in
-                            inl (subst P at_k (pass not_h e (around_from t none.0)))
+                            inl (subst P at_k (through not_h e (around_from t none.0)))
                         | inr not_k ↦
                             inr (inr (
                               λ c. elim (cons_cases u h ns c) [ inl same ↦ not_h same | inr there ↦ none.0 there ],
@@ -89,8 +89,8 @@ first_of {g} h k apart (along {u} {v} {w} {ns} e t) c =
                   | inl same ↦ absurd (not_h same)
                   | inr there ↦
                       elim (first_of h k apart t there) [
-                        | inl a ↦ inl (pass not_k e a)
-                        | inr b ↦ inr (pass not_h e b)
+                        | inl a ↦ inl (through not_k e a)
+                        | inr b ↦ inr (through not_h e b)
                       ]
                 ]
           ]
@@ -103,12 +103,12 @@ meets {g} {k} h (rest {u} ne) =
       | inl at_h ↦ let P : ℕ → Type 0 = λ y. Around g k y u in inr (subst P at_h (rest ne))
       | inr not_h ↦ inl (rest not_h)
     ]
-meets {g} {k} h (pass {u} {v} {w} ne e a) =
+meets {g} {k} h (through {u} {v} {w} ne e a) =
     elim (cases_eq u h) [
-      | inl at_h ↦ let P : ℕ → Type 0 = λ y. Around g k y w in inr (subst P at_h (pass ne e a))
+      | inl at_h ↦ let P : ℕ → Type 0 = λ y. Around g k y w in inr (subst P at_h (through ne e a))
       | inr not_h ↦
           elim (meets h a) [
-            | inl b ↦ inl (pass not_h e b)
+            | inl b ↦ inl (through not_h e b)
             | inr b ↦ inr b
           ]
     ]

@@ -3,10 +3,9 @@ use Rattle.std.proofs.Common.{◌≡◌, ◌≢◌, ℕ, ◌<◌, ◌⊎◌, Boo
 use Rattle.std.proofs.lemmas.Bool.{cases_eq, cases_lt, both_ways}
 use Rattle.std.proofs.lemmas.List.{length-set, get_or-set_same, get_or-set_other, get_or_append_left, get_or_push, length_push}
 use Rattle.std.proofs.lemmas.List.Elements.{All-contains, All-append, All-push, All-from_get_or, Contains-append_left, Contains-append_right, Contains-push, Contains-push_cases, Contains-append_cases, Contains-get_or}
-use Rattle.loop_nest.specs.Digraph.{Digraph, Edge, IsDigraph}
+use Rattle.loop_nest.specs.Digraph.{Digraph, Edge, IsDigraph, targets_of}
 use Rattle.loop_nest.specs.Walks.{Walk, Dominates}
 use Rattle.loop_nest.specs.Walks.Walk.{stay, along}
-use Rattle.loop_nest.specs.Chains.{targets_of}
 use Rattle.loop_nest.specs.Order.{AreDominatorsFirst, IsOutward}
 use Rattle.loop_nest.proofs.Elements.{at_head, nil_contains, cons_cases}
 use Rattle.loop_nest.proofs.Around.{Around, around_from, leads_around, joined_by, not_around}

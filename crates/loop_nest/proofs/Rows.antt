@@ -1,11 +1,9 @@
 -- Small graphs on which the definitions compute what one sees.
 use Rattle.std.proofs.Common.{◌≡◌, ℕ, [], ◌∷◌, map, filter, not, refl, lit<}
-use Rattle.loop_nest.specs.Digraph.{Digraph}
-use Rattle.loop_nest.specs.Walks.{Walk, turns}
+use Rattle.loop_nest.specs.Digraph.{Digraph, sources_of, targets_of}
+use Rattle.loop_nest.specs.Walks.{Walk, back_edges_to}
 use Rattle.loop_nest.specs.Walks.Walk.{stay, along}
 use Rattle.loop_nest.specs.Reduction.{whole, is_self_edge, renamed}
-use Rattle.loop_nest.specs.Search.{sources_of}
-use Rattle.loop_nest.specs.Chains.{targets_of}
 
 -- 0 to 1, around 1 and 2, and out to 3
 abbrev small : Digraph
@@ -27,15 +25,15 @@ after_merge = refl
 after_drop : filter (λ (e : ℕ × ℕ). not (is_self_edge 1 e)) ((0, 1) ∷ (1, 1) ∷ (1, 3) ∷ (1, 1) ∷ []) ≡ (0, 1) ∷ (1, 3) ∷ []
 after_drop = refl
 
--- a stay of five nodes takes two turns, one node alone none
-two_turns : turns 1 (1 ∷ 2 ∷ 1 ∷ 2 ∷ 1 ∷ []) ≡ 2
-two_turns = refl
+-- a stay of five nodes takes two back edges, one node alone none
+two_iterations : back_edges_to 1 (1 ∷ 2 ∷ 1 ∷ 2 ∷ 1 ∷ []) ≡ 2
+two_iterations = refl
 
-no_turn : turns 1 (1 ∷ []) ≡ 0
-no_turn = refl
+no_iteration : back_edges_to 1 (1 ∷ []) ≡ 0
+no_iteration = refl
 
 -- a stay that begins inside the loop
-begun_inside : turns 1 (2 ∷ 1 ∷ 2 ∷ []) ≡ 1
+begun_inside : back_edges_to 1 (2 ∷ 1 ∷ 2 ∷ []) ≡ 1
 begun_inside = refl
 
 walk : Walk small 0 3 (0 ∷ 1 ∷ 2 ∷ 1 ∷ 3 ∷ [])

@@ -1,14 +1,13 @@
 -- The search for the members of a loop, step by step.
-use Rattle.std.proofs.Common.{◌≡◌, ◌≢◌, ℕ, zero, suc, ◌+◌, ◌*◌, ◌<◌, ◌≤◌, ◌⊎◌, Bool, true, false, Option, Some, None, cond, eqb, not, List, [], ◌∷◌, ◌++◌, length, get_or, set, replicate, map, filter, All, Contains, Vec, refl, sym, ap, ◌∙◌, subst, inl, inr, arith}
-use Rattle.std.specs.declared.alloc.Global.{Global}
+use Rattle.std.proofs.Common.{◌≡◌, ◌≢◌, ℕ, zero, suc, ◌+◌, ◌*◌, ◌<◌, ◌≤◌, ◌⊎◌, Bool, true, false, Option, Some, None, eqb, not, List, [], ◌∷◌, ◌++◌, length, get_or, set, replicate, filter, All, Contains, refl, sym, ap, ◌∙◌, subst, inl, inr, arith}
 use Rattle.std.proofs.lemmas.Bool.{cases_eq, cases_lt, cases_Bool, eq-eqb, ne_eqb, eqb-true}
-use Rattle.std.proofs.lemmas.List.{length-set, length-map, map-append, append-nil, get_or-set_same, get_or-set_other, get_or_past, get_or-replicate, length-replicate}
-use Rattle.std.proofs.lemmas.List.Elements.{All-contains, All-append, All-from_get_or, Contains-append_left, Contains-append_right, Contains-push, Contains-push_cases, Contains-append_cases, Contains-get_or, filter-append}
-use Rattle.loop_nest.specs.Digraph.{Digraph, Edge, IsDigraph}
-use Rattle.loop_nest.specs.Search.{sources_of, AreSources, ReachesOneOf, mark_at, IsSearch, AreFound, AreUnmarked, IsMarkedWith}
-use Rattle.loop_nest.proofs.Elements.{nil_contains, map_contains, from_map, filter_contains, from_filter, kept_at, dropped_at}
+use Rattle.std.proofs.lemmas.List.{length-set, length-map, get_or-set_same, get_or-set_other, get_or_past, get_or-replicate, length-replicate}
+use Rattle.std.proofs.lemmas.List.Elements.{All-contains, All-append, All-from_get_or, Contains-append_left, Contains-append_right, Contains-push, Contains-push_cases, Contains-append_cases, Contains-get_or}
+use Rattle.loop_nest.specs.Digraph.{Digraph, Edge, IsDigraph, sources_of}
+use Rattle.loop_nest.specs.Search.{ReachesOneOf, mark_at, IsSearch, AreFound, AreUnmarked, IsMarkedWith}
+use Rattle.loop_nest.proofs.Elements.{nil_contains, map_contains, from_map, filter_contains, from_filter, kept_at, dropped_at, filter_at_most}
 use Rattle.loop_nest.proofs.Around.{Around, around_from, leads_around}
-use Rattle.loop_nest.proofs.Around.Around.{rest, pass}
+use Rattle.loop_nest.proofs.Around.Around.{rest, through}
 use Rattle.loop_nest.proofs.Ends.{ends_within}
 
 pub sources_has : (es : List (ℕ × ℕ)) (u v : ℕ) → Contains es (u, v) → Contains (sources_of es v) u
@@ -22,15 +21,6 @@ from_sources es u v has =
     let P : ℕ → Type 0 = λ z. Contains es (z, r.0.1) in
     let Q : ℕ → Type 0 = λ z. Contains es (u, z) in
     subst Q (eqb-true r.0.1 v k.1) (subst P r.2 k.0)
-
-pub filter_at_most : {X : Type 0} (p : X → Bool) (xs : List X) → length (filter p xs) ≤ length xs
-filter_at_most p [] = omega arith
-filter_at_most p (x ∷ xs) =
-    let rest = filter_at_most p xs in
-    elim (cases_Bool (p x)) [
-      | inl yes' ↦ let e = ap length (kept_at p x xs yes') in omega arith
-      | inr no' ↦ let e = ap length (dropped_at p x xs no') in omega arith
-    ]
 
 pub few_sources : (es : List (ℕ × ℕ)) (v : ℕ) → length (sources_of es v) ≤ length es
 few_sources es v =
@@ -179,7 +169,7 @@ search_takes {g} {h} {ends} {n} {marks} left x wf s fresh =
                             inr (record {
                               source = r.source;
                               listed = r.listed;
-                              leads = leads_around (pass off_h (from_sources g.edges y x new') (around_from r.leads.1 r.leads.2));
+                              leads = leads_around (through off_h (from_sources g.edges y x new') (around_from r.leads.1 r.leads.2));
                             })
                       ]
                 ]
@@ -197,11 +187,11 @@ search_takes {g} {h} {ends} {n} {marks} left x wf s fresh =
 
 starts_elsewhere : {g : Digraph} {h u v : ℕ} → Around g h u v → u ≢ h
 starts_elsewhere (rest ne) = ne
-starts_elsewhere (pass ne e a) = ne
+starts_elsewhere (through ne e a) = ne
 
 all_found : {g : Digraph} {h : ℕ} {ends : List ℕ} {n : ℕ} {marks : List (Option ℕ)} → IsSearch g h ends n [] marks → {x y : ℕ} → Around g h x y → Contains ends y → mark_at marks x ≡ Some n
 all_found s (rest {u} ne) listed = elim (s.from_ends u listed) [ inl m ↦ m | inr w ↦ absurd (nil_contains u w) ]
-all_found s (pass {u} {v} {w} ne e a) listed =
+all_found s (through {u} {v} {w} ne e a) listed =
     elim (s.closed u v (all_found s a listed) (starts_elsewhere a) e) [ inl m ↦ m | inr k ↦ absurd (nil_contains u k) ]
 
 pub search_ends : {g : Digraph} {h : ℕ} {ends : List ℕ} {n : ℕ} {marks : List (Option ℕ)} → IsSearch g h ends n [] marks → AreFound g h ends n marks
@@ -234,26 +224,3 @@ marked_more n x old new m = record {
             ]
       ];
 }
-
-pub sources_more : (es : List (ℕ × ℕ)) (n u v : ℕ) (ss : List (Vec ℕ Global)) (w : Vec ℕ Global) → v < n → AreSources es n ss → w.items ≡ sources_of es v ++ u ∷ [] → AreSources (es ++ (u, v) ∷ []) n (set ss v w)
-sources_more es n u v ss w lt h is =
-    let long = h.long in
-    record {
-      long = length-set ss v w ∙ long;
-      each = λ y d below.
-          let parts : sources_of (es ++ (u, v) ∷ []) y ≡ sources_of es y ++ map (λ (e : ℕ × ℕ). e.0) (filter (λ e. eqb e.1 y) ((u, v) ∷ [])) =
-          ap (map (λ (e : ℕ × ℕ). e.0)) (filter-append (λ (e : ℕ × ℕ). eqb e.1 y) es ((u, v) ∷ []))
-          ∙ map-append (λ (e : ℕ × ℕ). e.0) (filter (λ e. eqb e.1 y) es) (filter (λ e. eqb e.1 y) ((u, v) ∷ [])) in
-          elim (cases_eq y v) [
-            | inl same ↦
-                let last : map (λ (e : ℕ × ℕ). e.0) (filter (λ e. eqb e.1 y) ((u, v) ∷ [])) ≡ u ∷ [] =
-                ap (λ b. map (λ (e : ℕ × ℕ). e.0) (cond b ((u, v) ∷ []) [])) (eq-eqb v y (sym same)) in
-                ap (λ (z : ℕ). (get_or (set ss v w) z d).items) same ∙ ap (λ (k : Vec ℕ Global). k.items) (get_or-set_same ss v w d (omega arith)) ∙ is
-                ∙ ap (λ (z : ℕ). sources_of es z ++ u ∷ []) (sym same) ∙ ap (λ ls. sources_of es y ++ ls) (sym last) ∙ sym parts
-            | inr other ↦
-                let last : map (λ (e : ℕ × ℕ). e.0) (filter (λ e. eqb e.1 y) ((u, v) ∷ [])) ≡ [] =
-                ap (λ b. map (λ (e : ℕ × ℕ). e.0) (cond b ((u, v) ∷ []) [])) (ne_eqb v y (λ e. other (sym e))) in
-                ap (λ (k : Vec ℕ Global). k.items) (get_or-set_other ss v y w d other) ∙ h.each y d below
-                ∙ sym (append-nil (sources_of es y)) ∙ ap (λ ls. sources_of es y ++ ls) (sym last) ∙ sym parts
-          ];
-    }

@@ -1,13 +1,8 @@
 -- The basic blocks of a graph.
-use Rattle.std.specs.Prelude.{◌≡◌, ◌≢◌, ℕ, ◌+◌, ◌-◌, ◌<◌, ◌==◌, List, [], ◌∷◌, length, map, filter, All, Contains, slice_index}
+use Rattle.std.specs.Prelude.{◌≡◌, ◌≢◌, ℕ, ◌+◌, ◌-◌, ◌<◌, List, [], ◌∷◌, length, map, All, Contains, slice_index}
 use Rattle.std.specs.List.Sorted.{IsStrictlyIncreasing}
-use Rattle.loop_nest.specs.Digraph.{Digraph}
+use Rattle.loop_nest.specs.Digraph.{Digraph, sources_of, targets_of}
 use Rattle.loop_nest.specs.Entered.{AreReached}
-use Rattle.loop_nest.specs.Search.{sources_of}
-
--- the targets of the edges from u
-abbrev pub targets_of : List (ℕ × ℕ) → ℕ → List ℕ
-targets_of es u = map (λ e. e.1) (filter (λ e. e.0 == u) es)
 
 -- v is the one successor of u, and u the one predecessor of v, which is not node 0
 pub record IsLink (g : Digraph) (u v : ℕ) : Type 0 where

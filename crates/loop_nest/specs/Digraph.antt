@@ -1,5 +1,5 @@
 -- Graphs of numbered nodes, of which node 0 is the entry.
-use Rattle.std.specs.Prelude.{◌≡◌, ℕ, ◌<◌, ◌⊎◌, List, length, All, Contains}
+use Rattle.std.specs.Prelude.{◌≡◌, ℕ, ◌<◌, ◌⊎◌, ◌==◌, List, [], length, map, filter, All, Contains, count_by, slice_index, slice_index_or}
 use Rattle.std.specs.List.{AllAdjacentBelow}
 use Rattle.std.specs.List.Sorted.{IsStrictlyIncreasing}
 
@@ -32,3 +32,25 @@ pub record IsDigraph (g : Digraph) : Type 0 where
   pub entry : 0 < g.nodes
   pub edges : AreEdges g.nodes g.edges
   pub exits : AreExits g.nodes g.exits
+
+-- the sources of the edges to v
+abbrev pub sources_of : List (ℕ × ℕ) → ℕ → List ℕ
+sources_of es v = map (λ e. e.0) (filter (λ e. e.1 == v) es)
+
+-- the targets of the edges from u
+abbrev pub targets_of : List (ℕ × ℕ) → ℕ → List ℕ
+targets_of es u = map (λ e. e.1) (filter (λ e. e.0 == u) es)
+
+-- these edges from their targets to their sources
+abbrev pub turned : List (ℕ × ℕ) → List (ℕ × ℕ)
+turned es = map (λ e. (e.1, e.0)) es
+
+-- for each of n nodes, the sources of the edges to it
+pub record AreSources (es : List (ℕ × ℕ)) (n : ℕ) (ss : List (List ℕ)) : Type 0 where
+  pub long : length ss ≡ n
+  pub each : (v : ℕ) → v < n → slice_index_or ss v [] ≡ sources_of es v
+
+-- for each of n nodes, how many edges lead to it
+pub record AreArrivals (es : List (ℕ × ℕ)) (n : ℕ) (counts : List ℕ) : Type 0 where
+  pub long : length counts ≡ n
+  pub each : (v : ℕ) → slice_index counts v ≡ count_by (λ e. e.1 == v) es

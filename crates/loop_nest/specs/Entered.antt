@@ -1,5 +1,5 @@
 -- From where merged nodes are entered, as far as the edges of a list tell.
-use Rattle.std.specs.Prelude.{◌≡◌, ◌≢◌, ℕ, ◌<◌, ◌⊎◌, ◌↔◌, Bool, true, false, ◌==◌, if◌then◌else◌, List, length, filter, All, Contains, slice_index_or, slice_set}
+use Rattle.std.specs.Prelude.{◌≡◌, ◌≢◌, ℕ, ◌<◌, ◌⊎◌, ◌↔◌, Bool, true, false, ◌==◌, if◌then◌else◌, List, length, filter, All, Contains, slice_index_or}
 use Rattle.std.specs.List.{range_with_len}
 use Rattle.loop_nest.specs.declared.merging.Entered.{Entered}
 use Rattle.loop_nest.specs.declared.merging.Entered.TheVariants.{Nowhere, From, FromSeveral}
@@ -20,11 +20,6 @@ abbrev pub entered_and_from : Entered → ℕ → Entered
 entered_and_from Nowhere source = From source
 entered_and_from (From p) source = if p == source then From p else FromSeveral
 entered_and_from FromSeveral source = FromSeveral
-
--- the same for each class with an edge more, from the class `source` to the class `target`
-abbrev pub noted : List Entered → ℕ → ℕ → List Entered
-noted entered source target =
-    if source == target then entered else slice_set entered target (entered_and_from (slice_index_or entered target Nowhere) source)
 
 -- the edges that enter the class x all begin in it
 abbrev pub IsNotEntered : List (ℕ × ℕ) → (ℕ → ℕ) → ℕ → Type 0
@@ -59,11 +54,6 @@ IsEnteredAs es c x Nowhere = IsNotEntered es c x
 IsEnteredAs es c x (From p) = IsEnteredFromOne es c p x
 IsEnteredAs es c x FromSeveral = IsEnteredFromTwo es c x
 
--- for each node, from where its class is entered
-pub record AreEnteredAs (es : List (ℕ × ℕ)) (class : List ℕ) (entered : List Entered) : Type 0 where
-  pub long : length entered ≡ length class
-  pub each : (x : ℕ) → x < length class → IsEnteredAs es (class_of class) x (slice_index_or entered x Nowhere)
-
 -- the list has the node into which each node of the graph is merged
 pub record IsClassList (g : Digraph) (class : List ℕ) : Type 0 where
   pub long : length class ≡ g.nodes
@@ -85,12 +75,6 @@ pub record AreMarkedBy (g : Digraph) (c : ℕ → ℕ) (back : List Bool) : Type
 
 abbrev pub AreBackEdgesMarked : Digraph → List ℕ → List Bool → Type 0
 AreBackEdgesMarked g class back = AreMarkedBy g (class_of class) back
-
--- no node is merged, and no edge marked as a back edge
-pub record IsUnmerged (g : Digraph) (class : List ℕ) (back : List Bool) : Type 0 where
-  pub classes : IsClassList g class
-  pub alone : class ≡ range_with_len 0 g.nodes
-  pub long : length back ≡ length g.edges
 
 -- the edges to x are marked as back edges where they begin among the nodes merged into x
 pub record MarksEdgesTo (es : List (ℕ × ℕ)) (c : ℕ → ℕ) (x : ℕ) (old new : List Bool) : Type 0 where

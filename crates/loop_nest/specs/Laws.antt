@@ -1,7 +1,7 @@
 -- What holds of every graph, of its reduction and of its loops.
-use Rattle.std.specs.Prelude.{◌≡◌, ℕ, ◌<◌, ◌⊎◌, List, ◌∷◌}
+use Rattle.std.specs.Prelude.{◌≡◌, ◌≢◌, ℕ, ◌<◌, ◌⊎◌, List, ◌∷◌, Contains}
 use Rattle.loop_nest.specs.Digraph.{Digraph, Edge, IsDigraph}
-use Rattle.loop_nest.specs.Walks.{Walk, Dominates, IsReachable, IsBackEdge, IsMember, IsEntering, Takes}
+use Rattle.loop_nest.specs.Walks.{Walk, Dominates, LeadsAround, IsReachable, IsBackEdge, IsMember, IsEntering, Takes}
 use Rattle.loop_nest.specs.Reduction.{Leaves, IsReducible}
 
 -- where every node is reached, the reduction leaves the same nodes in whatever order its steps are done
@@ -33,3 +33,19 @@ EdgesToHeaderAreBackEdges = (g : Digraph) (h u : ℕ) → IsMember g h u → Edg
 abbrev pub LoopsAreNested : Type 0
 LoopsAreNested =
     (g : Digraph) (h k x : ℕ) → IsReachable g x → IsMember g h x → IsMember g k x → ((y : ℕ) → IsMember g h y → IsMember g k y) ⊎ ((y : ℕ) → IsMember g k y → IsMember g h y)
+
+-- every walk from node 0 visits node 0
+abbrev pub EntryDominatesAll : Type 0
+EntryDominatesAll = (g : Digraph) (u : ℕ) → Dominates g 0 u
+
+-- of two nodes that are reached, each dominates the other only where they are the same
+abbrev pub DominanceIsAntisymmetric : Type 0
+DominanceIsAntisymmetric = (g : Digraph) (a b : ℕ) → IsReachable g a → Dominates g a b → Dominates g b a → a ≡ b
+
+-- a walk leads on from each node that it visits
+abbrev pub WalksLeadOn : Type 0
+WalksLeadOn = (g : Digraph) (u v x : ℕ) (ns : List ℕ) → Walk g u v ns → Contains ns x → (ms : List ℕ) × Walk g x v ms
+
+-- a walk that ends elsewhere than where it starts comes to its end first by an edge, from a node to which it leads without its end
+abbrev pub WalksComeByEdges : Type 0
+WalksComeByEdges = (g : Digraph) (u w : ℕ) (ns : List ℕ) → Walk g u w ns → w ≢ u → (q : ℕ) × Edge g q w × LeadsAround g w u q

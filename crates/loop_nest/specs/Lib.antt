@@ -1,4 +1,5 @@
 pub mod Digraph
+pub mod Grouping
 pub mod Walks
 pub mod Reduction
 pub mod Classes

@@ -1,5 +1,5 @@
 -- The loops of a graph as a list.
-use Rattle.std.specs.Prelude.{◌≡◌, ◌≢◌, ℕ, ◌<◌, ◌↔◌, List, [], length, map, slice_index, slice_index_or, All, Contains, Option, None, MatchOption}
+use Rattle.std.specs.Prelude.{◌≢◌, ℕ, ◌<◌, ◌↔◌, List, [], length, map, slice_index, slice_index_or, All, Contains, Option, None, MatchOption}
 use Rattle.std.specs.List.Sorted.{IsStrictlyIncreasing}
 use Rattle.loop_nest.specs.Digraph.{Digraph}
 use Rattle.loop_nest.specs.Walks.{IsHeader, IsMember}

@@ -1,17 +1,7 @@
 -- The members of a loop, as a search backwards from the sources of its back edges finds them.
-use Rattle.std.specs.Prelude.{◌≡◌, ◌≢◌, ℕ, ◌<◌, ◌⊎◌, ◌↔◌, ◌==◌, List, length, map, filter, All, Contains, slice_index_or, Option, Some, None, Vec}
-use Rattle.std.specs.declared.alloc.Global.{Global}
+use Rattle.std.specs.Prelude.{◌≡◌, ◌≢◌, ℕ, ◌<◌, ◌⊎◌, ◌↔◌, List, length, All, Contains, slice_index_or, Option, Some, None}
 use Rattle.loop_nest.specs.Digraph.{Digraph, Edge}
 use Rattle.loop_nest.specs.Walks.{LeadsAround}
-
--- the sources of the edges to v
-abbrev pub sources_of : List (ℕ × ℕ) → ℕ → List ℕ
-sources_of es v = map (λ e. e.0) (filter (λ e. e.1 == v) es)
-
--- for each of n nodes, the sources of the edges to it
-pub record AreSources (es : List (ℕ × ℕ)) (n : ℕ) (ss : List (Vec ℕ Global)) : Type 0 where
-  pub long : length ss ≡ n
-  pub each : (v : ℕ) (d : Vec ℕ Global) → v < n → (slice_index_or ss v d).items ≡ sources_of es v
 
 -- one of the nodes `ends` is reached from x without visiting h
 pub record ReachesOneOf (g : Digraph) (h : ℕ) (ends : List ℕ) (x : ℕ) : Type 0 where

@@ -44,20 +44,14 @@ pub record IsEntering (g : Digraph) (h u v : ℕ) : Type 0 where
   pub outside : ¬ IsMember g h u
   pub inside : IsMember g h v
 
--- the loop of h is left by the edge from u to v
-pub record IsLeaving (g : Digraph) (h u v : ℕ) : Type 0 where
-  pub edge : Edge g u v
-  pub inside : IsMember g h u
-  pub outside : ¬ IsMember g h v
-
 -- how many edges to h a walk takes. Within the loop of h these are its back edges.
-abbrev pub turns : ℕ → List ℕ → ℕ
-turns h ns = count_by (λ x. x == h) (drop 1 ns)
+abbrev pub back_edges_to : ℕ → List ℕ → ℕ
+back_edges_to h ns = count_by (λ x. x == h) (drop 1 ns)
 
 -- the walk takes at most so many back edges of h in each stay in its loop, between an entry and the next leaving
 abbrev pub KeepsBound : Digraph → ℕ → ℕ → List ℕ → Type 0
 KeepsBound g h bound ns =
-    (before in_loop after : List ℕ) → ns ≡ before ++ in_loop ++ after → All (IsMember g h) in_loop → turns h in_loop ≤ bound
+    (before in_loop after : List ℕ) → ns ≡ before ++ in_loop ++ after → All (IsMember g h) in_loop → back_edges_to h in_loop ≤ bound
 
 -- the walk takes the edge from u to v
 abbrev pub Takes : List ℕ → ℕ → ℕ → Type 0

@@ -1,16 +1,14 @@
-//! Basic blocks: the longest chains of nodes that are passed one after another.
+//! Basic blocks: the longest chains of nodes that follow one another.
 ghost use Rattle.std.specs.Prelude.{◌≡◌, ◌<◌, ◌↔◌, ℕ, map, slice_index, IfOk, IsTrue, MatchOption};
-ghost use Rattle.loop_nest.specs.Digraph.{IsDigraph};
-ghost use Rattle.loop_nest.specs.Search.{AreSources};
-ghost use Rattle.loop_nest.specs.Chains.{targets_of, IsLink, IsLater, IsBlock, AreBlocksBelow};
+ghost use Rattle.loop_nest.specs.Digraph.{IsDigraph, turned, AreSources};
+ghost use Rattle.loop_nest.specs.Chains.{IsLink, IsLater, IsBlock, AreBlocksBelow};
 
-use super::Graph;
-use super::members::sources_by_target;
+use super::digraph::{Graph, Sources, turned};
 use std::alloc::{AllocError, Global};
 use std::marker::Model;
 
 /// The basic blocks of a graph.
-#[derive(Debug, Drop)]
+#[derive(Drop)]
 pub struct Blocks {
     chains: Vec<Vec<u32>>,
 }
@@ -39,56 +37,50 @@ impl Blocks {
     }
 }
 
-/// These edges from their targets to their sources.
-pub(crate) fn turned(alloc: Global, edges: &[(u32, u32)]) -> Result<Vec<(u32, u32)>, AllocError>
-    ensures { IfOk result (λ turned. turned.items ≡ map (λ e. (e.1, e.0)) edges.now) }
-{
-    edges.iter().map(|e| (e.1, e.0)).collect(alloc)
-}
-
 /// The node to which `u` is linked.
-fn next(g: &Graph, targets: &[Vec<u32>], sources: &[Vec<u32>], u: u32) -> Option<u32>
+fn next(g: &Graph, targets: &Sources, sources: &Sources, u: u32) -> Option<u32>
     requires valid { IsDigraph g.now }
-    requires targets { AreSources (map (λ e. (e.1, e.0)) g.now.edges) g.now.nodes targets.now }
+    requires targets { AreSources (turned g.now.edges) g.now.nodes targets.now }
     requires sources { AreSources g.now.edges g.now.nodes sources.now }
     requires below { u < g.now.nodes }
     ensures { MatchOption result ((v : ℕ) → ¬ IsLink g.now u v) (IsLink g.now u) }
 {
-    if targets[u as usize].len() != 1 {
+    let successors = targets.of(u);
+    if successors.len() != 1 {
         return None;
     }
-    let v = targets[u as usize][0];
-    if v == 0 || sources[v as usize].len() != 1 {
+    let v = successors[0];
+    if v == 0 || sources.of(v).len() != 1 {
         return None;
     }
     Some(v)
 }
 
 /// Whether a node is linked to `v`.
-fn is_later(g: &Graph, targets: &[Vec<u32>], sources: &[Vec<u32>], v: u32) -> bool
+fn is_later(g: &Graph, targets: &Sources, sources: &Sources, v: u32) -> bool
     requires valid { IsDigraph g.now }
-    requires targets { AreSources (map (λ e. (e.1, e.0)) g.now.edges) g.now.nodes targets.now }
+    requires targets { AreSources (turned g.now.edges) g.now.nodes targets.now }
     requires sources { AreSources g.now.edges g.now.nodes sources.now }
     requires below { v < g.now.nodes }
     ensures { IsTrue result ↔ IsLater g.now v }
 {
-    if sources[v as usize].len() != 1 || v == 0 {
+    let predecessors = sources.of(v);
+    if predecessors.len() != 1 || v == 0 {
         return false;
     }
-    let u = sources[v as usize][0];
-    targets[u as usize].len() == 1
+    targets.of(predecessors[0]).len() == 1
 }
 
 /// The block that begins with `first`.
 fn chain(
     alloc: Global,
     g: &Graph,
-    targets: &[Vec<u32>],
-    sources: &[Vec<u32>],
+    targets: &Sources,
+    sources: &Sources,
     first: u32,
 ) -> Result<Vec<u32>, AllocError>
     requires valid { IsDigraph g.now }
-    requires targets { AreSources (map (λ e. (e.1, e.0)) g.now.edges) g.now.nodes targets.now }
+    requires targets { AreSources (turned g.now.edges) g.now.nodes targets.now }
     requires sources { AreSources g.now.edges g.now.nodes sources.now }
     requires below { first < g.now.nodes }
     requires begins { ¬ IsLater g.now first }
@@ -112,8 +104,8 @@ pub(crate) fn chains(alloc: Global, g: &Graph) -> Result<Vec<Vec<u32>>, AllocErr
 {
     let nodes = g.nodes();
     let turned = turned(alloc, g.edges())?;
-    let targets = sources_by_target(alloc, nodes as usize, &turned)?;
-    let sources = sources_by_target(alloc, nodes as usize, g.edges())?;
+    let targets = Sources::by_target(alloc, nodes as usize, &turned)?;
+    let sources = Sources::by_target(alloc, nodes as usize, g.edges())?;
     let mut chains = Vec::new(alloc);
     for u in 0..nodes {
         if !is_later(g, &targets, &sources, u) {

@@ -1,13 +1,15 @@
-//! Graphs of numbered nodes.
-ghost use Rattle.std.specs.Prelude.{◌≡◌, ◌^◌, ◌<◌, ◌↔◌, length, IsTrue};
+//! Graphs of numbered nodes, and for each node the sources of the edges to it.
+ghost use Rattle.std.specs.Prelude.{◌≡◌, ◌+◌, ◌^◌, ◌<◌, ◌≤◌, ◌↔◌, [], length, All, IfOk, IsTrue, slice_index_or, slice_range};
 ghost use Rattle.std.specs.List.{AllAdjacentBelow};
 ghost use Rattle.std.specs.List.Sorted.{IsStrictlyIncreasing};
-ghost use Rattle.loop_nest.specs.Digraph.{IsBefore, IsDigraph};
+ghost use Rattle.loop_nest.specs.Digraph.{IsBefore, IsDigraph, turned, AreSources, AreArrivals};
+ghost use Rattle.loop_nest.specs.Grouping.{AreStarts, AreStartsIn, lists_from};
 
+use std::alloc::{AllocError, Global};
 use std::marker::Model;
 
 /// A graph of numbered nodes, of which node 0 is the entry.
-#[derive(Debug, Drop)]
+#[derive(Drop)]
 pub struct Graph {
     nodes: u32,
     edges: Vec<(u32, u32)>,
@@ -97,7 +99,7 @@ fn are_rising_edges(edges: &[(u32, u32)]) -> bool
 }
 
 /// Whether each node is below the next.
-fn are_rising(nodes: &[u32]) -> bool
+pub fn are_rising(nodes: &[u32]) -> bool
     ensures { IsTrue result ↔ IsStrictlyIncreasing nodes.now }
 {
     for i in 1..nodes.len() {
@@ -117,4 +119,115 @@ pub fn is_graph(nodes: u32, edges: &[(u32, u32)], exits: &[u32]) -> bool
         && are_rising_edges(edges)
         && exits.iter().all(|u| *u < nodes)
         && are_rising(exits)
+}
+
+/// These edges from their targets to their sources.
+pub fn turned(alloc: Global, edges: &[(u32, u32)]) -> Result<Vec<(u32, u32)>, AllocError>
+    ensures { IfOk result (λ found. found.items ≡ turned edges.now) }
+{
+    edges.iter().map(|e| (e.1, e.0)).collect(alloc)
+}
+
+/// How many edges lead to each of `nodes` nodes.
+pub fn arrivals(alloc: Global, nodes: usize, edges: &[(u32, u32)]) -> Result<Vec<usize>, AllocError>
+    requires { All (λ e. e.1 < nodes) edges.now }
+    ensures { IfOk result (λ counts. AreArrivals edges.now nodes counts.items) }
+{
+    let mut counts = vec![in alloc; 0; nodes]?;
+    for edge in edges {
+        let (_u, v) = *edge;
+        counts[v as usize] += 1;
+    }
+    Ok(counts)
+}
+
+/// For each of some nodes the sources of the edges to it, in the order of the edges.
+#[derive(Drop)]
+pub struct Sources {
+    starts: Vec<usize>,
+    nodes: Vec<u32>,
+}
+
+impl Model for Sources {
+    ghost use Rattle.std.specs.Prelude.{ℕ, List};
+    ghost use Rattle.loop_nest.specs.Grouping.{lists_from, AreStartsIn};
+
+    ghost Value = { List (List ℕ) };
+
+    ghost view = { λ s. lists_from s.starts.items s.nodes.items };
+
+    ghost invariant = { λ s. AreStartsIn s.starts.items s.nodes.items };
+}
+
+impl Sources {
+    /// For each of `nodes` nodes the sources of the edges to it.
+    pub fn by_target(
+        alloc: Global,
+        nodes: usize,
+        edges: &[(u32, u32)],
+    ) -> Result<Sources, AllocError>
+        requires { All (λ e. e.1 < nodes) edges.now }
+        ensures { IfOk result (AreSources edges.now nodes) }
+    {
+        let starts = starts(alloc, nodes, edges)?;
+        let nodes = placed(alloc, nodes, edges, &starts)?;
+        Ok(Sources { starts, nodes })
+    }
+
+    /// The sources of the edges to `v`.
+    pub fn of(&self, v: u32) -> &[u32]
+        requires { v < length self.now }
+        ensures { result.now ≡ slice_index_or self.now v [] }
+    {
+        let v = v as usize;
+        part(&self.nodes, self.starts[v], self.starts[v + 1])
+    }
+}
+
+/// The nodes from one place to another.
+fn part(nodes: &[u32], from: usize, to: usize) -> &[u32]
+    requires from { from ≤ to }
+    requires to { to ≤ length nodes.now }
+    ensures { result.now ≡ slice_range nodes.now from to }
+{
+    &nodes[from..to]
+}
+
+/// For each of `nodes` nodes how many edges lead to lower ones, and at last how many edges there are.
+fn starts(alloc: Global, nodes: usize, edges: &[(u32, u32)]) -> Result<Vec<usize>, AllocError>
+    requires { All (λ e. e.1 < nodes) edges.now }
+    ensures { IfOk result (λ starts. AreStarts edges.now nodes starts.items) }
+{
+    let counts = arrivals(alloc, nodes, edges)?;
+    let mut starts = Vec::new(alloc);
+    let mut next = 0;
+    for v in 0..nodes {
+        starts.push(next)?;
+        next += counts[v];
+    }
+    starts.push(next)?;
+    Ok(starts)
+}
+
+/// The sources of the edges, in the order of the edges' targets.
+fn placed(
+    alloc: Global,
+    nodes: usize,
+    edges: &[(u32, u32)],
+    starts: &[usize],
+) -> Result<Vec<u32>, AllocError>
+    requires within { All (λ e. e.1 < nodes) edges.now }
+    requires starts { AreStarts edges.now nodes starts.now }
+    ensures starts { IfOk result (λ placed. AreStartsIn starts.now placed.items) }
+    ensures lists { IfOk result (λ placed. AreSources edges.now nodes (lists_from starts.now placed.items)) }
+{
+    let mut placed = vec![in alloc; 0; edges.len()]?;
+    let mut next = Vec::from_slice(alloc, starts)?;
+    for edge in edges {
+        let (u, v) = *edge;
+        let place = next[v as usize];
+        placed[place] = u;
+        next[v as usize] = place + 1;
+    }
+    Ok(placed)
 }

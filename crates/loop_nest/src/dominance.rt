@@ -2,9 +2,7 @@
 ghost use Rattle.std.specs.Prelude.{IfOk};
 ghost use Rattle.loop_nest.specs.Order.{AreDominatorsFirst};
 
-use super::Graph;
-use super::chains::turned;
-use super::members::sources_by_target;
+use super::digraph::{Graph, Sources, turned};
 use std::alloc::{AllocError, Global};
 
 /// The nodes that are reached, none before one that dominates it: a search forwards from node 0.
@@ -13,7 +11,7 @@ pub fn dominators_first(alloc: Global, g: &Graph) -> Result<Vec<u32>, AllocError
 {
     let nodes = g.nodes() as usize;
     let turned = turned(alloc, g.edges())?;
-    let targets = sources_by_target(alloc, nodes, &turned)?;
+    let targets = Sources::by_target(alloc, nodes, &turned)?;
     let mut seen = vec![in alloc; false; nodes]?;
     let mut order = Vec::new(alloc);
     let mut stack = Vec::new(alloc);
@@ -22,7 +20,7 @@ pub fn dominators_first(alloc: Global, g: &Graph) -> Result<Vec<u32>, AllocError
         if !seen[u as usize] {
             seen[u as usize] = true;
             order.push(u)?;
-            stack.extend_from_slice(&targets[u as usize])?;
+            stack.extend_from_slice(targets.of(u))?;
         }
     }
     Ok(order)

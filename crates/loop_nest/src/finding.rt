@@ -6,10 +6,10 @@ ghost use Rattle.loop_nest.specs.Entered.{AreReached, AreBackEdgesTold, AreBackE
 ghost use Rattle.loop_nest.specs.Nest.{headers_of, outers_of, IsNest};
 ghost use Rattle.loop_nest.specs.Nesting.{AreHeadersBelow, AreHeaderFlags, IsInnermost, HaveOuters, every_node, IsNesting, KeepsOutline, HaveMembersBelow};
 
-use super::Graph;
+use super::digraph::{Graph, Sources};
 use super::dominance::dominators_first;
 use super::loops::Loop;
-use super::members::{mark, sources_by_target};
+use super::members::mark;
 use std::alloc::{AllocError, Global};
 
 /// The back edges: those that `back` tells, and the edges to node 0.
@@ -75,8 +75,8 @@ pub fn nesting(
     ensures { IfOk result (λ r. IsNesting g.now r.0.items r.1.items) }
 {
     let nodes = g.nodes() as usize;
-    let sources = sources_by_target(alloc, nodes, g.edges())?;
-    let starts = sources_by_target(alloc, nodes, back_edges)?;
+    let sources = Sources::by_target(alloc, nodes, g.edges())?;
+    let starts = Sources::by_target(alloc, nodes, back_edges)?;
     let flags = header_flags(alloc, g, back_edges)?;
     let (mut loops, numbers) = headers(alloc, g, &flags)?;
     let order = dominators_first(alloc, g)?;
@@ -85,7 +85,7 @@ pub fn nesting(
         if flags[*h as usize] {
             let number = numbers[*h as usize];
             loops[number as usize].set_outer(marks[*h as usize]);
-            let stack = Vec::from_slice(alloc, &starts[*h as usize])?;
+            let stack = Vec::from_slice(alloc, starts.of(*h))?;
             mark(alloc, g, &sources, *h, stack, number, &mut marks)?;
         }
     }

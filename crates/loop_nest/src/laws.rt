@@ -1,7 +1,7 @@
 //! What holds of all graphs, of their reduction and of their loops. Each function does nothing: its
 //! contract is the law.
 
-ghost use Rattle.loop_nest.specs.Laws.{HeaderDominatesMembers, LoopIsEnteredAtHeader, EdgesToHeaderAreBackEdges, LoopsAreNested, CyclesTakeBackEdges, ReductionHasOneEnd, ReducibleIsReached};
+ghost use Rattle.loop_nest.specs.Laws.{HeaderDominatesMembers, LoopIsEnteredAtHeader, EdgesToHeaderAreBackEdges, LoopsAreNested, CyclesTakeBackEdges, ReductionHasOneEnd, ReducibleIsReached, EntryDominatesAll, DominanceIsAntisymmetric, WalksLeadOn, WalksComeByEdges};
 
 /// A header dominates the members of its loop.
 pub fn headers_dominate_members()
@@ -36,4 +36,24 @@ pub fn reduction_has_one_end()
 /// Every node of a reducible graph is reached.
 pub fn reducible_is_reached()
     ensures { ReducibleIsReached }
+{}
+
+/// Every walk from the entry visits the entry.
+pub fn entry_dominates_all()
+    ensures { EntryDominatesAll }
+{}
+
+/// Two nodes that are reached dominate each other only where they are the same.
+pub fn dominance_is_antisymmetric()
+    ensures { DominanceIsAntisymmetric }
+{}
+
+/// A walk leads on from each node that it visits.
+pub fn walks_lead_on()
+    ensures { WalksLeadOn }
+{}
+
+/// A walk comes to its end first by an edge, from a node to which it leads without its end.
+pub fn walks_come_by_edges()
+    ensures { WalksComeByEdges }
 {}

@@ -11,13 +11,14 @@ ghost use Rattle.loop_nest.specs.Chains.{AreBlocks};
 use chains::{Blocks, chains};
 pub use digraph::{Graph, is_graph};
 use finding::{add_members, back_edges, nesting};
+use jop_base::NoMemory;
 use loops::{Nest, NestFault};
 use merging::nodes_left;
 use passes::reduced;
-use std::alloc::{AllocError, Global};
+use std::alloc::Global;
 
 pub mod chains;
-mod digraph;
+pub mod digraph;
 mod dominance;
 mod finding;
 pub mod laws;
@@ -47,11 +48,8 @@ pub fn nest(alloc: Global, g: &Graph) -> Result<Nest, NestFault>
 /// The basic blocks of a graph: the longest chains of nodes in which each node but the last has one
 /// successor, each but the first has one predecessor, and node 0 is no later member. They stand in
 /// the order of their first nodes. The only error is that there is no memory.
-pub fn blocks(alloc: Global, g: &Graph) -> Result<Blocks, AllocError>
+pub fn blocks(alloc: Global, g: &Graph) -> Result<Blocks, NoMemory>
     ensures { IfOk result (AreBlocks g.now) }
 {
     Ok(Blocks::new(chains(alloc, g)?))
 }
-
-#[cfg(test)]
-mod tests;

@@ -6,7 +6,7 @@ use std::alloc::AllocError;
 use std::marker::Model;
 
 /// A loop of a graph: a header, and the nodes from which a back edge to it is reached.
-#[derive(Debug, Drop)]
+#[derive(Drop)]
 pub struct Loop {
     header: u32,
     members: Vec<u32>,
@@ -71,7 +71,7 @@ impl Loop {
 }
 
 /// The loops of a reducible graph.
-#[derive(Debug, Drop)]
+#[derive(Drop)]
 pub struct Nest {
     loops: Vec<Loop>,
 }
@@ -102,7 +102,7 @@ impl Nest {
 }
 
 /// Why a graph has no nest.
-#[derive(Debug, Drop)]
+#[derive(Drop)]
 pub enum NestFault {
     /// The reduction leaves these nodes beside node 0, rising.
     Irreducible(Vec<u32>),

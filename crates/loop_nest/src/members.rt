@@ -1,31 +1,11 @@
 //! The members of a loop: a search backwards from the sources of its back edges, which stops at the
 //! header.
-ghost use Rattle.std.specs.Prelude.{◌≡◌, ◌<◌, ◌↔◌, ℕ, length, All, Some, IfOk, OnOk, IsTrue};
-ghost use Rattle.loop_nest.specs.Digraph.{IsDigraph};
-ghost use Rattle.loop_nest.specs.Search.{AreSources, AreFound, IsMarkedWith, AreUnmarked};
+ghost use Rattle.std.specs.Prelude.{◌≡◌, ◌<◌, ◌↔◌, length, All, Some, OnOk, IsTrue};
+ghost use Rattle.loop_nest.specs.Digraph.{IsDigraph, AreSources};
+ghost use Rattle.loop_nest.specs.Search.{AreFound, IsMarkedWith, AreUnmarked};
 
-use super::Graph;
+use super::digraph::{Graph, Sources};
 use std::alloc::{AllocError, Global};
-
-/// For each of `nodes` nodes the sources of the edges to it.
-pub fn sources_by_target(
-    alloc: Global,
-    nodes: usize,
-    edges: &[(u32, u32)],
-) -> Result<Vec<Vec<u32>>, AllocError>
-    requires { All (λ e. e.1 < nodes) edges.now }
-    ensures { IfOk result (λ sources. AreSources edges.now nodes sources.items) }
-{
-    let mut sources = Vec::new(alloc);
-    for _ in 0..nodes {
-        sources.push(Vec::new(alloc))?;
-    }
-    for edge in edges {
-        let (u, v) = *edge;
-        sources[v as usize].push(u)?;
-    }
-    Ok(sources)
-}
 
 /// Whether this mark is that of a loop.
 fn is_mark_of(mark: Option<u32>, number: u32) -> bool
@@ -42,7 +22,7 @@ fn is_mark_of(mark: Option<u32>, number: u32) -> bool
 pub fn mark(
     alloc: Global,
     g: &Graph,
-    sources: &[Vec<u32>],
+    sources: &Sources,
     h: u32,
     mut stack: Vec<u32>,
     number: u32,
@@ -61,7 +41,7 @@ pub fn mark(
     while let Some(x) = stack.pop() {
         if !is_mark_of(marks[x as usize], number) {
             marks[x as usize] = Some(number);
-            stack.extend_from_slice(&sources[x as usize])?;
+            stack.extend_from_slice(sources.of(x))?;
         }
     }
     Ok(())

@@ -4,54 +4,54 @@ use Rattle.std.specs.Bool.{MatchBool}
 use Rattle.std.specs.List.{HoldsAt, AllWithin}
 use Rattle.std.proofs.lemmas.Bool.{cases_Bool, both_ways}
 use Rattle.loop_nest.specs.Nest.{NaturalLoop}
-use Rattle.path_solver.specs.Bounded.{holds}
+use Rattle.section_check.specs.Bounded.{holds}
 use Rattle.path_solver.specs.Distances.{limited, AreLimited}
-use Rattle.path_solver.specs.Totals.{AreAdded, worth_around, SomeTurnsPass}
+use Rattle.path_solver.specs.Totals.{AreAdded, iteration_costs_around, SomeIterationsExceed}
 use Rattle.path_solver.proofs.Elements.{contains_from_holds, holds_from_contains}
 
--- for each of n nodes, what turns of the loops that hold it are worth together
-pub record AreTotals (loops : List NaturalLoop) (worths : List ℕ) (n : ℕ) (totals : List ℕ) : Type 0 where
+-- for each of n nodes, what iterations of the loops that hold it cost at most together
+pub record AreTotals (loops : List NaturalLoop) (iteration_costs : List ℕ) (n : ℕ) (totals : List ℕ) : Type 0 where
   pub long : length totals ≡ n
   pub limited_totals : AreLimited totals
-  pub each : (u : ℕ) → u < n → get_or totals u 0 ≡ limited (worth_around loops worths u)
+  pub each : (u : ℕ) → u < n → get_or totals u 0 ≡ limited (iteration_costs_around loops iteration_costs u)
 
 abbrev share : NaturalLoop → ℕ → ℕ → ℕ
-share l worth u = cond (holds l.members u) worth 0
+share l iteration_cost u = cond (holds l.members u) iteration_cost 0
 
-around_push : (ls : List NaturalLoop) (ws : List ℕ) (l : NaturalLoop) (worth u : ℕ) → length ws ≡ length ls → worth_around (ls ++ l ∷ []) (ws ++ worth ∷ []) u ≡ worth_around ls ws u + share l worth u
-around_push [] [] l worth u same = omega arith
-around_push [] (w ∷ ws) l worth u same = absurd (omega arith)
-around_push (k ∷ ks) [] l worth u same = absurd (omega arith)
-around_push (k ∷ ks) (w ∷ ws) l worth u same = let rest = around_push ks ws l worth u (omega arith) in omega arith
+around_push : (ls : List NaturalLoop) (ws : List ℕ) (l : NaturalLoop) (iteration_cost u : ℕ) → length ws ≡ length ls → iteration_costs_around (ls ++ l ∷ []) (ws ++ iteration_cost ∷ []) u ≡ iteration_costs_around ls ws u + share l iteration_cost u
+around_push [] [] l iteration_cost u same = omega arith
+around_push [] (w ∷ ws) l iteration_cost u same = absurd (omega arith)
+around_push (k ∷ ks) [] l iteration_cost u same = absurd (omega arith)
+around_push (k ∷ ks) (w ∷ ws) l iteration_cost u same = let rest = around_push ks ws l iteration_cost u (omega arith) in omega arith
 
 twice : (a b : ℕ) → limited (limited a + b) ≡ limited (a + b)
 twice a b = omega arith
 
-pub totals_push : (ls : List NaturalLoop) (ws : List ℕ) (n : ℕ) (old new : List ℕ) (l : NaturalLoop) (worth : ℕ) → length ws ≡ length ls → AreTotals ls ws n old → AreAdded l.members worth old new → AreTotals (ls ++ l ∷ []) (ws ++ worth ∷ []) n new
-totals_push ls ws n old new l worth same h added = record {
+pub totals_push : (ls : List NaturalLoop) (ws : List ℕ) (n : ℕ) (old new : List ℕ) (l : NaturalLoop) (iteration_cost : ℕ) → length ws ≡ length ls → AreTotals ls ws n old → AreAdded l.members iteration_cost old new → AreTotals (ls ++ l ∷ []) (ws ++ iteration_cost ∷ []) n new
+totals_push ls ws n old new l iteration_cost same h added = record {
   long = added.long ∙ h.long;
   limited_totals = added.limited;
   each = λ u lt.
       let before = h.each u lt in
-      let more = around_push ls ws l worth u same in
+      let more = around_push ls ws l iteration_cost u same in
       elim (cases_Bool (holds l.members u)) [
         | inl inside ↦
-            let here : share l worth u ≡ worth = ap (λ (b : Bool). cond b worth 0) inside in
+            let here : share l iteration_cost u ≡ iteration_cost = ap (λ (b : Bool). cond b iteration_cost 0) inside in
             let now = added.inside u (contains_from_holds l.members u inside) in
-            let sum = twice (worth_around ls ws u) worth in
-            let whole : worth_around (ls ++ l ∷ []) (ws ++ worth ∷ []) u ≡ worth_around ls ws u + worth = omega arith in
-            now ∙ ap (λ (d : ℕ). limited (d + worth)) before ∙ sum ∙ ap limited (sym whole)
+            let sum = twice (iteration_costs_around ls ws u) iteration_cost in
+            let whole : iteration_costs_around (ls ++ l ∷ []) (ws ++ iteration_cost ∷ []) u ≡ iteration_costs_around ls ws u + iteration_cost = omega arith in
+            now ∙ ap (λ (d : ℕ). limited (d + iteration_cost)) before ∙ sum ∙ ap limited (sym whole)
         | inr outside ↦
-            let here : share l worth u ≡ 0 = ap (λ (b : Bool). cond b worth 0) outside in
+            let here : share l iteration_cost u ≡ 0 = ap (λ (b : Bool). cond b iteration_cost 0) outside in
             let now = added.outside u (λ has. both_ways (holds l.members u) outside (holds_from_contains l.members u has)) in
-            let whole : worth_around (ls ++ l ∷ []) (ws ++ worth ∷ []) u ≡ worth_around ls ws u = omega arith in
+            let whole : iteration_costs_around (ls ++ l ∷ []) (ws ++ iteration_cost ∷ []) u ≡ iteration_costs_around ls ws u = omega arith in
             now ∙ before ∙ ap limited (sym whole)
       ];
 }
 
--- whether some total passes tells whether turns do
-pub some_pass : (loops : List NaturalLoop) (worths : List ℕ) (n : ℕ) (totals : List ℕ) (r : Bool) → AreTotals loops worths n totals → MatchBool r ((k : ℕ) × (k < length totals) × HoldsAt (λ d. 2 ^ 64 ≤ d) totals k) (AllWithin (λ d. d < 2 ^ 64) totals 0 (length totals)) → IsTrue r ↔ SomeTurnsPass loops worths n
-some_pass loops worths n totals true h found = (
+-- whether some total exceeds tells whether iterations do
+pub some_exceed : (loops : List NaturalLoop) (iteration_costs : List ℕ) (n : ℕ) (totals : List ℕ) (r : Bool) → AreTotals loops iteration_costs n totals → MatchBool r ((k : ℕ) × (k < length totals) × HoldsAt (λ d. 2 ^ 64 ≤ d) totals k) (AllWithin (λ d. d < 2 ^ 64) totals 0 (length totals)) → IsTrue r ↔ SomeIterationsExceed loops iteration_costs n
+some_exceed loops iteration_costs n totals true h found = (
   λ t.
       let k = found.0 in
       let at = found.1 in
@@ -59,14 +59,14 @@ some_pass loops worths n totals true h found = (
       let long = h.long in
       let below : k < n = omega arith in
       let is = h.each k below in
-      record { node = k; below = below; passes = omega arith },
+      record { node = k; below = below; exceeds = omega arith },
   λ some. refl,
 )
-some_pass loops worths n totals false h none = (
+some_exceed loops iteration_costs n totals false h none = (
   λ t. let bad : ⊥ = cc in absurd bad,
   λ some.
       let lt = some.below in
-      let high = some.passes in
+      let high = some.exceeds in
       let long = h.long in
       let is = h.each some.node lt in
       let low = none some.node 0 (omega arith) (omega arith) in

@@ -3,15 +3,15 @@ use Rattle.std.proofs.Common.{◌≡◌, ℕ, zero, suc, ◌+◌, ◌*◌, ◌^�
 use Rattle.std.proofs.lemmas.Bool.{cases_eq}
 use Rattle.loop_nest.specs.Digraph.{Digraph, Edge}
 use Rattle.loop_nest.specs.Nest.{NaturalLoop}
-use Rattle.path_solver.specs.declared.passages.Passage.{Passage}
+use Rattle.path_solver.specs.declared.topology.TopologicalOrder.{TopologicalOrder}
 use Rattle.path_solver.specs.Reaching.{IsFlagged}
-use Rattle.path_solver.specs.Placing.{IsAt}
+use Rattle.section_check.specs.Placing.{IsAt}
 use Rattle.path_solver.specs.Ordering.{NoLoopHas}
 use Rattle.path_solver.specs.Distances.{limit, limited, IsReachedBy}
-use Rattle.path_solver.specs.Totals.{worth_around}
-use Rattle.path_solver.specs.Turns.{IsTurned}
+use Rattle.path_solver.specs.Totals.{iteration_costs_around}
+use Rattle.path_solver.specs.LoopCosts.{HasLoopCosts}
 use Rattle.path_solver.proofs.Elements.{has_or_not}
-use Rattle.path_solver.proofs.WorthsAround.{worth_of_one}
+use Rattle.path_solver.proofs.CostsAround.{iteration_cost_of_one}
 use Rattle.path_solver.specs.Problem.{IsMeasured}
 use Rattle.path_solver.proofs.Structure as structure
 
@@ -56,46 +56,46 @@ headed_or_not (l ∷ ls) v =
     ]
 
 -- how the distance grows along an edge from u to v: back to the header of a loop that has u, into a loop, or to no header
-pub data Grows (loops : List NaturalLoop) (costs worths fees dist : List ℕ) (u v : ℕ) : Type 0 where
-  turning : (i : ℕ) (l : NaturalLoop) → IsAt loops i l → l.header ≡ v → Contains l.members u → get_or costs u 0 + get_or dist u 0 ≤ get_or dist v 0 + get_or worths i 0 → Grows loops costs worths fees dist u v
-  entering : (i : ℕ) (l : NaturalLoop) → IsAt loops i l → l.header ≡ v → (Contains l.members u → ⊥) → get_or costs u 0 + get_or dist u 0 + get_or fees v 0 ≤ get_or dist v 0 → Grows loops costs worths fees dist u v
-  passing : NoLoopHas loops v → get_or costs u 0 + get_or dist u 0 + get_or fees v 0 ≤ get_or dist v 0 → Grows loops costs worths fees dist u v
+pub data Grows (loops : List NaturalLoop) (costs iteration_costs fees dist : List ℕ) (u v : ℕ) : Type 0 where
+  backward : (i : ℕ) (l : NaturalLoop) → IsAt loops i l → l.header ≡ v → Contains l.members u → get_or costs u 0 + get_or dist u 0 ≤ get_or dist v 0 + get_or iteration_costs i 0 → Grows loops costs iteration_costs fees dist u v
+  entering : (i : ℕ) (l : NaturalLoop) → IsAt loops i l → l.header ≡ v → (Contains l.members u → ⊥) → get_or costs u 0 + get_or dist u 0 + get_or fees v 0 ≤ get_or dist v 0 → Grows loops costs iteration_costs fees dist u v
+  exceeding : NoLoopHas loops v → get_or costs u 0 + get_or dist u 0 + get_or fees v 0 ≤ get_or dist v 0 → Grows loops costs iteration_costs fees dist u v
 
-module _ (g : Digraph) (loops : List NaturalLoop) (flags : List Bool) (p : Passage) (costs bounds loads worths fees dist : List ℕ) (m : IsMeasured g loops flags p costs bounds loads worths fees dist) where
-  -- along an edge that doesn't turn back the cost of its source is paid, and the fee of its target
-  pub along_forward : (u v : ℕ) → Contains (structure.forward g loops flags p m.passed v) u → get_or dist v 0 < limit → get_or costs u 0 + get_or dist u 0 + get_or fees v 0 ≤ get_or dist v 0
-  along_forward u v has small = grown (structure.forward g loops flags p m.passed) costs fees dist u v (m.each v (structure.forward_edge g loops flags p m.passed u v has).2) has small
+module _ (g : Digraph) (loops : List NaturalLoop) (flags : List Bool) (p : TopologicalOrder) (costs bounds loads iteration_costs fees dist : List ℕ) (m : IsMeasured g loops flags p costs bounds loads iteration_costs fees dist) where
+  -- along an edge that closes no loop the cost of its source is paid, and the fee of its target
+  pub along_forward : (u v : ℕ) → Contains (structure.forward g loops flags p m.setting v) u → get_or dist v 0 < limit → get_or costs u 0 + get_or dist u 0 + get_or fees v 0 ≤ get_or dist v 0
+  along_forward u v has small = grown (structure.forward g loops flags p m.setting) costs fees dist u v (m.each v (structure.forward_edge g loops flags p m.setting u v has).2) has small
 
-  turned : (i : ℕ) (l : NaturalLoop) → IsAt loops i l → IsFlagged flags l.header → IsTurned p l i costs bounds loads worths fees
-  turned i l at flag = m.turns.each i l at (structure.in_order g loops flags p m.passed l.header flag)
+  turned : (i : ℕ) (l : NaturalLoop) → IsAt loops i l → IsFlagged flags l.header → HasLoopCosts p l i costs bounds loads iteration_costs fees
+  turned i l at flag = m.loop_costs.each i l at (structure.in_order g loops flags p m.setting l.header flag)
 
   -- a member of a loop is no farther than its header and the way from there
-  within_loop : (i : ℕ) (l : NaturalLoop) → IsAt loops i l → (t : IsTurned p l i costs bounds loads worths fees) → (u : ℕ) → IsFlagged flags u → Contains l.members u → get_or dist u 0 ≤ get_or dist l.header 0 + get_or t.dist u 0
+  within_loop : (i : ℕ) (l : NaturalLoop) → IsAt loops i l → (t : HasLoopCosts p l i costs bounds loads iteration_costs fees) → (u : ℕ) → IsFlagged flags u → Contains l.members u → get_or dist u 0 ≤ get_or dist l.header 0 + get_or t.dist u 0
   within_loop i l at t =
       let P : ℕ → Type 0 = λ u. Contains l.members u → get_or dist u 0 ≤ get_or dist l.header 0 + get_or t.dist u 0 in
-      structure.onward g loops flags p m.passed P (λ u flag before inside.
+      structure.onward g loops flags p m.setting P (λ u flag before inside.
       elim (cases_eq u l.header) [
         | inl same ↦ let e = ap (λ (z : ℕ). get_or dist z 0) same in omega arith
         | inr other ↦
-            alike (structure.forward g loops flags p m.passed) costs fees dist t.dist u (get_or dist l.header 0) (m.each u flag) (t.worth.each u inside other) (λ q has.
-            let edge = (structure.forward_edge g loops flags p m.passed q u has).0 in
+            alike (structure.forward g loops flags p m.setting) costs fees dist t.dist u (get_or dist l.header 0) (m.each u flag) (t.iteration_cost.each u inside other) (λ q has.
+            let edge = (structure.forward_edge g loops flags p m.setting q u has).0 in
             before q has (elim (has_or_not l.members q) [
               | inl in' ↦ in'
-              | inr out ↦ absurd (other (structure.entered_at_header g loops flags p m.passed l q u (i, at.0, at.1) edge inside out))
+              | inr out ↦ absurd (other (structure.entered_at_header g loops flags p m.setting l q u (i, at.0, at.1) edge inside out))
             ]))
       ])
 
-  -- along an edge that turns back the cost of its source is paid, but for a turn of the loop
-  pub along_back : (i : ℕ) (l : NaturalLoop) (u : ℕ) → IsAt loops i l → IsFlagged flags l.header → Edge g u l.header → Contains l.members u → get_or worths i 0 < limit → get_or costs u 0 + get_or dist u 0 ≤ get_or dist l.header 0 + get_or worths i 0
+  -- along an edge that closes a loop the cost of its source is paid, but for an iteration of the loop
+  pub along_back : (i : ℕ) (l : NaturalLoop) (u : ℕ) → IsAt loops i l → IsFlagged flags l.header → Edge g u l.header → Contains l.members u → get_or iteration_costs i 0 < limit → get_or costs u 0 + get_or dist u 0 ≤ get_or dist l.header 0 + get_or iteration_costs i 0
   along_back i l u at flag edge inside small =
       let t = turned i l at flag in
       let in_loops : Contains loops l = (i, at.0, at.1) in
-      let near = within_loop i l at t u (structure.listed_source g loops flags p m.passed u l.header edge flag) inside in
-      let above = t.worth.most.above u (structure.is_back g loops flags p m.passed u l.header l edge flag in_loops refl inside) in
+      let near = within_loop i l at t u (structure.listed_source g loops flags p m.setting u l.header edge flag) inside in
+      let above = t.iteration_cost.most.above u (structure.is_back g loops flags p m.setting u l.header l edge flag in_loops refl inside) in
       omega arith
 
   -- below the limit the fee of a header is the sum that it stands for
-  pub fee_is : (i : ℕ) (l : NaturalLoop) → IsAt loops i l → IsFlagged flags l.header → get_or fees l.header 0 < limit → get_or fees l.header 0 ≡ get_or bounds i 0 * get_or worths i 0 + get_or loads i 0
+  pub fee_is : (i : ℕ) (l : NaturalLoop) → IsAt loops i l → IsFlagged flags l.header → get_or fees l.header 0 < limit → get_or fees l.header 0 ≡ get_or bounds i 0 * get_or iteration_costs i 0 + get_or loads i 0
   fee_is i l at flag small =
       let is = (turned i l at flag).fee in
       omega arith
@@ -107,17 +107,17 @@ module _ (g : Digraph) (loops : List NaturalLoop) (flags : List Bool) (p : Passa
       let is = r.is in
       elim r.most.attained [
         | inl none ↦ let zero' = none.1 in omega arith
-        | inr some ↦ absurd (structure.entry_not_arrived_at g loops flags p m.passed some.0 some.1)
+        | inr some ↦ absurd (structure.entry_not_arrived_at g loops flags p m.setting some.0 some.1)
       ]
 
-  module _ (turns_small : (u : ℕ) → u < g.nodes → worth_around loops worths u < 2 ^ 64) where
-    pub worth_small : (i : ℕ) (l : NaturalLoop) → IsAt loops i l → IsFlagged flags l.header → get_or worths i 0 < 2 ^ 64
-    worth_small i l at flag =
-        let around = turns_small l.header (structure.listed_below g loops flags p m.passed l.header flag) in
-        let one = worth_of_one loops worths i l l.header at (structure.own_header g loops flags p m.passed l (i, at.0, at.1)) in
+  module _ (iterations_small : (u : ℕ) → u < g.nodes → iteration_costs_around loops iteration_costs u < 2 ^ 64) where
+    pub iteration_cost_small : (i : ℕ) (l : NaturalLoop) → IsAt loops i l → IsFlagged flags l.header → get_or iteration_costs i 0 < 2 ^ 64
+    iteration_cost_small i l at flag =
+        let around = iterations_small l.header (structure.listed_below g loops flags p m.setting l.header flag) in
+        let one = iteration_cost_of_one loops iteration_costs i l l.header at (structure.own_header g loops flags p m.setting l (i, at.0, at.1)) in
         omega arith
 
-    pub grows : (u v : ℕ) → Edge g u v → IsFlagged flags v → get_or dist v 0 < limit → Grows loops costs worths fees dist u v
+    pub grows : (u v : ℕ) → Edge g u v → IsFlagged flags v → get_or dist v 0 < limit → Grows loops costs iteration_costs fees dist u v
     grows u v edge flag small =
         elim (headed_or_not loops v) [
           | inl r ↦
@@ -129,19 +129,19 @@ module _ (g : Digraph) (loops : List NaturalLoop) (flags : List Bool) (p : Passa
                 | inl inside ↦
                     let P : ℕ → Type 0 = λ z. IsFlagged flags z in
                     let Q : ℕ → Type 0 = λ z. Edge g u z in
-                    let R : ℕ → Type 0 = λ z. get_or costs u 0 + get_or dist u 0 ≤ get_or dist z 0 + get_or worths i 0 in
+                    let R : ℕ → Type 0 = λ z. get_or costs u 0 + get_or dist u 0 ≤ get_or dist z 0 + get_or iteration_costs i 0 in
                     let flag' = subst P (sym same) flag in
-                    let below = worth_small i l at flag' in
-                    turning i l at same inside (subst R same (along_back i l u at flag' (subst Q (sym same) edge) inside (omega arith)))
+                    let below = iteration_cost_small i l at flag' in
+                    backward i l at same inside (subst R same (along_back i l u at flag' (subst Q (sym same) edge) inside (omega arith)))
                 | inr outside ↦
-                    let on : structure.GoesOn g loops flags p m.passed u v = λ k has heads inside.
-                    let is = structure.header_decides g loops flags p m.passed l k (i, at.0, at.1) has (heads ∙ sym same) in
+                    let on : structure.GoesOn g loops flags p m.setting u v = λ k has heads inside.
+                    let is = structure.header_decides g loops flags p m.setting l k (i, at.0, at.1) has (heads ∙ sym same) in
                     let P : NaturalLoop → Type 0 = λ z. Contains z.members u in
                     outside (subst P is inside)
                     in
-                    entering i l at same outside (along_forward u v (structure.is_forward g loops flags p m.passed u v edge flag on) small)
+                    entering i l at same outside (along_forward u v (structure.is_forward g loops flags p m.setting u v edge flag on) small)
               ]
           | inr none ↦
-              let on : structure.GoesOn g loops flags p m.passed u v = λ k has heads inside. none has.0 k (has.1, has.2) heads in
-              passing none (along_forward u v (structure.is_forward g loops flags p m.passed u v edge flag on) small)
+              let on : structure.GoesOn g loops flags p m.setting u v = λ k has heads inside. none has.0 k (has.1, has.2) heads in
+              exceeding none (along_forward u v (structure.is_forward g loops flags p m.setting u v edge flag on) small)
         ]

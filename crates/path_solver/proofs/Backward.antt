@@ -3,10 +3,10 @@ use Rattle.std.proofs.Common.{◌≡◌, ℕ, ◌<◌, ◌⊎◌, Bool, true, fa
 use Rattle.std.proofs.lemmas.Bool.{cases_eq, both_ways}
 use Rattle.std.proofs.lemmas.List.{length-set, get_or-set_same, get_or-set_other}
 use Rattle.std.proofs.lemmas.List.Elements.{All-contains, All-append, All-from_get_or, Contains-append_left, Contains-append_right, Contains-push, Contains-push_cases, Contains-append_cases, Contains-get_or}
-use Rattle.loop_nest.specs.Digraph.{Digraph, Edge, IsDigraph}
+use Rattle.loop_nest.specs.Digraph.{Digraph, Edge, IsDigraph, sources_of}
 use Rattle.loop_nest.specs.Walks.{Walk}
 use Rattle.loop_nest.specs.Walks.Walk.{stay, along}
-use Rattle.path_solver.specs.Reaching.{sources_of, ReachesExit, IsFlagged, AreReaching, IsBackwardSearch}
+use Rattle.path_solver.specs.Reaching.{ReachesExit, IsFlagged, AreReaching, IsBackwardSearch}
 use Rattle.path_solver.proofs.Elements.{nil_contains}
 use Rattle.path_solver.proofs.Sources.{sources_has, from_sources, ends_within}
 

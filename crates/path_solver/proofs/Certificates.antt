@@ -2,8 +2,8 @@
 use Rattle.std.proofs.Common.{◌≡◌, ℕ, zero, suc, false, List, [], ◌∷◌, length, map, get_or, All, refl, sym, ap, arith}
 use Rattle.std.proofs.lemmas.List.Elements.{All-cons, All-nil}
 use Rattle.loop_nest.specs.Nest.{NaturalLoop}
-use Rattle.path_solver.specs.Section.{CertifiedLoop}
-use Rattle.path_solver.specs.Placing.{IsAt}
+use Rattle.section_check.specs.Section.{CertifiedLoop}
+use Rattle.section_check.specs.Placing.{IsAt}
 use Rattle.path_solver.specs.Certifying.{certified}
 use Rattle.path_solver.specs.Longest.{AreLoopsOf}
 use Rattle.path_solver.proofs.Certified.{made}

@@ -1,11 +1,11 @@
 -- The loops of a section, one by one.
 use Rattle.std.proofs.Common.{◌≡◌, ℕ, zero, suc, ◌+◌, ◌<◌, false, List, [], ◌∷◌, ◌++◌, length, get_or, take, refl, ap, ◌∙◌, arith}
 use Rattle.loop_nest.specs.Nest.{NaturalLoop}
-use Rattle.path_solver.specs.Section.{CertifiedLoop}
+use Rattle.section_check.specs.Section.{CertifiedLoop}
 use Rattle.path_solver.specs.Certifying.{certified}
 
 abbrev pub made : NaturalLoop → ℕ → CertifiedLoop
-made l worth = record { header = l.header; worth = worth; members = l.members; region = false }
+made l iteration_cost = record { header = l.header; iteration_cost = iteration_cost; members = l.members; region = false }
 
 more : (ls : List NaturalLoop) (ws : List ℕ) (i : ℕ) (d : NaturalLoop) → i < length ls → length ws ≡ length ls → certified (take (suc i) ls) ws ≡ certified (take i ls) ws ++ made (get_or ls i d) (get_or ws i 0) ∷ []
 more [] ws i d lt a = absurd (omega arith)

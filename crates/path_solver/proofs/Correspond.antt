@@ -3,9 +3,9 @@ use Rattle.std.proofs.Common.{◌≡◌, ℕ, zero, suc, false, List, [], ◌∷
 use Rattle.std.proofs.lemmas.Bool.{cases_eq}
 use Rattle.std.specs.List.Sorted.{IsStrictlyIncreasing}
 use Rattle.loop_nest.specs.Nest.{NaturalLoop, headers_of}
-use Rattle.path_solver.specs.Placing.{IsAt}
-use Rattle.path_solver.specs.Bounded.{BoundedLoop}
-use Rattle.path_solver.specs.Section.{PricedLoop, priced, bounded, headed_by}
+use Rattle.section_check.specs.Placing.{IsAt}
+use Rattle.section_check.specs.Bounded.{BoundedLoop}
+use Rattle.section_check.specs.Section.{PricedLoop, priced, bounded, headed_by}
 use Rattle.path_solver.specs.Certifying.{certified}
 use Rattle.path_solver.specs.Longest.{bounded_loops}
 use Rattle.path_solver.specs.Ordering.{NoLoopHas}
@@ -16,8 +16,8 @@ use Rattle.path_solver.proofs.Loops.{same_place, same_at}
 abbrev pub with_bound : NaturalLoop → (bound load : ℕ) → BoundedLoop
 with_bound l bound load = record { header = l.header; members = l.members; bound = bound; load = load }
 
-abbrev pub with_price : NaturalLoop → (bound load worth : ℕ) → PricedLoop
-with_price l bound load worth = record { certified = record { header = l.header; worth = worth; members = l.members; region = false }; bound = bound; load = Some load }
+abbrev pub with_price : NaturalLoop → (bound load iteration_cost : ℕ) → PricedLoop
+with_price l bound load iteration_cost = record { certified = record { header = l.header; iteration_cost = iteration_cost; members = l.members; region = false }; bound = bound; load = Some load }
 
 to_bounded_at : (loops : List NaturalLoop) (bounds loads : List ℕ) → length bounds ≡ length loops → length loads ≡ length loops → (i : ℕ) (l : NaturalLoop) → IsAt loops i l
     → IsAt (bounded_loops loops bounds loads) i (with_bound l (get_or bounds i 0) (get_or loads i 0))
@@ -43,11 +43,11 @@ from_bounded_at (l ∷ ls) (x ∷ xs) (y ∷ ys) (suc i) k at =
     let lt = r.1.0 in
     (r.0, (omega arith, r.1.1), r.2)
 
-to_priced_at : (loops : List NaturalLoop) (bounds loads worths : List ℕ) → length bounds ≡ length loops → length loads ≡ length loops → length worths ≡ length loops → (i : ℕ) (l : NaturalLoop) → IsAt loops i l
-    → IsAt (priced (certified loops worths) bounds (map Some loads)) i (with_price l (get_or bounds i 0) (get_or loads i 0) (get_or worths i 0))
-to_priced_at [] bounds loads worths b m w i l at = let below = at.0 in absurd (omega arith)
-to_priced_at (k ∷ ks) [] loads worths b m w i l at = absurd (omega arith)
-to_priced_at (k ∷ ks) (x ∷ xs) [] worths b m w i l at = absurd (omega arith)
+to_priced_at : (loops : List NaturalLoop) (bounds loads iteration_costs : List ℕ) → length bounds ≡ length loops → length loads ≡ length loops → length iteration_costs ≡ length loops → (i : ℕ) (l : NaturalLoop) → IsAt loops i l
+    → IsAt (priced (certified loops iteration_costs) bounds (map Some loads)) i (with_price l (get_or bounds i 0) (get_or loads i 0) (get_or iteration_costs i 0))
+to_priced_at [] bounds loads iteration_costs b m w i l at = let below = at.0 in absurd (omega arith)
+to_priced_at (k ∷ ks) [] loads iteration_costs b m w i l at = absurd (omega arith)
+to_priced_at (k ∷ ks) (x ∷ xs) [] iteration_costs b m w i l at = absurd (omega arith)
 to_priced_at (k ∷ ks) (x ∷ xs) (y ∷ ys) [] b m w i l at = absurd (omega arith)
 to_priced_at (k ∷ ks) (x ∷ xs) (y ∷ ys) (v ∷ vs) b m w zero l at = (omega arith, ap (λ (z : NaturalLoop). with_price z x y v) at.1)
 to_priced_at (k ∷ ks) (x ∷ xs) (y ∷ ys) (v ∷ vs) b m w (suc i) l at =
@@ -56,9 +56,9 @@ to_priced_at (k ∷ ks) (x ∷ xs) (y ∷ ys) (v ∷ vs) b m w (suc i) l at =
     let lt = r.0 in
     (omega arith, r.1)
 
-pub from_priced_at : (loops : List NaturalLoop) (bounds loads worths : List ℕ) (i : ℕ) (k : PricedLoop) → IsAt (priced (certified loops worths) bounds (map Some loads)) i k
-    → (l : NaturalLoop) × IsAt loops i l × (k ≡ with_price l (get_or bounds i 0) (get_or loads i 0) (get_or worths i 0))
-from_priced_at [] bounds loads worths i k at = let below = at.0 in absurd (omega arith)
+pub from_priced_at : (loops : List NaturalLoop) (bounds loads iteration_costs : List ℕ) (i : ℕ) (k : PricedLoop) → IsAt (priced (certified loops iteration_costs) bounds (map Some loads)) i k
+    → (l : NaturalLoop) × IsAt loops i l × (k ≡ with_price l (get_or bounds i 0) (get_or loads i 0) (get_or iteration_costs i 0))
+from_priced_at [] bounds loads iteration_costs i k at = let below = at.0 in absurd (omega arith)
 from_priced_at (l ∷ ls) bounds loads [] i k at = let below = at.0 in absurd (omega arith)
 from_priced_at (l ∷ ls) [] loads (v ∷ vs) i k at = let below = at.0 in absurd (omega arith)
 from_priced_at (l ∷ ls) (x ∷ xs) [] (v ∷ vs) i k at = let below = at.0 in absurd (omega arith)
@@ -69,11 +69,11 @@ from_priced_at (l ∷ ls) (x ∷ xs) (y ∷ ys) (v ∷ vs) (suc i) k at =
     let lt = r.1.0 in
     (r.0, (omega arith, r.1.1), r.2)
 
-same_all : (loops : List NaturalLoop) (bounds loads worths : List ℕ) → length bounds ≡ length loops → length loads ≡ length loops → length worths ≡ length loops
-    → map bounded (priced (certified loops worths) bounds (map Some loads)) ≡ bounded_loops loops bounds loads
-same_all [] bounds loads worths b m w = refl
-same_all (k ∷ ks) [] loads worths b m w = absurd (omega arith)
-same_all (k ∷ ks) (x ∷ xs) [] worths b m w = absurd (omega arith)
+same_all : (loops : List NaturalLoop) (bounds loads iteration_costs : List ℕ) → length bounds ≡ length loops → length loads ≡ length loops → length iteration_costs ≡ length loops
+    → map bounded (priced (certified loops iteration_costs) bounds (map Some loads)) ≡ bounded_loops loops bounds loads
+same_all [] bounds loads iteration_costs b m w = refl
+same_all (k ∷ ks) [] loads iteration_costs b m w = absurd (omega arith)
+same_all (k ∷ ks) (x ∷ xs) [] iteration_costs b m w = absurd (omega arith)
 same_all (k ∷ ks) (x ∷ xs) (y ∷ ys) [] b m w = absurd (omega arith)
 same_all (k ∷ ks) (x ∷ xs) (y ∷ ys) (v ∷ vs) b m w = ap (λ (zs : List BoundedLoop). with_bound k x y ∷ zs) (same_all ks xs ys vs (omega arith) (omega arith) (omega arith))
 
@@ -104,22 +104,22 @@ module _ (loops : List NaturalLoop) (bounds loads : List ℕ) (b : length bounds
   pub from_bounded : (k : BoundedLoop) → Contains (bounded_loops loops bounds loads) k → (i : ℕ) × (l : NaturalLoop) × IsAt loops i l × (k ≡ bounded_at l i)
   from_bounded k has = let r = from_bounded_at loops bounds loads has.0 k (has.1, has.2) in (has.0, r.0, r.1, r.2)
 
-  module _ (worths : List ℕ) (w : length worths ≡ length loops) where
+  module _ (iteration_costs : List ℕ) (w : length iteration_costs ≡ length loops) where
     abbrev pub prices : List PricedLoop
-    prices = priced (certified loops worths) bounds (map Some loads)
+    prices = priced (certified loops iteration_costs) bounds (map Some loads)
 
     abbrev pub price_at : NaturalLoop → ℕ → PricedLoop
-    price_at l i = record { certified = record { header = l.header; worth = get_or worths i 0; members = l.members; region = false }; bound = get_or bounds i 0; load = Some (get_or loads i 0) }
+    price_at l i = record { certified = record { header = l.header; iteration_cost = get_or iteration_costs i 0; members = l.members; region = false }; bound = get_or bounds i 0; load = Some (get_or loads i 0) }
 
     pub to_priced : (i : ℕ) (l : NaturalLoop) → IsAt loops i l → IsAt prices i (price_at l i)
-    to_priced i l at = to_priced_at loops bounds loads worths b m w i l at
+    to_priced i l at = to_priced_at loops bounds loads iteration_costs b m w i l at
 
     pub from_priced : (k : PricedLoop) → Contains prices k → (i : ℕ) × (l : NaturalLoop) × IsAt loops i l × (k ≡ price_at l i)
-    from_priced k has = let r = from_priced_at loops bounds loads worths has.0 k (has.1, has.2) in (has.0, r.0, r.1, r.2)
+    from_priced k has = let r = from_priced_at loops bounds loads iteration_costs has.0 k (has.1, has.2) in (has.0, r.0, r.1, r.2)
 
     -- the loops of the section are those of the nest
     pub same_loops : map bounded prices ≡ bounded_loops loops bounds loads
-    same_loops = same_all loops bounds loads worths b m w
+    same_loops = same_all loops bounds loads iteration_costs b m w
 
     pub headed_none : (u : ℕ) → NoLoopHas loops u → headed_by u prices ≡ None
     headed_none u none =

@@ -2,8 +2,7 @@
 use Rattle.std.proofs.Common.{◌≡◌, ℕ, ◌+◌, ◌*◌, ◌≤◌, Bool, true, false, cond, not, ◌&&◌, List, [], ◌∷◌, ◌++◌, get_or, sum_by, Contains, refl, ap, ◌∙◌, arith, mul-le-mul_left}
 use Rattle.std.proofs.lemmas.Bool.{and_from}
 use Rattle.std.proofs.lemmas.List.Sums.{sum_by-cons, sum_by-append, sum_by_push, sum_by-le-sum_by, get_or-le-sum_by}
-use Rattle.path_solver.specs.Bounded.{BoundedLoop, holds, entries_from, cost_of_nodes}
-use Rattle.path_solver.specs.Longest.{later_entries, cost_of_turn}
+use Rattle.section_check.specs.Bounded.{BoundedLoop, holds, entries_from, cost_of_nodes, later_entries, cost_of_iteration}
 use Rattle.path_solver.proofs.Elements.{holds_from_contains}
 
 -- whether a set of nodes holds the last of some nodes
@@ -69,9 +68,9 @@ cost_of_node costs loops inside u = omega arith
 entries_grow : (inside : Bool) (members xs ys : List ℕ) → entries_from inside members xs ≤ entries_from inside members (xs ++ ys)
 entries_grow inside members xs ys = let e = entries_append inside members xs ys in omega arith
 
--- a turn costs what it adds to a walk that stands at its header
-pub cost_turns : (costs : List ℕ) (loops : List BoundedLoop) (h : ℕ) (ns : List ℕ) → cost_of_turn costs loops (h ∷ ns) ≤ cost_from costs loops (held_at h) (ns ++ h ∷ [])
-cost_turns costs loops h ns =
+-- an iteration costs what it adds to a walk that stands at its header
+pub cost_iterations : (costs : List ℕ) (loops : List BoundedLoop) (h : ℕ) (ns : List ℕ) → cost_of_iteration costs loops (h ∷ ns) ≤ cost_from costs loops (held_at h) (ns ++ h ∷ [])
+cost_iterations costs loops h ns =
     let f : BoundedLoop → ℕ = λ l. l.load * later_entries l.members (h ∷ ns) in
     let k : BoundedLoop → ℕ = λ l. l.load * entries_from (held_at h l) l.members (ns ++ h ∷ []) in
     let grows = sum_by-le-sum_by f k loops (λ l. mul-le-mul_left l.load (entries_grow (held_at h l) l.members ns (h ∷ []))) in
@@ -84,9 +83,9 @@ once : (b : Bool) → (b && not b) ≡ false
 once true = refl
 once false = refl
 
--- a walk from a node costs as a turn no less than where it stands in that node's loops before
-pub cost_as_turn : (costs : List ℕ) (loops : List BoundedLoop) (h : ℕ) (ns : List ℕ) → cost_from costs loops (held_at h) (h ∷ ns) ≤ cost_of_turn costs loops (h ∷ ns)
-cost_as_turn costs loops h ns =
+-- a walk from a node costs as an iteration no less than where it stands in that node's loops before
+pub cost_as_iteration : (costs : List ℕ) (loops : List BoundedLoop) (h : ℕ) (ns : List ℕ) → cost_from costs loops (held_at h) (h ∷ ns) ≤ cost_of_iteration costs loops (h ∷ ns)
+cost_as_iteration costs loops h ns =
     let f : BoundedLoop → ℕ = λ l. l.load * later_entries l.members (h ∷ ns) in
     let k : BoundedLoop → ℕ = λ l. l.load * entries_from (held_at h l) l.members (h ∷ ns) in
     let le = sum_by-le-sum_by k f loops (λ l. mul-le-mul_left l.load (let e = ap (λ (b : Bool). cond b 1 0 + entries_from (held_at h l) l.members ns) (once (held_at h l)) in omega arith)) in

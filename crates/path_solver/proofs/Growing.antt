@@ -1,19 +1,20 @@
 -- The order of the flagged nodes as it grows.
 use Rattle.std.proofs.Common.{◌≡◌, ℕ, zero, suc, ◌+◌, ◌<◌, ◌≤◌, ◌⊎◌, ◌↔◌, Bool, false, List, [], ◌∷◌, ◌++◌, length, get_or, take, map, count_by, All, Contains, sym, ap, ◌∙◌, subst, inl, inr, arith}
+use Rattle.loop_nest.specs.Digraph.{sources_of, AreArrivals}
 use Rattle.std.proofs.lemmas.Bool.{cases_eq, cases_lt, cases_Bool}
 use Rattle.std.proofs.lemmas.List.{get_or_append_left, get_or_past, take_more, take_all, take-append-le}
 use Rattle.std.proofs.lemmas.List.Elements.{All-map, All-from_get_or, Contains-get_or}
 use Rattle.loop_nest.specs.Walks.{Walk}
 use Rattle.loop_nest.specs.Walks.Walk.{stay, along}
-use Rattle.path_solver.specs.Bounded.{holds}
-use Rattle.path_solver.specs.Reaching.{IsFlagged, sources_of}
-use Rattle.path_solver.specs.Ordering.{AreApart, AreArrivals, AreStarts, graph_of, IsForwardOrder}
+use Rattle.section_check.specs.Bounded.{holds}
+use Rattle.path_solver.specs.Reaching.{IsFlagged}
+use Rattle.path_solver.specs.Ordering.{AreApart, AreStarts, graph_of, IsForwardOrder}
 use Rattle.path_solver.proofs.Elements.{cons_cases, nil_contains, has_or_not, contains_from_holds}
 use Rattle.path_solver.proofs.Apart.{apart_cons, few_apart}
-use Rattle.path_solver.proofs.Passing.{times}
-use Rattle.path_solver.proofs.Order.{turn, awaits, times_targets, split, count_start, all_done, not_done, take_grows, taken_at}
+use Rattle.path_solver.proofs.CountingDown.{times}
+use Rattle.path_solver.proofs.Order.{flip, awaits, times_targets, split, count_start, all_done, not_done, take_grows, taken_at}
 
--- the first nodes of the order were passed, and each node for which no edge is waited for stands in it
+-- the first nodes of the order were counted off, and each node for which no edge is waited for stands in it
 pub record IsOrdering (flags : List Bool) (es : List (ℕ × ℕ)) (i : ℕ) (waiting order : List ℕ) : Type 0 where
   pub long : length waiting ≡ length flags
   pub waits : (v : ℕ) → get_or waiting v 0 ≡ count_by (awaits (take i order) v) es
@@ -62,7 +63,7 @@ module _ (flags : List Bool) (es : List (ℕ × ℕ)) (i : ℕ) (w us : List ℕ
       ]
 
   abbrev targets : List ℕ
-  targets = sources_of (map turn es) here
+  targets = sources_of (map flip es) here
 
   pub enough : (v : ℕ) → times v targets ≤ get_or w v 0
   enough v =
@@ -138,9 +139,9 @@ module _ (n : ℕ) (es : List (ℕ × ℕ)) (p : ℕ) where
         | inr there ↦ let r = walk_to t there in (u ∷ r.0, along e r.1)
       ]
 
-pub sources_below : (flags : List Bool) (es : List (ℕ × ℕ)) → ((u v : ℕ) → Contains es (u, v) → IsFlagged flags u) → All (λ (e : ℕ × ℕ). e.1 < length flags) (map turn es)
+pub sources_below : (flags : List Bool) (es : List (ℕ × ℕ)) → ((u v : ℕ) → Contains es (u, v) → IsFlagged flags u) → All (λ (e : ℕ × ℕ). e.1 < length flags) (map flip es)
 sources_below flags es from =
-    All-map (λ (e : ℕ × ℕ). e.1 < length flags) turn es (All-from_get_or (λ (e : ℕ × ℕ). e.0 < length flags) es (0, 0) (λ i lt.
+    All-map (λ (e : ℕ × ℕ). e.1 < length flags) flip es (All-from_get_or (λ (e : ℕ × ℕ). e.0 < length flags) es (0, 0) (λ i lt.
     flagged_below flags (get_or es i (0, 0)).0 (from (get_or es i (0, 0)).0 (get_or es i (0, 0)).1 (Contains-get_or es i (0, 0) lt))))
 
 pub targets_below : (flags : List Bool) (es : List (ℕ × ℕ)) → ((u v : ℕ) → Contains es (u, v) → IsFlagged flags v) → All (λ (e : ℕ × ℕ). e.1 < length flags) es

@@ -1,7 +1,11 @@
 -- The loops of a nest by their headers.
 use Rattle.std.proofs.Common.{◌≡◌, ℕ, zero, suc, ◌<◌, List, [], ◌∷◌, length, get_or, take, Contains, subst, arith}
 use Rattle.std.specs.List.Sorted.{IsStrictlyIncreasing}
+use Rattle.loop_nest.specs.Digraph.{Digraph, IsDigraph}
+use Rattle.loop_nest.specs.Walks.{Walk}
+use Rattle.loop_nest.specs.Walks.Walk.{stay, along}
 use Rattle.path_solver.specs.Ordering.{AreApart}
+use Rattle.path_solver.proofs.Sources.{ends_within}
 use Rattle.path_solver.proofs.Elements.{at_head, in_tail}
 use Rattle.path_solver.proofs.Rising.{rising_pair}
 
@@ -14,3 +18,7 @@ before_at [] j k x lt below at = absurd (omega arith)
 before_at (y ∷ ys) zero k x lt below at = absurd (omega arith)
 before_at (y ∷ ys) (suc j) zero x lt below at = let P : ℕ → Type 0 = λ z. Contains (y ∷ take j ys) z in subst P at (at_head y (take j ys))
 before_at (y ∷ ys) (suc j) (suc k) x lt below at = in_tail y x (take j ys) (before_at ys j k x (omega arith) (omega arith) at)
+
+pub start_within : {g : Digraph} {u v : ℕ} {ns : List ℕ} → IsDigraph g → Walk g u v ns → v < g.nodes → u < g.nodes
+start_within wf stay below = below
+start_within wf (along {u} {v} {w} {ns} e t) below = (ends_within wf u v e).0

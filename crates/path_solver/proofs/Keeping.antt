@@ -4,8 +4,8 @@ use Rattle.std.proofs.lemmas.Bool.{ne_eqb, cond-false}
 use Rattle.std.proofs.lemmas.List.{append-nil}
 use Rattle.std.proofs.lemmas.List.Sums.{sum_by_push}
 use Rattle.std.proofs.lemmas.List.Elements.{All-contains, Contains-get_or, Contains-append_left, Contains-push}
-use Rattle.loop_nest.specs.Walks.{turns}
-use Rattle.path_solver.specs.Bounded.{BoundedLoop, IsKept}
+use Rattle.loop_nest.specs.Walks.{back_edges_to}
+use Rattle.section_check.specs.Bounded.{BoundedLoop, IsKept}
 use Rattle.path_solver.proofs.Elements.{at_head, in_tail}
 
 pub all_from_contains : {X : Type 0} (P : X → Type 0) (xs : List X) → ((x : X) → Contains xs x → P x) → All P xs
@@ -39,18 +39,18 @@ last_in (b ∷ before) (x ∷ m) (f ∷ first) u is = let tail : before ++ (x �
 abbrev pub is_node : ℕ → ℕ → ℕ
 is_node h x = cond (eqb x h) 1 0
 
-turns_push : (h v : ℕ) (m : List ℕ) → turns h (m ++ v ∷ []) ≤ turns h m + is_node h v
-turns_push h v [] = omega arith
-turns_push h v (x ∷ m) = omega (arith, sum_by_push (is_node h) m v)
+iterations_push : (h v : ℕ) (m : List ℕ) → back_edges_to h (m ++ v ∷ []) ≤ back_edges_to h m + is_node h v
+iterations_push h v [] = omega arith
+iterations_push h v (x ∷ m) = omega (arith, sum_by_push (is_node h) m v)
 
-turns_at_most_one : (h : ℕ) (ns : List ℕ) → length ns ≤ 1 → turns h ns ≡ 0
-turns_at_most_one h [] short = refl
-turns_at_most_one h (x ∷ []) short = refl
-turns_at_most_one h (x ∷ y ∷ ns) short = absurd (omega arith)
+iterations_at_most_one : (h : ℕ) (ns : List ℕ) → length ns ≤ 1 → back_edges_to h ns ≡ 0
+iterations_at_most_one h [] short = refl
+iterations_at_most_one h (x ∷ []) short = refl
+iterations_at_most_one h (x ∷ y ∷ ns) short = absurd (omega arith)
 
--- in each stay that lasts to the end of the list, so many turns were taken at most
+-- in each stay that lasts to the end of the list, so many iterations were taken at most
 abbrev pub IsTail : List ℕ → BoundedLoop → ℕ → Type 0
-IsTail ns l n = (before in_loop : List ℕ) → ns ≡ before ++ in_loop → All (Contains l.members) in_loop → turns l.header in_loop ≤ n
+IsTail ns l n = (before in_loop : List ℕ) → ns ≡ before ++ in_loop → All (Contains l.members) in_loop → back_edges_to l.header in_loop ≤ n
 
 pub tail_of_kept : (ns : List ℕ) (l : BoundedLoop) → IsKept ns l → IsTail ns l l.bound
 tail_of_kept ns l kept before in_loop is all = kept before in_loop [] (is ∙ sym (append-nil (before ++ in_loop))) all
@@ -66,35 +66,35 @@ pushed ns before in_loop v is =
           inl (omega arith)
     ]
 
-pub tail_turns : (ns : List ℕ) (l : BoundedLoop) (n v : ℕ) → IsTail ns l n → IsTail (ns ++ v ∷ []) l (n + is_node l.header v)
-tail_turns ns l n v tail before in_loop is all =
+pub tail_iterations : (ns : List ℕ) (l : BoundedLoop) (n v : ℕ) → IsTail ns l n → IsTail (ns ++ v ∷ []) l (n + is_node l.header v)
+tail_iterations ns l n v tail before in_loop is all =
     let h = l.header in
     elim (pushed ns before in_loop v is) [
-      | inl short ↦ let none = turns_at_most_one h in_loop short in omega arith
+      | inl short ↦ let none = iterations_at_most_one h in_loop short in omega arith
       | inr r ↦
           let P : List ℕ → Type 0 = λ zs. All (Contains l.members) zs in
           let old = tail before r.0 r.1 (all_left (Contains l.members) r.0 (v ∷ []) (subst P r.2 all)) in
-          let more = turns_push h v r.0 in
-          let same = ap (turns h) r.2 in
+          let more = iterations_push h v r.0 in
+          let same = ap (back_edges_to h) r.2 in
           omega arith
     ]
 
 pub tail_stays : (ns : List ℕ) (l : BoundedLoop) (n v : ℕ) → v ≢ l.header → IsTail ns l n → IsTail (ns ++ v ∷ []) l n
 tail_stays ns l n v other tail before in_loop is all =
-    let r = tail_turns ns l n v tail before in_loop is all in
+    let r = tail_iterations ns l n v tail before in_loop is all in
     let none : is_node l.header v ≡ 0 = cond-false (eqb v l.header) 1 0 (ne_eqb v l.header other) in
     omega arith
 
--- behind a node that is no member no turn was taken yet
+-- behind a node that is no member no iteration was taken yet
 pub tail_enters : (first : List ℕ) (u v : ℕ) (l : BoundedLoop) → (Contains l.members u → ⊥) → IsTail ((first ++ u ∷ []) ++ v ∷ []) l 0
 tail_enters first u v l out before in_loop is all =
     elim (pushed (first ++ u ∷ []) before in_loop v is) [
-      | inl short ↦ let none = turns_at_most_one l.header in_loop short in omega arith
+      | inl short ↦ let none = iterations_at_most_one l.header in_loop short in omega arith
       | inr r ↦
           elim (last_in before r.0 first u (sym r.1)) [
             | inl empty ↦
                 let e : in_loop ≡ v ∷ [] = r.2 ∙ ap (λ (zs : List ℕ). zs ++ v ∷ []) empty in
-                let none = turns_at_most_one l.header in_loop (omega (arith, ap length e)) in
+                let none = iterations_at_most_one l.header in_loop (omega (arith, ap length e)) in
                 omega arith
             | inr has ↦
                 let P : List ℕ → Type 0 = λ zs. All (Contains l.members) zs in
@@ -103,7 +103,7 @@ tail_enters first u v l out before in_loop is all =
     ]
 
 kept_on_last : (ns : List ℕ) (l : BoundedLoop) (v : ℕ) → IsKept ns l → IsTail (ns ++ v ∷ []) l l.bound → (before in_loop after m : List ℕ)
-    → before ++ in_loop ≡ ns ++ m → v ∷ [] ≡ m ++ after → All (Contains l.members) in_loop → turns l.header in_loop ≤ l.bound
+    → before ++ in_loop ≡ ns ++ m → v ∷ [] ≡ m ++ after → All (Contains l.members) in_loop → back_edges_to l.header in_loop ≤ l.bound
 kept_on_last ns l v kept tail before in_loop after [] is rest all = tail_of_kept ns l kept before in_loop (sym (is ∙ append-nil ns)) all
 kept_on_last ns l v kept tail before in_loop after (x ∷ []) is rest all =
     let same : v ≡ x = cc in
@@ -125,7 +125,7 @@ pub kept_enters : (first : List ℕ) (u v : ℕ) (l : BoundedLoop) → (Contains
 kept_enters first u v l out kept =
     kept_push (first ++ u ∷ []) l v kept (λ before in_loop is all. let r = tail_enters first u v l out before in_loop is all in omega arith)
 
--- nodes other than the header add no turn
+-- nodes other than the header add no iteration
 pub tail_on : (ns more : List ℕ) (l : BoundedLoop) (n : ℕ) → (Contains more l.header → ⊥) → IsTail ns l n → IsTail (ns ++ more) l n
 tail_on ns [] l n none tail = let P : List ℕ → Type 0 = λ zs. IsTail zs l n in subst P (sym (append-nil ns)) tail
 tail_on ns (v ∷ more) l n none tail =
@@ -164,18 +164,18 @@ kept_apart first more u l out kept kept' before in_loop after is all =
 pub kept_rest : (u : ℕ) (ns : List ℕ) (l : BoundedLoop) → IsKept (u ∷ ns) l → IsKept ns l
 kept_rest u ns l kept before in_loop after is all = kept (u ∷ before) in_loop after (ap (λ (zs : List ℕ). u ∷ zs) is) all
 
--- a single node takes no turn
+-- a single node takes no iteration
 pub kept_one : (u : ℕ) (l : BoundedLoop) → IsKept (u ∷ []) l
 kept_one u l before in_loop after is all =
     let k = ap length is in
     let a = length-append (before ++ in_loop) after in
     let b = length-append before in_loop in
-    let none = turns_at_most_one l.header in_loop (omega arith) in
+    let none = iterations_at_most_one l.header in_loop (omega arith) in
     omega arith
 
 pub tail_one : (u : ℕ) (l : BoundedLoop) → IsTail (u ∷ []) l 0
 tail_one u l before in_loop is all =
     let k = ap length is in
     let a = length-append before in_loop in
-    let none = turns_at_most_one l.header in_loop (omega arith) in
+    let none = iterations_at_most_one l.header in_loop (omega arith) in
     omega arith

@@ -4,7 +4,7 @@ use Rattle.std.specs.List.Sorted.{IsStrictlyIncreasing}
 use Rattle.std.proofs.lemmas.Bool.{cases_eq, cases_lt, eq-eqb, ne_eqb, cond-true, cond-false}
 use Rattle.std.proofs.lemmas.List.{get_or_append_left, get_or_push, length_push, map_push}
 use Rattle.std.proofs.lemmas.List.Elements.{Contains-get_or, Contains-push_cases}
-use Rattle.path_solver.specs.Section.{listed, potential}
+use Rattle.section_check.specs.Section.{listed, potential}
 use Rattle.path_solver.specs.Reaching.{IsFlagged}
 
 -- what is left of the value at a node

@@ -5,8 +5,8 @@ use Rattle.std.proofs.lemmas.Bool.{cases_order}
 use Rattle.std.proofs.lemmas.List.{get_or-map, get_or_default, length-map}
 use Rattle.std.proofs.lemmas.List.Sorted.{IsNonDecreasingBy-from_default}
 use Rattle.loop_nest.specs.Nest.{NaturalLoop, headers_of}
-use Rattle.path_solver.specs.Ordering.{IsHeadedAt, NoLoopHas, TurnsBack}
-use Rattle.path_solver.specs.Placing.{IsAt}
+use Rattle.path_solver.specs.Ordering.{IsHeadedAt, NoLoopHas, ClosesLoop}
+use Rattle.section_check.specs.Placing.{IsAt}
 use Rattle.path_solver.proofs.Rising.{rising_pair, rising_all}
 
 abbrev pub header_of : NaturalLoop → ℕ
@@ -51,21 +51,21 @@ same_at ls i j l m at at' e = sym at.1 ∙ get_or_default ls i l m at.0 ∙ ap (
 pub one_loop : (ls : List NaturalLoop) → IsStrictlyIncreasing (headers_of ls) → (i j : ℕ) (l m : NaturalLoop) → IsAt ls i l → IsAt ls j m → l.header ≡ m.header → l ≡ m
 one_loop ls h i j l m at at' same = same_at ls i j l m at at' (same_place ls h i j l m at at' same)
 
-pub turns_at : (ls : List NaturalLoop) (u v i : ℕ) (l : NaturalLoop) → IsStrictlyIncreasing (headers_of ls) → IsHeadedAt ls v i → l ≡ get_or ls i l → TurnsBack ls u v → Contains l.members u
-turns_at ls u v i l h head is t =
+pub iterations_at : (ls : List NaturalLoop) (u v i : ℕ) (l : NaturalLoop) → IsStrictlyIncreasing (headers_of ls) → IsHeadedAt ls v i → l ≡ get_or ls i l → ClosesLoop ls u v → Contains l.members u
+iterations_at ls u v i l h head is t =
     let at : IsAt ls i l = (head.at.0, sym is) in
     let same : head.headed ≡ l = one_loop ls h i i head.headed l head.at at (ap header_of (sym head.at.1 ∙ get_or_default ls i head.headed l head.at.0 ∙ sym is)) in
     let e : t.loop ≡ l = one_loop ls h t.among.0 i t.loop l (t.among.1, t.among.2) at (t.header ∙ sym head.header ∙ ap header_of same) in
     let P : NaturalLoop → Type 0 = λ z. Contains z.members u in
     subst P e t.member
 
-pub turns_from : (ls : List NaturalLoop) (u v i : ℕ) (l : NaturalLoop) → IsHeadedAt ls v i → l ≡ get_or ls i l → Contains l.members u → TurnsBack ls u v
-turns_from ls u v i l head is has = record {
+pub iterations_from : (ls : List NaturalLoop) (u v i : ℕ) (l : NaturalLoop) → IsHeadedAt ls v i → l ≡ get_or ls i l → Contains l.members u → ClosesLoop ls u v
+iterations_from ls u v i l head is has = record {
   loop = l;
   among = (i, head.at.0, sym is);
   header = ap header_of (is ∙ get_or_default ls i l head.headed head.at.0 ∙ head.at.1) ∙ head.header;
   member = has;
 }
 
-pub never_turns : (ls : List NaturalLoop) (u v : ℕ) → NoLoopHas ls v → TurnsBack ls u v → ⊥
-never_turns ls u v none t = none t.among.0 t.loop (t.among.1, t.among.2) t.header
+pub never_iterations : (ls : List NaturalLoop) (u v : ℕ) → NoLoopHas ls v → ClosesLoop ls u v → ⊥
+never_iterations ls u v none t = none t.among.0 t.loop (t.among.1, t.among.2) t.header

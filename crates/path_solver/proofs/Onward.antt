@@ -1,4 +1,4 @@
--- The edges that don't turn back lead to no cycle.
+-- The edges that close no loop lead to no cycle.
 use Rattle.std.proofs.Common.{◌≡◌, ℕ, ◌<◌, Bool, true, false, List, [], ◌∷◌, ◌++◌, length, get_or, All, Contains, sym, ap, subst, inl, inr, arith}
 use Rattle.std.proofs.lemmas.List.{length-append}
 use Rattle.std.proofs.lemmas.List.Elements.{All-contains, All-from_get_or, Contains-get_or}
@@ -9,7 +9,7 @@ use Rattle.loop_nest.specs.Reduction.{IsReducible}
 use Rattle.loop_nest.specs.Nest.{NaturalLoop, IsNest, IsLoopOf}
 use Rattle.loop_nest.specs.Laws.{CyclesTakeBackEdges}
 use Rattle.path_solver.specs.Reaching.{IsFlagged, AreReaching}
-use Rattle.path_solver.specs.Ordering.{AreLoops, TurnsBack, AreTaken, graph_of, IsForwardOrder}
+use Rattle.path_solver.specs.Ordering.{AreLoops, ClosesLoop, AreTaken, graph_of, IsForwardOrder}
 use Rattle.path_solver.proofs.Elements.{cons_cases, nil_contains, from_map, has_or_not}
 use Rattle.path_solver.proofs.Growing.{flagged_below}
 
@@ -37,9 +37,9 @@ module _ (n : ℕ) (es : List (ℕ × ℕ)) where
       let rest : ns ≡ bs ++ a ∷ h ∷ after = cc in
       edge_taken t bs after a h rest
 
--- a back edge turns back in the loop of its target
-pub back_turns : (g : Digraph) (ls : List NaturalLoop) → IsNest g ls → (a h : ℕ) → IsBackEdge g a h → TurnsBack ls a h
-back_turns g ls nest a h b =
+-- a back edge closes a loop in the loop of its target
+pub back_edge_closes : (g : Digraph) (ls : List NaturalLoop) → IsNest g ls → (a h : ℕ) → IsBackEdge g a h → ClosesLoop ls a h
+back_edge_closes g ls nest a h b =
     let r = from_map (λ (l : NaturalLoop). l.header) ls h (nest.complete h (a, b)) in
     let l = r.0 in
     let loop : IsLoopOf g l = All-contains (IsLoopOf g) ls l nest.loops r.1 in
@@ -62,7 +62,7 @@ onward_acyclic g ls flags es n law wf red nest taken u v ns e t =
     let r = law g wf red u v ns (sub u v e) (walk_in n es g sub t) in
     let whole : Walk (graph_of n es) u u (u ∷ ns) = along e t in
     let c = edge_taken n es whole r.2.0 r.2.1 r.0 r.1 r.2.2 in
-    ((taken r.0 r.1).0 c).1.1 (back_turns g ls nest r.0 r.1 r.3)
+    ((taken r.0 r.1).0 c).1.1 (back_edge_closes g ls nest r.0 r.1 r.3)
 
 -- the sources of edges to flagged nodes are flagged
 pub sources_flagged : (g : Digraph) (ls : List NaturalLoop) (flags : List Bool) (es : List (ℕ × ℕ)) → AreReaching g flags → AreTaken g.edges ls flags false es → (u v : ℕ) → Contains es (u, v) → IsFlagged flags u

@@ -1,16 +1,16 @@
--- An order of the flagged nodes, node by node: each node is added once all edges to it were passed.
+-- An order of the flagged nodes, node by node: each node is added once all edges to it were counted off.
 use Rattle.std.proofs.Common.{◌≡◌, ℕ, zero, suc, ◌+◌, ◌<◌, ◌≤◌, Bool, true, false, cond, eqb, not, ◌&&◌, ◌||◌, List, [], ◌∷◌, ◌++◌, length, get_or, take, map, filter, count_by, Contains, refl, sym, ap, ◌∙◌, subst, inl, inr, arith, zero-add}
+use Rattle.loop_nest.specs.Digraph.{sources_of}
 use Rattle.std.proofs.lemmas.Bool.{cases_eq, cases_Bool, eq-eqb, ne_eqb, eqb-true, both_ways}
 use Rattle.std.proofs.lemmas.List.Elements.{Contains-push}
 use Rattle.std.proofs.lemmas.List.Sums.{sum_by-cons}
-use Rattle.path_solver.specs.Bounded.{holds}
-use Rattle.path_solver.specs.Reaching.{sources_of}
+use Rattle.section_check.specs.Bounded.{holds}
 use Rattle.path_solver.proofs.Elements.{at_head, in_tail, cons_cases, nil_contains, contains_from_holds, holds_from_contains}
 use Rattle.path_solver.proofs.Sources.{kept_at, dropped_at}
-use Rattle.path_solver.proofs.Passing.{times}
+use Rattle.path_solver.proofs.CountingDown.{times}
 
-abbrev pub turn : ℕ × ℕ → ℕ × ℕ
-turn e = (e.1, e.0)
+abbrev pub flip : ℕ × ℕ → ℕ × ℕ
+flip e = (e.1, e.0)
 
 -- the edge leads to v from a node that isn't done
 abbrev pub awaits : List ℕ → ℕ → ℕ × ℕ → Bool
@@ -26,7 +26,7 @@ count_cons : {X : Type 0} (p : X → Bool) (x : X) (xs : List X) → count_by p 
 count_cons p x xs = sum_by-cons (λ y. cond (p y) 1 0) x xs
 
 -- the edges to v of all that lead from u
-pub times_targets : (es : List (ℕ × ℕ)) (u v : ℕ) → times v (sources_of (map turn es) u) ≡ count_by (leads u v) es
+pub times_targets : (es : List (ℕ × ℕ)) (u v : ℕ) → times v (sources_of (map flip es) u) ≡ count_by (leads u v) es
 times_targets [] u v = refl
 times_targets (e ∷ es) u v =
     let rest = times_targets es u v in
@@ -34,12 +34,12 @@ times_targets (e ∷ es) u v =
     let f : ℕ × ℕ → ℕ = λ z. z.0 in
     elim (cases_Bool (eqb e.0 u)) [
       | inl yes' ↦
-          ap (λ zs. count_by (λ y. eqb y v) (map f zs)) (kept_at p (turn e) (map turn es) yes')
-          ∙ count_cons (λ y. eqb y v) e.1 (map f (filter p (map turn es)))
+          ap (λ zs. count_by (λ y. eqb y v) (map f zs)) (kept_at p (flip e) (map flip es) yes')
+          ∙ count_cons (λ y. eqb y v) e.1 (map f (filter p (map flip es)))
           ∙ ap (λ k. one (eqb e.1 v) + k) rest
           ∙ sym (count_cons (leads u v) e es ∙ ap (λ b. one (b && eqb e.1 v) + count_by (leads u v) es) yes')
       | inr no' ↦
-          ap (λ zs. count_by (λ y. eqb y v) (map f zs)) (dropped_at p (turn e) (map turn es) no')
+          ap (λ zs. count_by (λ y. eqb y v) (map f zs)) (dropped_at p (flip e) (map flip es) no')
           ∙ rest
           ∙ sym (count_cons (leads u v) e es ∙ ap (λ b. one (b && eqb e.1 v) + count_by (leads u v) es) no' ∙ zero-add (count_by (leads u v) es))
     ]

@@ -8,45 +8,45 @@ use Rattle.std.proofs.lemmas.List.{get_or_default, length-map}
 use Rattle.std.proofs.lemmas.List.Elements.{All-contains}
 use Rattle.loop_nest.specs.Digraph.{Digraph}
 use Rattle.loop_nest.specs.Nest.{NaturalLoop, IsLoopOf}
-use Rattle.path_solver.specs.declared.passages.Passage.{Passage}
-use Rattle.path_solver.specs.Section.{Certified, CertifiedLoop, HeadersRise, MembersRise, start_value, listed, priced}
-use Rattle.path_solver.specs.Placing.{IsAt, LiesIn, AreCrossed, IsFaulty, AreWellPlaced}
-use Rattle.path_solver.specs.Placing.IsFaulty.{shares_header, leaves_header_out, crosses_another, does_not_fit, lies_in_region}
-use Rattle.path_solver.specs.Placing.IsMisplaced.{lists_no_node, holds_no_node, heads_faulty, enters_aside, holds_entry, passes_limit}
+use Rattle.path_solver.specs.declared.topology.TopologicalOrder.{TopologicalOrder}
+use Rattle.section_check.specs.Section.{Certified, CertifiedLoop, HeadersRise, MembersRise, start_value, listed, priced}
+use Rattle.section_check.specs.Placing.{IsAt, LiesIn, AreCrossed, IsFaulty, AreWellPlaced}
+use Rattle.section_check.specs.Placing.IsFaulty.{shares_header, leaves_header_out, crosses_another, does_not_fit, lies_in_region}
+use Rattle.section_check.specs.Placing.IsMisplaced.{lists_no_node, holds_no_node, heads_faulty, enters_aside, holds_entry, exceeds_limit}
 use Rattle.path_solver.specs.Certifying.{certified}
-use Rattle.path_solver.specs.Problem.{IsPassed}
+use Rattle.path_solver.specs.Problem.{IsSetting}
 use Rattle.path_solver.proofs.Loops.{header_at, same_place}
 use Rattle.path_solver.proofs.Certificates.{IsSameLoop, same_loop, certified_long}
 use Rattle.path_solver.proofs.Structure.{own_header, entered_at_header, entry_heads, members_below, holds_all, nested}
 
-module _ (g : Digraph) (loops : List NaturalLoop) (flags : List Bool) (p : Passage) (h : IsPassed g loops flags p) (bounds loads worths : List ℕ) (b : length bounds ≡ length loops) (m : length loads ≡ length loops) (w : length worths ≡ length loops) where
+module _ (g : Digraph) (loops : List NaturalLoop) (flags : List Bool) (p : TopologicalOrder) (h : IsSetting g loops flags p) (bounds loads iteration_costs : List ℕ) (b : length bounds ≡ length loops) (m : length loads ≡ length loops) (w : length iteration_costs ≡ length loops) where
   abbrev section : List (ℕ × ℤ) → Certified
-  section nodes = record { nodes = nodes; loops = certified loops worths }
+  section nodes = record { nodes = nodes; loops = certified loops iteration_costs }
 
   abbrev made_loops : List CertifiedLoop
-  made_loops = certified loops worths
+  made_loops = certified loops iteration_costs
 
   -- the loop at a place of the section
   at_place : (i : ℕ) (d : CertifiedLoop) → i < length made_loops → IsSameLoop loops i (get_or made_loops i d)
-  at_place i d lt = same_loop loops worths w i (get_or made_loops i d) (lt, get_or_default made_loops i (get_or made_loops i d) d lt)
+  at_place i d lt = same_loop loops iteration_costs w i (get_or made_loops i d) (lt, get_or_default made_loops i (get_or made_loops i d) d lt)
 
   found : (c : CertifiedLoop) → Contains made_loops c → (i : ℕ) × IsSameLoop loops i c
-  found c has = (has.0, same_loop loops worths w has.0 c (has.1, has.2))
+  found c has = (has.0, same_loop loops iteration_costs w has.0 c (has.1, has.2))
 
   among : (i : ℕ) (l : NaturalLoop) → IsAt loops i l → Contains loops l
   among i l at = (i, at.0, at.1)
 
-  pub as_many : length (certified loops worths) ≡ length loops
-  as_many = certified_long loops worths w
+  pub as_many : length (certified loops iteration_costs) ≡ length loops
+  as_many = certified_long loops iteration_costs w
 
-  pub members_rise : MembersRise (certified loops worths)
+  pub members_rise : MembersRise (certified loops iteration_costs)
   members_rise i d lt =
       let s = at_place i d lt in
       let loop : IsLoopOf g s.loop = All-contains (IsLoopOf g) loops s.loop h.nest.loops (among i s.loop s.at) in
       let P : List ℕ → Type 0 = λ us. IsStrictlyIncreasing us in
       subst P (sym s.members) loop.rising
 
-  pub headers_rise : HeadersRise (certified loops worths)
+  pub headers_rise : HeadersRise (certified loops iteration_costs)
   headers_rise k d lt =
       let a = at_place k d (omega arith) in
       let b' = at_place (k + 1) d lt in
@@ -99,14 +99,14 @@ module _ (g : Digraph) (loops : List NaturalLoop) (flags : List Bool) (p : Passa
 
   not_faulty : (i : ℕ) (c : CertifiedLoop) → IsAt made_loops i c → IsFaulty made_loops (map Some loads) i c → ⊥
   not_faulty i c at (shares_header f) =
-      f.apart (one_place i f.place c f.other (same_loop loops worths w i c at) (same_loop loops worths w f.place f.other f.at) f.same)
-  not_faulty i c at (leaves_header_out f) = f (has_header i c (same_loop loops worths w i c at))
-  not_faulty i c at (crosses_another f) = let r = found f.other f.among in not_crossed i r.0 c f.other (same_loop loops worths w i c at) r.1 f.crossed
-  not_faulty i c at (does_not_fit region f) = both_ways c.region (same_loop loops worths w i c at).region region
-  not_faulty i c at (lies_in_region region f) = both_ways c.region (same_loop loops worths w i c at).region region
+      f.apart (one_place i f.place c f.other (same_loop loops iteration_costs w i c at) (same_loop loops iteration_costs w f.place f.other f.at) f.same)
+  not_faulty i c at (leaves_header_out f) = f (has_header i c (same_loop loops iteration_costs w i c at))
+  not_faulty i c at (crosses_another f) = let r = found f.other f.among in not_crossed i r.0 c f.other (same_loop loops iteration_costs w i c at) r.1 f.crossed
+  not_faulty i c at (does_not_fit region f) = both_ways c.region (same_loop loops iteration_costs w i c at).region region
+  not_faulty i c at (lies_in_region region f) = both_ways c.region (same_loop loops iteration_costs w i c at).region region
 
   pub well_placed : (nodes : List (ℕ × ℤ)) → ((u : ℕ) → Contains (listed nodes) u → u < g.nodes) → (value : ℕ) → value < 2 ^ 64
-      → start_value (section nodes) (priced (certified loops worths) bounds (map Some loads)) ≡ Some (pos value) → AreWellPlaced g (section nodes) bounds (map Some loads)
+      → start_value (section nodes) (priced (certified loops iteration_costs) bounds (map Some loads)) ≡ Some (pos value) → AreWellPlaced g (section nodes) bounds (map Some loads)
   well_placed nodes below value small starts u (lists_no_node has above) = let lt = below u has in omega arith
   well_placed nodes below value small starts u (holds_no_node held above) =
       let r = found held.holder held.among in
@@ -123,8 +123,8 @@ module _ (g : Digraph) (loops : List NaturalLoop) (flags : List Bool) (p : Passa
       let i = r.0 in
       let s = r.1 in
       f.header (s.header ∙ entry_heads g loops flags p h s.loop (in_nest i f.holder s) (into_nest i f.holder s 0 f.inside))
-  well_placed nodes below value small starts u (passes_limit at f) =
+  well_placed nodes below value small starts u (exceeds_limit at f) =
       let is : f.value ≡ pos value = cc (f.is, starts) in
       let P : ℤ → Type 0 = λ z. pos (2 ^ 64 - 1) <ℤ z in
-      let passes = subst P is f.passes in
+      let exceeds = subst P is f.exceeds in
       omega (arith, ints)

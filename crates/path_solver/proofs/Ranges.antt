@@ -1,36 +1,35 @@
--- No distance passes the greatest cost at an exit by more than a turn of each loop around.
+-- No distance exceeds the greatest cost at an exit by more than an iteration of each loop around.
 use Rattle.std.proofs.Common.{◌≡◌, ℕ, ◌+◌, ◌^◌, ◌<◌, ◌≤◌, Bool, true, false, ◌&&◌, List, ◌∷◌, get_or, drop, Contains, sym, subst, inl, inr, arith}
 use Rattle.std.proofs.lemmas.Bool.{and_parts, and_from, and_right, false_from_ne_true}
 use Rattle.loop_nest.specs.Digraph.{Digraph, Edge}
 use Rattle.loop_nest.specs.Walks.{Walk}
 use Rattle.loop_nest.specs.Walks.Walk.{stay, along}
 use Rattle.loop_nest.specs.Nest.{NaturalLoop}
-use Rattle.path_solver.specs.declared.passages.Passage.{Passage}
-use Rattle.path_solver.specs.Bounded.{holds}
+use Rattle.path_solver.specs.declared.topology.TopologicalOrder.{TopologicalOrder}
+use Rattle.section_check.specs.Bounded.{holds}
 use Rattle.path_solver.specs.Reaching.{IsFlagged}
 use Rattle.path_solver.specs.Distances.{IsMost, cost_through}
-use Rattle.path_solver.specs.Totals.{worth_around}
+use Rattle.path_solver.specs.Totals.{iteration_costs_around}
 use Rattle.path_solver.proofs.Elements.{at_head, in_tail, has_or_not, contains_from_holds, holds_from_contains}
-use Rattle.path_solver.proofs.Bounding.{begins}
-use Rattle.path_solver.proofs.SimpleWalks.{VisitsOnce, simple_walk}
-use Rattle.path_solver.proofs.WorthsAround.{worth_where, around_where, worth_grows, worth_grows_by}
+use Rattle.path_solver.proofs.SimpleWalks.{begins, VisitsOnce, simple_walk}
+use Rattle.path_solver.proofs.CostsAround.{reserve_where, around_where, reserve_grows, reserve_grows_by}
 use Rattle.path_solver.specs.Problem.{IsMeasured}
 use Rattle.path_solver.proofs.AlongEdges.{grows}
-use Rattle.path_solver.proofs.AlongEdges.Grows.{turning, entering, passing}
+use Rattle.path_solver.proofs.AlongEdges.Grows.{backward, entering, exceeding}
 use Rattle.path_solver.proofs.Structure as structure
 
-module _ (g : Digraph) (loops : List NaturalLoop) (flags : List Bool) (p : Passage) (costs bounds loads worths fees dist : List ℕ) (m : IsMeasured g loops flags p costs bounds loads worths fees dist) (value : ℕ) (most : IsMost (cost_through costs dist) g.exits value) (small : value < 2 ^ 64) (turns_small : (u : ℕ) → u < g.nodes → worth_around loops worths u < 2 ^ 64) where
+module _ (g : Digraph) (loops : List NaturalLoop) (flags : List Bool) (p : TopologicalOrder) (costs bounds loads iteration_costs fees dist : List ℕ) (m : IsMeasured g loops flags p costs bounds loads iteration_costs fees dist) (value : ℕ) (most : IsMost (cost_through costs dist) g.exits value) (small : value < 2 ^ 64) (iterations_small : (u : ℕ) → u < g.nodes → iteration_costs_around loops iteration_costs u < 2 ^ 64) where
   -- the loop has u, and its header is one of the nodes to come
   abbrev is_ahead : ℕ → List ℕ → NaturalLoop → Bool
   is_ahead u rest l = holds l.members u && holds rest l.header
 
   abbrev ahead : ℕ → List ℕ → ℕ
-  ahead u rest = worth_where (is_ahead u rest) loops worths
+  ahead u rest = reserve_where (is_ahead u rest) loops iteration_costs
 
-  ahead_around : (u : ℕ) (rest : List ℕ) → ahead u rest ≤ worth_around loops worths u
+  ahead_around : (u : ℕ) (rest : List ℕ) → ahead u rest ≤ iteration_costs_around loops iteration_costs u
   ahead_around u rest =
-      let is = around_where loops worths u in
-      let more = worth_grows (is_ahead u rest) (λ l. holds l.members u) loops worths (λ l has is. (and_parts (holds l.members u) (holds rest l.header) is).0) in
+      let is = around_where loops iteration_costs u in
+      let more = reserve_grows (is_ahead u rest) (λ l. holds l.members u) loops iteration_costs (λ l has is. (and_parts (holds l.members u) (holds rest l.header) is).0) in
       omega arith
 
   -- a loop that is ahead behind an edge is ahead before it, too
@@ -43,26 +42,26 @@ module _ (g : Digraph) (loops : List NaturalLoop) (flags : List Bool) (p : Passa
         | inl in' ↦ and_from (holds l.members u) (holds (v ∷ rest) l.header) (holds_from_contains l.members u in') (holds_from_contains (v ∷ rest) l.header (in_tail v l.header rest comes))
         | inr out ↦
             let P : ℕ → Type 0 = λ z. Contains rest z in
-            absurd (once (subst P (sym (structure.entered_at_header g loops flags p m.passed l u v has edge inside out)) comes))
+            absurd (once (subst P (sym (structure.entered_at_header g loops flags p m.setting l u v has edge inside out)) comes))
       ]
 
   ahead_along : (u v : ℕ) (rest : List ℕ) → Edge g u v → IsFlagged flags v → (Contains rest v → ⊥) → get_or dist v 0 ≤ value + ahead v rest → get_or dist u 0 ≤ value + ahead u (v ∷ rest)
   ahead_along u v rest edge flag once near =
       let below = ahead_around v rest in
-      let turns = turns_small v (structure.listed_below g loops flags p m.passed v flag) in
-      let more = worth_grows (is_ahead v rest) (is_ahead u (v ∷ rest)) loops worths (stays_ahead u v rest edge once) in
-      elim (grows g loops flags p costs bounds loads worths fees dist m turns_small u v edge flag (omega arith)) [
-        | turning i l at same inside on ↦
+      let iterations = iterations_small v (structure.listed_below g loops flags p m.setting v flag) in
+      let more = reserve_grows (is_ahead v rest) (is_ahead u (v ∷ rest)) loops iteration_costs (stays_ahead u v rest edge once) in
+      elim (grows g loops flags p costs bounds loads iteration_costs fees dist m iterations_small u v edge flag (omega arith)) [
+        | backward i l at same inside on ↦
             let P : ℕ → Type 0 = λ z. Contains rest z in
             let Q : ℕ → Type 0 = λ z. holds (z ∷ rest) l.header ≡ true in
             let no' : is_ahead v rest l ≡ false = and_right (holds l.members v) (holds rest l.header) (false_from_ne_true (holds rest l.header) (λ has. once (subst P same (contains_from_holds rest l.header has)))) in
             let yes' : is_ahead u (v ∷ rest) l ≡ true =
             and_from (holds l.members u) (holds (v ∷ rest) l.header) (holds_from_contains l.members u inside) (subst Q same (holds_from_contains (l.header ∷ rest) l.header (at_head l.header rest)))
             in
-            let by = worth_grows_by (is_ahead v rest) (is_ahead u (v ∷ rest)) loops worths i l at no' yes' (stays_ahead u v rest edge once) in
+            let by = reserve_grows_by (is_ahead v rest) (is_ahead u (v ∷ rest)) loops iteration_costs i l at no' yes' (stays_ahead u v rest edge once) in
             omega arith
         | entering i l at same outside on ↦ omega arith
-        | passing none on ↦ omega arith
+        | exceeding none on ↦ omega arith
       ]
 
   ahead_exit : (u : ℕ) → Contains g.exits u → get_or dist u 0 ≤ value
@@ -71,17 +70,17 @@ module _ (g : Digraph) (loops : List NaturalLoop) (flags : List Bool) (p : Passa
       omega arith
 
   ahead_all : {u x : ℕ} {ns : List ℕ} → Walk g u x ns → Contains g.exits x → VisitsOnce ns → IsFlagged flags u × (get_or dist u 0 ≤ value + ahead u (drop 1 ns))
-  ahead_all (stay {u}) exit once = let most_here = ahead_exit u exit in (structure.listed_exit g loops flags p m.passed u exit, omega arith)
+  ahead_all (stay {u}) exit once = let most_here = ahead_exit u exit in (structure.listed_exit g loops flags p m.setting u exit, omega arith)
   ahead_all (along {u} {v} {w} {ns} e t) exit once =
       let ih = ahead_all t exit once.1 in
       let b = begins t in
       let P : List ℕ → Type 0 = λ zs. VisitsOnce zs → get_or dist v 0 ≤ value + ahead v (drop 1 zs) → get_or dist u 0 ≤ value + ahead u zs in
       let step : P (v ∷ b.0) = λ o near. ahead_along u v b.0 e ih.0 o.0 near in
-      (structure.listed_source g loops flags p m.passed u v e ih.0, subst P (sym b.1) step once.1 ih.1)
+      (structure.listed_source g loops flags p m.setting u v e ih.0, subst P (sym b.1) step once.1 ih.1)
 
-  pub range : (u : ℕ) → IsFlagged flags u → get_or dist u 0 ≤ value + worth_around loops worths u
+  pub range : (u : ℕ) → IsFlagged flags u → get_or dist u 0 ≤ value + iteration_costs_around loops iteration_costs u
   range u flag =
-      let r = (m.passed.reaching.each u).0 flag in
+      let r = (m.setting.reaching.each u).0 flag in
       let s = simple_walk r.walk in
       let a = ahead_all s.walk r.among s.once in
       let most_here = a.1 in

@@ -1,5 +1,5 @@
 -- Walks that visit no node twice.
-use Rattle.std.proofs.Common.{ℕ, List, [], ◌∷◌, Contains, subst, inl, inr}
+use Rattle.std.proofs.Common.{◌≡◌, ℕ, List, [], ◌∷◌, Contains, refl, subst, inl, inr}
 use Rattle.loop_nest.specs.Digraph.{Digraph}
 use Rattle.loop_nest.specs.Walks.{Walk}
 use Rattle.loop_nest.specs.Walks.Walk.{stay, along}
@@ -36,3 +36,7 @@ simple_walk (along {u} {v} {w} {ns} e t) =
       | inl has ↦ cut u s.walk s.once has
       | inr new ↦ record { nodes = u ∷ s.nodes; walk = along e s.walk; once = (new, s.once) }
     ]
+
+pub begins : {g : Digraph} {u v : ℕ} {ns : List ℕ} → Walk g u v ns → (rest : List ℕ) × (ns ≡ u ∷ rest)
+begins (stay {u}) = ([], refl)
+begins (along {u} {v} {w} {ns} e t) = (ns, refl)

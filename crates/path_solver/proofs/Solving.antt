@@ -1,27 +1,27 @@
--- Turns, one of each loop that holds a node, pass 64 bits together exactly where what they are worth does.
-use Rattle.std.proofs.Common.{◌≡◌, ℕ, suc, ◌+◌, ◌^◌, ◌<◌, ◌≤◌, ℤ, Bool, true, false, cond, eqb, List, [], ◌∷◌, length, get_or, sum_by, Contains, Some, refl, sym, ap, ◌∙◌, subst, inl, inr, arith}
+-- Iterations, one of each loop that holds a node, exceed 64 bits together exactly where what they cost at most does.
+use Rattle.std.proofs.Common.{◌≡◌, ℕ, suc, ◌+◌, ◌^◌, ◌<◌, ◌≤◌, ℤ, Bool, true, false, cond, eqb, List, [], ◌∷◌, length, map, get_or, sum_by, Contains, Some, refl, sym, ap, ◌∙◌, subst, inl, inr, arith}
 use Rattle.std.proofs.lemmas.Bool.{cases_eq, cases_Bool, eq-eqb, ne_eqb, cond-true, cond-false, both_ways}
 use Rattle.std.proofs.lemmas.List.Sums.{sum_by-cons}
 use Rattle.loop_nest.specs.Digraph.{Digraph}
 use Rattle.loop_nest.specs.Nest.{NaturalLoop}
-use Rattle.path_solver.specs.declared.passages.Passage.{Passage}
+use Rattle.path_solver.specs.declared.topology.TopologicalOrder.{TopologicalOrder}
 use Rattle.path_solver.specs.Reaching.{ReachesExit, IsFlagged}
-use Rattle.path_solver.specs.Placing.{IsAt}
-use Rattle.path_solver.specs.Bounded.{BoundedLoop, holds, cost_of, IsBoundedWalk}
-use Rattle.path_solver.specs.Section.{potential}
-use Rattle.path_solver.specs.Conditions.{EdgesHold}
+use Rattle.section_check.specs.Placing.{IsAt}
+use Rattle.section_check.specs.Bounded.{BoundedLoop, holds, cost_of, IsBoundedWalk, IsIteration, cost_of_iteration}
+use Rattle.section_check.specs.Section.{potential}
+use Rattle.section_check.specs.Conditions.{IsAccepted}
 use Rattle.path_solver.specs.Certifying.{certified}
-use Rattle.path_solver.specs.Totals.{worth_around}
-use Rattle.path_solver.specs.Longest.{bounded_loops, around, IsTurn, cost_of_turn, IsTooLarge}
-use Rattle.path_solver.specs.Longest.IsTooLarge.{walk as walk_passes, turn as turns_pass}
+use Rattle.path_solver.specs.Totals.{iteration_costs_around}
+use Rattle.path_solver.specs.Longest.{bounded_loops, around, IsTooLarge}
+use Rattle.path_solver.specs.Longest.IsTooLarge.{walk as walk_exceeds, iteration as iterations_exceed}
 use Rattle.path_solver.proofs.Elements.{at_head, in_tail, cons_cases, nil_contains, contains_from_holds, holds_from_contains}
 use Rattle.path_solver.proofs.Sources.{filter_contains, from_filter}
 use Rattle.path_solver.proofs.Sums.{sum_by-zero}
-use Rattle.path_solver.specs.Problem.{IsPassed}
+use Rattle.path_solver.specs.Problem.{IsSetting}
 use Rattle.path_solver.proofs.Structure.{listed_below, listed_member, listed_header, from_order}
 use Rattle.path_solver.proofs.Loops.{same_place, same_at}
-use Rattle.path_solver.proofs.Correspond.{with_bound, bounded_at, prices, to_bounded, from_bounded}
-use Rattle.path_solver.proofs.TurnBound.{turn_bounded}
+use Rattle.path_solver.proofs.Correspond.{with_bound, bounded_at, to_bounded, from_bounded}
+use Rattle.path_solver.proofs.IterationBound.{iteration_bounded}
 
 -- the sum over the loops that hold u, one loop more
 around_cons : (f : BoundedLoop → ℕ) (l : BoundedLoop) (ls : List BoundedLoop) (u : ℕ) → sum_by f (around (l ∷ ls) u) ≡ cond (holds l.members u) (f l) 0 + sum_by f (around ls u)
@@ -38,13 +38,13 @@ gated false x y le = omega arith
 later : {X : Type 0} (x y : X) (xs : List X) (i : ℕ) → IsAt xs i y → IsAt (x ∷ xs) (suc i) y
 later x y xs i at = let below = at.0 in (omega arith, at.1)
 
--- what the loops that hold u give together is at most what they are worth, where this holds of each
-around_most : (f : BoundedLoop → ℕ) (u : ℕ) (loops : List NaturalLoop) (bounds loads worths : List ℕ) → length worths ≡ length loops
-    → ((i : ℕ) (l : NaturalLoop) → IsAt loops i l → Contains l.members u → f (with_bound l (get_or bounds i 0) (get_or loads i 0)) ≤ get_or worths i 0)
-    → sum_by f (around (bounded_loops loops bounds loads) u) ≤ worth_around loops worths u
-around_most f u [] bounds loads worths w each = omega arith
-around_most f u (k ∷ ks) [] loads worths w each = omega arith
-around_most f u (k ∷ ks) (x ∷ xs) [] worths w each = omega arith
+-- what the loops that hold u give together is at most what they cost at most, where this holds of each
+around_most : (f : BoundedLoop → ℕ) (u : ℕ) (loops : List NaturalLoop) (bounds loads iteration_costs : List ℕ) → length iteration_costs ≡ length loops
+    → ((i : ℕ) (l : NaturalLoop) → IsAt loops i l → Contains l.members u → f (with_bound l (get_or bounds i 0) (get_or loads i 0)) ≤ get_or iteration_costs i 0)
+    → sum_by f (around (bounded_loops loops bounds loads) u) ≤ iteration_costs_around loops iteration_costs u
+around_most f u [] bounds loads iteration_costs w each = omega arith
+around_most f u (k ∷ ks) [] loads iteration_costs w each = omega arith
+around_most f u (k ∷ ks) (x ∷ xs) [] iteration_costs w each = omega arith
 around_most f u (k ∷ ks) (x ∷ xs) (y ∷ ys) [] w each = absurd (omega arith)
 around_most f u (k ∷ ks) (x ∷ xs) (y ∷ ys) (v ∷ vs) w each =
     let l = with_bound k x y in
@@ -53,12 +53,12 @@ around_most f u (k ∷ ks) (x ∷ xs) (y ∷ ys) (v ∷ vs) w each =
     omega (arith, around_cons f l (bounded_loops ks xs ys) u)
 
 -- and at least that
-around_least : (f : BoundedLoop → ℕ) (u : ℕ) (loops : List NaturalLoop) (bounds loads worths : List ℕ) → length bounds ≡ length loops → length loads ≡ length loops
-    → ((i : ℕ) (l : NaturalLoop) → IsAt loops i l → Contains l.members u → get_or worths i 0 ≤ f (with_bound l (get_or bounds i 0) (get_or loads i 0)))
-    → worth_around loops worths u ≤ sum_by f (around (bounded_loops loops bounds loads) u)
-around_least f u [] bounds loads worths b m each = omega arith
-around_least f u (k ∷ ks) [] loads worths b m each = absurd (omega arith)
-around_least f u (k ∷ ks) (x ∷ xs) [] worths b m each = absurd (omega arith)
+around_least : (f : BoundedLoop → ℕ) (u : ℕ) (loops : List NaturalLoop) (bounds loads iteration_costs : List ℕ) → length bounds ≡ length loops → length loads ≡ length loops
+    → ((i : ℕ) (l : NaturalLoop) → IsAt loops i l → Contains l.members u → get_or iteration_costs i 0 ≤ f (with_bound l (get_or bounds i 0) (get_or loads i 0)))
+    → iteration_costs_around loops iteration_costs u ≤ sum_by f (around (bounded_loops loops bounds loads) u)
+around_least f u [] bounds loads iteration_costs b m each = omega arith
+around_least f u (k ∷ ks) [] loads iteration_costs b m each = absurd (omega arith)
+around_least f u (k ∷ ks) (x ∷ xs) [] iteration_costs b m each = absurd (omega arith)
 around_least f u (k ∷ ks) (x ∷ xs) (y ∷ ys) [] b m each = omega arith
 around_least f u (k ∷ ks) (x ∷ xs) (y ∷ ys) (v ∷ vs) b m each =
     let l = with_bound k x y in
@@ -89,7 +89,7 @@ choose {X} {Y} number P d (x ∷ xs) one each =
     in
     (f, fits)
 
-module _ (g : Digraph) (loops : List NaturalLoop) (flags : List Bool) (p : Passage) (h : IsPassed g loops flags p) (costs bounds loads worths : List ℕ) (b : length bounds ≡ length loops) (m : length loads ≡ length loops) (w : length worths ≡ length loops) where
+module _ (g : Digraph) (loops : List NaturalLoop) (flags : List Bool) (p : TopologicalOrder) (h : IsSetting g loops flags p) (costs bounds loads iteration_costs : List ℕ) (b : length bounds ≡ length loops) (m : length loads ≡ length loops) (w : length iteration_costs ≡ length loops) where
   abbrev bs : List BoundedLoop
   bs = bounded_loops loops bounds loads
 
@@ -101,28 +101,28 @@ module _ (g : Digraph) (loops : List NaturalLoop) (flags : List Bool) (p : Passa
       let there = to_bounded loops bounds loads b m i l at in
       filter_contains (λ (k : BoundedLoop). holds k.members u) bs (at_place l i) (holds_from_contains l.members u inside) (i, there.0, there.1)
 
-  -- where potentials descend along every edge and all worths fit together, so do turns
-  pub no_turns_pass : (nodes : List (ℕ × ℤ)) → EdgesHold g costs (record { nodes = nodes; loops = certified loops worths }) (prices loops bounds loads b m worths w)
-      → ((u : ℕ) → IsFlagged flags u → (z : ℤ) × (potential nodes u ≡ Some z)) → ((u : ℕ) → u < g.nodes → worth_around loops worths u < 2 ^ 64)
-      → (u : ℕ) (turn : BoundedLoop → List ℕ) → ReachesExit g u → ((l : BoundedLoop) → Contains (around bs u) l → IsTurn g bs l (turn l))
-      → sum_by (λ l. cost_of_turn costs bs (turn l)) (around bs u) < 2 ^ 64
-  no_turns_pass nodes edges listed small u turn reaches turns =
+  -- where potentials descend along every edge and all iteration costs fit together, so do iterations
+  pub no_iterations_exceed : (nodes : List (ℕ × ℤ)) → IsAccepted g costs (record { nodes = nodes; loops = certified loops iteration_costs }) bounds (map Some loads)
+      → ((u : ℕ) → IsFlagged flags u → (z : ℤ) × (potential nodes u ≡ Some z)) → ((u : ℕ) → u < g.nodes → iteration_costs_around loops iteration_costs u < 2 ^ 64)
+      → (u : ℕ) (iteration : BoundedLoop → List ℕ) → ReachesExit g u → ((l : BoundedLoop) → Contains (around bs u) l → IsIteration g bs l (iteration l))
+      → sum_by (λ l. cost_of_iteration costs bs (iteration l)) (around bs u) < 2 ^ 64
+  no_iterations_exceed nodes accepted listed small u iteration reaches iterations =
       let flag : IsFlagged flags u = (h.reaching.each u).1 reaches in
       let most =
-      around_most (λ l. cost_of_turn costs bs (turn l)) u loops bounds loads worths w
+      around_most (λ l. cost_of_iteration costs bs (iteration l)) u loops bounds loads iteration_costs w
       (λ i l at inside.
       let z = listed l.header (listed_header g loops flags p h l u (i, at.0, at.1) flag inside) in
-      turn_bounded g loops flags p h costs bounds loads worths b m w nodes edges i l at z.0 z.1 (turn (at_place l i)) (turns (at_place l i) (in_around i l u at inside)))
+      iteration_bounded g loops flags p h costs bounds loads iteration_costs b m w nodes accepted i l at z.0 z.1 (iteration (at_place l i)) (iterations (at_place l i) (in_around i l u at inside)))
       in
       let less = small u (listed_below g loops flags p h u flag) in
       omega arith
 
   -- so nothing is too large where no walk is
-  pub not_too_large : (nodes : List (ℕ × ℤ)) → EdgesHold g costs (record { nodes = nodes; loops = certified loops worths }) (prices loops bounds loads b m worths w)
-      → ((u : ℕ) → IsFlagged flags u → (z : ℤ) × (potential nodes u ≡ Some z)) → ((u : ℕ) → u < g.nodes → worth_around loops worths u < 2 ^ 64)
+  pub not_too_large : (nodes : List (ℕ × ℤ)) → IsAccepted g costs (record { nodes = nodes; loops = certified loops iteration_costs }) bounds (map Some loads)
+      → ((u : ℕ) → IsFlagged flags u → (z : ℤ) × (potential nodes u ≡ Some z)) → ((u : ℕ) → u < g.nodes → iteration_costs_around loops iteration_costs u < 2 ^ 64)
       → ((ns : List ℕ) → IsBoundedWalk g bs ns → cost_of costs bs ns < 2 ^ 64) → IsTooLarge g costs bs → ⊥
-  not_too_large nodes edges listed small walks (walk_passes ns bounded_walk passes) = let less = walks ns bounded_walk in omega arith
-  not_too_large nodes edges listed small walks (turns_pass u turn reaches turns passes) = let less = no_turns_pass nodes edges listed small u turn reaches turns in omega arith
+  not_too_large nodes accepted listed small walks (walk_exceeds ns bounded_walk exceeds) = let less = walks ns bounded_walk in omega arith
+  not_too_large nodes accepted listed small walks (iterations_exceed u iteration reaches iterations exceeds) = let less = no_iterations_exceed nodes accepted listed small u iteration reaches iterations in omega arith
 
   one_place : (u : ℕ) (x z : BoundedLoop) → Contains (around bs u) x → Contains (around bs u) z → x.header ≡ z.header → x ≡ z
   one_place u x z a c same =
@@ -133,48 +133,48 @@ module _ (g : Digraph) (loops : List NaturalLoop) (flags : List Bool) (p : Passa
       let place = same_place loops h.nest.rising r.0 t.0 r.1 t.1 r.2 t.2 (ap header_of (sym r.3) ∙ same ∙ ap header_of t.3) in
       r.3 ∙ ap (λ (l : NaturalLoop). at_place l r.0) (same_at loops r.0 t.0 r.1 t.1 r.2 t.2 place) ∙ ap (λ (i : ℕ). at_place t.1 i) place ∙ sym t.3
 
-  -- a turn of l that costs at least what l is worth
-  record CostsItsWorth (l : BoundedLoop) (ns : List ℕ) : Type 0 where
-    is_turn : IsTurn g bs l ns
-    enough : (i : ℕ) (k : NaturalLoop) → IsAt loops i k → l ≡ at_place k i → get_or worths i 0 ≤ cost_of_turn costs bs ns
+  -- an iteration of l that costs at least what l costs at most
+  record CostsItsBound (l : BoundedLoop) (ns : List ℕ) : Type 0 where
+    is_iteration : IsIteration g bs l ns
+    enough : (i : ℕ) (k : NaturalLoop) → IsAt loops i k → l ≡ at_place k i → get_or iteration_costs i 0 ≤ cost_of_iteration costs bs ns
 
-  module _ (attains : (i : ℕ) (l : NaturalLoop) → IsAt loops i l → IsFlagged flags l.header → (ns : List ℕ) × IsTurn g bs (at_place l i) ns × (get_or worths i 0 ≤ cost_of_turn costs bs ns)) where
-    costly_turn : (u : ℕ) → IsFlagged flags u → (x : BoundedLoop) → Contains (around bs u) x → (ns : List ℕ) × CostsItsWorth x ns
-    costly_turn u flag x has =
+  module _ (attains : (i : ℕ) (l : NaturalLoop) → IsAt loops i l → IsFlagged flags l.header → (ns : List ℕ) × IsIteration g bs (at_place l i) ns × (get_or iteration_costs i 0 ≤ cost_of_iteration costs bs ns)) where
+    costly_iteration : (u : ℕ) → IsFlagged flags u → (x : BoundedLoop) → Contains (around bs u) x → (ns : List ℕ) × CostsItsBound x ns
+    costly_iteration u flag x has =
         let r = from_filter (λ (k : BoundedLoop). holds k.members u) bs x has in
         let t = from_bounded loops bounds loads b m x r.0 in
         let P : BoundedLoop → Type 0 = λ k. Contains k.members u in
         let header_of : BoundedLoop → ℕ = λ k. k.header in
         let inside : Contains t.1.members u = subst P t.3 (contains_from_holds x.members u r.1) in
         let attained = attains t.0 t.1 t.2 (listed_header g loops flags p h t.1 u (t.0, t.2.0, t.2.1) flag inside) in
-        let Q : BoundedLoop → Type 0 = λ k. IsTurn g bs k attained.0 in
-        let R : ℕ → Type 0 = λ i. get_or worths i 0 ≤ cost_of_turn costs bs attained.0 in (
+        let Q : BoundedLoop → Type 0 = λ k. IsIteration g bs k attained.0 in
+        let R : ℕ → Type 0 = λ i. get_or iteration_costs i 0 ≤ cost_of_iteration costs bs attained.0 in (
           attained.0,
           record {
-            is_turn = subst Q (sym t.3) attained.1;
+            is_iteration = subst Q (sym t.3) attained.1;
             enough = λ i k at same. subst R (same_place loops h.nest.rising t.0 i t.1 k t.2 at (ap header_of (sym t.3 ∙ same))) attained.2;
           },
         )
 
-    -- where turns cost what they are worth, and loops that aren't in the order are worth nothing, worths that pass 64 bits together show turns that do
-    pub turns_together : ((i : ℕ) (l : NaturalLoop) → IsAt loops i l → (Contains p.order.items l.header → ⊥) → get_or worths i 0 ≡ 0) → (u : ℕ) → 2 ^ 64 ≤ worth_around loops worths u → IsTooLarge g costs bs
-    turns_together dropped u passes =
+    -- where iterations cost what they cost at most, and loops that aren't in the order cost at most nothing, iteration costs that exceed 64 bits together show iterations that do
+    pub iterations_together : ((i : ℕ) (l : NaturalLoop) → IsAt loops i l → (Contains p.order.items l.header → ⊥) → get_or iteration_costs i 0 ≡ 0) → (u : ℕ) → 2 ^ 64 ≤ iteration_costs_around loops iteration_costs u → IsTooLarge g costs bs
+    iterations_together dropped u exceeds =
         elim (cases_Bool (get_or flags u false)) [
           | inl flag ↦
-              let chosen = choose (λ (l : BoundedLoop). l.header) CostsItsWorth [] (around bs u) (one_place u) (costly_turn u flag) in
-              let turn = chosen.0 in
+              let chosen = choose (λ (l : BoundedLoop). l.header) CostsItsBound [] (around bs u) (one_place u) (costly_iteration u flag) in
+              let iteration = chosen.0 in
               let least =
-              around_least (λ l. cost_of_turn costs bs (turn l)) u loops bounds loads worths b m (λ i l at inside. (chosen.1 (at_place l i) (in_around i l u at inside)).enough i l at refl)
+              around_least (λ l. cost_of_iteration costs bs (iteration l)) u loops bounds loads iteration_costs b m (λ i l at inside. (chosen.1 (at_place l i) (in_around i l u at inside)).enough i l at refl)
               in
-              turns_pass u turn ((h.reaching.each u).0 flag) (λ l has. (chosen.1 l has).is_turn) (omega arith)
+              iterations_exceed u iteration ((h.reaching.each u).0 flag) (λ l has. (chosen.1 l has).is_iteration) (omega arith)
           | inr unlisted ↦
-              let none : (i : ℕ) (l : NaturalLoop) → IsAt loops i l → Contains l.members u → get_or worths i 0 ≤ 0 = λ i l at inside.
-              let zero_worth =
+              let none : (i : ℕ) (l : NaturalLoop) → IsAt loops i l → Contains l.members u → get_or iteration_costs i 0 ≤ 0 = λ i l at inside.
+              let zero_cost =
               dropped i l at (λ has. both_ways (get_or flags u false) unlisted (listed_member g loops flags p h l u (i, at.0, at.1) (from_order g loops flags p h l.header has) inside))
               in
               omega arith
               in
-              let least = around_least (λ l. 0) u loops bounds loads worths b m none in
+              let least = around_least (λ l. 0) u loops bounds loads iteration_costs b m none in
               let all = sum_by-zero (around bs u) in
               absurd (omega arith)
         ]

@@ -1,11 +1,9 @@
 -- The sources of the edges to a node, and flags that fall in number.
-use Rattle.std.proofs.Common.{◌≡◌, ℕ, zero, suc, ◌+◌, ◌*◌, ◌<◌, ◌≤◌, Bool, true, false, cond, eqb, not, List, [], ◌∷◌, length, get_or, set, replicate, map, filter, All, Contains, Vec, refl, sym, ap, ◌∙◌, subst, inl, inr, arith}
-use Rattle.std.specs.declared.alloc.Global.{Global}
+use Rattle.std.proofs.Common.{◌≡◌, ℕ, zero, suc, ◌+◌, ◌*◌, ◌<◌, ◌≤◌, Bool, true, false, cond, eqb, not, List, [], ◌∷◌, length, get_or, set, replicate, filter, All, Contains, refl, sym, ap, ◌∙◌, subst, inl, inr, arith}
 use Rattle.std.proofs.lemmas.Bool.{cases_lt, cases_Bool, eq-eqb, eqb-true}
 use Rattle.std.proofs.lemmas.List.{length-map, get_or_past, get_or-replicate, length-replicate}
 use Rattle.std.proofs.lemmas.List.Elements.{All-contains, All-weaker}
-use Rattle.loop_nest.specs.Digraph.{Digraph, Edge, IsDigraph}
-use Rattle.path_solver.specs.Reaching.{sources_of, AreSources}
+use Rattle.loop_nest.specs.Digraph.{Digraph, Edge, IsDigraph, sources_of, turned}
 use Rattle.path_solver.proofs.Elements.{at_head, in_tail, cons_cases, nil_contains, map_contains, from_map}
 
 pub kept_at : {X : Type 0} (p : X → Bool) (x : X) (xs : List X) → p x ≡ true → filter p (x ∷ xs) ≡ x ∷ filter p xs
@@ -109,15 +107,12 @@ unset-set u flags lt at = fewer-set not flags u true false lt (ap not at) refl
 pub ends_within : {g : Digraph} → IsDigraph g → (u v : ℕ) → Edge g u v → (u < g.nodes) × (v < g.nodes)
 ends_within {g} d u v e = All-contains (λ x. (x.0 < g.nodes) × (x.1 < g.nodes)) g.edges (u, v) d.edges.ends e
 
-pub read_sources : (es : List (ℕ × ℕ)) (n v : ℕ) (ss : List (Vec ℕ Global)) (w : Vec ℕ Global) → AreSources es n ss → v < n → w ≡ get_or ss v w → w.items ≡ sources_of es v
-read_sources es n v ss w h lt is = ap (λ (x : Vec ℕ Global). x.items) is ∙ h.each v w lt
-
 pub targets_within : (g : Digraph) → IsDigraph g → All (λ (e : ℕ × ℕ). e.1 < g.nodes) g.edges
 targets_within g wf = All-weaker (λ (e : ℕ × ℕ). (e.0 < g.nodes) × (e.1 < g.nodes)) (λ (e : ℕ × ℕ). e.1 < g.nodes) (λ e h. h.1) g.edges wf.edges.ends
 
 -- the targets of the edges from u
-pub turned_edge : (es : List (ℕ × ℕ)) (u v : ℕ) → Contains (sources_of (map (λ (e : ℕ × ℕ). (e.1, e.0)) es) u) v → Contains es (u, v)
+pub turned_edge : (es : List (ℕ × ℕ)) (u v : ℕ) → Contains (sources_of (turned es) u) v → Contains es (u, v)
 turned_edge es u v has =
-    let r = from_map (λ (e : ℕ × ℕ). (e.1, e.0)) es (v, u) (from_sources (map (λ (e : ℕ × ℕ). (e.1, e.0)) es) v u has) in
+    let r = from_map (λ (e : ℕ × ℕ). (e.1, e.0)) es (v, u) (from_sources (turned es) v u has) in
     let P : ℕ × ℕ → Type 0 = λ z. Contains es (z.1, z.0) in
     subst P r.2 r.1

@@ -1,4 +1,4 @@
--- How the loops of a nest lie, where the edges of a passage lead, and the order of its nodes.
+-- How the loops of a nest lie, where the edges in a topological order lead, and the order of its nodes.
 use Rattle.std.proofs.Common.{◌≡◌, ◌≢◌, ℕ, zero, suc, ◌<◌, ◌⊎◌, Bool, List, [], ◌∷◌, length, get_or, take, Contains, refl, sym, ap, ◌∙◌, subst, inl, inr, arith}
 use Rattle.std.proofs.lemmas.Bool.{cases_eq}
 use Rattle.std.proofs.lemmas.List.{get_or_default}
@@ -7,23 +7,22 @@ use Rattle.loop_nest.specs.Digraph.{Digraph, Edge}
 use Rattle.loop_nest.specs.Walks.{Walk, Dominates, IsReachable, IsBackEdge, IsMember}
 use Rattle.loop_nest.specs.Walks.Walk.{stay, along}
 use Rattle.loop_nest.specs.Nest.{NaturalLoop, IsLoopOf}
-use Rattle.path_solver.specs.declared.passages.Passage.{Passage}
+use Rattle.path_solver.specs.declared.topology.TopologicalOrder.{TopologicalOrder}
 use Rattle.path_solver.specs.Reaching.{IsFlagged}
 use Rattle.path_solver.specs.Distances.{sources_at}
-use Rattle.path_solver.specs.Turns.{IsLed, AreLed}
-use Rattle.path_solver.specs.Problem.{IsPassed}
+use Rattle.path_solver.specs.LoopCosts.{IsLed, AreLed}
+use Rattle.path_solver.specs.Problem.{IsSetting}
 use Rattle.path_solver.proofs.Elements.{cons_cases, nil_contains, has_or_not}
 use Rattle.path_solver.proofs.Sources.{ends_within, sources_has}
-use Rattle.path_solver.proofs.Onward.{back_turns}
+use Rattle.path_solver.proofs.Onward.{back_edge_closes}
 use Rattle.path_solver.proofs.Orderly.{source_edge, listed_sources}
 use Rattle.path_solver.proofs.Order.{take_grows, taken_at}
 use Rattle.path_solver.proofs.Growing.{flagged_below}
-use Rattle.path_solver.proofs.Arriving.{comes_by, dominates_both, leads_on, start_within, start_visited}
 use Rattle.path_solver.proofs.Fewer.{fewer_within}
-use Rattle.path_solver.proofs.Headers.{numbers_apart, before_at}
+use Rattle.path_solver.proofs.Headers.{start_within, numbers_apart, before_at}
 use Rattle.path_solver.proofs.Loops.{same_place}
 
-module _ (g : Digraph) (loops : List NaturalLoop) (flags : List Bool) (p : Passage) (h : IsPassed g loops flags p) where
+module _ (g : Digraph) (loops : List NaturalLoop) (flags : List Bool) (p : TopologicalOrder) (h : IsSetting g loops flags p) where
   loop_of : (l : NaturalLoop) → Contains loops l → IsLoopOf g l
   loop_of l has = All-contains (IsLoopOf g) loops l h.nest.loops has
 
@@ -63,7 +62,7 @@ module _ (g : Digraph) (loops : List NaturalLoop) (flags : List Bool) (p : Passa
   -- no two loops hold each other's header
   pub mutual_same : (l k : NaturalLoop) → Contains loops l → Contains loops k → Contains l.members k.header → Contains k.members l.header → k.header ≡ l.header
   mutual_same l k has has' a b =
-      dominates_both g k.header l.header (reached k.header (members_below l k.header has a)) (dominates k l.header has' b) (dominates l k.header has a)
+      h.laws.antisymmetric g k.header l.header (reached k.header (members_below l k.header has a)) (dominates k l.header has' b) (dominates l k.header has a)
 
   pub header_decides : (l k : NaturalLoop) → Contains loops l → Contains loops k → k.header ≡ l.header → k ≡ l
   header_decides l k has has' same =
@@ -118,48 +117,48 @@ module _ (g : Digraph) (loops : List NaturalLoop) (flags : List Bool) (p : Passa
   pub listed_header : (l : NaturalLoop) (x : ℕ) → Contains loops l → IsFlagged flags x → Contains l.members x → IsFlagged flags l.header
   listed_header l x has flag inside =
       let r = reached x (members_below l x has inside) in
-      listed_walk (leads_on l.header r.1 (dominates l x has inside r.0 r.1)).1 flag
+      listed_walk (h.laws.leads_on g 0 x l.header r.0 r.1 (dominates l x has inside r.0 r.1)).1 flag
 
   abbrev pub forward : ℕ → List ℕ
-  forward u = sources_at p.forward.items u
+  forward u = sources_at p.forward u
 
   abbrev pub back : ℕ → List ℕ
-  back u = sources_at p.back.items u
+  back u = sources_at p.back u
 
-  -- q heads no loop that holds u: an edge from u to q doesn't turn back
+  -- q heads no loop that holds u: an edge from u to q closes no loop
   abbrev pub GoesOn : ℕ → ℕ → Type 0
   GoesOn u q = (l : NaturalLoop) → Contains loops l → l.header ≡ q → Contains l.members u → ⊥
 
   pub forward_edge : (q u : ℕ) → Contains (forward u) q → Edge g q u × IsFlagged flags q × IsFlagged flags u × GoesOn q u
   forward_edge q u has =
-      let t = (h.passage.are_onward q u).0 (source_edge h.passage.onward g.nodes p.forward.items p.order h.passage.forward_sources q u has) in
+      let t = (h.topology.are_onward q u).0 (source_edge h.topology.onward g.nodes p.forward h.topology.forward_sources q u has) in
       (t.0, listed_source q u t.0 t.1.0, t.1.0, λ l among same inside. t.1.1 (record { loop = l; among = among; header = same; member = inside }))
 
   pub back_edge : (q u : ℕ) → Contains (back u) q → Edge g q u × IsFlagged flags q × IsFlagged flags u × ((l : NaturalLoop) × Contains loops l × (l.header ≡ u) × Contains l.members q)
   back_edge q u has =
-      let t = (h.passage.are_turning q u).0 (source_edge h.passage.turning g.nodes p.back.items p.order h.passage.back_sources q u has) in
+      let t = (h.topology.are_backward q u).0 (source_edge h.topology.backward g.nodes p.back h.topology.back_sources q u has) in
       let b = t.1.1 in
       (t.0, listed_source q u t.0 t.1.0, t.1.0, (b.loop, b.among, b.header, b.member))
 
   pub is_forward : (q u : ℕ) → Edge g q u → IsFlagged flags u → GoesOn q u → Contains (forward u) q
   is_forward q u e flag on =
-      let es = h.passage.onward in
+      let es = h.topology.onward in
       let P : List ℕ → Type 0 = λ qs. Contains qs q in
-      let kept : Contains es (q, u) = (h.passage.are_onward q u).1 (e, (flag, λ t. on t.loop t.among t.header t.member)) in
-      subst P (sym (listed_sources es g.nodes p.forward.items p.order h.passage.forward_sources u (listed_below u flag))) (sources_has es q u kept)
+      let kept : Contains es (q, u) = (h.topology.are_onward q u).1 (e, (flag, λ t. on t.loop t.among t.header t.member)) in
+      subst P (sym (listed_sources es g.nodes p.forward h.topology.forward_sources u (listed_below u flag))) (sources_has es q u kept)
 
   pub is_back : (q u : ℕ) (l : NaturalLoop) → Edge g q u → IsFlagged flags u → Contains loops l → l.header ≡ u → Contains l.members q → Contains (back u) q
   is_back q u l e flag has same inside =
-      let es = h.passage.turning in
+      let es = h.topology.backward in
       let P : List ℕ → Type 0 = λ qs. Contains qs q in
-      let kept : Contains es (q, u) = (h.passage.are_turning q u).1 (e, (flag, record { loop = l; among = has; header = same; member = inside })) in
-      subst P (sym (listed_sources es g.nodes p.back.items p.order h.passage.back_sources u (listed_below u flag))) (sources_has es q u kept)
+      let kept : Contains es (q, u) = (h.topology.are_backward q u).1 (e, (flag, record { loop = l; among = has; header = same; member = inside })) in
+      subst P (sym (listed_sources es g.nodes p.back h.topology.back_sources u (listed_below u flag))) (sources_has es q u kept)
 
-  -- every listed node but the entry is reached by an edge that doesn't turn back, and the entry by none
+  -- every listed node but the entry is reached by an edge that closes no loop, and the entry by none
   pub is_arrived_at : (u : ℕ) → IsFlagged flags u → u ≢ 0 → (q : ℕ) × Contains (forward u) q
   is_arrived_at u flag other =
       let r = reached u (listed_below u flag) in
-      let by = comes_by r.1 other in
+      let by = h.laws.comes_by g 0 u r.0 r.1 other in
       let q = by.0 in
       let P : ℕ → Type 0 = λ z. Dominates g z q in
       let on : GoesOn q u = λ l has same inside. by.2.2 (subst P same (dominates l q has inside) by.2.0 by.2.1) in
@@ -168,21 +167,21 @@ module _ (g : Digraph) (loops : List NaturalLoop) (flags : List Bool) (p : Passa
   pub entry_not_arrived_at : (q : ℕ) → Contains (forward 0) q → ⊥
   entry_not_arrived_at q has =
       let f = forward_edge q 0 has in
-      let back : IsBackEdge g q 0 = record { edge = f.0; dominates = λ ns t. start_visited t } in
-      let turn = back_turns g loops h.nest q 0 back in
-      f.3 turn.loop turn.among turn.header turn.member
+      let back : IsBackEdge g q 0 = record { edge = f.0; dominates = h.laws.entry g q } in
+      let iteration = back_edge_closes g loops h.nest q 0 back in
+      f.3 iteration.loop iteration.among iteration.header iteration.member
 
   pub in_order : (u : ℕ) → IsFlagged flags u → Contains p.order.items u
-  in_order u flag = (h.passage.ordered.each u).1 flag
+  in_order u flag = (h.topology.ordered.each u).1 flag
 
   pub from_order : (u : ℕ) → Contains p.order.items u → IsFlagged flags u
-  from_order u has = (h.passage.ordered.each u).0 has
+  from_order u has = (h.topology.ordered.each u).0 has
 
-  -- the source of an edge that doesn't turn back stands earlier
+  -- the source of an edge that closes no loop stands earlier
   stands_before : (q j : ℕ) → j < length p.order.items → Contains (forward (get_or p.order.items j 0)) q → (k : ℕ) × (k < j) × (k < length p.order.items) × (get_or p.order.items k 0 ≡ q)
   stands_before q j lt has =
       let order = p.order.items in
-      taken_at order j q (h.passage.ordered.before q j lt (source_edge h.passage.onward g.nodes p.forward.items p.order h.passage.forward_sources q (get_or order j 0) has))
+      taken_at order j q (h.topology.ordered.before q j lt (source_edge h.topology.onward g.nodes p.forward h.topology.forward_sources q (get_or order j 0) has))
 
   -- the same at the first n places of the order
   up_to : (P : ℕ → Type 0) → ((u : ℕ) → IsFlagged flags u → ((q : ℕ) → Contains (forward u) q → P q) → P u) → (n j : ℕ) → j < n → j < length p.order.items → P (get_or p.order.items j 0)

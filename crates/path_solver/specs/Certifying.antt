@@ -1,10 +1,10 @@
--- The loops of a nest with what a turn of each is worth.
+-- The loops of a nest with what an iteration of each costs at most.
 use Rattle.std.specs.Prelude.{ℕ, false, List, [], ◌∷◌}
 use Rattle.loop_nest.specs.Nest.{NaturalLoop}
-use Rattle.path_solver.specs.Section.{CertifiedLoop}
+use Rattle.section_check.specs.Section.{CertifiedLoop}
 
--- each loop with its worth; none is marked as a region
+-- each loop with its iteration cost; none is marked as a region
 abbrev pub certified : List NaturalLoop → List ℕ → List CertifiedLoop
-certified [] worths = []
+certified [] iteration_costs = []
 certified (l ∷ ls) [] = []
-certified (l ∷ ls) (worth ∷ worths) = record { header = l.header; worth = worth; members = l.members; region = false } ∷ certified ls worths
+certified (l ∷ ls) (iteration_cost ∷ iteration_costs) = record { header = l.header; iteration_cost = iteration_cost; members = l.members; region = false } ∷ certified ls iteration_costs

@@ -1,7 +1,6 @@
--- What the walks that don't turn back cost at most. Numbers are counted up to a limit beyond all that a section may hold.
-use Rattle.std.specs.Prelude.{◌≡◌, ℕ, ◌+◌, ◌^◌, ◌<◌, ◌≤◌, ◌⊎◌, ◌↔◌, ◌==◌, not, min, List, [], length, take, map, filter, All, Contains, slice_index, slice_index_or, Vec}
+-- What the walks that close no loop cost at most. Numbers are counted up to a limit beyond all that a section may hold.
+use Rattle.std.specs.Prelude.{◌≡◌, ℕ, ◌+◌, ◌^◌, ◌<◌, ◌≤◌, ◌⊎◌, ◌↔◌, ◌==◌, not, min, List, [], length, take, map, filter, All, Contains, slice_index, slice_index_or}
 use Rattle.std.specs.List.Sorted.{IsStrictlyIncreasing}
-use Rattle.std.specs.declared.alloc.Global.{Global}
 
 abbrev pub limit : ℕ
 limit = 2 ^ 66
@@ -22,8 +21,8 @@ abbrev pub cost_through : List ℕ → List ℕ → ℕ → ℕ
 cost_through costs dist u = limited (slice_index costs u + slice_index dist u)
 
 -- the nodes from which edges lead to u, where these are listed for each node
-abbrev pub sources_at : List (Vec ℕ Global) → ℕ → List ℕ
-sources_at sources u = slice_index_or (map (λ v. v.items) sources) u []
+abbrev pub sources_at : List (List ℕ) → ℕ → List ℕ
+sources_at sources u = slice_index_or sources u []
 
 -- the distance of u is the greatest cost of the walks that end with a source of an edge to it, and u's fee
 pub record IsReachedBy (sources : ℕ → List ℕ) (costs fees dist : List ℕ) (u : ℕ) : Type 0 where

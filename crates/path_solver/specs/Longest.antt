@@ -1,12 +1,11 @@
--- What the greatest walk of a graph is asked: its value, one turn of each loop, and when these are too large.
-use Rattle.std.specs.Prelude.{◌≡◌, ℕ, ◌+◌, ◌*◌, ◌^◌, ◌≤◌, false, List, [], ◌∷◌, map, filter, sum_by, All, Contains}
+-- What the greatest walk of a graph is asked: its value, one iteration of each loop, and when these are too large.
+use Rattle.std.specs.Prelude.{◌≡◌, ℕ, ◌^◌, ◌≤◌, false, List, [], ◌∷◌, map, filter, sum_by, All, Contains}
 use Rattle.path_solver.specs.declared.solved.SolveFault.{SolveFault}
 use Rattle.path_solver.specs.declared.solved.SolveFault.TheVariants.{TooLarge, NoMemory}
-use Rattle.loop_nest.specs.Digraph.{Digraph, Edge}
-use Rattle.loop_nest.specs.Walks.{Walk, turns}
+use Rattle.loop_nest.specs.Digraph.{Digraph}
 use Rattle.loop_nest.specs.Nest.{NaturalLoop}
-use Rattle.path_solver.specs.Bounded.{BoundedLoop, holds, entries_from, cost_of_nodes, cost_of, IsKept, IsBoundedWalk}
-use Rattle.path_solver.specs.Section.{CertifiedLoop}
+use Rattle.section_check.specs.Bounded.{BoundedLoop, holds, cost_of, IsBoundedWalk, IsIteration, cost_of_iteration}
+use Rattle.section_check.specs.Section.{CertifiedLoop}
 use Rattle.path_solver.specs.Reaching.{ReachesExit}
 
 -- the loops of a nest with their bounds and loads
@@ -26,29 +25,11 @@ pub record AreLoopsOf (nest : List NaturalLoop) (loops : List CertifiedLoop) : T
 abbrev pub around : List BoundedLoop → ℕ → List BoundedLoop
 around loops u = filter (λ l. holds l.members u) loops
 
--- one turn of a loop: a walk among its members from its header to an edge back, which comes to the header only at its start and keeps all bounds
-pub record IsTurn (g : Digraph) (loops : List BoundedLoop) (l : BoundedLoop) (ns : List ℕ) : Type 0 where
-  pub last : ℕ
-  pub walk : Walk g l.header last ns
-  pub within : All (Contains l.members) ns
-  pub back : Edge g last l.header
-  pub first : turns l.header ns ≡ 0
-  pub kept : All (IsKept ns) loops
-
--- how often a walk enters a set of nodes after its start
-abbrev pub later_entries : List ℕ → List ℕ → ℕ
-later_entries members [] = 0
-later_entries members (u ∷ ns) = entries_from (holds members u) members ns
-
--- what a turn costs: its nodes, and the entries that it makes on its way
-abbrev pub cost_of_turn : List ℕ → List BoundedLoop → List ℕ → ℕ
-cost_of_turn costs loops ns = cost_of_nodes costs ns + sum_by (λ l. l.load * later_entries l.members ns) loops
-
--- a walk passes 64 bits, or turns do, one of each loop that holds a node from which an exit is reached, together
+-- a walk exceeds 64 bits, or iterations do, one of each loop that holds a node from which an exit is reached, together
 pub data IsTooLarge (g : Digraph) (costs : List ℕ) (loops : List BoundedLoop) : Type 0 where
   walk : (ns : List ℕ) → IsBoundedWalk g loops ns → 2 ^ 64 ≤ cost_of costs loops ns → IsTooLarge g costs loops
-  turn : (u : ℕ) (turn : BoundedLoop → List ℕ) → ReachesExit g u → ((l : BoundedLoop) → Contains (around loops u) l → IsTurn g loops l (turn l))
-      → 2 ^ 64 ≤ sum_by (λ l. cost_of_turn costs loops (turn l)) (around loops u) → IsTooLarge g costs loops
+  iteration : (u : ℕ) (iteration : BoundedLoop → List ℕ) → ReachesExit g u → ((l : BoundedLoop) → Contains (around loops u) l → IsIteration g loops l (iteration l))
+      → 2 ^ 64 ≤ sum_by (λ l. cost_of_iteration costs loops (iteration l)) (around loops u) → IsTooLarge g costs loops
 
 -- a number is too large; of want of memory nothing is said
 abbrev pub HasCause : Digraph → List ℕ → List BoundedLoop → SolveFault → Type 0

@@ -3,7 +3,7 @@ use Rattle.std.specs.Prelude.{◌≡◌, ◌≢◌, ℕ, ◌+◌, ◌<◌, ◌�
 use Rattle.std.specs.List.Sorted.{IsStrictlyIncreasing}
 use Rattle.loop_nest.specs.Digraph.{Digraph}
 use Rattle.loop_nest.specs.Nest.{NaturalLoop, headers_of}
-use Rattle.path_solver.specs.Placing.{IsAt}
+use Rattle.section_check.specs.Placing.{IsAt}
 use Rattle.path_solver.specs.Reaching.{IsFlagged}
 
 -- headers rise, and so do the members of each loop
@@ -22,25 +22,20 @@ abbrev pub NoLoopHas : List NaturalLoop → ℕ → Type 0
 NoLoopHas loops u = (k : ℕ) (l : NaturalLoop) → IsAt loops k l → l.header ≢ u
 
 -- v heads a loop that has u
-pub record TurnsBack (loops : List NaturalLoop) (u v : ℕ) : Type 0 where
+pub record ClosesLoop (loops : List NaturalLoop) (u v : ℕ) : Type 0 where
   pub loop : NaturalLoop
   pub among : Contains loops loop
   pub header : loop.header ≡ v
   pub member : Contains loop.members u
 
--- v is flagged, and an edge from u to v would turn back, or not
+-- v is flagged, and an edge from u to v would close a loop, or not
 abbrev pub IsTaken : List NaturalLoop → List Bool → Bool → ℕ → ℕ → Type 0
-IsTaken loops flags true u v = IsFlagged flags v × TurnsBack loops u v
-IsTaken loops flags false u v = IsFlagged flags v × (¬ TurnsBack loops u v)
+IsTaken loops flags true u v = IsFlagged flags v × ClosesLoop loops u v
+IsTaken loops flags false u v = IsFlagged flags v × (¬ ClosesLoop loops u v)
 
--- of these edges exactly those that turn back, or don't, to flagged nodes
+-- of these edges exactly those that close a loop, or don't, to flagged nodes
 abbrev pub AreTaken : List (ℕ × ℕ) → List NaturalLoop → List Bool → Bool → List (ℕ × ℕ) → Type 0
 AreTaken es loops flags back found = (u v : ℕ) → Contains found (u, v) ↔ (Contains es (u, v) × IsTaken loops flags back u v)
-
--- for each node, how many edges lead to it
-pub record AreArrivals (es : List (ℕ × ℕ)) (n : ℕ) (counts : List ℕ) : Type 0 where
-  pub long : length counts ≡ n
-  pub each : (v : ℕ) → slice_index counts v ≡ count_by (λ e. e.1 == v) es
 
 -- no number stands twice
 abbrev pub AreApart : List ℕ → Type 0
@@ -51,8 +46,8 @@ pub record AreStarts (flags : List Bool) (waiting : List ℕ) (n : ℕ) (us : Li
   pub each : (u : ℕ) → Contains us u ↔ ((u < n) × IsFlagged flags u × (slice_index waiting u ≡ 0))
   pub apart : AreApart us
 
--- an edge to each of the targets was passed, and the nodes for which none is waited for any more were added
-pub record ArePassed (targets waiting waiting' order order' : List ℕ) : Type 0 where
+-- an edge to each of the targets was counted off, and the nodes for which none is waited for any more were added
+pub record AreCountedDown (targets waiting waiting' order order' : List ℕ) : Type 0 where
   pub long : length waiting' ≡ length waiting
   pub counts : (v : ℕ) → slice_index waiting' v + count_by (λ x. x == v) targets ≡ slice_index waiting v
   pub added : (released : List ℕ) × (order' ≡ order ++ released)

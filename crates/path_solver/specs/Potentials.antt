@@ -1,7 +1,7 @@
 -- The listed nodes with what is left of the value where walks have come to them.
 use Rattle.std.specs.Prelude.{◌≡◌, ℕ, ℤ, pos, ◌-ℤ◌, List, Bool, Some, None, slice_index}
 use Rattle.std.specs.List.Sorted.{IsStrictlyIncreasing}
-use Rattle.path_solver.specs.Section.{potential, listed}
+use Rattle.section_check.specs.Section.{potential, listed}
 use Rattle.path_solver.specs.Reaching.{IsFlagged}
 
 -- exactly the flagged nodes are listed, rising, each with the value less its distance

@@ -1,6 +1,5 @@
--- The sources of the edges to each node, and from which nodes an exit is reached.
-use Rattle.std.specs.Prelude.{◌≡◌, ℕ, ◌<◌, ◌⊎◌, ◌↔◌, ◌==◌, Bool, true, false, List, length, map, filter, All, Contains, slice_index_or, Vec}
-use Rattle.std.specs.declared.alloc.Global.{Global}
+-- From which nodes an exit is reached.
+use Rattle.std.specs.Prelude.{◌≡◌, ℕ, ◌<◌, ◌⊎◌, ◌↔◌, Bool, true, false, List, length, All, Contains, slice_index_or}
 use Rattle.loop_nest.specs.Digraph.{Digraph, Edge}
 use Rattle.loop_nest.specs.Walks.{Walk}
 
@@ -10,15 +9,6 @@ pub record ReachesExit (g : Digraph) (u : ℕ) : Type 0 where
   pub among : Contains g.exits exit
   pub nodes : List ℕ
   pub walk : Walk g u exit nodes
-
--- the sources of the edges to v
-abbrev pub sources_of : List (ℕ × ℕ) → ℕ → List ℕ
-sources_of es v = map (λ e. e.0) (filter (λ e. e.1 == v) es)
-
--- for each of n nodes, the sources of the edges to it
-pub record AreSources (es : List (ℕ × ℕ)) (n : ℕ) (ss : List (Vec ℕ Global)) : Type 0 where
-  pub long : length ss ≡ n
-  pub each : (v : ℕ) (d : Vec ℕ Global) → v < n → (slice_index_or ss v d).items ≡ sources_of es v
 
 -- node u is flagged
 abbrev pub IsFlagged : List Bool → ℕ → Type 0

@@ -4,8 +4,8 @@ ghost use Rattle.path_solver.specs.Distances.{AreLimited};
 ghost use Rattle.path_solver.specs.Certifying.{certified};
 ghost use Rattle.path_solver.specs.Potentials.{AreLeft};
 
-use super::section::CertLoop;
 use loop_nest::loops::Loop;
+use section_check::section::CertLoop;
 use std::alloc::{AllocError, Global};
 
 /// The listed nodes with their potentials: what is left of the value.
@@ -29,21 +29,21 @@ pub fn potentials(
     Ok(nodes)
 }
 
-/// The loops, with what a turn of each is worth. None is marked as a region.
+/// The loops, with what an iteration of each costs at most. None is marked as a region.
 pub fn cert_loops(
     alloc: Global,
     loops: &[Loop],
-    worths: &[u128],
+    iteration_costs: &[u128],
 ) -> Result<Vec<CertLoop>, AllocError>
-    requires worths { length worths.now ≡ length loops.now }
-    requires small { All (λ w. w < 2 ^ 64) worths.now }
-    ensures { IfOk result (λ found. found.items ≡ certified loops.now worths.now) }
+    requires iteration_costs { length iteration_costs.now ≡ length loops.now }
+    requires small { All (λ w. w < 2 ^ 64) iteration_costs.now }
+    ensures { IfOk result (λ found. found.items ≡ certified loops.now iteration_costs.now) }
 {
     let mut found = Vec::new(alloc);
     for i in 0..loops.len() {
         let members = Vec::from_slice(alloc, loops[i].members())?;
-        let worth = worths[i] as u64;
-        found.push(CertLoop::new(loops[i].header(), worth, members, false))?;
+        let iteration_cost = iteration_costs[i] as u64;
+        found.push(CertLoop::new(loops[i].header(), iteration_cost, members, false))?;
     }
     Ok(found)
 }

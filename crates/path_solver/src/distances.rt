@@ -1,10 +1,11 @@
-//! What the walks that don't turn back cost at most, and what a turn of each loop costs.
+//! What the walks that close no loop cost at most, and what an iteration of each loop costs.
 
 ghost use Rattle.std.specs.Prelude.{◌≡◌, ◌+◌, ◌*◌, ◌<◌, ◌≤◌, ℕ, List, length, map, All, Contains, slice_index, IfOk};
 ghost use Rattle.std.specs.List.Sorted.{IsPermutation, IsNonDecreasing, IsStrictlyIncreasing};
 ghost use Rattle.path_solver.specs.Ordering.{AreApart};
 ghost use Rattle.path_solver.specs.Distances.{limit, limited, AreLimited, IsMost, cost_through, sources_at, AreSpread, LeadForward, ArePlaces, others_of, ArePicked};
 
+use loop_nest::digraph::Sources;
 use std::alloc::{AllocError, Global};
 
 /// Numbers are counted up to this one, beyond all that a section may hold.
@@ -37,7 +38,7 @@ pub fn greatest_end(ends: &[u32], costs: &[u64], dist: &[u128]) -> u128
 }
 
 /// Writes the greatest cost of the walks to each of these nodes, that node excluded but for its fee.
-pub fn spread(nodes: &[u32], sources: &[Vec<u32>], costs: &[u64], fees: &[u128], dist: &mut [u128])
+pub fn spread(nodes: &[u32], sources: &Sources, costs: &[u64], fees: &[u128], dist: &mut [u128])
     requires sources { length sources.now ≡ length costs.now }
     requires ends { (u : ℕ) → All (λ v. v < length costs.now) (sources_at sources.now u) }
     requires within { All (λ u. u < length costs.now) nodes.now }
@@ -50,7 +51,7 @@ pub fn spread(nodes: &[u32], sources: &[Vec<u32>], costs: &[u64], fees: &[u128],
     ensures { AreSpread (sources_at sources.now) costs.now fees.now nodes.now dist.old dist.new }
 {
     for u in nodes {
-        let arriving = greatest_end(&sources[*u as usize], costs, dist);
+        let arriving = greatest_end(sources.of(*u), costs, dist);
         dist[*u as usize] = limited_sum(arriving, fees[*u as usize]);
     }
 }
@@ -112,9 +113,9 @@ pub fn in_order(
 }
 
 /// What an entry of a loop costs, up to the limit.
-pub fn limited_fee(worth: u128, bound: u32, load: u64) -> u128
-    requires { worth ≤ limit }
-    ensures { result ≡ limited (bound * worth + load) }
+pub fn limited_fee(iteration_cost: u128, bound: u32, load: u64) -> u128
+    requires { iteration_cost ≤ limit }
+    ensures { result ≡ limited (bound * iteration_cost + load) }
 {
-    (u128::from(bound) * worth + u128::from(load)).min(LIMIT)
+    (u128::from(bound) * iteration_cost + u128::from(load)).min(LIMIT)
 }

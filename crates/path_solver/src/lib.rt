@@ -1,76 +1,37 @@
-//! Greatest walks through a graph whose loops are bounded, and sections that show them.
+//! Greatest walks through a graph whose loops are bounded, with sections that show them.
 #![tactic(auto)]
 
 ghost use Rattle.std.specs.Prelude.{◌≡◌, ℕ, ◌<◌, List, Option, Some, Ok, length, map, All, IfOk, IfErr, IfNone, IfSome};
 ghost use Rattle.loop_nest.specs.Reduction.{IsReducible};
 ghost use Rattle.loop_nest.specs.Nest.{IsNest};
-ghost use Rattle.path_solver.specs.Bounded.{IsBoundedWalk, IsGreatest};
+ghost use Rattle.section_check.specs.Bounded.{IsBoundedWalk, IsGreatest};
 ghost use Rattle.path_solver.specs.Longest.{bounded_loops, AreLoopsOf, IsTooLarge, HasCause};
-ghost use Rattle.path_solver.specs.Section.{IsInForm};
-ghost use Rattle.path_solver.specs.Conditions.{Answers};
-ghost use Rattle.path_solver.specs.Laws.{BoundsWalks, loops_of};
+ghost use Rattle.section_check.specs.Section.{IsInForm};
+ghost use Rattle.section_check.specs.Conditions.{Answers};
 
 mod certifying;
-mod descent;
 mod distances;
-mod faulty;
-pub mod form;
-pub mod laws;
-mod lookups;
+mod loop_costs;
 mod measures;
 mod nest_laws;
 mod ordering;
-mod passages;
-mod placing;
-mod prices;
 mod reaching;
-pub mod section;
 pub mod solved;
+mod topology;
 mod totals;
-mod turns;
 
 use certifying::{cert_loops, potentials};
-use descent::{failing_edge, failing_exit, value};
 use distances::greatest_end;
 use loop_nest::Graph;
 use loop_nest::laws::reducible_is_reached;
 use loop_nest::loops::Nest;
 use measures::{Measures, measure};
-use placing::misplaced;
 use reaching::reaching;
-use section::{Section, SectionFault};
+use section_check::section::Section;
+pub use section_check::{check_section, form, section};
 use solved::{SolveFault, Solved};
 use std::alloc::Global;
-use totals::{passes, turns_pass};
-
-/// Checks the conditions on a section: its value, which bounds each walk from node 0 to an exit that
-/// keeps all bounds, or the first condition that fails. `None` says that there is no such walk.
-/// `costs` has the cost of each node, `bounds` the bound of each loop of the section, and `loads` what
-/// an entry of it loads: `None` for a region that doesn't fit, 0 for a loop that is no region.
-/// `form::is_in_form` tells whether a section can be checked.
-pub fn check_section(
-    g: &Graph,
-    costs: &[u64],
-    bounds: &[u32],
-    loads: &[Option<u64>],
-    s: &Section,
-) -> Result<Option<u64>, SectionFault>
-    requires costs { length costs.now ≡ g.now.nodes }
-    requires form { IsInForm s.now bounds.now loads.now }
-    ensures answers { Answers g.now costs.now s.now bounds.now loads.now result }
-    ensures bounds { IfOk result (BoundsWalks g.now costs.now (loops_of s.now bounds.now loads.now)) }
-{
-    if let Some(u) = misplaced(g, s, bounds, loads) {
-        return Err(SectionFault::Member(u));
-    }
-    if let Some((u, v)) = failing_edge(g, costs, bounds, loads, s) {
-        return Err(SectionFault::Edge(u, v));
-    }
-    if let Some(u) = failing_exit(g, costs, s) {
-        return Err(SectionFault::Exit(u));
-    }
-    Ok(value(s, bounds, loads))
-}
+use totals::{exceeds, iterations_exceed};
 
 /// The greatest walk from node 0 to an exit that keeps all bounds, with a section that shows that none
 /// costs more, or `None` where there is no such walk. `costs` has the cost of each node in cycles,
@@ -80,8 +41,8 @@ pub fn check_section(
 ///
 /// # Errors
 ///
-/// `TooLarge` exactly where a walk that keeps the bounds passes 64 bits, or turns do together, one of
-/// each loop that holds a node from which an exit is reached.
+/// `TooLarge` exactly where a walk that keeps the bounds exceeds 64 bits, or iterations do together, one
+/// of each loop that holds a node from which an exit is reached.
 pub fn longest(
     alloc: Global,
     g: &Graph,
@@ -113,18 +74,16 @@ pub fn longest(
     if !listed[0] {
         return Ok(None);
     }
-    let Measures { worths, dist } = measure(alloc, g, nest, &listed, costs, bounds, loads)?;
+    let Measures {
+        iteration_costs,
+        dist,
+    } = measure(alloc, g, nest, &listed, costs, bounds, loads)?;
     let value = greatest_end(g.exits(), costs, &dist);
-    if passes(value) || turns_pass(alloc, nodes, nest.loops(), &worths)? {
+    if exceeds(value) || iterations_exceed(alloc, nodes, nest.loops(), &iteration_costs)? {
         return Err(SolveFault::TooLarge);
     }
     let value = value as u64;
     let potentials = potentials(alloc, &listed, value, &dist)?;
-    let loops = cert_loops(alloc, nest.loops(), &worths)?;
+    let loops = cert_loops(alloc, nest.loops(), &iteration_costs)?;
     Ok(Some(Solved::new(value, Section::new(potentials, loops))))
 }
-
-#[cfg(test)]
-mod solving_tests;
-#[cfg(test)]
-mod tests;

@@ -1,4 +1,4 @@
-//! What turns are worth, and how far the listed nodes are.
+//! What iterations cost at most, and how far the listed nodes are.
 ghost use Rattle.std.specs.Prelude.{◌≡◌, length, IfOk};
 ghost use Rattle.loop_nest.specs.Reduction.{IsReducible};
 ghost use Rattle.loop_nest.specs.Nest.{IsNest};
@@ -6,18 +6,18 @@ ghost use Rattle.path_solver.specs.Reaching.{AreReaching};
 ghost use Rattle.path_solver.specs.Problem.{AreMeasures};
 
 use super::distances::spread;
+use super::loop_costs::{LoopCosts, costs_of_loops};
 use super::nest_laws::nest_laws;
-use super::passages::{Passage, find_passage};
-use super::turns::{Turns, turns_of};
+use super::topology::{TopologicalOrder, topological_order};
 use loop_nest::Graph;
 use loop_nest::loops::Nest;
 use std::alloc::{AllocError, Global};
 
-/// What a turn of each loop is worth, and what walks to each listed node cost at most, that node
-/// excluded but for its fee.
-#[derive(Debug, Drop)]
+/// What an iteration of each loop costs at most, and what walks to each listed node cost at most, that
+/// node excluded but for its fee.
+#[derive(Drop)]
 pub struct Measures {
-    pub worths: Vec<u128>,
+    pub iteration_costs: Vec<u128>,
     pub dist: Vec<u128>,
 }
 
@@ -37,15 +37,21 @@ pub fn measure(
     requires costs { length costs.now ≡ g.now.nodes }
     requires bounds { length bounds.now ≡ length nest.now }
     requires loads { length loads.now ≡ length nest.now }
-    ensures { IfOk result (λ m. AreMeasures g.now nest.now listed.now costs.now bounds.now loads.now m.worths.items m.dist.items) }
+    ensures { IfOk result (λ m. AreMeasures g.now nest.now listed.now costs.now bounds.now loads.now m.iteration_costs.items m.dist.items) }
 {
     // The laws are for the proof.
     nest_laws();
     let nodes = g.nodes() as usize;
     let loops = nest.loops();
-    let passage = find_passage(alloc, g, nest, listed)?;
-    let Turns { worths, fees } = turns_of(alloc, &passage, loops, costs, bounds, loads)?;
+    let topology = topological_order(alloc, g, nest, listed)?;
+    let LoopCosts {
+        iteration_costs,
+        fees,
+    } = costs_of_loops(alloc, &topology, loops, costs, bounds, loads)?;
     let mut dist = vec![in alloc; 0; nodes]?;
-    spread(&passage.order, &passage.forward, costs, &fees, &mut dist);
-    Ok(Measures { worths, dist })
+    spread(&topology.order, &topology.forward, costs, &fees, &mut dist);
+    Ok(Measures {
+        iteration_costs,
+        dist,
+    })
 }

@@ -1,12 +1,14 @@
-//! What the proofs take of the loops of all graphs.
+//! What the proofs take of all graphs and of all sections.
 ghost use Rattle.path_solver.specs.Problem.{AreNestLaws};
 
 use loop_nest::laws::{
-    edges_to_headers_are_back_edges, headers_dominate_members, loops_are_entered_at_headers,
-    loops_are_nested, reducible_is_reached,
+    dominance_is_antisymmetric, edges_to_headers_are_back_edges, entry_dominates_all,
+    headers_dominate_members, loops_are_entered_at_headers, loops_are_nested, reducible_is_reached,
+    walks_come_by_edges, walks_lead_on,
 };
+use section_check::laws::{accepted_bound_iterations, accepted_bound_walks};
 
-/// The laws of loops. The function does nothing: its contract is these laws.
+/// The laws of graphs and of sections. The function does nothing: its contract is these laws.
 pub fn nest_laws()
     ensures { AreNestLaws }
 {
@@ -15,4 +17,10 @@ pub fn nest_laws()
     loops_are_entered_at_headers();
     edges_to_headers_are_back_edges();
     loops_are_nested();
+    entry_dominates_all();
+    dominance_is_antisymmetric();
+    walks_lead_on();
+    walks_come_by_edges();
+    accepted_bound_walks();
+    accepted_bound_iterations();
 }

@@ -4,11 +4,9 @@ ghost use Rattle.std.specs.List.Sorted.{IsStrictlyIncreasing};
 ghost use Rattle.loop_nest.specs.Nest.{headers_of};
 ghost use Rattle.loop_nest.specs.Walks.{Walk};
 ghost use Rattle.path_solver.specs.Reaching.{IsFlagged};
-ghost use Rattle.path_solver.specs.Ordering.{AreLoops, IsHeadedAt, NoLoopHas, TurnsBack, AreTaken, AreArrivals, AreApart, AreStarts, ArePassed, graph_of, IsForwardOrder};
+ghost use Rattle.path_solver.specs.Ordering.{AreLoops, IsHeadedAt, NoLoopHas, ClosesLoop, AreTaken, AreApart, AreStarts, AreCountedDown, graph_of, IsForwardOrder};
 
-use super::lookups::has;
-use super::reaching::sources_by_target;
-use loop_nest::Graph;
+use loop_nest::digraph::{Sources, arrivals, turned};
 use loop_nest::loops::Loop;
 use std::alloc::{AllocError, Global};
 
@@ -25,10 +23,18 @@ pub fn headed_loop(loops: &[Loop], u: u32) -> Option<usize>
     }
 }
 
-/// Whether an edge from `u` to `v` turns back: `v` heads a loop that has `u`.
-fn turns_back(loops: &[Loop], u: u32, v: u32) -> bool
+/// Whether `u` is among these nodes.
+fn has(nodes: &[u32], u: u32) -> bool
+    requires { IsStrictlyIncreasing nodes.now }
+    ensures { IsTrue result ↔ Contains nodes.now u }
+{
+    nodes.binary_search(&u).is_ok()
+}
+
+/// Whether an edge from `u` to `v` closes a loop: `v` heads a loop that has `u`.
+fn closes_loop(loops: &[Loop], u: u32, v: u32) -> bool
     requires { AreLoops loops.now }
-    ensures { IsTrue result ↔ TurnsBack loops.now u v }
+    ensures { IsTrue result ↔ ClosesLoop loops.now u v }
 {
     match headed_loop(loops, v) {
         Some(i) => has(loops[i].members(), u),
@@ -36,11 +42,11 @@ fn turns_back(loops: &[Loop], u: u32, v: u32) -> bool
     }
 }
 
-/// The edges to listed nodes: those that don't turn back, and those that do.
-#[derive(Debug, Drop)]
+/// The edges to listed nodes: those that close no loop, and those that do.
+#[derive(Drop)]
 pub struct TakenEdges {
     pub onward: Vec<(u32, u32)>,
-    pub turning: Vec<(u32, u32)>,
+    pub backward: Vec<(u32, u32)>,
 }
 
 /// Of these edges those to listed nodes.
@@ -53,42 +59,22 @@ pub fn taken(
     requires loops { AreLoops loops.now }
     requires within { All (λ e. e.1 < length listed.now) edges.now }
     ensures onward { IfOk result (λ t. AreTaken edges.now loops.now listed.now false t.onward.items) }
-    ensures turning { IfOk result (λ t. AreTaken edges.now loops.now listed.now true t.turning.items) }
+    ensures backward { IfOk result (λ t. AreTaken edges.now loops.now listed.now true t.backward.items) }
 {
     let mut onward = Vec::new(alloc);
-    let mut turning = Vec::new(alloc);
+    let mut backward = Vec::new(alloc);
     for i in 0..edges.len() {
         let (u, v) = edges[i];
         if !listed[v as usize] {
             continue;
         }
-        if turns_back(loops, u, v) {
-            turning.push((u, v))?;
+        if closes_loop(loops, u, v) {
+            backward.push((u, v))?;
         } else {
             onward.push((u, v))?;
         }
     }
-    Ok(TakenEdges { onward, turning })
-}
-
-/// These edges from their targets to their sources.
-fn turned(alloc: Global, edges: &[(u32, u32)]) -> Result<Vec<(u32, u32)>, AllocError>
-    ensures { IfOk result (λ turned. turned.items ≡ map (λ e. (e.1, e.0)) edges.now) }
-{
-    edges.iter().map(|e| (e.1, e.0)).collect(alloc)
-}
-
-/// How many edges lead to each of `nodes` nodes.
-fn arrivals(alloc: Global, nodes: usize, edges: &[(u32, u32)]) -> Result<Vec<usize>, AllocError>
-    requires { All (λ e. e.1 < nodes) edges.now }
-    ensures { IfOk result (λ counts. AreArrivals edges.now nodes counts.items) }
-{
-    let mut counts = vec![in alloc; 0; nodes]?;
-    for edge in edges {
-        let (_u, v) = *edge;
-        counts[v as usize] += 1;
-    }
-    Ok(counts)
+    Ok(TakenEdges { onward, backward })
 }
 
 /// The listed nodes for which no edge is waited for.
@@ -106,18 +92,17 @@ fn starts(alloc: Global, listed: &[bool], waiting: &[usize]) -> Result<Vec<u32>,
     Ok(nodes)
 }
 
-/// Takes an edge to each of these nodes as passed, and adds those for which none is waited for any
-/// more.
-fn pass_edges(
+/// Counts off an edge to each of these nodes, and adds those for which none is waited for any more.
+fn count_down(
     targets: &[u32],
     waiting: &mut [usize],
     order: &mut Vec<u32>,
 ) -> Result<(), AllocError>
     requires within { All (λ v. v < length waiting.old) targets.now }
     requires enough { (v : ℕ) → count_by (λ x. x == v) targets.now ≤ slice_index waiting.old v }
-    requires passed { (v : ℕ) → Contains order.old.items v → slice_index waiting.old v ≡ 0 }
+    requires counted { (v : ℕ) → Contains order.old.items v → slice_index waiting.old v ≡ 0 }
     requires apart { AreApart order.old.items }
-    ensures { OnOk result (ArePassed targets.now waiting.old waiting.new order.old.items order.new.items) }
+    ensures { OnOk result (AreCountedDown targets.now waiting.old waiting.new order.old.items order.new.items) }
 {
     for v in targets {
         let left = waiting[*v as usize] - 1;
@@ -143,13 +128,13 @@ pub fn forward_order(
 {
     let nodes = listed.len();
     let turned = turned(alloc, edges)?;
-    let targets = sources_by_target(alloc, nodes, &turned)?;
+    let targets = Sources::by_target(alloc, nodes, &turned)?;
     let mut waiting = arrivals(alloc, nodes, edges)?;
     let mut order = starts(alloc, listed, &waiting)?;
     for i in 0..nodes {
         if i < order.len() {
             let u = order[i];
-            pass_edges(&targets[u as usize], &mut waiting, &mut order)?;
+            count_down(targets.of(u), &mut waiting, &mut order)?;
         }
     }
     Ok(order)

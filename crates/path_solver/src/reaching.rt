@@ -1,42 +1,23 @@
 //! From which nodes an exit is reached.
-ghost use Rattle.std.specs.Prelude.{◌<◌, All, IfOk};
-ghost use Rattle.path_solver.specs.Reaching.{AreSources, AreReaching};
+ghost use Rattle.std.specs.Prelude.{IfOk};
+ghost use Rattle.path_solver.specs.Reaching.{AreReaching};
 
 use loop_nest::Graph;
+use loop_nest::digraph::Sources;
 use std::alloc::{AllocError, Global};
-
-/// For each of `nodes` nodes the sources of the edges to it.
-pub fn sources_by_target(
-    alloc: Global,
-    nodes: usize,
-    edges: &[(u32, u32)],
-) -> Result<Vec<Vec<u32>>, AllocError>
-    requires { All (λ e. e.1 < nodes) edges.now }
-    ensures { IfOk result (λ sources. AreSources edges.now nodes sources.items) }
-{
-    let mut sources = Vec::new(alloc);
-    for _ in 0..nodes {
-        sources.push(Vec::new(alloc))?;
-    }
-    for edge in edges {
-        let (u, v) = *edge;
-        sources[v as usize].push(u)?;
-    }
-    Ok(sources)
-}
 
 /// For each node whether an exit is reached from it: a search backwards from the exits.
 pub fn reaching(alloc: Global, g: &Graph) -> Result<Vec<bool>, AllocError>
     ensures { IfOk result (λ flags. AreReaching g.now flags.items) }
 {
     let nodes = g.nodes() as usize;
-    let sources = sources_by_target(alloc, nodes, g.edges())?;
+    let sources = Sources::by_target(alloc, nodes, g.edges())?;
     let mut reaching = vec![in alloc; false; nodes]?;
     let mut stack = Vec::from_slice(alloc, g.exits())?;
     while let Some(u) = stack.pop() {
         if !reaching[u as usize] {
             reaching[u as usize] = true;
-            stack.extend_from_slice(&sources[u as usize])?;
+            stack.extend_from_slice(sources.of(u))?;
         }
     }
     Ok(reaching)

@@ -1,11 +1,11 @@
 //! Greatest walks with the sections that show them.
 
-use super::section::Section;
+use section_check::section::Section;
 use std::alloc::AllocError;
 use std::marker::Model;
 
 /// What the greatest walk costs, in cycles, and a section of that value.
-#[derive(Debug, Drop)]
+#[derive(Drop)]
 pub struct Solved {
     value: u64,
     section: Section,
@@ -55,7 +55,8 @@ impl Solved {
 /// Why there is no solution.
 #[derive(Clone, Copy, Debug, PartialEq, Eq)]
 pub enum SolveFault {
-    /// A walk passes 64 bits, or turns do together, one of each loop that holds a node.
+    /// A walk exceeds 64 bits, or iterations do together, one of each loop that holds a node from which
+    /// an exit is reached.
     TooLarge,
     /// There is no memory.
     NoMemory,

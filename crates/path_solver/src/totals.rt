@@ -1,49 +1,49 @@
-//! What passes 64 bits.
+//! What exceeds 64 bits.
 ghost use Rattle.std.specs.Prelude.{◌≡◌, ◌+◌, ◌^◌, ◌<◌, ◌≤◌, ◌↔◌, length, All, IfOk, IsTrue};
 ghost use Rattle.std.specs.List.Sorted.{IsStrictlyIncreasing};
 ghost use Rattle.path_solver.specs.Distances.{limit, AreLimited};
-ghost use Rattle.path_solver.specs.Totals.{AreAdded, SomeTurnsPass};
+ghost use Rattle.path_solver.specs.Totals.{AreAdded, SomeIterationsExceed};
 
 use super::distances::limited_sum;
 use loop_nest::loops::Loop;
 use std::alloc::{AllocError, Global};
 
-/// Whether a number passes 64 bits.
-pub fn passes(n: u128) -> bool
+/// Whether a number exceeds 64 bits.
+pub fn exceeds(n: u128) -> bool
     ensures { IsTrue result ↔ (2 ^ 64 ≤ n) }
 {
     n > u128::from(u64::MAX)
 }
 
-/// Adds to each of these nodes what a turn is worth.
-fn add_worth(members: &[u32], worth: u128, totals: &mut [u128])
+/// Adds to each of these nodes what an iteration costs at most.
+fn add_iteration_cost(members: &[u32], iteration_cost: u128, totals: &mut [u128])
     requires within { All (λ u. u < length totals.old) members.now }
     requires rising { IsStrictlyIncreasing members.now }
     requires limited { AreLimited totals.old }
-    requires small { worth ≤ limit }
-    ensures { AreAdded members.now worth totals.old totals.new }
+    requires small { iteration_cost ≤ limit }
+    ensures { AreAdded members.now iteration_cost totals.old totals.new }
 {
     for u in members {
-        totals[*u as usize] = limited_sum(totals[*u as usize], worth);
+        totals[*u as usize] = limited_sum(totals[*u as usize], iteration_cost);
     }
 }
 
-/// Whether one turn of each loop that holds a node, together, passes 64 bits.
-pub fn turns_pass(
+/// Whether one iteration of each loop that holds a node, together, exceeds 64 bits.
+pub fn iterations_exceed(
     alloc: Global,
     nodes: usize,
     loops: &[Loop],
-    worths: &[u128],
+    iteration_costs: &[u128],
 ) -> Result<bool, AllocError>
-    requires worths { length worths.now ≡ length loops.now }
-    requires limited { AreLimited worths.now }
+    requires iteration_costs { length iteration_costs.now ≡ length loops.now }
+    requires limited { AreLimited iteration_costs.now }
     requires rising { All (λ l. IsStrictlyIncreasing l.members) loops.now }
     requires within { All (λ l. All (λ u. u < nodes) l.members) loops.now }
-    ensures { IfOk result (λ pass. IsTrue pass ↔ SomeTurnsPass loops.now worths.now nodes) }
+    ensures { IfOk result (λ exceed. IsTrue exceed ↔ SomeIterationsExceed loops.now iteration_costs.now nodes) }
 {
     let mut totals = vec![in alloc; 0; nodes]?;
     for i in 0..loops.len() {
-        add_worth(loops[i].members(), worths[i], &mut totals);
+        add_iteration_cost(loops[i].members(), iteration_costs[i], &mut totals);
     }
-    Ok(totals.iter().any(|n| passes(*n)))
+    Ok(totals.iter().any(|n| exceeds(*n)))
 }

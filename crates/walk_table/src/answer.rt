@@ -3,7 +3,7 @@
 use std::fmt;
 
 /// What one of the three found.
-#[derive(Clone, Copy, Debug, PartialEq, Eq)]
+#[derive(Clone, Copy, PartialEq, Eq)]
 pub enum Answer {
     /// What the greatest walk costs.
     Value(u128),
@@ -30,7 +30,7 @@ impl fmt::Display for Answer {
 }
 
 /// What is found of a graph by `longest`, by all walks and in the table.
-#[derive(Clone, Copy, Debug)]
+#[derive(Clone, Copy)]
 pub struct Comparison {
     pub longest: Answer,
     pub walks: Answer,

@@ -10,7 +10,7 @@
 //!
 //!     4 | 0-1 1-2 1-3 2-1 | 3 | 2 3 4 1 | 10 | 100 | 176
 //!
-//! the nodes 1 and 2 are a loop. The greatest walk enters it once, with the load 100, takes ten turns
+//! the nodes 1 and 2 are a loop. The greatest walk enters it once, with the load 100, makes ten iterations
 //! and leaves it for the exit: 2 + 100 + 10 * (3 + 4) + 3 + 1 = 176.
 //!
 //! The output has a line for each graph: the value, where all three agree, or else what each found.

@@ -9,7 +9,7 @@ use std::num::ParseIntError;
 use std::str::FromStr;
 
 /// Why nothing is found of a line.
-#[derive(Clone, Copy, Debug, PartialEq, Eq)]
+#[derive(Clone, Copy)]
 pub enum RowFault {
     /// It isn't a row of the table, or its graph isn't reducible.
     Malformed,
@@ -46,7 +46,7 @@ impl From<NestFault> for RowFault {
 
 /// A graph with the cost of each node, the bound of each loop and what an entry of it loads, and the
 /// value of its greatest walk.
-#[derive(Debug, Drop)]
+#[derive(Drop)]
 pub struct Row {
     pub graph: Graph,
     pub costs: Vec<u64>,

@@ -10,7 +10,7 @@ use std::alloc::{AllocError, Global};
 const MOST_WALKS: u32 = 100_000;
 
 /// A loop, how often a stay in it may come to its header again, and what an entry of it loads.
-#[derive(Clone, Copy, Debug)]
+#[derive(Clone, Copy)]
 struct BoundedLoop<'a> {
     header: u32,
     members: &'a [u32],
@@ -19,12 +19,12 @@ struct BoundedLoop<'a> {
 }
 
 /// A walk from node 0, as far as it has come.
-#[derive(Debug, Drop)]
+#[derive(Drop)]
 struct Walk {
     node: u32,
     cost: u128,
     // How often the walk may still come to the header of each loop, where it stands in the loop.
-    turns_left: Vec<Option<u32>>,
+    iterations_left: Vec<Option<u32>>,
 }
 
 /// The loops of a row with their bounds and loads.
@@ -52,7 +52,7 @@ impl Walk {
         Ok(Walk {
             node: 0,
             cost: 0,
-            turns_left: vec![in alloc; None; loops.len()]?,
+            iterations_left: vec![in alloc; None; loops.len()]?,
         })
     }
 
@@ -67,8 +67,8 @@ impl Walk {
         requires { node < row.now.graph.nodes }
     {
         let mut cost = self.cost.saturating_add(u128::from(row.cost(node)));
-        let mut turns_left = Vec::new(alloc);
-        for (l, left) in loops.iter().zip(&self.turns_left) {
+        let mut iterations_left = Vec::new(alloc);
+        for (l, left) in loops.iter().zip(&self.iterations_left) {
             let is_header = node == l.header;
             let left = match *left {
                 _ if !l.members.contains(&node) => None,
@@ -80,12 +80,12 @@ impl Walk {
                 Some(left) if is_header => Some(left - 1),
                 Some(left) => Some(left),
             };
-            turns_left.push(left)?;
+            iterations_left.push(left)?;
         }
         Ok(Some(Walk {
             node,
             cost,
-            turns_left,
+            iterations_left,
         }))
     }
 }

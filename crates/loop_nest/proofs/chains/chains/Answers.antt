@@ -6,8 +6,8 @@ use Rattle.loop_nest.proofs.Linked.{blocks_more, blocks_same, turned_within}
 use Rattle.loop_nest.proofs.chains.chains.Goals as goal
 use Rattle.loop_nest.proofs.chains.chains.Goals.{then-not-is_later+in_ok-chain+in_ok-push, else-not-is_later}
 
-pub sources_by_target-requires : goal.sources_by_target-requires
-sources_by_target-requires c =
+pub by_target-requires : goal.by_target-requires
+by_target-requires c =
     let g = c.args.g.now in
     let is : c.deref.result.now ≡ map (λ (e : ℕ × ℕ). (e.1, e.0)) g.edges =
     c.deref.ensures.value ∙ c.in_ok-turned.ensures ∙ ap (map (λ (e : ℕ × ℕ). (e.1, e.0))) c.edges.ensures.edges in

@@ -1,72 +1,53 @@
-use Rattle.std.proofs.Common.{◌≡◌, ℕ, List, length, get_or, ap, ◌∙◌, inl, inr, arith}
-use Rattle.loop_nest.specs.Search.{sources_of}
-use Rattle.loop_nest.specs.Chains.{targets_of}
-use Rattle.loop_nest.proofs.Linked.{linked, not_linked_many, not_linked_to, read_sources, read_targets, target_within}
+use Rattle.std.proofs.Common.{◌≡◌, ℕ, List, length, get_or, sym, ap, ◌∙◌, inl, inr, arith}
+use Rattle.std.proofs.lemmas.List.{get_or_default}
+use Rattle.loop_nest.specs.Digraph.{targets_of}
+use Rattle.loop_nest.proofs.Linked.{linked, not_linked_many, not_linked_to, read_targets, target_within}
 use Rattle.loop_nest.proofs.chains.next.Goals as goal
-use Rattle.loop_nest.proofs.chains.next.Goals.{then-v-eq0-via-then-v-eq0, then-v-eq0-via-else-v-eq0+then-len-ne1-2}
+use Rattle.loop_nest.proofs.chains.next.Goals.{then-v-eq0-via-then-v-eq0, then-v-eq0-via-else-v-eq0+then-of-ne1}
 
-pub returns-then-len-ne1 : goal.returns-then-len-ne1
-returns-then-len-ne1 c =
-    let g = c.args.g.now in
-    let w = c.index-targets-u.result in
-    let is = read_targets g.edges g.nodes c.args.u c.args.targets.now w c.requires.targets c.requires.below c.index-targets-u.is in
-    let ok = w.ok in
-    not_linked_many g c.args.u (λ one. c.if-len-ne1.true (c.len.ensures ∙ (let e : w.len ≡ 1 = omega (arith, ok.0, ap length is, one) in e)))
+first_of : (xs ys : List ℕ) → xs ≡ ys → length xs ≡ 1 → get_or xs 0 0 ≡ get_or ys 0 (get_or xs 0 0)
+first_of xs ys is one = let e = ap length is in ap (λ (ls : List ℕ). get_or ls 0 0) is ∙ get_or_default ys 0 0 (get_or xs 0 0) (omega arith)
 
-pub bounds-sources-v : goal.bounds-sources-v
-bounds-sources-v c =
+pub returns-then-successors-ne1 : goal.returns-then-successors-ne1
+returns-then-successors-ne1 c =
     let g = c.args.g.now in
-    let w = c.index-targets-u.result in
-    let w2 = c.index-targets-u-2.result in
-    let is = read_targets g.edges g.nodes c.args.u c.args.targets.now w c.requires.targets c.requires.below c.index-targets-u.is in
-    let is2 = read_targets g.edges g.nodes c.args.u c.args.targets.now w2 c.requires.targets c.requires.below c.index-targets-u-2.is in
-    let ok = w.ok in
-    let len = c.len.ensures in
-    let one : length (targets_of g.edges c.args.u) ≡ 1 = omega (arith, ok.0, ap length is, c.if-len-ne1.false) in
-    let v = c.index-v.result.now in
-    let below = target_within g c.args.u v c.requires.valid one (c.index-v.ensures ∙ ap (λ (ls : List ℕ). get_or ls 0 v) is2) in
+    let is = c.of-successors.ensures ∙ read_targets g.edges g.nodes c.args.u c.args.targets.now c.requires.targets c.requires.below in
+    not_linked_many g c.args.u (λ one. c.if-successors-ne1.true (ap length is ∙ one))
+
+pub of-requires : goal.of-requires
+of-requires c =
+    let g = c.args.g.now in
+    let u = c.args.u in
+    let is = c.of-successors.ensures ∙ read_targets g.edges g.nodes u c.args.targets.now c.requires.targets c.requires.below in
+    let one = c.if-successors-ne1.false in
+    let lt = target_within g u (get_or c.of-successors.result.now 0 0) c.requires.valid (sym (ap length is) ∙ one) (first_of c.of-successors.result.now (targets_of g.edges u) is one) in
     let long = c.requires.sources.long in
     omega arith
 
 pub returns-then-v-eq0 : goal.returns-then-v-eq0
 returns-then-v-eq0 c =
     let g = c.args.g.now in
-    let w = c.index-targets-u.result in
-    let w2 = c.index-targets-u-2.result in
-    let is = read_targets g.edges g.nodes c.args.u c.args.targets.now w c.requires.targets c.requires.below c.index-targets-u.is in
-    let is2 = read_targets g.edges g.nodes c.args.u c.args.targets.now w2 c.requires.targets c.requires.below c.index-targets-u-2.is in
-    let ok = w.ok in
-    let len = c.len.ensures in
-    let one : length (targets_of g.edges c.args.u) ≡ 1 = omega (arith, ok.0, ap length is, c.if-len-ne1.false) in
-    let v = c.index-v.result.now in
-    let at = c.index-v.ensures ∙ ap (λ (ls : List ℕ). get_or ls 0 v) is2 in
-    let below = target_within g c.args.u v c.requires.valid one at in
-    not_linked_to g c.args.u v one at (
+    let u = c.args.u in
+    let v = get_or c.of-successors.result.now 0 0 in
+    let is = c.of-successors.ensures ∙ read_targets g.edges g.nodes u c.args.targets.now c.requires.targets c.requires.below in
+    let one = c.if-successors-ne1.false in
+    let alone = sym (ap length is) ∙ one in
+    let at = first_of c.of-successors.result.now (targets_of g.edges u) is one in
+    let lt = target_within g u v c.requires.valid alone at in
+    not_linked_to g u v alone at (
     elim c.then-v-eq0.branch [
-      | then-v-eq0-via-then-v-eq0 w' ↦ inl w'.if-v-eq0.true
-      | then-v-eq0-via-else-v-eq0+then-len-ne1-2 w' ↦
-          let s = w'.index-sources-v.result in
-          let s_is = read_sources g.edges g.nodes v c.args.sources.now s c.requires.sources below w'.index-sources-v.is in
-          let s_ok = s.ok in
-          inr (λ e. w'.if-len-ne1-2.true (w'.len-else-v-eq0.ensures ∙ (let f : s.len ≡ 1 = omega (arith, s_ok.0, ap length s_is, e) in f)))
+      | then-v-eq0-via-then-v-eq0 w ↦ inl w.if-v-eq0.true
+      | then-v-eq0-via-else-v-eq0+then-of-ne1 w ↦ inr (λ e. w.if-of-ne1.true (ap length (w.of.ensures ∙ c.requires.sources.each v lt) ∙ e))
     ])
 
 pub returns : goal.returns
 returns c =
     let g = c.args.g.now in
-    let w = c.index-targets-u.result in
-    let w2 = c.index-targets-u-2.result in
-    let is = read_targets g.edges g.nodes c.args.u c.args.targets.now w c.requires.targets c.requires.below c.index-targets-u.is in
-    let is2 = read_targets g.edges g.nodes c.args.u c.args.targets.now w2 c.requires.targets c.requires.below c.index-targets-u-2.is in
-    let ok = w.ok in
-    let len = c.len.ensures in
-    let one : length (targets_of g.edges c.args.u) ≡ 1 = omega (arith, ok.0, ap length is, c.if-len-ne1.false) in
-    let v = c.index-v.result.now in
-    let at = c.index-v.ensures ∙ ap (λ (ls : List ℕ). get_or ls 0 v) is2 in
-    let below = target_within g c.args.u v c.requires.valid one at in
-    let s = c.index-sources-v.result in
-    let s_is = read_sources g.edges g.nodes v c.args.sources.now s c.requires.sources below c.index-sources-v.is in
-    let s_ok = s.ok in
-    let s_len = c.len-else-v-eq0.ensures in
-    let alone : length (sources_of g.edges v) ≡ 1 = omega (arith, s_ok.0, ap length s_is, c.if-len-ne1-2.false) in
-    linked g c.args.u v one at c.if-v-eq0.false alone
+    let u = c.args.u in
+    let v = get_or c.of-successors.result.now 0 0 in
+    let is = c.of-successors.ensures ∙ read_targets g.edges g.nodes u c.args.targets.now c.requires.targets c.requires.below in
+    let one = c.if-successors-ne1.false in
+    let alone = sym (ap length is) ∙ one in
+    let at = first_of c.of-successors.result.now (targets_of g.edges u) is one in
+    let lt = target_within g u v c.requires.valid alone at in
+    linked g u v alone at c.if-v-eq0.false (sym (ap length (c.of.ensures ∙ c.requires.sources.each v lt)) ∙ c.if-of-ne1.false)

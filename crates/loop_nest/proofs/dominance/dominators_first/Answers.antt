@@ -1,8 +1,7 @@
 use Rattle.std.proofs.Common.{◌≡◌, ℕ, ◌+◌, ◌*◌, suc, ◌<◌, ◌≤◌, Bool, true, false, List, [], ◌∷◌, ◌++◌, length, get_or, set, map, replicate, Contains, All, sym, ap, ◌∙◌, subst, arith}
+use Rattle.loop_nest.specs.Digraph.{AreSources, targets_of}
 use Rattle.std.proofs.lemmas.List.{nil_from_length, length-append, get_or_default}
 use Rattle.std.proofs.lemmas.List.Elements.{All-contains, Contains-push}
-use Rattle.loop_nest.specs.Search.{AreSources}
-use Rattle.loop_nest.specs.Chains.{targets_of}
 use Rattle.loop_nest.specs.Order.{IsOutward}
 use Rattle.loop_nest.proofs.Linked.{turned_within, read_targets, few_targets}
 use Rattle.loop_nest.proofs.Searching.{fewer_left, same_everywhere}
@@ -22,8 +21,8 @@ smaller u m seen stack left new next lt fresh few is more =
     let f : length new ≡ length left + length next = omega arith in
     rw (e, f) (fewer_left (unseen (set seen u true)) (unseen seen) m (length left) (length next) (unseen-set u seen lt fresh) few)
 
-pub sources_by_target-requires : goal.sources_by_target-requires
-sources_by_target-requires c =
+pub by_target-requires : goal.by_target-requires
+by_target-requires c =
     let g = c.args.g.now in
     let is : c.deref.result.now ≡ map (λ (e : ℕ × ℕ). (e.1, e.0)) g.edges =
     c.deref.ensures.value ∙ c.in_ok-turned.ensures ∙ ap (map (λ (e : ℕ × ℕ). (e.1, e.0))) c.edges.ensures.edges in
@@ -62,14 +61,13 @@ index_mut-requires c =
     let ok = c.loop-u.seen.ok in
     omega (arith, ok.0)
 
-pub index-requires-then-not-index : goal.index-requires-then-not-index
-index-requires-then-not-index c =
+pub of-requires : goal.of-requires
+of-requires c =
     let s = c.loop-u.invariant in
     let lt = within c.args.g.now.nodes c.in-Some.u c.loop-u.stack.items c.pop.new.self.items c.in-Some.ensures.items s.stack_within in
     let long = c.in_ok-targets.ensures.long in
-    let ok = c.in_ok-targets.targets.ok in
     let nodes = c.nodes-nodes.ensures.nodes in
-    omega (arith, ok.0)
+    omega arith
 
 pub loop-u-smaller-in-Continue-branch-6 : goal.loop-u-smaller-in-Continue-branch-6
 loop-u-smaller-in-Continue-branch-6 c =
@@ -86,9 +84,9 @@ loop-u-smaller-in-Continue-branch-6 c =
     let fresh : get_or seen u false ≡ false = get_or_default seen u false c.index.result.now inside ∙ sym c.index.ensures ∙ c.if-not-index.true in
     let is : c.deref.result.now ≡ map (λ (e : ℕ × ℕ). (e.1, e.0)) g.edges =
     c.deref.ensures.value ∙ c.in_ok-turned.ensures ∙ ap (map (λ (e : ℕ × ℕ). (e.1, e.0))) c.edges.ensures.edges in
-    let S : List (ℕ × ℕ) → Type 0 = λ es. AreSources es c.nodes-nodes.result c.in_ok-targets.targets.items in
-    let next : c.deref-then-not-index.result.now ≡ targets_of g.edges u =
-    c.deref-then-not-index.ensures.value ∙ read_targets g.edges c.nodes-nodes.result u c.in_ok-targets.targets.items c.index-then-not-index.result.now (subst S is c.in_ok-targets.ensures) short c.index-then-not-index.ensures in
+    let S : List (ℕ × ℕ) → Type 0 = λ es. AreSources es c.nodes-nodes.result c.in_ok-targets.targets in
+    let next : c.of.result.now ≡ targets_of g.edges u =
+    c.of.ensures ∙ read_targets g.edges c.nodes-nodes.result u c.in_ok-targets.targets (subst S is c.in_ok-targets.ensures) short in
     let more : c.extend_from_slice.new.self.items ≡ left ++ targets_of g.edges u = c.in_ok-extend_from_slice.ensures.items ∙ ap (λ ls. left ++ ls) next in
     smaller u (length g.edges) seen c.loop-u.stack.items left c.extend_from_slice.new.self.items (targets_of g.edges u) inside fresh (few_targets g.edges u) c.in-Some.ensures.items more
 
@@ -107,9 +105,9 @@ loop-u-preserved-in-Continue-branch-6 c =
     let fresh : get_or seen u false ≡ false = get_or_default seen u false c.index.result.now inside ∙ sym c.index.ensures ∙ c.if-not-index.true in
     let is : c.deref.result.now ≡ map (λ (e : ℕ × ℕ). (e.1, e.0)) g.edges =
     c.deref.ensures.value ∙ c.in_ok-turned.ensures ∙ ap (map (λ (e : ℕ × ℕ). (e.1, e.0))) c.edges.ensures.edges in
-    let S : List (ℕ × ℕ) → Type 0 = λ es. AreSources es c.nodes-nodes.result c.in_ok-targets.targets.items in
-    let next : c.deref-then-not-index.result.now ≡ targets_of g.edges u =
-    c.deref-then-not-index.ensures.value ∙ read_targets g.edges c.nodes-nodes.result u c.in_ok-targets.targets.items c.index-then-not-index.result.now (subst S is c.in_ok-targets.ensures) short c.index-then-not-index.ensures in
+    let S : List (ℕ × ℕ) → Type 0 = λ es. AreSources es c.nodes-nodes.result c.in_ok-targets.targets in
+    let next : c.of.result.now ≡ targets_of g.edges u =
+    c.of.ensures ∙ read_targets g.edges c.nodes-nodes.result u c.in_ok-targets.targets (subst S is c.in_ok-targets.ensures) short in
     let more : c.extend_from_slice.new.self.items ≡ left ++ targets_of g.edges u = c.in_ok-extend_from_slice.ensures.items ∙ ap (λ ls. left ++ ls) next in
     let P : List ℕ → Type 0 = λ ls. IsOutward g c.loop-u.order.items ls seen in
     let Q : List ℕ → Type 0 = λ ls. IsOutward g ls (left ++ targets_of g.edges u) (set seen u true) in

@@ -2,9 +2,9 @@ use Rattle.std.proofs.Common.{◌≡◌, ℕ, ◌+◌, ◌<◌, Bool, false, Lis
 use Rattle.std.proofs.lemmas.Bool.{both_ways}
 use Rattle.std.proofs.lemmas.List.{length-map, get_or_default, take_at}
 use Rattle.std.proofs.lemmas.List.Elements.{All-get_or}
-use Rattle.loop_nest.specs.Digraph.{Digraph}
+use Rattle.loop_nest.specs.Digraph.{Digraph, sources_of}
 use Rattle.loop_nest.specs.Walks.{IsHeader}
-use Rattle.loop_nest.specs.Search.{sources_of, mark_at, AreUnmarked, AreFound, IsMarkedWith}
+use Rattle.loop_nest.specs.Search.{mark_at, AreUnmarked, AreFound, IsMarkedWith}
 use Rattle.loop_nest.specs.Order.{AreDominatorsFirst}
 use Rattle.loop_nest.specs.Nest.{NaturalLoop, headers_of, outers_of}
 use Rattle.loop_nest.specs.Nesting.{AreHeadersBelow, AreHeaderFlags, HaveOuters, AreInnermost}
@@ -18,8 +18,8 @@ use Rattle.loop_nest.proofs.finding.nesting.Goals.{then-index+in_ok-stack+in_ok-
 flagged : (g : Digraph) (flags : List Bool) (h : ℕ) (b : Bool) → AreHeaderFlags g flags → h < g.nodes → b ≡ get_or flags h b → get_or flags h false ≡ b
 flagged g flags h b f lt is = let long = f.long in get_or_default flags h false b (omega arith) ∙ sym is
 
-pub sources_by_target-requires-2 : goal.sources_by_target-requires-2
-sources_by_target-requires-2 c =
+pub by_target-requires-2 : goal.by_target-requires-2
+by_target-requires-2 c =
     let P : ℕ → Type 0 = λ n. All (λ (e : ℕ × ℕ). e.1 < n) c.args.back_edges.now in
     subst P (sym c.nodes-nodes.ensures.nodes) (targets_within c.args.g.now c.args.back_edges.now c.nodes-nodes.ensures.valid c.requires.back_edges)
 
@@ -62,7 +62,7 @@ mark-requires-clause-within c =
     let below : h < g.nodes = All-get_or (λ (u : ℕ). u < g.nodes) c.deref-h-items.result.now c.loop-h.h-index 0 c.loop-h-test.true first.within in
     let nodes = c.nodes-nodes.ensures.nodes in
     let is : c.in_ok-stack.stack.items ≡ sources_of bs h =
-    c.in_ok-stack.ensures.items ∙ c.deref-then-index.ensures.value ∙ ap (λ v. v.items) c.index-then-index-2.ensures ∙ c.in_ok-starts.ensures.each h c.index-then-index-2.result.now (omega arith) in
+    c.in_ok-stack.ensures.items ∙ c.of.ensures ∙ c.in_ok-starts.ensures.each h (omega arith) in
     let Q : List ℕ → Type 0 = λ xs. All (λ x. x < g.nodes) xs in
     subst Q (sym is) (starts_within g bs h c.nodes-nodes.ensures.valid c.requires.back_edges)
 
@@ -126,7 +126,7 @@ loop-h-preserved c =
           let marks_are : c.if-index.marks.items ≡ new' = ap (λ v. v.items) w.marks-is ∙ take_at new' (drop (length new') marks) c.loop-h.marks.len (omega (arith, ok.0)) in
           let nodes = c.nodes-nodes.ensures.nodes in
           let starts : w.in_ok-stack.stack.items ≡ sources_of bs h =
-          w.in_ok-stack.ensures.items ∙ w.deref-then-index.ensures.value ∙ ap (λ v. v.items) w.index-then-index-2.ensures ∙ c.in_ok-starts.ensures.each h w.index-then-index-2.result.now (omega arith) in
+          w.in_ok-stack.ensures.items ∙ w.of.ensures ∙ c.in_ok-starts.ensures.each h (omega arith) in
           let F : List ℕ → Type 0 = λ xs. AreFound g h xs m new' in
           let found = members_found g bs h m new' c.requires.back_edges header (subst F starts w.in_ok-mark.ensures.found) in
           let hs = headers_of ls in

@@ -1,8 +1,9 @@
 use Rattle.std.proofs.Common.{◌≡◌, ◌≢◌, ℕ, ◌+◌, ◌*◌, suc, ◌<◌, ◌≤◌, Option, Some, List, [], ◌∷◌, ◌++◌, length, set, Contains, All, refl, sym, ap, ◌∙◌, subst, inr, arith}
+use Rattle.loop_nest.specs.Digraph.{sources_of}
 use Rattle.std.proofs.lemmas.Bool.{both_ways}
 use Rattle.std.proofs.lemmas.List.{nil_from_length, length-append}
 use Rattle.std.proofs.lemmas.List.Elements.{All-contains, Contains-push}
-use Rattle.loop_nest.specs.Search.{sources_of, mark_at, IsSearch, IsMarkedWith}
+use Rattle.loop_nest.specs.Search.{mark_at, IsSearch, IsMarkedWith}
 use Rattle.loop_nest.proofs.Searching.{unmarked, unmarked-set, fewer_left, few_sources, search_start, search_skips, search_takes, search_ends, marked_more}
 use Rattle.loop_nest.proofs.members.mark.Goals as goal
 
@@ -43,8 +44,8 @@ bounds-marks-x c =
     let long = s.long in
     omega arith
 
-pub bounds-sources-x : goal.bounds-sources-x
-bounds-sources-x c =
+pub of-requires : goal.of-requires
+of-requires c =
     let s = c.loop-x.invariant.search in
     let lt = within c.args.g.now.nodes c.in-Some.x c.loop-x.stack.items c.pop.new.self.items c.in-Some.ensures.items s.stack_within in
     let long = c.requires.sources.long in
@@ -61,8 +62,7 @@ loop-x-smaller-in-Continue-1 c =
     let long = s.long in
     let inside : x < length marks = omega arith in
     let fresh : mark_at marks x ≢ Some c.args.number = λ e. both_ways c.is_mark_of.result c.if-not-is_mark_of.true (c.is_mark_of.ensures.1 e) in
-    let srcs : c.deref.result.now ≡ sources_of g.edges x =
-    c.deref.ensures.value ∙ ap (λ v. v.items) c.index-sources-x.is ∙ c.requires.sources.each x c.index-sources-x.result lt in
+    let srcs : c.of.result.now ≡ sources_of g.edges x = c.of.ensures ∙ c.requires.sources.each x lt in
     let more : c.extend_from_slice.new.self.items ≡ left ++ sources_of g.edges x = c.in_ok-extend_from_slice.ensures.items ∙ ap (λ ls. left ++ ls) srcs in
     smaller c.args.number x (length g.edges) marks c.loop-x.stack.items left c.extend_from_slice.new.self.items (sources_of g.edges x) inside fresh (few_sources g.edges x) c.in-Some.ensures.items more
 
@@ -78,8 +78,7 @@ loop-x-preserved-in-Continue-1 c =
     let ends = c.args.stack.items in
     let lt = within g.nodes x c.loop-x.stack.items left c.in-Some.ensures.items s.stack_within in
     let fresh : mark_at marks x ≢ Some n = λ e. both_ways c.is_mark_of.result c.if-not-is_mark_of.true (c.is_mark_of.ensures.1 e) in
-    let srcs : c.deref.result.now ≡ sources_of g.edges x =
-    c.deref.ensures.value ∙ ap (λ v. v.items) c.index-sources-x.is ∙ c.requires.sources.each x c.index-sources-x.result lt in
+    let srcs : c.of.result.now ≡ sources_of g.edges x = c.of.ensures ∙ c.requires.sources.each x lt in
     let more : c.extend_from_slice.new.self.items ≡ left ++ sources_of g.edges x = c.in_ok-extend_from_slice.ensures.items ∙ ap (λ ls. left ++ ls) srcs in
     let P : List ℕ → Type 0 = λ ls. IsSearch g h ends n ls marks in
     let R : List ℕ → Type 0 = λ ls. IsSearch g h ends n ls (set marks x (Some n)) in

@@ -1,13 +1,9 @@
-use Rattle.std.proofs.Common.{◌≡◌, ℕ, ◌+◌, ◌<◌, ◌≤◌, List, [], length, get_or, set, All, Vec, sym, ap, ◌∙◌, subst, arith}
-use Rattle.std.specs.declared.alloc.Global.{Global}
-use Rattle.std.proofs.lemmas.List.{take_more, take_all, get_or-map}
+use Rattle.std.proofs.Common.{◌≡◌, ℕ, ◌+◌, ◌<◌, ◌≤◌, List, length, get_or, set, All, sym, subst, arith}
+use Rattle.std.proofs.lemmas.List.{take_more, take_all}
 use Rattle.std.proofs.lemmas.List.Elements.{All-get_or}
 use Rattle.path_solver.specs.Distances.{limit, limited, IsMost, cost_through, sources_at, AreSpread}
 use Rattle.path_solver.proofs.Spreading.{spread_none, spread_more}
 use Rattle.path_solver.proofs.distances.spread.Goals as goal
-
-read : (ss : List (Vec ℕ Global)) (u : ℕ) (x : Vec ℕ Global) (ls : List ℕ) → u < length ss → x ≡ get_or ss u x → ls ≡ x.items → ls ≡ sources_at ss u
-read ss u x ls lt is same = same ∙ ap (λ (v : Vec ℕ Global). v.items) is ∙ sym (get_or-map (λ (v : Vec ℕ Global). v.items) ss u x [] lt)
 
 pub loop-u-init : goal.loop-u-init
 loop-u-init c = spread_none (sources_at c.args.sources.now) c.args.costs.now c.args.fees.now c.args.dist.now c.requires.limited
@@ -22,7 +18,7 @@ greatest_end-arriving-requires-clause-within c =
     let all = c.requires.sources in
     let inside : u < length c.args.sources.now = omega arith in
     let P : List ℕ → Type 0 = λ ls. All (λ v. v < n) ls in
-    subst P (sym (read c.args.sources.now u c.index-sources-u.result c.deref.result.now inside c.index-sources-u.is c.deref.ensures.value)) (c.requires.ends u)
+    subst P (sym c.of.ensures) (c.requires.ends u)
 
 pub greatest_end-arriving-requires-clause-limited : goal.greatest_end-arriving-requires-clause-limited
 greatest_end-arriving-requires-clause-limited c = c.loop-u.invariant.limited
@@ -49,7 +45,7 @@ loop-u-preserved c =
     let is : x ≡ limited (c.greatest_end-arriving.result + get_or fees u 0) = c.limited_sum.ensures in
     let small : x ≤ limit = omega arith in
     let P : List ℕ → Type 0 = λ ls. IsMost (cost_through costs now) ls c.greatest_end-arriving.result in
-    let most = subst P (read c.args.sources.now u c.index-sources-u.result c.deref.result.now listed c.index-sources-u.is c.deref.ensures.value) c.greatest_end-arriving.ensures.most in
+    let most = subst P c.of.ensures c.greatest_end-arriving.ensures.most in
     let Q : List ℕ → Type 0 = λ ls. AreSpread src costs fees ls old (set now u x) in
     subst Q (sym (take_more us i 0 lt)) (spread_more src costs fees us old now i lt c.requires.apart c.requires.forward c.loop-u.invariant x c.greatest_end-arriving.result inside small most is)
 

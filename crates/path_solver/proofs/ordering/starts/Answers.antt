@@ -1,7 +1,7 @@
 use Rattle.std.proofs.Common.{◌≡◌, ℕ, ◌+◌, true, false, List, get_or, sym, ap, ◌∙◌, subst}
 use Rattle.std.proofs.lemmas.Bool.{both_ways}
 use Rattle.path_solver.specs.Ordering.{AreStarts}
-use Rattle.path_solver.proofs.Passing.{starts_none, starts_push, starts_skip}
+use Rattle.path_solver.proofs.CountingDown.{starts_none, starts_push, starts_skip}
 use Rattle.path_solver.proofs.ordering.starts.Goals as goal
 use Rattle.path_solver.proofs.ordering.starts.Goals.{then-listed-u+then-waiting-u-eq0+in_ok-push, else-listed-u, else-listed-u-via-then-listed-u+else-waiting-u-eq0, else-listed-u-via-else-listed-u}
 

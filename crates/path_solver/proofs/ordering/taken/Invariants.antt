@@ -5,5 +5,5 @@ use Rattle.path_solver.proofs.ordering.taken.Given as goal
 abbrev pub invariant-loop-i : goal.invariant-loop-i
 invariant-loop-i l = record {
   onward : AreTaken (take l.i l.edges) l.loops l.listed false l.onward.items;
-  turning : AreTaken (take l.i l.edges) l.loops l.listed true l.turning.items;
+  backward : AreTaken (take l.i l.edges) l.loops l.listed true l.backward.items;
 }

@@ -1,8 +1,9 @@
 use Rattle.std.proofs.Common.{◌≡◌, ℕ, ◌+◌, ◌*◌, suc, ◌<◌, ◌≤◌, Bool, true, false, List, [], ◌∷◌, ◌++◌, length, get_or, set, replicate, Contains, All, sym, ap, ◌∙◌, subst, arith}
+use Rattle.loop_nest.specs.Digraph.{sources_of, AreSources}
 use Rattle.std.proofs.lemmas.List.{nil_from_length, length-append, get_or_default}
 use Rattle.std.proofs.lemmas.List.Elements.{All-contains, Contains-push}
-use Rattle.path_solver.specs.Reaching.{sources_of, AreSources, IsBackwardSearch}
-use Rattle.path_solver.proofs.Sources.{unset, unset-set, fewer_left, few_sources, same_everywhere, read_sources, targets_within}
+use Rattle.path_solver.specs.Reaching.{IsBackwardSearch}
+use Rattle.path_solver.proofs.Sources.{unset, unset-set, fewer_left, few_sources, same_everywhere, targets_within}
 use Rattle.path_solver.proofs.Backward.{search_start, search_skips, search_takes, search_ends}
 use Rattle.path_solver.proofs.reaching.reaching.Goals as goal
 
@@ -19,8 +20,8 @@ smaller u m flags stack left new next lt fresh few is more =
     let f : length new ≡ length left + length next = omega arith in
     rw (e, f) (fewer_left (unset (set flags u true)) (unset flags) m (length left) (length next) (unset-set u flags lt fresh) few)
 
-pub sources_by_target-requires : goal.sources_by_target-requires
-sources_by_target-requires c =
+pub by_target-requires : goal.by_target-requires
+by_target-requires c =
     let g = c.args.g.now in
     let P : List (ℕ × ℕ) → Type 0 = λ es. All (λ (e : ℕ × ℕ). e.1 < g.nodes) es in
     let Q : ℕ → Type 0 = λ n. All (λ (e : ℕ × ℕ). e.1 < n) c.edges.result.now in
@@ -52,9 +53,8 @@ loop-u-smaller-in-Continue-branch-4 c =
     let inside : u < length flags = omega arith in
     let short : u < c.nodes-nodes.result = omega arith in
     let fresh : get_or flags u false ≡ false = get_or_default flags u false c.index.result.now inside ∙ sym c.index.ensures ∙ c.if-not-index.true in
-    let S : List (ℕ × ℕ) → Type 0 = λ es. AreSources es c.nodes-nodes.result c.in_ok-sources.sources.items in
-    let next : c.deref.result.now ≡ sources_of g.edges u =
-    c.deref.ensures.value ∙ read_sources g.edges c.nodes-nodes.result u c.in_ok-sources.sources.items c.index-then-not-index.result.now (subst S c.edges.ensures.edges c.in_ok-sources.ensures) short c.index-then-not-index.ensures in
+    let S : List (ℕ × ℕ) → Type 0 = λ es. AreSources es c.nodes-nodes.result c.in_ok-sources.sources in
+    let next : c.of.result.now ≡ sources_of g.edges u = c.of.ensures ∙ (subst S c.edges.ensures.edges c.in_ok-sources.ensures).each u short in
     let more : c.extend_from_slice.new.self.items ≡ left ++ sources_of g.edges u = c.in_ok-extend_from_slice.ensures.items ∙ ap (λ ls. left ++ ls) next in
     smaller u (length g.edges) flags c.loop-u.stack.items left c.extend_from_slice.new.self.items (sources_of g.edges u) inside fresh (few_sources g.edges u) c.in-Some.ensures.items more
 
@@ -68,9 +68,8 @@ loop-u-preserved-in-Continue-branch-4 c =
     let lt = within g.nodes u c.loop-u.stack.items left c.in-Some.ensures.items s.stack_within in
     let nodes = c.nodes-nodes.ensures.nodes in
     let short : u < c.nodes-nodes.result = omega arith in
-    let S : List (ℕ × ℕ) → Type 0 = λ es. AreSources es c.nodes-nodes.result c.in_ok-sources.sources.items in
-    let next : c.deref.result.now ≡ sources_of g.edges u =
-    c.deref.ensures.value ∙ read_sources g.edges c.nodes-nodes.result u c.in_ok-sources.sources.items c.index-then-not-index.result.now (subst S c.edges.ensures.edges c.in_ok-sources.ensures) short c.index-then-not-index.ensures in
+    let S : List (ℕ × ℕ) → Type 0 = λ es. AreSources es c.nodes-nodes.result c.in_ok-sources.sources in
+    let next : c.of.result.now ≡ sources_of g.edges u = c.of.ensures ∙ (subst S c.edges.ensures.edges c.in_ok-sources.ensures).each u short in
     let more : c.extend_from_slice.new.self.items ≡ left ++ sources_of g.edges u = c.in_ok-extend_from_slice.ensures.items ∙ ap (λ ls. left ++ ls) next in
     let P : List ℕ → Type 0 = λ ls. IsBackwardSearch g ls flags in
     let R : List ℕ → Type 0 = λ ls. IsBackwardSearch g ls (set flags u true) in

@@ -1,7 +1,0 @@
-use Rattle.std.proofs.Common.{ℕ, ◌<◌, get_or}
-use Rattle.path_solver.specs.Conditions.{ExitHolds}
-use Rattle.path_solver.proofs.descent.failing_exit.Given as goal
-
-abbrev pub invariant-loop-i : goal.invariant-loop-i
-invariant-loop-i l =
-    (j : ℕ) → j < l.i → ExitHolds l.costs l.s (get_or l.exits j 0)

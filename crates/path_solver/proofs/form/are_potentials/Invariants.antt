@@ -1,6 +1,0 @@
-use Rattle.std.proofs.Common.{ℕ, ◌<◌, pos, get_or}
-use Rattle.path_solver.specs.Section.{IsPotential}
-use Rattle.path_solver.proofs.form.are_potentials.Given as goal
-
-abbrev pub invariant-loop-i : goal.invariant-loop-i
-invariant-loop-i l = (k : ℕ) → k < l.i → IsPotential (get_or l.nodes k (0, pos 0)).1

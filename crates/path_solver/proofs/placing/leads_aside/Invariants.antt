@@ -1,7 +1,0 @@
-use Rattle.std.proofs.Common.{ℕ, ◌<◌, get_or}
-use Rattle.path_solver.specs.Placing.{EntersAside}
-use Rattle.path_solver.proofs.placing.leads_aside.Given as goal
-
-abbrev pub invariant-loop-i : goal.invariant-loop-i
-invariant-loop-i l =
-    (j : ℕ) → j < l.i → ¬ EntersAside l.loops (get_or l.edges j (0, 0)).0 (get_or l.edges j (0, 0)).1

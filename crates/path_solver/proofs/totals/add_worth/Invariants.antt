@@ -1,6 +1,0 @@
-use Rattle.std.proofs.Common.{take}
-use Rattle.path_solver.specs.Totals.{AreAdded}
-use Rattle.path_solver.proofs.totals.add_worth.Given as goal
-
-abbrev pub invariant-loop-u : goal.invariant-loop-u
-invariant-loop-u l = AreAdded (take l.u-index l.members) l.worth l.fn.totals l.totals

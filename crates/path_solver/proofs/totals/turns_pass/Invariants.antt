@@ -1,6 +1,0 @@
-use Rattle.std.proofs.Common.{take}
-use Rattle.path_solver.proofs.AddingUp.{AreTotals}
-use Rattle.path_solver.proofs.totals.turns_pass.Given as goal
-
-abbrev pub invariant-loop-i : goal.invariant-loop-i
-invariant-loop-i l = AreTotals (take l.i l.loops) (take l.i l.worths) l.nodes l.totals.items

@@ -1,0 +1,14 @@
+mod Elements
+mod Sums
+mod Sound
+mod Bounding
+mod Own
+mod Iterating
+mod Rising
+mod Least
+mod Headed
+mod Ordered
+mod Deciding
+mod Sharing
+mod SimpleWalks
+mod NoExit

@@ -1,0 +1,27 @@
+use Rattle.std.proofs.Common.{◌≡◌, ℕ, ◌<◌, ◌≤◌, List, length, get_or, Contains, Result, Ok, Err, is_ok, ◌↔◌, MatchResult, sym, ◌∙◌, inl, inr, refl, arith, true}
+use Rattle.std.proofs.lemmas.Bool.{cases_lt, both_ways, false≢true}
+use Rattle.std.proofs.lemmas.List.{get_or_default}
+use Rattle.std.proofs.lemmas.List.Sorted.{searched}
+use Rattle.section_check.proofs.Rising.{rising_all}
+use Rattle.section_check.proofs.lookups.has.Goals as goal
+
+told : (xs : List ℕ) (x : ℕ) (r : Result ℕ ℕ) → MatchResult r (λ i. (i < length xs) × (get_or xs i 0 ≡ x)) (λ i. (i ≤ length xs) × ((k : ℕ) → k < i → get_or xs k 0 < x) × ((k : ℕ) → i ≤ k → k < length xs → x < get_or xs k 0)) → (is_ok r ≡ true) ↔ Contains xs x
+told xs x (Ok i) h = (λ _. (i, h.0, get_or_default xs i x 0 h.0 ∙ h.1), λ _. refl)
+told xs x (Err i) h = (
+  λ e. absurd (false≢true e),
+  λ c.
+      let at = get_or_default xs c.0 0 x c.1 ∙ c.2 in
+      elim (cases_lt c.0 i) [
+        | inl low ↦ let p = h.1 c.0 low in absurd (omega arith)
+        | inr high ↦ let p = h.2 c.0 high c.1 in absurd (omega arith)
+      ],
+)
+
+pub returns-then-spans : goal.returns-then-spans
+returns-then-spans c =
+    let xs = c.args.nodes.now in
+    let all = told xs c.args.u c.binary_search.result (searched xs c.args.u c.binary_search.result c.binary_search.ensures.position (rising_all xs c.requires)) in
+    (λ t. all.0 (sym c.is_ok.ensures.value ∙ t), λ has. c.is_ok.ensures.value ∙ all.1 has)
+
+pub returns-else-spans : goal.returns-else-spans
+returns-else-spans c = (λ t. absurd (both_ways c.spans.result c.if-spans.false t), λ has. absurd (both_ways c.spans.result c.if-spans.false (c.spans.ensures has)))

@@ -1,0 +1,29 @@
+//! What accepted sections show. Each function does nothing: its contract is the law.
+
+ghost use Rattle.section_check.specs.Laws.{OwnBoundsSuffice, NoValueNoExit, AcceptedBoundWalks, AcceptedBoundIterations};
+
+use loop_nest::laws::dominance_is_antisymmetric;
+
+/// A walk in a part of the graph that keeps the bounds of that part's own loops keeps those of a
+/// section's loops.
+pub fn own_bounds_suffice()
+    ensures { OwnBoundsSuffice }
+{}
+
+/// Where an accepted section has no value, no exit is reached from node 0, whatever the bounds.
+pub fn no_value_no_exit()
+    ensures { NoValueNoExit }
+{}
+
+/// An accepted section's value bounds each walk that keeps all bounds.
+pub fn accepted_bound_walks()
+    ensures { AcceptedBoundWalks }
+{}
+
+/// The iteration cost of a loop of an accepted section bounds each of its iterations.
+pub fn accepted_bound_iterations()
+    ensures { AcceptedBoundIterations }
+{
+    // The law is for the proof.
+    dominance_is_antisymmetric();
+}
