@@ -5,11 +5,10 @@ use Rattle.std.specs.Int.{div_ceil}
 use Rattle.memory_timing.specs.declared.Config.{Config}
 use Rattle.memory_timing.specs.Setting.{IsDefault}
 use Rattle.method_cache.specs.Contents.{can_load, empty}
-use Rattle.jop_core.specs.declared.seen.Seen.{Seen}
-use Rattle.jop_core.specs.Bare.{Image, IsImage, spelled, return_code}
+use Rattle.jop_device.specs.declared.seen.Seen.{Seen}
+use Rattle.bare_image.specs.Bare.{Image, IsImage, spelled, return_code}
 use Rattle.jop_core.specs.State as machine
-use Rattle.jop_core.specs.Reset.{bare_reset, words_of_bytes}
-use Rattle.jop_core.proofs.Packs.{length-words_of_bytes}
+use Rattle.jop_core.specs.Reset.{bare_reset, words_for}
 use Rattle.bare_steps.specs.Bytecode.{boot}
 use Rattle.bare_steps.specs.Step.{IsUnderway}
 use Rattle.bare_steps.specs.Reset.{ResetIsUnderway}
@@ -17,15 +16,14 @@ use Rattle.jop_cli.specs.declared.outcome.Counts.{Counts}
 use Rattle.jop_cli.specs.Run.{IsAtReset, Comes, Breaks, AreCounts, RunsTo, RunsInPart}
 
 -- the code fits the cache of the usual settings
-pub fits_cache : (image : Image) (config : Config) → IsDefault config → IsImage image → can_load (length (words_of_bytes image.code)) (empty config.blocks config.block_words) ≡ true
+pub fits_cache : (image : Image) (config : Config) → IsDefault config → IsImage image → can_load (words_for (length image.code)) (empty config.blocks config.block_words) ≡ true
 fits_cache image config setting grammar =
-    let count = length-words_of_bytes image.code in
     let some : 1 ≤ length image.code = omega (arith, ap length grammar.code ∙ length-append (spelled grammar.instructions) (return_code ∷ [])) in
-    let words : 0 < length (words_of_bytes image.code) = omega (arith, count, some) in
-    let few : div_ceil (length (words_of_bytes image.code)) 64 ≤ 16 = omega (arith, count, grammar.short) in
-    ap (λ b. can_load (length (words_of_bytes image.code)) (empty b config.block_words)) setting.blocks
-    ∙ ap (λ w. can_load (length (words_of_bytes image.code)) (empty 16 w)) setting.block_words
-    ∙ rw (lt-ltb 0 (length (words_of_bytes image.code)) words, le-leb (div_ceil (length (words_of_bytes image.code)) 64) 16 few) refl
+    let words : 0 < words_for (length image.code) = omega (arith, some) in
+    let few : div_ceil (words_for (length image.code)) 64 ≤ 16 = omega (arith, grammar.short) in
+    ap (λ b. can_load (words_for (length image.code)) (empty b config.block_words)) setting.blocks
+    ∙ ap (λ w. can_load (words_for (length image.code)) (empty 16 w)) setting.block_words
+    ∙ rw (lt-ltb 0 (words_for (length image.code)) words, le-leb (div_ceil (words_for (length image.code)) 64) 16 few) refl
 
 pub underway_at : ResetIsUnderway → (image : Image) (config : Config) (m : machine.State) → IsDefault config → m ≡ bare_reset 1024 image config → IsImage image → IsUnderway 1024 image m (boot image)
 underway_at law image config m setting is grammar =

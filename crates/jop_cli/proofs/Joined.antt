@@ -1,11 +1,12 @@
 -- Pieces one after another.
-use Rattle.std.proofs.Common.{◌≡◌, ℕ, zero, suc, ◌+◌, ◌<◌, ◌≤◌, List, [], ◌∷◌, ◌++◌, length, take, get_or, refl, sym, subst, ◌∙◌, ap, arith, add-one, append-nil, append_assoc, length-append}
+use Rattle.std.proofs.Common.{◌≡◌, ◌↔◌, ℕ, Bool, true, false, IsTrue, zero, suc, ◌+◌, ◌<◌, ◌≤◌, List, [], ◌∷◌, ◌++◌, length, take, get_or, refl, sym, subst, ◌∙◌, ap, arith, add-one, append-nil, append_assoc, length-append}
 use Rattle.std.specs.Prelude.{IsErr, Ok, Err}
 use Rattle.std.specs.declared.option.Option.{Option}
 use Rattle.std.specs.declared.result.Result.{Result}
 use Rattle.std.proofs.lemmas.List.{take_all}
 use Rattle.std.specs.Borrow.{Bor}
-use Rattle.jop_outside.specs.Outside.{Grew}
+use Rattle.std.proofs.lemmas.Bool.{false≢true}
+use Rattle.jop_outside.specs.Outside.{Grew, HasCause, Rose}
 use Rattle.jop_cli.specs.Command.{texts, text_at}
 use Rattle.jop_cli.specs.Line.{joined, PutLine}
 
@@ -51,10 +52,25 @@ pub PutLine-err : {T E : Type 0} (old new : Option (List ℕ)) (line : List ℕ)
 PutLine-err old new line (Ok x) failed n part put = absurd (cc)
 PutLine-err old new line (Err e) failed n part put = (n, part, put)
 
--- what is put of a line is a front of it
-pub PutLine-front : {T E : Type 0} (old new : Option (List ℕ)) (line : List ℕ) (result : Result T E) → PutLine old new line result → (n : ℕ) × Grew old new (take n line)
-PutLine-front old new line (Ok x) put = (length line, (let P : List ℕ → Type 0 = λ xs. Grew old new xs in subst P (sym (take_all (length line) line (omega arith))) put))
-PutLine-front old new line (Err e) put = (put.0, put.2)
+-- All of a line was put, or less of it, and then the count of faults rose.
+pub record Part (old new : Option (List ℕ)) (line : List ℕ) (before now : ℕ) : Type 0 where
+  pub count : ℕ
+  pub within : count ≤ length line
+  pub short : count < length line → Rose before now
+  pub put : Grew old new (take count line)
+
+pub Part-PutLine : {T E : Type 0} (old new : Option (List ℕ)) (line : List ℕ) (before now : ℕ) (result : Result T E) → PutLine old new line result → HasCause before now result → Part old new line before now
+Part-PutLine old new line before now (Ok x) put cause = record {
+  count = length line;
+  within = omega arith;
+  short = λ less. absurd (omega (arith, less));
+  put = let P : List ℕ → Type 0 = λ xs. Grew old new xs in subst P (sym (take_all (length line) line (omega arith))) put;
+}
+Part-PutLine old new line before now (Err e) put cause = record { count = put.0; within = omega (arith, put.1); short = λ less. cause.failed; put = put.2 }
+
+-- what a test that says no rules out
+pub ruled_out : {P : Type 0} (test : Bool) → IsTrue test ↔ P → test ≡ false → P → ⊥
+ruled_out test says denied holds = false≢true (sym denied ∙ says.1 holds)
 
 -- the text of a word
 pub text_at-texts : (words : List (Bor (List ℕ))) (k : ℕ) (d : Bor (List ℕ)) → k < length words → text_at (texts words) k ≡ (get_or words k d).now

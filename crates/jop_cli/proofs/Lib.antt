@@ -1,5 +1,4 @@
 pub mod Joined
-pub mod Clocks
 pub mod Marching
 pub mod FromReset
 pub mod Numbers

@@ -2,8 +2,8 @@
 use Rattle.std.specs.Prelude.{◌≡◌, ℕ, ◌<◌, ◌≤◌, true, false, ◌⊎◌, List, length, take, ◌++◌, Ok, Err}
 use Rattle.std.specs.declared.option.Option.{Option}
 use Rattle.jop_outside.specs.Outside.{Grew, Rose, OnlyWord, IsWhole, HasLength}
-use Rattle.jop_core.specs.declared.seen.Seen.{Seen}
-use Rattle.jop_core.specs.Bare.{Image, IsBare}
+use Rattle.jop_device.specs.declared.seen.Seen.{Seen}
+use Rattle.bare_image.specs.Bare.{Image, IsBare}
 use Rattle.jop_cli.specs.declared.words.RunCommand.{RunCommand}
 use Rattle.jop_cli.specs.declared.outcome.Refusal.{Refusal}
 use Rattle.jop_cli.specs.declared.outcome.Refusal.TheVariants.{Usage, TooBig, BadImage, NotBuilt}
@@ -35,21 +35,21 @@ pub record IsQuiet (old new : World) : Type 0 where
   pub out_faults : new.out_faults ≡ old.out_faults
   pub watch : new.watch ≡ old.watch
 
--- of the files, at most that of a word was asked for
-pub record AskedOnly (word : ℕ) (old new : World) : Type 0 where
+-- no contents and no count of a file changed, but for the count of the file of a word, which didn't fall
+pub record FilesStayBut (word : ℕ) (old new : World) : Type 0 where
   pub rest : OnlyWord old.words new.words old.files new.files old.file_faults new.file_faults word
   pub later : old.file_faults word ≤ new.file_faults word
 
--- no file was asked for
-pub record AskedNone (old new : World) : Type 0 where
+-- no contents and no count of a file changed
+pub record FilesStay (old new : World) : Type 0 where
   pub words : new.words ≡ old.words
   pub contents : (k : ℕ) → new.files k ≡ old.files k
   pub counts : (k : ℕ) → new.file_faults k ≡ old.file_faults k
 
--- the words give a command `run`, and its image's file alone was asked for
+-- the words give a command `run`, and of the files no more than the count of its image's changed
 pub record Runs (words : List (List ℕ)) (command : RunCommand) (old new : World) : Type 0 where
   pub command_is : command_of words ≡ Ok command
-  pub asked : AskedOnly command.image old new
+  pub files : FilesStayBut command.image old new
 
 -- and these are the file's bytes
 pub record RunsBytes (words : List (List ℕ)) (command : RunCommand) (bytes : List ℕ) (old new : World) : Type 0 where
@@ -66,7 +66,7 @@ pub record RunsImage (words : List (List ℕ)) (command : RunCommand) (image : I
 
 -- How a refusal of words or of an image comes about.
 abbrev pub RefusedFor : List (List ℕ) → World → World → Refusal → Type 0
-RefusedFor words old new (Usage k) = (command_of words ≡ Err k) × AskedNone old new
+RefusedFor words old new (Usage k) = (command_of words ≡ Err k) × FilesStay old new
 RefusedFor words old new (TooBig operand sum) =
     (command : RunCommand) × Runs words command old new × (operand ≡ command.image) × (16777216 < sum) × HasLength (old.files operand) sum
 RefusedFor words old new NotBuilt =
@@ -121,13 +121,19 @@ pub record SaidLine (line : List ℕ) (ending : Ending) (old new : Option (List 
   pub outcome_is : outcome ≡ outcome_of ending
   pub put : Grew old new line
 
--- err failed at the line of an answer, and the line of a write fault, or a front of it, follows the front that was put
-pub record SaidFault (line : List ℕ) (old new : Option (List ℕ)) (before now : ℕ) (outcome : Outcome) : Type 0 where
+-- err failed at the line of an answer, of which a front was put. Then the line of a write fault was put behind it, or less of that line and err
+-- failed again.
+pub record SaidFault (line : List ℕ) (ending : Ending) (old new : Option (List ℕ)) (before now : ℕ) (outcome : Outcome) : Type 0 where
+  pub answer : IsFault ending → ⊥
   pub outcome_is : outcome ≡ outcomes.WriteFault
-  pub rose : Rose before now
   pub front : ℕ
   pub part : front < length line
+  pub middle : ℕ
+  pub rose : Rose before middle
+  pub later : middle ≤ now
   pub fault_front : ℕ
+  pub fault_within : fault_front ≤ length write_fault_line
+  pub fault_part : fault_front < length write_fault_line → Rose middle now
   pub put : Grew old new (take front line ++ take fault_front write_fault_line)
 
 -- err failed at the line of a fault or of want of memory, of which a front was put
@@ -143,7 +149,7 @@ pub record SaidPart (line : List ℕ) (ending : Ending) (old new : Option (List 
 pub record Said (words : List (List ℕ)) (ending : Ending) (old new : Option (List ℕ)) (before now : ℕ) (outcome : Outcome) : Type 0 where
   pub later : before ≤ now
   pub said : SaidLine (line_of words ending) ending old new outcome
-      ⊎ SaidFault (line_of words ending) old new before now outcome
+      ⊎ SaidFault (line_of words ending) ending old new before now outcome
       ⊎ SaidPart (line_of words ending) ending old new before now outcome
 
 -- What the program answers: the command ended with a cause, and its line was said.

@@ -3,8 +3,8 @@ use Rattle.std.specs.Prelude.{◌≡◌, ℕ, ◌<◌, ◌≤◌, Bool, true, fa
 use Rattle.std.specs.List.{starts_with}
 use Rattle.std.specs.declared.option.Option.{Option}
 use Rattle.jop_outside.specs.Outside.{Rose, HasLength}
-use Rattle.jop_core.specs.declared.seen.Seen.{Seen}
-use Rattle.jop_core.specs.Bare.{Image, IsBare}
+use Rattle.jop_device.specs.declared.seen.Seen.{Seen}
+use Rattle.bare_image.specs.Bare.{Image, IsBare}
 use Rattle.jop_cli.specs.declared.outcome.Refusal.TheVariants.{TooBig, BadImage, NotBuilt}
 use Rattle.jop_cli.specs.declared.outcome.Ending.{Ending}
 use Rattle.jop_cli.specs.declared.outcome.Ending.TheVariants.{Ended, Refused, Spent, ReadFault, WriteFault, NoMemory}

@@ -4,13 +4,13 @@ use Rattle.std.specs.declared.option.Option.{Option}
 use Rattle.jop_outside.specs.Outside.{Grew, Rose}
 use Rattle.memory_timing.specs.declared.Config.{Config}
 use Rattle.memory_timing.specs.Setting.{IsDefault}
-use Rattle.jop_core.specs.declared.seen.Seen.{Seen}
-use Rattle.jop_core.specs.Bare.{Image}
+use Rattle.jop_device.specs.declared.seen.Seen.{Seen}
+use Rattle.bare_image.specs.Bare.{Image}
 use Rattle.jop_core.specs.Reset.{bare_reset}
 use Rattle.jop_core.specs.State as machine
 use Rattle.jop_core.specs.Cycle.{at_boundary, output_of}
 use Rattle.jop_core.specs.Scene.{begun, run, output_during, seen_during}
-use Rattle.jop_core.specs.Told.{Told, CountsRise}
+use Rattle.jop_device.specs.Told.{Told, CountsRise}
 use Rattle.bare_steps.specs.Bytecode.{run_of, opcode_at, boot}
 use Rattle.bare_steps.specs.StandsFor.{StandsFor}
 use Rattle.bare_steps.specs.Step.{IsUnderway}

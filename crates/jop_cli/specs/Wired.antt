@@ -1,8 +1,8 @@
 -- What an output and a watch tell as the devices of a machine: the input has ended, and nothing is noted.
 use Rattle.std.specs.Prelude.{ℕ, List, [], None, Some}
 use Rattle.std.specs.declared.option.Option.{Option}
-use Rattle.jop_core.specs.declared.seen.Seen.{Seen}
-use Rattle.jop_core.specs.Told.{Told}
+use Rattle.jop_device.specs.declared.seen.Seen.{Seen}
+use Rattle.jop_device.specs.Told.{Told}
 
 abbrev pub wired : (held : Option (List ℕ)) → (faults : ℕ) → (handed : Option (List Seen)) → Told
 wired held faults handed =

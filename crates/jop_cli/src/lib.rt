@@ -2,12 +2,11 @@
 #![tactic(auto)]
 
 mod devices;
+pub mod host;
 pub mod laws;
 mod lines;
 mod outcome;
 mod run;
-#[cfg(test)]
-mod tests;
 mod top;
 mod words;
 

@@ -1,7 +1,7 @@
 //! How a call of the program ends.
 
 /// Why a command was refused.
-#[derive(Clone, Copy, Debug, PartialEq, Eq)]
+#[derive(Clone, Copy, PartialEq, Eq)]
 pub enum Refusal {
     /// The words give no command. The number is that of the first word at which none can go on, or the
     /// number of words where they end early.
@@ -16,7 +16,7 @@ pub enum Refusal {
 }
 
 /// How a call of the program ends.
-#[derive(Clone, Copy, Debug, PartialEq, Eq)]
+#[derive(Clone, Copy, PartialEq, Eq)]
 pub enum Outcome {
     /// The program of the image returned from boot.
     Ended,
@@ -51,7 +51,7 @@ impl Outcome {
 }
 
 /// The counts of a machine that a line shows.
-#[derive(Clone, Copy, Debug, PartialEq, Eq)]
+#[derive(Clone, Copy)]
 pub(crate) struct Counts {
     pub clock: u64,
     pub hits: u64,
@@ -59,7 +59,7 @@ pub(crate) struct Counts {
 }
 
 /// An outcome with what its line shows.
-#[derive(Clone, Copy, Debug, PartialEq, Eq)]
+#[derive(Clone, Copy)]
 pub(crate) enum Ending {
     Ended(Counts),
     Refused(Refusal),

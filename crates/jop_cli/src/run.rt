@@ -5,12 +5,14 @@ ghost use Rattle.jop_cli.specs.Wired.{wired};
 
 use crate::devices::RunDevice;
 use bare_steps::step;
+use jop_core::laws::cycles_keep;
 use jop_core::{Devices, Machine, Watch};
 use jop_outside::Sink;
+use micro_sketch::laws::runs_add_up;
 use micro_sketch::step::Stepped;
 
 /// How a run ends.
-#[derive(Clone, Copy, Debug, PartialEq, Eq)]
+#[derive(Clone, Copy)]
 pub(crate) enum RunEnd {
     /// The program returned from boot.
     Ended,
@@ -34,6 +36,8 @@ fn run_with<const N: usize, D: Devices>(
     ensures finished { FinishedAll N machine.old limit machine.new (D.told device.old) (D.told device.new) result }
     ensures names { D.names device.new ≡ D.names device.old }
 {
+    runs_add_up();
+    cycles_keep();
     while machine.clock() < limit {
         match step(machine, device) {
             Stepped::Next => {}

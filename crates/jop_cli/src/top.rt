@@ -1,7 +1,7 @@
 //! The top call.
 ghost use Rattle.std.specs.Prelude.{◌≡◌, ◌<◌, ◌≤◌, ◌^◌, ◌↔◌, false, length, IfOk, IfErr, IsTrue, IsOk};
 ghost use Rattle.jop_outside.specs.Outside.{IsWhole, OnlyWord};
-ghost use Rattle.jop_core.specs.Bare.{IsImage, IsBare};
+ghost use Rattle.bare_image.specs.Bare.{IsImage, IsBare};
 ghost use Rattle.jop_cli.specs.Command.{texts};
 ghost use Rattle.jop_cli.specs.Phase.{LoadFault, is_linked, ImageFault, Ran};
 ghost use Rattle.jop_cli.specs.Run.{AreCounts};

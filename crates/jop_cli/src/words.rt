@@ -11,7 +11,7 @@ const MOST_CYCLES: u64 = 9_223_372_036_854_775_807;
 const USUAL_CYCLES: u64 = 1_000_000_000;
 
 /// The command `run`.
-#[derive(Clone, Copy, Debug, PartialEq, Eq)]
+#[derive(Clone, Copy)]
 pub(crate) struct RunCommand {
     /// The number of the image's word.
     pub image: u32,

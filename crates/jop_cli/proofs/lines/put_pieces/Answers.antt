@@ -1,5 +1,5 @@
 use Rattle.std.proofs.Common.{arith}
-use Rattle.jop_outside.proofs.Told.{Grew-trans}
+use Rattle.jop_outside.specs.Growing.{Grew-trans}
 use Rattle.jop_cli.proofs.Joined.{joined-more, joined-front, PutLine-err}
 use Rattle.jop_cli.proofs.lines.put_pieces.Goals as goal
 

@@ -1,0 +1,25 @@
+//! Shows what no clause of the top call says: that there is an answer with ample memory, that a watch goes on
+//! telling, and the machine's registers against tables that were worked out by hand. It prints a line for
+//! each call: its words, the outcome and its status, what out holds and what err holds.
+#![tactic(auto)]
+
+mod calls;
+mod images;
+mod machine;
+mod rows;
+mod watches;
+
+use std::io;
+
+fn main(rt: HostRuntime) -> io::Result<()> {
+    rows::show_ends(&rt)?;
+    rows::show_limits(&rt)?;
+    rows::show_refusals(&rt)?;
+    rows::show_other_files(&rt)?;
+    rows::show_usages(&rt)?;
+    rows::show_faults(&rt)?;
+    watches::show_states(&rt)?;
+    watches::show_long_watches(&rt)?;
+    machine::show_reset(&rt)?;
+    machine::show_thousand_cycles(&rt)
+}
