@@ -2,7 +2,7 @@
 use Rattle.std.proofs.Common.{◌≡◌, ℕ, zero, suc, ◌+◌, ◌-◌, ◌%◌, ◌^◌, ◌<◌, ◌≤◌, Bool, true, false, cond, nat_lt, ◌==◌, ◌||◌, ◌&&◌, [], length, Some, None, refl, sym, ◌∙◌, ap, subst, arith, eqb-true, lt-ltb, ◌⊎◌, inl, inr}
 use Rattle.std.specs.Prelude.{nat_le, bit_and, bit_or, bit_xor}
 use Rattle.std.specs.declared.option.Option.{Option}
-use Rattle.std.proofs.lemmas.Bool.{leb-true, le-ltb}
+use Rattle.std.proofs.lemmas.Bool.{and_parts, leb-true, le-ltb}
 use Rattle.bare_image.specs.declared.shape.Shape.{Shape}
 use Rattle.bare_image.specs.Shapes.{shape_of, is_within}
 use Rattle.bare_image.specs.Bare.{Image}
@@ -133,10 +133,6 @@ either : {P : Type 0} (a b : Bool) → (a || b) ≡ true → (a ≡ true → P) 
 either true b is here there = here refl
 either false b is here there = there is
 
-both : (a b : Bool) → (a && b) ≡ true → (a ≡ true) × (b ≡ true)
-both true b is = (refl, is)
-both false b is = absurd (cc)
-
 -- so many places behind the first
 pub record Behind (low count op : ℕ) : Type 0 where
   pub k : ℕ
@@ -145,7 +141,7 @@ pub record Behind (low count op : ℕ) : Type 0 where
 
 behind : (low high op : ℕ) → is_within low high op ≡ true → Behind low (high - low) op
 behind low high op is =
-    let tested = both (nat_le low op) (nat_le op high) is in
+    let tested = and_parts (nat_le low op) (nat_le op high) is in
     let l = leb-true low op tested.0 in
     let h = leb-true op high tested.1 in
     record { k = op - low; few = omega (arith, l, h); is = omega (arith, l) }

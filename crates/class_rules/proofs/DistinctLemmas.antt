@@ -171,12 +171,6 @@ distinct_more pool numbers seen after m others whole are fresh updated so_far =
     let b : Bool = not (list_any (same_member pool m) others) in
     so_far ∙ ap (λ (v : Bool). (not v && a) && (b && are_distinct pool others)) fresh ∙ regroup a b (are_distinct pool others) ∙ ap (λ (v : Bool). v && are_distinct pool others) (sym more)
 
-pub distinct_no_more : (pool : List Entry) (numbers : List ℕ) (seen : BTreeSet (ℕ × ℕ)) (m : Member) (others : List Member) (whole : Bool)
-    → is_seen seen (key_of numbers m) ≡ true
-    → whole ≡ (list_all (is_fresh seen numbers) (m ∷ others) && are_distinct pool (m ∷ others)) → whole ≡ false
-distinct_no_more pool numbers seen m others whole is so_far =
-    so_far ∙ ap (λ (v : Bool). (not v && list_all (is_fresh seen numbers) others) && are_distinct pool (m ∷ others)) is
-
 not_true : (b : Bool) → not b ≡ true → b ≡ false
 not_true true e = cc
 not_true false e = refl

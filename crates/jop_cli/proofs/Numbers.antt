@@ -3,19 +3,11 @@ use Rattle.std.proofs.Common.{◌≡◌, ℕ, ◌<◌, ◌≤◌, ◌^◌, Bool,
 use Rattle.std.specs.Prelude.{◌&&◌, ◌||◌, ◌==◌, nat_le, nat_lt, slice_index, SomeIff, if◌then◌else◌}
 use Rattle.std.specs.declared.option.Option.{Option}
 use Rattle.std.specs.Str.{all_ascii_digits}
-use Rattle.std.proofs.lemmas.Bool.{cases_Bool}
+use Rattle.std.proofs.lemmas.Bool.{and_from, and_parts, cases_Bool}
 use Rattle.std.proofs.lemmas.Str.Parse.{IsNumeralModel, numerals_by_value, tells_all_ascii_digits}
 use Rattle.std.specs.Str.Parse.{digits_value}
 use Rattle.jop_text.specs.Number.{IsDecimalNumber, value_of}
 use Rattle.jop_cli.specs.Command.{is_number, cycles_of, most_cycles}
-
-and : (a b : Bool) → a ≡ true → b ≡ true → (a && b) ≡ true
-and true b one other = other
-and false b one other = one
-
-both : (a b : Bool) → (a && b) ≡ true → (a ≡ true) × (b ≡ true)
-both true b e = (refl, e)
-both false b e = absurd (cc)
 
 or_not : (a b : Bool) → (b ≡ true → a ≡ true) → (a || not b) ≡ true
 or_not true b h = refl
@@ -45,14 +37,14 @@ from_some (c ∷ cs) e = omega arith
 
 number_is : (text : List ℕ) → IsDecimalNumber text → is_number text ≡ true
 number_is text h =
-    and (nat_lt 0 (length text) && all_ascii_digits text) (length text == 1 || not (slice_index text 0 == 48))
-    (and (nat_lt 0 (length text)) (all_ascii_digits text) (some text h.not_empty) (digits.from text h.digits))
+    and_from (nat_lt 0 (length text) && all_ascii_digits text) (length text == 1 || not (slice_index text 0 == 48))
+    (and_from (nat_lt 0 (length text)) (all_ascii_digits text) (some text h.not_empty) (digits.from text h.digits))
     (or_not (length text == 1) (slice_index text 0 == 48) (λ e. eq-eqb (length text) 1 (h.no_leading_zero (eq_true (slice_index text 0) 48 e))))
 
 is_decimal : (text : List ℕ) → is_number text ≡ true → IsDecimalNumber text
 is_decimal text e =
-    let halves = both (nat_lt 0 (length text) && all_ascii_digits text) (length text == 1 || not (slice_index text 0 == 48)) e in
-    let first = both (nat_lt 0 (length text)) (all_ascii_digits text) halves.0 in
+    let halves = and_parts (nat_lt 0 (length text) && all_ascii_digits text) (length text == 1 || not (slice_index text 0 == 48)) e in
+    let first = and_parts (nat_lt 0 (length text)) (all_ascii_digits text) halves.0 in
     record {
       not_empty = from_some text first.0;
       digits = digits.to text first.1;
@@ -61,13 +53,13 @@ is_decimal text e =
 
 pub cycles-some : (text : List ℕ) (n : ℕ) → IsDecimalNumber text → n ≡ value_of text → n ≤ most_cycles → Some n ≡ cycles_of text
 cycles-some text n h is few =
-    let test : (is_number text && nat_le (value_of text) most_cycles) ≡ true = and (is_number text) (nat_le (value_of text) most_cycles) (number_is text h) (le-leb (value_of text) most_cycles (omega (arith, is, few))) in
+    let test : (is_number text && nat_le (value_of text) most_cycles) ≡ true = and_from (is_number text) (nat_le (value_of text) most_cycles) (number_is text h) (le-leb (value_of text) most_cycles (omega (arith, is, few))) in
     ap (λ (k : ℕ). Some k) is ∙ ap (λ b. if b then Some (value_of text) else None) (sym test)
 
 pub cycles-none : (text : List ℕ) → (IsDecimalNumber text → value_of text ≤ most_cycles → ⊥) → None ≡ cycles_of text
 cycles-none text h = elim (cases_Bool (is_number text && nat_le (value_of text) most_cycles)) [
   | inl e ↦
-      let halves = both (is_number text) (nat_le (value_of text) most_cycles) e in
+      let halves = and_parts (is_number text) (nat_le (value_of text) most_cycles) e in
       absurd (h (is_decimal text halves.0) (le_true (value_of text) most_cycles halves.1))
   | inr e ↦ ap (λ b. if b then Some (value_of text) else None) (sym e)
 ]
@@ -98,7 +90,7 @@ cycles_too_many word text n answer same some reads many =
 pub cycles-means : (text : List ℕ) (n : ℕ) → cycles_of text ≡ Some n → IsDecimalNumber text × (n ≡ value_of text) × (n ≤ most_cycles)
 cycles-means text n means = elim (cases_Bool (is_number text && nat_le (value_of text) most_cycles)) [
   | inl e ↦
-      let halves = both (is_number text) (nat_le (value_of text) most_cycles) e in
+      let halves = and_parts (is_number text) (nat_le (value_of text) most_cycles) e in
       let known : Some (value_of text) ≡ cycles_of text = ap (λ b. if b then Some (value_of text) else None) (sym e) in
       let is : n ≡ value_of text = cc in
       (is_decimal text halves.0, is, omega (arith, is, le_true (value_of text) most_cycles halves.1))

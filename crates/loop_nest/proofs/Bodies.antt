@@ -70,16 +70,6 @@ flags_more n u v es flags lt f =
           ];
     }
 
-pub headers_start : (g : Digraph) → AreHeadersBelow g 0 [] []
-headers_start g = record {
-  rising = λ i lt. absurd (omega arith);
-  below = λ i d lt. absurd (omega arith);
-  headers = λ i d lt. absurd (omega arith);
-  long = refl;
-  numbered = λ h lt. absurd (omega arith);
-  empty = λ i d lt. absurd (omega arith);
-}
-
 pub headers_more : (g : Digraph) (h : ℕ) (ls : List NaturalLoop) (l : NaturalLoop) (numbers : List ℕ) → l.header ≡ h → l.members ≡ [] → IsHeader g h → AreHeadersBelow g h ls numbers → AreHeadersBelow g (h + 1) (ls ++ l ∷ []) (numbers ++ length ls ∷ [])
 headers_more g h ls l numbers at none header before =
     let heads : headers_of (ls ++ l ∷ []) ≡ headers_of ls ++ h ∷ [] =

@@ -117,15 +117,6 @@ chain_short g first last ns begins c =
     apart_nodes g ns c.chain none i j less lt (get_or_default ns i 0 d (omega arith) ∙ e ∙ get_or_default ns j d 0 lt)))) (λ q has.
     All-contains (λ u. u < g.nodes) ns q c.within (any_contains ns q has))
 
-pub chain_start : (g : Digraph) (first : ℕ) → first < g.nodes → IsChainFrom g first first (first ∷ [])
-chain_start g first below = record {
-  some = omega arith;
-  begins = refl;
-  ends = refl;
-  chain = λ k lt. absurd (omega arith);
-  within = All-push (λ u. u < g.nodes) [] first (λ k d lt. absurd (omega arith)) below;
-}
-
 pub chain_more : (g : Digraph) (first last v : ℕ) (ns : List ℕ) → IsDigraph g → IsLink g last v → IsChainFrom g first last ns → IsChainFrom g first v (ns ++ v ∷ [])
 chain_more g first last v ns wf link c =
     let long = length_push ns v in
@@ -148,17 +139,6 @@ chain_more g first last v ns wf link c =
                 subst Q (sym (get_or_push ns v 0 (k + 1) (omega arith))) (subst R (sym (ap (λ (j : ℕ). get_or ns j 0) at ∙ c.ends)) link)
           ]);
       within = All-push (λ u. u < g.nodes) ns v c.within (ends_within wf last v (link_edge link)).1;
-    }
-
-pub chain_block : (g : Digraph) (first last : ℕ) (ns : List ℕ) → (IsLater g first → ⊥) → ((v : ℕ) → IsLink g last v → ⊥) → IsChainFrom g first last ns → IsBlock g ns
-chain_block g first last ns begins none c =
-    let P : ℕ → Type 0 = λ z. (w : ℕ) → IsLink g w z → ⊥ in
-    let Q : ℕ → Type 0 = λ z. (v : ℕ) → IsLink g z v → ⊥ in
-    record {
-      some = c.some;
-      chain = c.chain;
-      first = subst P (sym c.begins) (λ w l. begins (w, l));
-      last = subst Q (sym c.ends) none;
     }
 
 -- the one target of u is linked to it, where it has one source and is not node 0

@@ -50,15 +50,6 @@ starts_skip flags w n us off h = record {
   apart = h.apart;
 }
 
-pub counted_none : (w o : List ℕ) → AreApart o → AreCountedDown [] w w o o
-counted_none w o apart = record {
-  long = refl;
-  counts = λ v. omega arith;
-  added = ([], sym (append-nil o));
-  each = λ v. (λ has. inl has, λ r. elim r [ inl has ↦ has | inr t ↦ absurd (nil_contains v t.0) ]);
-  apart = apart;
-}
-
 abbrev one_at : ℕ → ℕ → ℕ
 one_at v x = cond (eqb v x) 1 0
 

@@ -66,6 +66,3 @@ iterations_from ls u v i l head is has = record {
   header = ap header_of (is ∙ get_or_default ls i l head.headed head.at.0 ∙ head.at.1) ∙ head.header;
   member = has;
 }
-
-pub never_iterations : (ls : List NaturalLoop) (u v : ℕ) → NoLoopHas ls v → ClosesLoop ls u v → ⊥
-never_iterations ls u v none t = none t.among.0 t.loop (t.among.1, t.among.2) t.header

@@ -5,9 +5,6 @@ use Rattle.std.proofs.lemmas.List.Elements.{Contains-append_left, Contains-push,
 use Rattle.path_solver.specs.Distances.{IsMost}
 use Rattle.path_solver.proofs.Elements.{nil_contains}
 
-pub most_none : (f : ℕ → ℕ) → IsMost f [] 0
-most_none f = record { above = λ u has. absurd (nil_contains u has); attained = inl (refl, refl) }
-
 pub most_push : (f : ℕ → ℕ) (us : List ℕ) (u m n : ℕ) → n ≡ max (f u) m → IsMost f us m → IsMost f (us ++ u ∷ []) n
 most_push f us u m n is h = record {
   above = λ x has.

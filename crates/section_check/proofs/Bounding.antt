@@ -34,9 +34,6 @@ back_edges_to-cons l u x s = sum_by-cons (is_header l) x s
 counted : (l : PricedLoop) (x : ℕ) → x ≡ l.certified.header → is_header l x ≡ 1
 counted l x same = cond-true (eqb x l.certified.header) 1 0 (eq-eqb x l.certified.header same)
 
-not_counted : (l : PricedLoop) (x : ℕ) → (x ≡ l.certified.header → ⊥) → is_header l x ≡ 0
-not_counted l x other = cond-false (eqb x l.certified.header) 1 0 (ne_eqb x l.certified.header other)
-
 same_head : (x y : ℕ) (xs ys : List ℕ) → x ∷ xs ≡ y ∷ ys → x ≡ y
 same_head x y xs ys e = cc
 

@@ -45,9 +45,6 @@ pub record IsHeldBelow (n : ℕ) (ls : List CertifiedLoop) (i u : ℕ) : Type 0 
   pub inside : Contains holder.members u
   pub high : n ≤ u
 
-pub held_none : (n : ℕ) (ls : List CertifiedLoop) (u : ℕ) → IsHeldBelow n ls 0 u → ⊥
-held_none n ls u h = let early = h.early in omega arith
-
 pub held_more : (n : ℕ) (ls : List CertifiedLoop) (i : ℕ) (l : CertifiedLoop) (ms : List ℕ) → i < length ls → l ≡ get_or ls i l → ms ≡ l.members → (a b : Option ℕ) → IsLeast (IsHeldBelow n ls i) a → IsLeast (λ u. Contains ms u × (n ≤ u)) b
     → IsLeast (IsHeldBelow n ls (i + 1)) (lesser_of a b)
 held_more n ls i l ms below is members a b ha hb =
