@@ -30,6 +30,7 @@ arithmetic = record {
   long_shift_right_unsigned = refl;
   byte = refl;
   char = refl;
+  char_of_more_bits = refl;
   short = refl;
   int = refl;
 }
@@ -141,7 +142,9 @@ rest = record {
   byte = refl;
   end = refl;
   output = refl;
+  output_of_more_bits = refl;
   before_the_code = refl;
+  negative_pairs = refl;
   boot_returns = refl;
   long_static = refl;
   int_into_long_static = refl;

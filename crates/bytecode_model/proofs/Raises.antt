@@ -11,6 +11,7 @@ use Rattle.bytecode_model.specs.State.{Frame, State}
 use Rattle.bytecode_model.specs.Program.{Program, Limits, Operand, NoOperand, AnInt, ALong, AString, AStatic, AField, AMethod, AType, body_of, instr_at}
 use Rattle.bytecode_model.specs.Rows as rows
 use Rattle.bytecode_model.specs.Rows.{Row}
+use Rattle.jop_opcodes.specs.Target.{cases_of}
 use Rattle.bytecode_model.specs.Table.{Meaning, constant, long_constant, by_local, increment, by_static, by_type, constants, loads, stores, stack, math, conversions, comparisons, control, references, extended, reserved, instructions, row_among, row_of}
 use Rattle.bytecode_model.specs.Effects.{Effect, Stuck, Go, Make, WritePart, WriteStatic, Take, Give, Call, Leave, Raise, effect}
 use Rattle.bytecode_model.specs.Steps.{written, with_top, resumed, left, applied, row_at, step_in}
@@ -450,7 +451,7 @@ control_quiet = (
   (
     λ code i o. tt,
     (
-      λ code i o. tt,
+      λ code i o. natural_quiet i.second (λ pairs. rows.Switch i.first (cases_of code i)) (λ pairs. tt),
       (
         λ code i o. tt,
         (

@@ -1,7 +1,7 @@
 -- What each row does to the top frame and to the rest (JVM Specification SE 8, 6.5).
 use Rattle.std.specs.Prelude.{ℕ, ◌+◌, ℤ, pos, ◌+ℤ◌, Bool, true, false, not, ◌==◌, nat_le, if◌then◌else◌, List, [], ◌∷◌, length, map, reverse, replicate, Option, Some, None, slice_get}
 use Rattle.std.specs.List.{list_any}
-use Rattle.std.specs.Int.{w8, w32, w64, int_wrap, cast_unsigned}
+use Rattle.std.specs.Int.{w8, w32, w64, int_wrap}
 use Rattle.jop_opcodes.specs.declared.instruction.Case.{Case}
 use Rattle.bytecode_model.specs.declared.Value.{Value}
 use Rattle.bytecode_model.specs.declared.Value.TheVariants.{Int, Long, Ref, Null, Unset}
@@ -10,7 +10,7 @@ use Rattle.bytecode_model.specs.Types.{NumberType, IntType, LongType, Kind, OfCl
 use Rattle.bytecode_model.specs.State.{Object, Frame, State}
 use Rattle.bytecode_model.specs.Program.{Program, Limits, Method, kind_of, type_number, is_of}
 use Rattle.bytecode_model.specs.Sizes.{object_words, made_words}
-use Rattle.bytecode_model.specs.Numbers.{is_equal}
+use Rattle.bytecode_model.specs.Numbers.{is_equal, low_bits}
 use Rattle.bytecode_model.specs.Rows as rows
 use Rattle.bytecode_model.specs.Rows.{Row, Takes, Width, Form}
 use Rattle.bytecode_model.specs.Slots as slots
@@ -253,4 +253,4 @@ effect P limits s f next (rows.CallInterface named m) =
 effect P limits s f next (rows.Return None) = Leave None
 effect P limits s f next (rows.Return (Some sort)) = on_top f.operands (λ v rest. only_if (is_moved sort v) (Leave (Some v)))
 effect P limits s f next rows.Read = Take next f.locals f.operands
-effect P limits s f next rows.Write = on_number IntType f.operands (λ n rest. Give (cast_unsigned w8 n) next f.locals rest)
+effect P limits s f next rows.Write = on_number IntType f.operands (λ n rest. Give (low_bits w8 n) next f.locals rest)

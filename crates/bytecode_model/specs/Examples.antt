@@ -150,6 +150,7 @@ pub record Arithmetic : Type 0 where
   -- i2b, i2c, i2s, l2i
   pub byte : leaves 145 (Int (pos 200) ∷ []) ≡ Some (Int (negsuc 55) ∷ [])
   pub char : leaves 146 (Int (negsuc 0) ∷ []) ≡ Some (Int (pos 65535) ∷ [])
+  pub char_of_more_bits : leaves 146 (Int (pos 65601) ∷ []) ≡ Some (Int (pos 65) ∷ [])
   pub short : leaves 147 (Int (pos 32768) ∷ []) ≡ Some (Int (negsuc 32767) ∷ [])
   pub int : leaves 136 (Long max_long ∷ []) ≡ Some (Int (negsuc 0) ∷ [])
 
@@ -307,7 +308,9 @@ pub record Rest : Type 0 where
   pub byte : operands_after (step (sample (methods_with (body 0 1 (254 ∷ []) [])) NoOperand) ample (Some 200) (at_first [] [] [] Running)) ≡ Some (Int (pos 200) ∷ [])
   pub end : leaves 254 [] ≡ Some (Int (negsuc 0) ∷ [])
   pub output : onto (next (255 ∷ []) NoOperand [] (Int (negsuc 0) ∷ []) []) (λ s. Some s.output) ≡ Some (255 ∷ [])
+  pub output_of_more_bits : onto (next (255 ∷ []) NoOperand [] (Int (pos 300) ∷ []) []) (λ s. Some s.output) ≡ Some (44 ∷ [])
   pub before_the_code : next (167 ∷ 255 ∷ 255 ∷ []) NoOperand [] [] [] ≡ None
+  pub negative_pairs : next (171 ∷ 0 ∷ 0 ∷ 0 ∷ 0 ∷ 0 ∷ 0 ∷ 0 ∷ 255 ∷ 255 ∷ 255 ∷ 255 ∷ []) NoOperand [] (a ∷ []) [] ≡ None
   pub boot_returns : mode_after (next (177 ∷ []) NoOperand [] [] []) ≡ Some Ended
   pub long_static : onto (next (179 ∷ 0 ∷ 0 ∷ []) (AStatic 0) [] (l ∷ []) []) (λ s. Some s.statics) ≡ Some (l ∷ [])
   pub int_into_long_static : next (179 ∷ 0 ∷ 0 ∷ []) (AStatic 0) [] (a ∷ []) [] ≡ None

@@ -59,8 +59,12 @@ unchanged x = x
 abbrev pub narrowed : Width → ℤ → ℤ
 narrowed w x = int_wrap w x
 
+-- the low bits of a number, as many as the width has
+abbrev pub low_bits : Width → ℤ → ℕ
+low_bits w x = cast_unsigned w (int_wrap w x)
+
 abbrev pub as_char : ℤ → ℤ
-as_char x = pos (cast_unsigned w16 x)
+as_char x = pos (low_bits w16 x)
 
 -- the comparisons of conditional branches
 abbrev pub is_equal : ℤ → ℤ → Bool

@@ -59,6 +59,10 @@ by_offset r code i o = Some (r i.first)
 abbrev pub switch : List ℕ → Instr → Operand → Option Row
 switch code i o = Some (rows.Switch i.first (cases_of code i))
 
+-- the same, where the number of pairs isn't negative (6.5.lookupswitch)
+abbrev pub lookup_switch : List ℕ → Instr → Operand → Option Row
+lookup_switch code i o = onto (natural i.second) (λ pairs. switch code i o)
+
 -- a static field
 abbrev pub by_static : (ℕ → Row) → List ℕ → Instr → Operand → Option Row
 by_static r code i (AStatic f) = Some (r f)
@@ -269,7 +273,7 @@ abbrev pub control : List Meaning
 control =
     means 167 (codes "goto") (by_offset rows.Jump)
     ∷ means 170 (codes "tableswitch") switch
-    ∷ means 171 (codes "lookupswitch") switch
+    ∷ means 171 (codes "lookupswitch") lookup_switch
     ∷ means 172 (codes "ireturn") (always (rows.Return (Some (Numbers IntType))))
     ∷ means 173 (codes "lreturn") (always (rows.Return (Some (Numbers LongType))))
     ∷ means 176 (codes "areturn") (always (rows.Return (Some References)))

@@ -2,16 +2,16 @@
 use Rattle.std.proofs.Common.{◌≡◌, ℕ, zero, suc, ◌+◌, ◌<◌, ◌≤◌, Bool, true, false, not, List, [], ◌∷◌, ◌++◌, Option, Some, None, refl, sym, ap, ◌∙◌, subst, length, map, arith, Result, Ok, Err}
 use Rattle.std.specs.Prelude.{◌&&◌, ◌||◌, ◌==◌, nat_lt, if◌then◌else◌, IfSome, slice_get, slice_index_or, ℤ, pos, ◌+ℤ◌}
 use Rattle.std.specs.List.{list_all}
-use Rattle.std.proofs.lemmas.Bool.{leb-true, ltb-true, lt-ltb}
+use Rattle.std.proofs.lemmas.Bool.{eqb-true, leb-true, ltb-true, lt-ltb}
 use Rattle.jop_opcodes.specs.declared.instruction.Instr.{Instr}
 use Rattle.jop_opcodes.specs.declared.instruction.DecodeFault.{DecodeFault}
 use Rattle.jop_opcodes.specs.Instruction.{decoded}
 use Rattle.jop_opcodes.specs.declared.instruction.Case.{Case}
-use Rattle.jop_opcodes.specs.Target.{WholeIsWithin}
+use Rattle.jop_opcodes.specs.Target.{WholeIsWithin, cases_of}
 use Rattle.jop_opcodes.specs.Start.{IsStart, starts_of, starts_from, first_start, next_start, place_behind, AreStarts}
 use Rattle.bytecode_model.specs.Lists.{onto, natural}
 use Rattle.bytecode_model.specs.Types.{NumberType, IntType, Declared, Moved, Kind, OfClass, OfNumbers, OfReferences}
-use Rattle.bytecode_model.specs.Program.{Program, Method, Body, Handler, body_of, instr_at, as_instr, throwable_class}
+use Rattle.bytecode_model.specs.Program.{Program, Method, Body, Handler, Operand, body_of, instr_at, as_instr, throwable_class}
 use Rattle.bytecode_model.specs.Slots.{spread, padded}
 use Rattle.bytecode_model.specs.Rows as rows
 use Rattle.bytecode_model.specs.Rows.{Row}
@@ -37,6 +37,22 @@ use Rattle.bytecode_typing.proofs.Walking.{typing_walks}
 unless_passed : (t : Bool) (r : Rule) (v : Verdict) (f : TypeFrame) (a : Option TypeFrame) → unless_broken t r v ≡ Passes f a → Holds t × (v ≡ Passes f a)
 unless_passed true r v f a e = (tt, e)
 unless_passed false r v f a e = absurd (cc)
+
+-- a `lookupswitch` (171) doesn't fall through
+lookups_stay : (code : List ℕ) (i : Instr) (operand : Operand) (r : Row) → row_of code i operand ≡ Some r → (i.op == 171) ≡ true → falls_through (Some r) ≡ false
+unfolding row_of
+lookups_stay code i operand r e t =
+    let j : Instr = record i { op = 171 } in
+    let same : i ≡ j = ap (λ (k : ℕ). record i { op = k }) (eqb-true i.op 171 t) in
+    by (natural i.second) (ap (λ (l : Instr). row_of code l operand) (sym same) ∙ e)
+  where
+    by : (o : Option ℕ) → onto o (λ pairs. Some (rows.Switch i.first (cases_of code (record i { op = 171 })))) ≡ Some r → falls_through (Some r) ≡ false
+    by None h = absurd (cc)
+    by (Some k) h = let is : rows.Switch i.first (cases_of code (record i { op = 171 })) ≡ r = cc in ap (λ (q : Row). falls_through (Some q)) (sym is)
+
+stays_within : (lookup falls within : Bool) → (lookup ≡ true → falls ≡ false) → Holds (lookup || not falls || within) → Holds (not falls || within)
+stays_within true falls within stays h = subst (λ (b : Bool). Holds (not b || within)) (sym (stays refl)) tt
+stays_within false falls within stays h = h
 
 abbrev frame_in : TypeFrame → Verdict → TypeFrame
 frame_in g (Breaks r) = g
@@ -84,7 +100,7 @@ module _ (P : Program) (n : ℕ) (m : Method) (b : Body) (maps : ℕ → Option 
   pub passed : (pc : ℕ) (falling : Option TypeFrame) (f : TypeFrame) (after : Option TypeFrame) → verdict_at P n m b maps pc falling ≡ Passes f after → IsPassed pc falling f after
   passed pc falling f after e = by_frame (incoming (maps pc) falling) refl e
     where
-      by_row : (g : TypeFrame) (i : Instr) (o : Option Row) → incoming (maps pc) falling ≡ Some g → instr_at P n pc ≡ Some i → row_of b.code i (P.operand n pc) ≡ o → Holds (not (falls_through o) || nat_lt (pc + i.length) (length b.code)) → Holds (merges P (maps pc) falling) → on_row P n m b maps pc g i o ≡ Passes f after → IsPassed pc falling f after
+      by_row : (g : TypeFrame) (i : Instr) (o : Option Row) → incoming (maps pc) falling ≡ Some g → instr_at P n pc ≡ Some i → row_of b.code i (P.operand n pc) ≡ o → Holds (i.op == 171 || not (falls_through o) || nat_lt (pc + i.length) (length b.code)) → Holds (merges P (maps pc) falling) → on_row P n m b maps pc g i o ≡ Passes f after → IsPassed pc falling f after
       by_row g i None ei er eo fl mg e = absurd (cc)
       by_row g i (Some r) ei er eo fl mg e =
           let (h, e2) = unless_passed (is_formed P b.code pc i r) rule.Operand _ f after e in
@@ -95,7 +111,7 @@ module _ (P : Program) (n : ℕ) (m : Method) (b : Body) (maps : ℕ → Option 
             at_instr = er;
             row = r;
             at_row = eo;
-            flow = fl;
+            flow = stays_within (i.op == 171) (falls_through (Some r)) (nat_lt (pc + i.length) (length b.code)) (lookups_stay b.code i (P.operand n pc) r eo) fl;
             merge = mg;
             check = s.check;
             room = s.room;
@@ -105,7 +121,7 @@ module _ (P : Program) (n : ℕ) (m : Method) (b : Body) (maps : ℕ → Option 
       by_instr : (g : TypeFrame) (o : Option Instr) → incoming (maps pc) falling ≡ Some g → instr_at P n pc ≡ o → on_instr P n m b maps pc o falling g ≡ Passes f after → IsPassed pc falling f after
       by_instr g None ei er e = absurd (cc)
       by_instr g (Some i) ei er e =
-          let (fl, e1) = unless_passed (not (falls_through (row_of b.code i (P.operand n pc))) || nat_lt (pc + i.length) (length b.code)) rule.Flow _ f after e in
+          let (fl, e1) = unless_passed (i.op == 171 || not (falls_through (row_of b.code i (P.operand n pc))) || nat_lt (pc + i.length) (length b.code)) rule.Flow _ f after e in
           let (mg, e2) = unless_passed (merges P (maps pc) falling) rule.Merge _ f after e1 in
           by_row g i (row_of b.code i (P.operand n pc)) ei er refl fl mg e2
 

@@ -83,10 +83,10 @@ abbrev pub has_words : Option Method → ℤ → Bool
 has_words None n = false
 has_words (Some k) n = int_le (pos (argument_words k)) n && int_le n (pos (argument_words k))
 
--- what a row doesn't keep of its instruction (4.9.1): a `tableswitch` has a range and a `lookupswitch` a number of pairs, and the keys rise;
+-- what a row doesn't keep of its instruction (4.9.1): a `tableswitch` has a range, and the keys rise;
 -- `invokeinterface` has the number of argument words and then a zero
 abbrev pub is_formed : Program → (code : List ℕ) → (pc : ℕ) → Instr → Row → Bool
-is_formed P code pc i (rows.Switch default cases) = (if i.op == 170 then nat_lt 0 i.count else int_le (pos 0) i.second) && keys_rise cases
+is_formed P code pc i (rows.Switch default cases) = (not (i.op == 170) || nat_lt 0 i.count) && keys_rise cases
 is_formed P code pc i (rows.CallInterface named c) = has_words (slice_get P.methods c) i.second && slice_index code (pc + 4) == 0
 is_formed P code pc i r = true
 
@@ -132,11 +132,11 @@ module _ (P : Program) (n : ℕ) (m : Method) (b : Body) (frames : ℕ → Optio
 
 -- Method m, of number n, with its body, and the frames that its StackMapTable gives by place.
 module _ (P : Program) (n : ℕ) (m : Method) (b : Body) (maps : ℕ → Option TypeFrame) where
-  -- an instruction with the frame before it: flow, then merge, then the rest
+  -- an instruction with the frame before it: flow, then merge, then the rest; a `lookupswitch` (171) doesn't fall through, whatever its number of pairs
   abbrev pub instruction_verdict : (pc : ℕ) → Instr → (falling : Option TypeFrame) → TypeFrame → Verdict
   instruction_verdict pc i falling f =
       let row = row_of b.code i (P.operand n pc) in
-      unless_broken (not (falls_through row) || nat_lt (pc + i.length) (length b.code)) rule.Flow
+      unless_broken (i.op == 171 || not (falls_through row) || nat_lt (pc + i.length) (length b.code)) rule.Flow
       (unless_broken (merges P (maps pc) falling) rule.Merge
       (on_row P n m b maps pc f i row))
 

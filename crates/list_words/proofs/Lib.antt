@@ -1,0 +1,6 @@
+pub mod Reached
+pub mod Searching
+pub mod Finding
+pub mod Among
+pub mod Tables
+pub mod Lookups
