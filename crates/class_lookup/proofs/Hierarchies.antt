@@ -1,24 +1,20 @@
 -- The hierarchy of classes without a cycle.
-use Rattle.std.proofs.Common.{◌≡◌, ℕ, ◌<◌, ◌≤◌, Bool, true, false, eqb, List, [], ◌∷◌, ◌++◌, ◌⊎◌, inl, inr, Option, Some, None, length, refl, ap, ◌∙◌, subst, arith}
+use Rattle.std.proofs.Common.{◌≡◌, ℕ, ◌<◌, ◌≤◌, Bool, true, false, eqb, List, [], ◌∷◌, ◌⊎◌, inl, inr, Some, length, refl, sym, ap, ◌∙◌, subst, arith}
 use Rattle.std.specs.Prelude.{slice_index}
 use Rattle.std.specs.Option.{option_to_list}
 use Rattle.std.specs.List.{flat_map, list_any}
-use Rattle.std.proofs.lemmas.Bool.{or_cases, or_left, or_right, eqb-true, eq-eqb, false≢true, false_from_ne_true}
+use Rattle.std.proofs.lemmas.Bool.{or_cases, or_left, or_right, eq-eqb, false≢true, false_from_ne_true}
 use Rattle.class_pool.specs.declared.class.ClassFile.{ClassFile}
 use Rattle.class_lookup.specs.Hierarchy.{superclass, superinterfaces, direct_supertypes, superclasses, supertypes, is_among, is_subclass, extends, is_on_a_cycle, IsRanked, IsAcyclic}
-use Rattle.class_lookup.specs.Laws.{HierarchyLaw}
+use Rattle.class_lookup.specs.Laws.{HierarchyLaw, SuperclassesLaw}
+pub use Rattle.list_words.proofs.Among.{in_option, option_in}
+use Rattle.list_words.proofs.Among.{in_left, in_right}
 use Rattle.class_lookup.proofs.Reached.{Falls, here, beyond, way_of, in_append, reached_self, reached_by, reached_through, reached_rank, reached_kept, reached_step}
 
 abbrev pub rank_in : List ℕ → ℕ → ℕ
 rank_in ranks c = slice_index ranks c
 
 -- ---- the three ways upwards fall in rank
-
-in_left : (xs ys : List ℕ) (d : ℕ) → is_among xs d ≡ true → is_among (xs ++ ys) d ≡ true
-in_left xs ys d h = in_append xs ys d ∙ or_left (is_among xs d) (is_among ys d) h
-
-in_right : (xs ys : List ℕ) (d : ℕ) → is_among ys d ≡ true → is_among (xs ++ ys) d ≡ true
-in_right xs ys d h = in_append xs ys d ∙ or_right (is_among xs d) (is_among ys d) h
 
 abbrev pub super_list : List ClassFile → ℕ → List ℕ
 super_list cs c = option_to_list (superclass cs c)
@@ -102,13 +98,6 @@ no_cycle cs a c = false_from_ne_true (is_on_a_cycle cs c) (λ h.
     absurd (omega (arith, lower, back)))
 
 -- ---- superclasses
-
-pub in_option : (o : Option ℕ) (d : ℕ) → is_among (option_to_list o) d ≡ true → o ≡ Some d
-in_option None d h = absurd (false≢true h)
-in_option (Some x) d h = elim (or_cases (eqb x d) false h) [ inl e ↦ ap Some (eqb-true x d e) | inr e ↦ absurd (false≢true e) ]
-
-pub option_in : (o : Option ℕ) (d : ℕ) → o ≡ Some d → is_among (option_to_list o) d ≡ true
-option_in o d h = ap (λ x. is_among (option_to_list x) d) h ∙ or_left (eqb d d) false (eq-eqb d d refl)
 
 -- a class or a superclass
 abbrev pub IsUpward : List ClassFile → ℕ → ℕ → Type 0
@@ -200,15 +189,38 @@ from_superclass : (cs : List ClassFile) → IsAcyclic cs → (c d : ℕ) → ByS
 from_superclass cs a c d w =
     subclass_from cs c w.0 d w.1 (elim w.2 [ inl s ↦ subst (λ k. IsUpward cs w.0 k) s (upward_self cs a w.0) | inr s ↦ subclass_upward cs a w.0 d s ])
 
+directly_of : (cs : List ClassFile) (c d : ℕ) → is_among (direct_supertypes cs c) d ≡ true → (is_among (superinterfaces cs c) d ≡ true) ⊎ (superclass cs c ≡ Some d)
+directly_of cs c d h =
+    elim (or_cases (is_among (superinterfaces cs c) d) (is_among (super_list cs c) d) (sym (in_append (superinterfaces cs c) (super_list cs c) d) ∙ h)) [
+      | inl e ↦ inl e
+      | inr e ↦ inr (in_option (superclass cs c) d e)
+    ]
+
+of_directly : (cs : List ClassFile) (c d : ℕ) → (is_among (superinterfaces cs c) d ≡ true) ⊎ (superclass cs c ≡ Some d) → is_among (direct_supertypes cs c) d ≡ true
+of_directly cs c d (inl e) = interface_is_above cs c d e
+of_directly cs c d (inr e) = super_is_above cs c d e
+
 pub hierarchy : HierarchyLaw
 hierarchy cs a = record {
   self = extends_self cs a;
   direct = extends_direct cs a;
+  directly = λ c d. (directly_of cs c d, of_directly cs c d);
   through = extends_through cs a;
   least = extends_way cs a;
+  kept = λ test. extends_kept cs a (λ x. test x ≡ true);
   one_way = one_way cs a;
   acyclic = no_cycle cs a;
   subclass = λ c d. (by_superclass cs a c d, from_superclass cs a c d);
   subclass_extends = λ c d h. upward_extends cs a c d (subclass_upward cs a c d h);
   not_itself = not_itself cs a;
+}
+
+pub superclasses_law : SuperclassesLaw
+superclasses_law cs a = record {
+  step = upward_step cs a;
+  self = upward_self cs a;
+  by = upward_by cs a;
+  way = upward_way cs a;
+  through = upward_through cs a;
+  extends = upward_extends cs a;
 }

@@ -1,20 +1,19 @@
 -- Classes by name, one after another.
-use Rattle.std.proofs.Common.{◌≡◌, ℕ, suc, ◌+◌, ◌<◌, Bool, true, false, List, [], ◌∷◌, ◌++◌, map, take, get_or, Option, Some, None, Vec, Global, Bor, length, refl, sym, ap, ap₂, ◌∙◌}
+use Rattle.std.proofs.Common.{◌≡◌, ℕ, ◌+◌, ◌<◌, Bool, true, false, List, [], ◌∷◌, ◌++◌, map, take, get_or, Option, Some, None, Vec, Global, Bor, length, refl, sym, ap, ap₂, ◌∙◌}
 use Rattle.std.specs.Prelude.{nat_eq, is_some, if◌then◌else◌}
-use Rattle.std.specs.Option.{option_or, option_map, option_copied}
+use Rattle.std.specs.Option.{option_or, option_copied}
 use Rattle.std.specs.List.{filter_map, cons_option}
 use Rattle.std.proofs.lemmas.List.{map-append}
 use Rattle.std.proofs.lemmas.List.Elements.{filter_map-append}
 use Rattle.std.proofs.lemmas.Grind.{take_at_read}
 use Rattle.std.specs.Map.{lookup}
-use Rattle.std.proofs.lemmas.Bool.{false≢true, true≢false}
+use Rattle.std.proofs.lemmas.Bool.{false≢true}
 use lib.Pointwise.{pointwise, bytes_decides}
-use Rattle.bytecode_model.specs.Lists.{onto, index_of}
+use Rattle.list_words.specs.Lists.{index_of}
+use Rattle.list_words.specs.Lemmas.{index_append}
+pub use Rattle.list_words.proofs.Lookups.{named, text_back, lookup_append, copied_none, copied_some, copied_is}
 use Rattle.class_pool.specs.declared.class.ClassFile.{ClassFile}
 use Rattle.class_lookup.specs.Parts.{same_text, name_of}
-
-abbrev pub named : List ℕ → Vec ℕ Global → Bool
-named q k = pointwise nat_eq q k.items
 
 abbrev pub has_name : List ℕ → ClassFile → Bool
 has_name q c = same_text (name_of c) q
@@ -22,38 +21,6 @@ has_name q c = same_text (name_of c) q
 -- the entries give the first of these classes with a name
 abbrev pub AreNamed : List (Vec ℕ Global × ℕ) → List ClassFile → Type 0
 AreNamed es cs = (q : List ℕ) → lookup (named q) es ≡ index_of (has_name q) cs
-
-same_back : (a b : List ℕ) (x y : Bool) → same_text a b ≡ x → same_text b a ≡ y → x ≡ y
-same_back a b true true h e = refl
-same_back a b false false h e = refl
-same_back a b true false h e = absurd (false≢true (sym e ∙ (bytes_decides b a).1 (sym ((bytes_decides a b).0 h))))
-same_back a b false true h e = absurd (false≢true (sym h ∙ (bytes_decides a b).1 (sym ((bytes_decides b a).0 e))))
-
-text_back : (a b : List ℕ) → same_text a b ≡ same_text b a
-text_back a b = same_back a b (same_text a b) (same_text b a) refl refl
-
-lookup_case : {K : Type 0} (t : K → Bool) (e : K × ℕ) (es : List (K × ℕ)) (k : K) (v : ℕ) (b : Bool) → lookup t (es ++ (k, v) ∷ []) ≡ option_or (lookup t es) (if t k then Some v else None)
-    → (if b then Some e.1 else lookup t (es ++ (k, v) ∷ [])) ≡ option_or (if b then Some e.1 else lookup t es) (if t k then Some v else None)
-lookup_case t e es k v true h = refl
-lookup_case t e es k v false h = h
-
-lookup_append : {K : Type 0} (t : K → Bool) (es : List (K × ℕ)) (k : K) (v : ℕ) → lookup t (es ++ (k, v) ∷ []) ≡ option_or (lookup t es) (if t k then Some v else None)
-lookup_append t [] k v = refl
-lookup_append t (e ∷ es) k v = lookup_case t e es k v (t e.0) (lookup_append t es k v)
-
-raised : (o : Option ℕ) (b : Bool) (n : ℕ) → onto (option_or o (if b then Some n else None)) (λ k. Some (suc k)) ≡ option_or (onto o (λ k. Some (suc k))) (if b then Some (suc n) else None)
-raised None true n = refl
-raised None false n = refl
-raised (Some k) b n = refl
-
-index_case : {A : Type 0} (t : A → Bool) (xs : List A) (y : A) (b : Bool) → index_of t (xs ++ y ∷ []) ≡ option_or (index_of t xs) (if t y then Some (length xs) else None)
-    → (if b then Some 0 else onto (index_of t (xs ++ y ∷ [])) (λ k. Some (suc k))) ≡ option_or (if b then Some 0 else onto (index_of t xs) (λ k. Some (suc k))) (if t y then Some (suc (length xs)) else None)
-index_case t xs y true h = refl
-index_case t xs y false h = ap (λ o. onto o (λ k. Some (suc k))) h ∙ raised (index_of t xs) (t y) (length xs)
-
-index_append : {A : Type 0} (t : A → Bool) (xs : List A) (y : A) → index_of t (xs ++ y ∷ []) ≡ option_or (index_of t xs) (if t y then Some (length xs) else None)
-index_append t [] y = refl
-index_append t (x ∷ xs) y = index_case t xs y (t x) (index_append t xs y)
 
 -- a class with a new name
 pub named_new : (es : List (Vec ℕ Global × ℕ)) (cs : List ClassFile) (c : ClassFile) (k : Vec ℕ Global) (i : ℕ) → AreNamed es cs → i ≡ length cs → k.items ≡ name_of c → AreNamed (es ++ (k, i) ∷ []) (cs ++ c ∷ [])
@@ -76,18 +43,6 @@ old_case es cs c q h s None e true f =
 pub named_old : (es : List (Vec ℕ Global × ℕ)) (cs : List ClassFile) (c : ClassFile) → AreNamed es cs → is_some (lookup (named (name_of c)) es) ≡ true → AreNamed es (cs ++ c ∷ [])
 named_old es cs c h s q =
     h q ∙ (old_case es cs c q h s (index_of (has_name q) cs) refl (has_name q c) refl ∙ sym (index_append (has_name q) cs c))
-
-pub copied_none : (r : Option (Bor ℕ)) → is_some r ≡ false → option_copied r ≡ None
-copied_none None h = refl
-copied_none (Some x) h = absurd (true≢false h)
-
-pub copied_some : (r : Option (Bor ℕ)) → is_some r ≡ true → is_some (option_copied r) ≡ true
-copied_some None h = absurd (false≢true h)
-copied_some (Some x) h = refl
-
-pub copied_is : (r : Option (Bor ℕ)) → option_map (λ x. x.now) r ≡ option_copied r
-copied_is None = refl
-copied_is (Some x) = refl
 
 -- one more class
 pub next_map : {X Y : Type 0} (f : X → Y) (xs : List X) (i : ℕ) (x : X) (ys : List Y) (y : Y) → i < length xs → x ≡ get_or xs i x → ys ≡ map f (take i xs) → y ≡ f x → ys ++ y ∷ [] ≡ map f (take (i + 1) xs)

@@ -6,8 +6,10 @@ use Rattle.std.proofs.lemmas.Bool.{or_cases, or_left, or_right, or_parts, and_pa
 use Rattle.class_pool.specs.declared.class.ClassFile.{ClassFile}
 use Rattle.class_lookup.specs.Hierarchy.{is_among}
 use Rattle.class_lookup.specs.Lookup.{Place, same_place}
+use Rattle.class_lookup.specs.Laws.{Comparisons}
 use Rattle.class_lookup.specs.Selection.{overrides_directly, overriding, head}
-use Rattle.class_lookup.proofs.Searches.{none≢some, some_same}
+use Rattle.list_words.specs.Lemmas.{none≢some, some_same}
+use Rattle.class_lookup.proofs.Searches.{text_same, same_is_text, signature_same, same_is_signature}
 
 -- ---- places in a list
 
@@ -22,6 +24,13 @@ place_same p q h =
 pub same_is_place : (p q : Place) → p ≡ q → same_place p q ≡ true
 same_is_place p q h =
     and_from (eqb p.0 q.0) (eqb p.1 q.1) (eq-eqb p.0 q.0 (ap (λ (x : Place). x.0) h)) (eq-eqb p.1 q.1 (ap (λ (x : Place). x.1) h))
+
+pub comparisons : Comparisons
+comparisons = record {
+  texts = λ a b. (text_same a b, same_is_text a b);
+  signatures = λ s t. (signature_same s t, same_is_signature s t);
+  places = λ p q. (place_same p q, same_is_place p q);
+}
 
 pub has_head : (m : Place) (ms : List Place) → has (m ∷ ms) m ≡ true
 has_head m ms = or_left (same_place m m) (has ms m) (same_is_place m m refl)

@@ -1,31 +1,25 @@
 -- Overriding and selection over classes without a cycle, of which none declares two methods of one name and descriptor.
 use Rattle.std.proofs.Common.{◌≡◌, ℕ, zero, suc, ◌<◌, Bool, true, false, ◌&&◌, List, [], ◌∷◌, inl, inr, Option, Some, None, length, refl, sym, ap, ◌∙◌, subst, append-nil, arith}
-use Rattle.std.specs.Prelude.{slice_get, slice_index, if◌then◌else◌}
+use Rattle.std.specs.Prelude.{slice_get, slice_index}
 use Rattle.std.specs.Option.{option_map, option_to_list}
 use Rattle.std.specs.List.{filter_map, flat_map, cons_option, list_any}
-use Rattle.std.proofs.lemmas.Bool.{or_cases, or_right, and_parts, and_from, false≢true, cond-true, false_from_ne_true}
+use Rattle.std.proofs.lemmas.Bool.{or_cases, or_right, and_parts, and_from, false≢true, false_from_ne_true}
 use Rattle.class_pool.specs.declared.class.Member.{Member}
 use Rattle.class_pool.specs.declared.class.ClassFile.{ClassFile}
-use Rattle.bytecode_model.specs.Lists.{onto, index_of}
+use Rattle.list_words.specs.Lists.{onto}
+pub use Rattle.list_words.specs.Lemmas.{index_there}
 use Rattle.class_lookup.specs.Parts.{Signature, signature_of, same_signature}
 use Rattle.class_lookup.specs.Hierarchy.{superclass, superclasses, is_among, is_subclass, IsAcyclic}
 use Rattle.class_lookup.specs.Lookup.{Place, method_at, same_place, declared_in, declared_method}
 use Rattle.class_lookup.specs.Selection.{signature_at, is_virtual, is_open_to, MayOverride, Overrides, directly, through, upwards, overrides_directly, overriding}
-use Rattle.class_lookup.specs.Laws.{AreDistinct, IsOrOverrides}
+pub use Rattle.class_lookup.specs.Laws.{IsMethod}
+use Rattle.class_lookup.specs.Laws.{AreDistinct, IsOrOverrides, MethodsLaw}
 use Rattle.class_lookup.proofs.Hierarchies.{IsUpward, upward_step, upward_way, upward_rank, subclass_of, subclass_from, subclass_through, subclass_upward, super_is_above}
-use Rattle.class_lookup.proofs.Searches.{none≢some, some_same, onto_some, index_found, signature_same, same_is_signature}
+use Rattle.class_lookup.proofs.Searches.{some_same, onto_some, index_found, signature_same, same_is_signature}
 use Rattle.class_lookup.proofs.Lookups.{declared_is}
 use Rattle.class_lookup.proofs.Overriding.{has, place_same, any_place, place_any, has_mapped, mapped_has, overriding_cases, overriding_joined, overriding_more, overriding_among, overriding_self, NoRepeat, overriding_through}
 
 -- ---- declared methods
-
--- a method and its class
-pub record IsMethod (cs : List ClassFile) (m : Place) (s : Signature) : Type 0 where
-  pub owner : ClassFile
-  pub class : slice_get cs m.0 ≡ Some owner
-  pub member : Member
-  pub there : slice_get owner.methods m.1 ≡ Some member
-  pub signature : signature_of owner member ≡ s
 
 pub method_is : (cs : List ClassFile) (m : Place) (s : Signature) → signature_at cs m ≡ Some s → IsMethod cs m s
 method_is cs m s h =
@@ -50,16 +44,6 @@ pub declared_signature : (cs : List ClassFile) (s : Signature) (c : ℕ) (m : Pl
 declared_signature cs s c m h =
     let d = declared_is (λ k. k.methods) cs s c m h in
     is_method cs m s (record { owner = d.owner; class = ap (slice_get cs) d.own ∙ d.class; member = d.member; there = d.there; signature = d.signature })
-
--- what is there is found
-index_case : {A : Type 0} (test : A → Bool) (x : A) (xs : List A) (b : Bool) → test x ≡ b → ((i : ℕ) × (index_of test xs ≡ Some i)) → (i : ℕ) × ((if b then Some 0 else onto (index_of test xs) (λ k. Some (suc k))) ≡ Some i)
-index_case test x xs true t later = (0, refl)
-index_case test x xs false t later = (suc later.0, ap (λ o. onto o (λ k. Some (suc k))) later.1)
-
-pub index_there : {A : Type 0} (test : A → Bool) (xs : List A) (j : ℕ) (y : A) → slice_get xs j ≡ Some y → test y ≡ true → (i : ℕ) × (index_of test xs ≡ Some i)
-index_there test [] j y h t = absurd (none≢some y h)
-index_there test (x ∷ xs) zero y h t = (0, cond-true (test x) (Some 0) (onto (index_of test xs) (λ k. Some (suc k))) (ap test (some_same x y h) ∙ t))
-index_there test (x ∷ xs) (suc j) y h t = index_case test x xs (test x) refl (index_there test xs j y h t)
 
 pub method_declared : (cs : List ClassFile) → AreDistinct cs → (m : Place) (s : Signature) → signature_at cs m ≡ Some s → declared_method cs s m.0 ≡ Some m
 method_declared cs d m s h =
@@ -111,6 +95,13 @@ up_has cs s c m h =
 
 pub has_up : (cs : List ClassFile) (s : Signature) (c : ℕ) (m : Place) → IsUpward cs c m.0 → declared_method cs s m.0 ≡ Some m → has (upwards cs s c) m ≡ true
 has_up cs s c m u h = mapped_has (declared_method cs s) (superclasses cs c) m.0 m u h
+
+pub methods : MethodsLaw
+methods cs = record {
+  at = λ m s. (method_is cs m s, is_method cs m s);
+  declared = λ s c m h. ((declared_is (λ k. k.methods) cs s c m h).own, method_is cs m s (declared_signature cs s c m h));
+  upwards = λ s c m h. let u = up_has cs s c m h in (u.1, method_is cs m s (declared_signature cs s m.0 m u.0));
+}
 
 -- no method stands twice among them
 no_repeat_cons : (cs : List ClassFile) (a : IsAcyclic cs) (s : Signature) (c d : ℕ) → superclass cs c ≡ Some d → NoRepeat (upwards cs s d) → (o : Option Place) → declared_method cs s c ≡ o → NoRepeat (cons_option o (upwards cs s d))

@@ -5,17 +5,17 @@ use Rattle.std.specs.Option.{option_map_or}
 use Rattle.std.specs.List.{cons_option, list_any, find}
 use Rattle.std.proofs.lemmas.Bool.{and_parts, and_from, false≢true, both_ways, cond-true, cond-false, false_from_ne_true, not_from_false, not-true}
 use Rattle.class_pool.specs.declared.class.ClassFile.{ClassFile}
-use Rattle.bytecode_model.specs.Lists.{onto}
+use Rattle.list_words.specs.Lists.{onto}
 use Rattle.class_lookup.specs.Parts.{Signature}
 use Rattle.class_lookup.specs.Hierarchy.{superclass, is_interface, is_subclass, IsAcyclic}
 use Rattle.class_lookup.specs.Lookup.{Place, same_place, declared_method}
 use Rattle.class_lookup.specs.Selection.{signature_at, Overrides, upwards, overriding, overrides, head, is_public_instance, select}
-use Rattle.class_lookup.specs.Laws.{AreDistinct, OverridingLaw, IsOrOverrides, IsFirstOverriding, IsFirstPublic, SelectionLaw}
+use Rattle.class_lookup.specs.Laws.{AreDistinct, OverridingLaw, OverridingNeeds, IsOrOverrides, IsFirstOverriding, IsFirstPublic, SelectionLaw}
 use Rattle.class_lookup.proofs.Hierarchies.{IsUpward, upward_self, upward_by, not_itself}
 use Rattle.class_lookup.proofs.Searches.{none≢some, some_same}
 use Rattle.class_lookup.proofs.Lookups.{declared_is}
-use Rattle.class_lookup.proofs.Overriding.{has, place_same, same_is_place, has_head, has_tail, has_cases, overriding_cases, overriding_among, overriding_needs, overriding_self, joins, head_has, head_none}
-use Rattle.class_lookup.proofs.Selecting.{declared_signature, method_declared, up, up_has, has_up, may_of, all_override, lower_has, overrides_in}
+use Rattle.class_lookup.proofs.Overriding.{has, place_same, same_is_place, has_head, has_tail, has_cases, overriding_cases, overriding_among, overriding_needs, overriding_self, joins, head_has, head_none, head_again}
+use Rattle.class_lookup.proofs.Selecting.{declared_signature, method_declared, up, up_has, has_up, no_repeat, may_of, all_override, lower_has, overrides_in}
 
 pub map_or_true : {A : Type 0} (f : A → Bool) (o : Option A) → option_map_or f o false ≡ true → (x : A) × (o ≡ Some x) × (f x ≡ true)
 map_or_true f None h = absurd (false≢true h)
@@ -47,6 +47,9 @@ from_overrides cs ac ds m a o =
 
 pub overriding_law : OverridingLaw
 overriding_law cs ac ds m a = (to_overrides cs ac m a, from_overrides cs ac ds m a)
+
+pub overriding_needs_law : OverridingNeeds
+overriding_needs_law cs m a o = may_of o
 
 -- ---- from a class upwards, what stands later stands above
 
@@ -153,6 +156,16 @@ none_of_class : (cs : List ClassFile) → IsAcyclic cs → AreDistinct cs → (r
 none_of_class cs ac ds r a s sa i h m o u =
     head_none (overriding cs a (upwards cs s r)) m (sym (select_class cs r a s sa i) ∙ h) (in_list cs ac ds r a m s sa o u)
 
+-- what is or overrides a method has its name and descriptor
+same_signature : (cs : List ClassFile) (a t : Place) (s : Signature) → signature_at cs a ≡ Some s → IsOrOverrides cs t a → signature_at cs t ≡ Some s
+same_signature cs a t s sa (inl e) = ap (signature_at cs) e ∙ sa
+same_signature cs a t s sa (inr o) = let may = may_of o in may.has ∙ (sym may.same ∙ sa)
+
+again : (cs : List ClassFile) → IsAcyclic cs → AreDistinct cs → (r : ℕ) (a : Place) (s : Signature) → signature_at cs a ≡ Some s → is_interface cs a.0 ≡ false → (t : Place) → is_interface cs t.0 ≡ false → select cs r a ≡ Some t → select cs r t ≡ Some t
+again cs ac ds r a s sa i t j h =
+    let st = same_signature cs a t s sa (of_class cs ac ds r a s sa i t h).is in
+    select_class cs r t s st j ∙ head_again cs a t (upwards cs s r) (no_repeat cs ac s r) (sym (select_class cs r a s sa i) ∙ h)
+
 of_interface : (cs : List ClassFile) → IsAcyclic cs → AreDistinct cs → (r : ℕ) (a : Place) (s : Signature) → signature_at cs a ≡ Some s → is_interface cs a.0 ≡ true → (t : Place) → select cs r a ≡ Some t → IsFirstPublic cs r s t
 of_interface cs ac ds r a s sa i t h =
     let f = find_first cs ac (is_public_instance cs) t (upwards cs s r) (ladder cs ac s r) (sym (select_interface cs r a s sa i) ∙ h) in
@@ -172,6 +185,7 @@ pub selection_law : SelectionLaw
 selection_law cs ac ds r a s sa = record {
   of_class = of_class cs ac ds r a s sa;
   none_of_class = none_of_class cs ac ds r a s sa;
+  again = again cs ac ds r a s sa;
   of_interface = of_interface cs ac ds r a s sa;
   none_of_interface = none_of_interface cs ds r a s sa;
 }

@@ -1,10 +1,11 @@
 -- Classes by number, and their hierarchy: JVM Specification SE 8, 4.1, 5.3.5 and 5.4.4.
 -- A class's number is its place in the list of class files.
-use Rattle.std.specs.Prelude.{ℕ, zero, suc, ◌<◌, Bool, false, not, ◌==◌, List, [], ◌∷◌, ◌++◌, length, Option, slice_get, slice_index, IsTrue}
+use Rattle.std.specs.Prelude.{ℕ, ◌<◌, Bool, false, not, List, [], ◌++◌, length, Option, slice_get, slice_index, IsTrue}
 use Rattle.std.specs.Option.{option_map_or, option_to_list}
 use Rattle.std.specs.List.{filter_map, flat_map, list_any}
 use Rattle.class_pool.specs.declared.class.ClassFile.{ClassFile}
-use Rattle.bytecode_model.specs.Lists.{onto, index_of}
+use Rattle.list_words.specs.Lists.{onto, index_of}
+pub use Rattle.list_words.specs.Numbers.{reached, is_among}
 use Rattle.class_lookup.specs.Parts.{same_text, name_of, superclass_name, superinterface_names, is_interface_class, is_abstract_class}
 
 abbrev pub find_class : List ClassFile → (name : List ℕ) → Option ℕ
@@ -31,11 +32,6 @@ direct_supertypes cs c = superinterfaces cs c ++ option_to_list (superclass cs c
 
 -- ---- from a class upwards
 
--- a class, then those directly above it in order, each with all above it before the next; over at most so many classes upwards
-abbrev pub reached : (above : ℕ → List ℕ) → (most : ℕ) → (class : ℕ) → List ℕ
-reached above zero c = []
-reached above (suc n) c = c ∷ flat_map (reached above n) (above c)
-
 -- As no class is its own superclass or superinterface, a way upwards has at most as many classes as there are.
 
 -- the class, its direct superclass, and so on
@@ -53,9 +49,6 @@ supertypes cs c = reached (direct_supertypes cs) (length cs) c
 -- the superinterfaces of a class, before those of its superclass
 abbrev pub all_superinterfaces : List ClassFile → (class : ℕ) → List ℕ
 all_superinterfaces cs c = flat_map (λ k. flat_map (with_superinterfaces cs) (superinterfaces cs k)) (superclasses cs c)
-
-abbrev pub is_among : List ℕ → ℕ → Bool
-is_among classes d = list_any (λ k. k == d) classes
 
 -- the second class is a superclass of the first: its direct superclass, or a superclass of that
 abbrev pub is_subclass : List ClassFile → (class other : ℕ) → Bool

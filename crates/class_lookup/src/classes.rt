@@ -1,7 +1,10 @@
-ghost use Rattle.std.specs.Prelude.{◌≡◌, ℕ, ◌<◌, ◌^◌, List, length, Some, slice_get, IfOk, option_map};
-ghost use Rattle.class_lookup.specs.Hierarchy.{find_class, superclass, superinterfaces};
+ghost use Rattle.std.specs.Prelude.{◌≡◌, ◌<◌, ◌^◌, length, map, Some, slice_get, IfOk};
+ghost use Rattle.std.specs.List.{filter_map};
+ghost use Rattle.class_lookup.specs.Parts.{superinterface_names};
+ghost use Rattle.class_lookup.specs.Hierarchy.{find_class, superclass, superinterfaces, is_interface};
 
 use crate::names::{interfaces_of, names_of, superclasses_of};
+use crate::parts::has_flags;
 use class_pool::ClassFile;
 use indexmap::IndexMap;
 use items::Items;
@@ -90,5 +93,20 @@ impl Classes {
         ensures { result.now ≡ superinterfaces self.now number }
     {
         self.interfaces[number as usize].as_slice()
+    }
+
+    /// The numbers of the direct superinterfaces of each class, in order.
+    pub fn superinterface_lists(&self) -> &[Items<u32>]
+        ensures { result.now ≡ map (λ k. filter_map (find_class self.now) (superinterface_names k)) self.now }
+    {
+        &self.interfaces
+    }
+
+    /// Whether the class is an interface.
+    pub fn is_interface(&self, number: u32) -> bool
+        requires { number < length self.now }
+        ensures { result ≡ is_interface self.now number }
+    {
+        has_flags(self.classes[number as usize].flags, 0x0200)
     }
 }

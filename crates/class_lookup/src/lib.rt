@@ -6,6 +6,8 @@ mod classes;
 pub mod laws;
 mod names;
 pub mod parts;
+mod place;
 
 pub use class_pool::ClassFile;
 pub use classes::Classes;
+pub use place::Place;

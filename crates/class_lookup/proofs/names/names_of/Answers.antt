@@ -4,7 +4,7 @@ use Rattle.std.specs.Map.{lookup}
 use Rattle.std.proofs.lemmas.Grind.{take_at_read}
 use lib.Pointwise.{pointwise}
 use Rattle.indexmap.proofs.CallerLemmas.{insert_entry-new}
-use Rattle.bytecode_model.specs.Lists.{index_of}
+use Rattle.list_words.specs.Lists.{index_of}
 use Rattle.class_pool.specs.declared.class.ClassFile.{ClassFile}
 use Rattle.class_lookup.proofs.NameLemmas.{AreNamed, has_name, named_new, named_old, copied_none, copied_some}
 use Rattle.class_lookup.proofs.names.names_of.Goals as goal

@@ -1,0 +1,9 @@
+pub mod Directly
+pub mod Ranks
+pub mod Filled
+pub mod Numbered
+pub mod Indexed
+pub mod Standing
+pub mod Found
+pub mod Reaching
+pub mod SelectedLemmas

@@ -1,0 +1,5 @@
+use Rattle.std.proofs.Common.{◌≡◌, [], replicate}
+use Rattle.class_hierarchy.proofs.above.empty_lists.Given as goal
+
+abbrev pub invariant-loop-index : goal.invariant-loop-index
+invariant-loop-index l = l.lists.items ≡ replicate l._index []

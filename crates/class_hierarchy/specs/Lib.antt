@@ -1,0 +1,4 @@
+pub mod TopDown
+pub mod Members
+pub mod Tables
+pub mod Selecting

@@ -1,0 +1,108 @@
+//! What the methods of the classes are, by their places.
+
+ghost use Rattle.std.specs.Prelude.{◌≡◌, option_copied};
+ghost use Rattle.class_lookup.specs.Lookup.{method_at};
+ghost use Rattle.class_lookup.specs.Access.{are_in_one_package};
+ghost use Rattle.class_lookup.specs.Selection.{is_virtual, is_public_instance, is_instance};
+ghost use Rattle.class_hierarchy.specs.Selecting.{is_open, is_near, is_joining};
+
+use class_lookup::parts::{has_flags, is_in_package_of};
+use class_lookup::{Classes, Place};
+use class_pool::Member;
+
+/// The method of this place.
+pub(crate) fn method_at(classes: &Classes, place: Place) -> Option<&Member>
+    ensures { option_copied result ≡ method_at classes.now place }
+{
+    if place.class < classes.class_count() {
+        classes
+            .class(place.class)
+            .methods
+            .as_slice()
+            .get(place.index)
+    } else {
+        None
+    }
+}
+
+/// Whether there is such a method, and it is public and isn't static.
+pub(crate) fn is_public_instance(classes: &Classes, place: Place) -> bool
+    ensures { result ≡ is_public_instance classes.now place }
+{
+    match method_at(classes, place) {
+        Some(method) => has_flags(method.flags, 0x0001) && !has_flags(method.flags, 0x0008),
+        None => false,
+    }
+}
+
+/// Whether there is such a method, and it isn't static.
+pub(crate) fn is_instance(classes: &Classes, place: Place) -> bool
+    ensures { result ≡ is_instance classes.now place }
+{
+    match method_at(classes, place) {
+        Some(method) => !has_flags(method.flags, 0x0008),
+        None => false,
+    }
+}
+
+/// Whether there is such a method, and it is neither static nor private.
+fn is_virtual(classes: &Classes, place: Place) -> bool
+    ensures { result ≡ is_virtual classes.now place }
+{
+    match method_at(classes, place) {
+        Some(method) => !(has_flags(method.flags, 0x0008) || has_flags(method.flags, 0x0002)),
+        None => false,
+    }
+}
+
+/// Whether each class below may override the method.
+pub(crate) fn is_open(classes: &Classes, place: Place) -> bool
+    ensures { result ≡ is_open classes.now place }
+{
+    match method_at(classes, place) {
+        Some(method) => {
+            is_virtual(classes, place)
+                && (has_flags(method.flags, 0x0001) || has_flags(method.flags, 0x0004))
+        }
+        None => false,
+    }
+}
+
+/// Whether both classes are of one package.
+fn are_in_one_package(classes: &Classes, class: u32, other: u32) -> bool
+    ensures { result ≡ are_in_one_package classes.now class other }
+{
+    let count = classes.class_count();
+    class < count && other < count && is_in_package_of(classes.class(class), classes.class(other))
+}
+
+/// Whether the second method is package-private, and the first belongs to its package.
+fn is_near(classes: &Classes, place: Place, resolved: Place) -> bool
+    ensures { result ≡ is_near classes.now place resolved }
+{
+    match method_at(classes, resolved) {
+        Some(method) => {
+            !has_flags(method.flags, 0x0007)
+                && are_in_one_package(classes, place.class, resolved.class)
+        }
+        None => false,
+    }
+}
+
+/// Whether a method of the resolved one's name and descriptor is it or overrides it, where `found` says whether it or one that
+/// overrides it stands above, and `free` whether one of these may be overridden by each class below.
+pub(crate) fn is_joining(
+    classes: &Classes,
+    resolved: Place,
+    found: bool,
+    free: bool,
+    place: Place,
+) -> bool
+    ensures { result ≡ is_joining classes.now resolved found free place }
+{
+    place == resolved
+        || (found
+            && is_virtual(classes, place)
+            && is_virtual(classes, resolved)
+            && (free || is_near(classes, place, resolved)))
+}

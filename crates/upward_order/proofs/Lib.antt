@@ -1,0 +1,5 @@
+pub mod Marks
+pub mod Inserting
+pub mod Peeling
+pub mod Ranks
+pub mod UpwardLemmas
