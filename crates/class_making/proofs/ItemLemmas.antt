@@ -1,6 +1,6 @@
 -- Items are told apart, and keep their places.
-use Rattle.std.proofs.Common.{◌≡◌, ℕ, zero, suc, ◌+◌, ◌<◌, ◌≤◌, nat_lt, ◌==◌, ◌&&◌, Bool, true, false, cond, List, [], ◌∷◌, ◌++◌, length, Option, Some, None, refl, sym, ap, ◌∙◌, add-one}
-use Rattle.std.specs.Prelude.{slice_get, position}
+use Rattle.std.proofs.Common.{◌≡◌, ℕ, ◌+◌, ◌<◌, ◌≤◌, nat_lt, ◌==◌, ◌&&◌, Bool, true, false, cond, List, [], ◌∷◌, ◌++◌, length, Option, Some, None, refl, ap, ◌∙◌}
+use Rattle.std.specs.Prelude.{position}
 use Rattle.std.specs.List.{position_or_len}
 use Rattle.std.proofs.lemmas.Bool.{lt-ltb, le-ltb}
 use Rattle.std.specs.Bool.{Decides}
@@ -10,7 +10,7 @@ use Rattle.std.proofs.lemmas.Bool.Decides.{Decides-eqb, Decides-and, Decides-lik
 use Rattle.std.proofs.lemmas.Slice.Eq.{bytes_eq-Decides}
 use Rattle.class_making.specs.declared.item.Item.{Item}
 use Rattle.class_making.specs.declared.item.Item.TheVariants.{Text, Integer, Class, Str, NameAndType, Field, Method, InterfaceMethod}
-use Rattle.class_making.specs.Making.{same_item, with_item, with_all, mention, expanded, item_at, index_from, index_of}
+use Rattle.class_making.specs.Making.{same_item, with_item, index_from, index_of}
 
 two : (a b c d : List ℕ) → Decides (bytes_eq a c && bytes_eq b d) ((a ≡ c) × (b ≡ d))
 two a b c d = Decides-and (bytes_eq a c) (bytes_eq b d) (bytes_eq-Decides a c) (bytes_eq-Decides b d)
@@ -39,38 +39,6 @@ any_same eq decides x (y ∷ items) =
 pub with_is : (eq : Item → Item → Bool) → ((x y : Item) → Decides (eq x y) (x ≡ y)) → (items : List Item) (x : Item) → cond (list_any (eq x) items) items (items ++ x ∷ []) ≡ with_item items x
 with_is eq decides items x = ap (λ (b : Bool). cond b items (items ++ x ∷ [])) (any_same eq decides x items)
 
--- what stands at a place has that index
-pub placed : (items : List Item) (place i : ℕ) (x k : Item) (b : Bool) → Decides b (x ≡ k) → slice_get items place ≡ Some k → b ≡ true → i ≡ place + 1 → item_at items i ≡ Some x
-placed items place i x k b decides at same is =
-    ap (item_at items) (is ∙ add-one place) ∙ at ∙ ap (λ (y : Item). Some y) (sym (decides.0 same))
-
--- what has an index keeps it
-got_front : (items rest : List Item) (place : ℕ) (x : Item) → slice_get items place ≡ Some x → slice_get (items ++ rest) place ≡ Some x
-got_front [] rest place x e = absurd (let f : None ≡ Some x = e in cc)
-got_front (y ∷ items) rest zero x e = e
-got_front (y ∷ items) rest (suc place) x e = got_front items rest place x e
-
-front_at : (items rest : List Item) (i : ℕ) (x : Item) → item_at items i ≡ Some x → item_at (items ++ rest) i ≡ Some x
-front_at items rest zero x e = e
-front_at items rest (suc place) x e = got_front items rest place x e
-
-one_at : (items : List Item) (y : Item) (i : ℕ) (x : Item) → item_at items i ≡ Some x → item_at (with_item items y) i ≡ Some x
-one_at items y i x e = chosen (list_any (same_item y) items)
-  where
-    chosen : (b : Bool) → item_at (cond b items (items ++ y ∷ [])) i ≡ Some x
-    chosen true = e
-    chosen false = front_at items (y ∷ []) i x e
-
-all_at : (items ys : List Item) (i : ℕ) (x : Item) → item_at items i ≡ Some x → item_at (with_all items ys) i ≡ Some x
-all_at items [] i x e = e
-all_at items (y ∷ ys) i x e = all_at (with_item items y) ys i x (one_at items y i x e)
-
-pub mention_at : (items : List Item) (y : Item) (i : ℕ) (x : Item) (after : List Item) → after ≡ mention items y → item_at items i ≡ Some x → item_at after i ≡ Some x
-mention_at items y i x after is e = ap (λ (xs : List Item). item_at xs i) is ∙ all_at items (expanded y) i x e
-
-pub mentions_at : (items : List Item) (y z : Item) (i : ℕ) (x : Item) (after : List Item) → after ≡ mention (mention items y) z → item_at items i ≡ Some x → item_at after i ≡ Some x
-mentions_at items y z i x after is e = mention_at (mention items y) z i x after is (all_at items (expanded y) i x e)
-
 -- ---- the index of an item
 
 first_same : (eq : Item → Item → Bool) → ((x y : Item) → Decides (eq x y) (x ≡ y)) → (x : Item) (items : List Item) → position_or_len (eq x) items ≡ position_or_len (same_item x) items
@@ -88,9 +56,3 @@ index_some o place is lt = ap index_from is ∙ ap (λ (b : Bool). cond b (place
 
 pub index_past : (o : Option ℕ) (place : ℕ) → o ≡ Some place → 65534 ≤ place → index_from o ≡ 0
 index_past o place is le = ap index_from is ∙ ap (λ (b : Bool). cond b (place + 1) 0) (le-ltb place 65534 le)
-
-pub pair_same : (a b c d : List ℕ) → a ≡ b → c ≡ d → NameAndType a c ≡ NameAndType b d
-pair_same a b c d p q = cc
-
-pub member_same : (f : List ℕ → List ℕ → List ℕ → Item) (a b c d e g : List ℕ) → a ≡ b → c ≡ d → e ≡ g → f a c e ≡ f b d g
-member_same f a b c d e g p q r = cc

@@ -1,1 +1,9 @@
 pub mod ItemLemmas
+pub mod ListLemmas
+pub mod MentionLemmas
+pub mod PoolLemmas
+pub mod PoolLaws
+pub mod InsideLaws
+pub mod RuleLaws
+pub mod PlanLaws
+pub mod RoomLaws

@@ -1,1 +1,4 @@
 pub mod Making
+pub mod Plans
+pub mod Right
+pub mod Laws

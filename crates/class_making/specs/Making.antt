@@ -1,6 +1,6 @@
 -- Pools in order of first mention: what is mentioned stands once, where it was mentioned first, and each entry is
 -- followed at once by those that it names and that aren't there yet.
-use Rattle.std.specs.Prelude.{ℕ, zero, suc, ◌+◌, Bool, false, ◌&&◌, ◌==◌, nat_lt, if◌then◌else◌, List, [], ◌∷◌, ◌++◌, map, Option, Some, None, slice_get, position}
+use Rattle.std.specs.Prelude.{ℕ, ◌+◌, Bool, false, ◌&&◌, ◌==◌, nat_lt, if◌then◌else◌, List, [], ◌∷◌, ◌++◌, map, Option, Some, None, position}
 use Rattle.std.specs.List.{list_any}
 use Rattle.std.specs.Str.{bytes_eq}
 use Rattle.class_pool.specs.declared.entry.Entry.{Entry}
@@ -42,11 +42,6 @@ with_all items (x ∷ xs) = with_all (with_item items x) xs
 abbrev pub mention : List Item → Item → List Item
 mention items x = with_all items (expanded x)
 
--- the item of an index; indexes begin at 1
-abbrev pub item_at : List Item → ℕ → Option Item
-item_at items zero = None
-item_at items (suc place) = slice_get items place
-
 -- the index of an item, and 0 where it isn't there
 abbrev pub index_from : Option ℕ → ℕ
 index_from None = 0
@@ -68,3 +63,8 @@ entry_of items (InterfaceMethod owner name descriptor) = entries.InterfaceMethod
 
 abbrev pub pool_of : List Item → List Entry
 pool_of items = map (entry_of items) items
+
+-- what is there after several mentions
+abbrev pub mention_each : List Item → List Item → List Item
+mention_each items [] = items
+mention_each items (x ∷ xs) = mention_each (mention items x) xs

@@ -1,4 +1,8 @@
+ghost use Rattle.std.specs.Prelude.{◌≡◌, IfOk};
+
 use class_pool::Units;
+use jop_base::NoMemory;
+use std::alloc::Global;
 
 /// What a pool has an entry for.
 #[derive(PartialEq, Eq, Hash, Drop)]
@@ -19,4 +23,40 @@ pub enum Item {
     Method(Units, Units, Units),
     /// A method of an interface.
     InterfaceMethod(Units, Units, Units),
+}
+
+/// The same text once more.
+pub fn copy_of(alloc: Global, text: &Units) -> Result<Units, NoMemory>
+    ensures { IfOk result (λ copy. copy ≡ text.now) }
+{
+    Ok(Units::new(Vec::from_slice(alloc, text.as_slice())?))
+}
+
+impl Item {
+    /// The same item once more.
+    pub(crate) fn copied(&self, alloc: Global) -> Result<Item, NoMemory>
+        ensures { IfOk result (λ copy. copy ≡ self.now) }
+    {
+        Ok(match self {
+            Item::Text(text) => Item::Text(copy_of(alloc, text)?),
+            Item::Integer(bits) => Item::Integer(*bits),
+            Item::Class(name) => Item::Class(copy_of(alloc, name)?),
+            Item::Str(text) => Item::Str(copy_of(alloc, text)?),
+            Item::NameAndType(name, descriptor) => {
+                Item::NameAndType(copy_of(alloc, name)?, copy_of(alloc, descriptor)?)
+            }
+            Item::Field(owner, name, descriptor) => {
+                let (owner, name) = (copy_of(alloc, owner)?, copy_of(alloc, name)?);
+                Item::Field(owner, name, copy_of(alloc, descriptor)?)
+            }
+            Item::Method(owner, name, descriptor) => {
+                let (owner, name) = (copy_of(alloc, owner)?, copy_of(alloc, name)?);
+                Item::Method(owner, name, copy_of(alloc, descriptor)?)
+            }
+            Item::InterfaceMethod(owner, name, descriptor) => {
+                let (owner, name) = (copy_of(alloc, owner)?, copy_of(alloc, name)?);
+                Item::InterfaceMethod(owner, name, copy_of(alloc, descriptor)?)
+            }
+        })
+    }
 }

@@ -1,47 +1,16 @@
 //! Pools in order of first mention.
-ghost use Rattle.std.specs.Prelude.{◌≡◌, ◌<◌, [], length, Some, IfOk, OnOk, Err};
-ghost use Rattle.class_making.specs.Making.{with_item, mention, item_at, index_of, entry_of, pool_of};
+ghost use Rattle.std.specs.Prelude.{◌≡◌, [], length, IfOk, OnOk};
+ghost use Rattle.class_making.specs.Making.{with_item, mention, index_of, entry_of, pool_of};
 
-use crate::item::Item;
+use crate::item::{Item, copy_of};
 use class_pool::{Entry, Pool, Units};
 use indexmap::IndexSet;
 use jop_base::NoMemory;
-use std::alloc::{AllocError, AllocFailed, Global};
+use std::alloc::Global;
 use std::marker::Model;
 
 /// The most entries of a pool.
-const MOST_ENTRIES: usize = 65_534;
-
-/// Why nothing was added to a pool.
-#[derive(Clone, Copy)]
-pub enum MakeFault {
-    /// There would be more than 65,534 entries.
-    Full,
-    /// There was no memory.
-    NoMemory,
-}
-
-impl From<AllocError> for MakeFault {
-    ghost use Rattle.std.specs.Prelude.{◌≡◌};
-    ghost use Rattle.class_making.specs.declared.maker.MakeFault.TheVariants.{NoMemory};
-
-    ghost from_gives = { λ _ fault. fault ≡ NoMemory };
-
-    fn from(_: AllocError) -> Self {
-        MakeFault::NoMemory
-    }
-}
-
-impl<T: Drop> From<AllocFailed<T>> for MakeFault {
-    ghost use Rattle.std.specs.Prelude.{◌≡◌};
-    ghost use Rattle.class_making.specs.declared.maker.MakeFault.TheVariants.{NoMemory};
-
-    ghost from_gives = { λ _ fault. fault ≡ NoMemory };
-
-    fn from(_: AllocFailed<T>) -> Self {
-        MakeFault::NoMemory
-    }
-}
+pub(crate) const MOST_ENTRIES: usize = 65_534;
 
 /// A pool that is being made: what was mentioned, in order of first mention. Contracts see it as that list. After a
 /// fault it is of no more use.
@@ -59,12 +28,6 @@ impl Model for PoolMaker {
     ghost view = { λ maker. maker.items.keys };
 }
 
-fn copied(alloc: Global, units: &[u16]) -> Result<Units, AllocError>
-    ensures { IfOk result (λ copy. copy ≡ units.now) }
-{
-    Ok(Units::new(Vec::from_slice(alloc, units)?))
-}
-
 impl PoolMaker {
     /// A pool of no entries.
     pub fn new(alloc: Global) -> Self
@@ -75,140 +38,74 @@ impl PoolMaker {
         }
     }
 
-    // Puts the item last, unless it is there, and answers its index.
-    fn put(&mut self, item: Item) -> Result<u16, MakeFault>
-        ensures items { OnOk result (self.new ≡ with_item self.old item) }
-        ensures index { IfOk result (λ i. item_at self.new i ≡ Some item) }
-        ensures full { result ≡ Err MakeFault.Full → 65534 < length self.new }
+    /// How many entries there are.
+    pub fn len(&self) -> usize
+        ensures { result ≡ length self.now }
     {
-        let (place, _) = self.items.insert_full(item)?;
-        if place >= MOST_ENTRIES {
-            return Err(MakeFault::Full);
-        }
-        Ok(place as u16 + 1)
+        self.items.len()
     }
 
-    /// The index of a text.
-    pub fn text(&mut self, alloc: Global, units: &[u16]) -> Result<u16, MakeFault>
-        ensures items { OnOk result (self.new ≡ mention self.old (Item.Text units.now)) }
-        ensures index { IfOk result (λ i. item_at self.new i ≡ Some (Item.Text units.now)) }
+    // Puts the item last, unless it is there.
+    fn put(&mut self, item: Item) -> Result<(), NoMemory>
+        ensures { OnOk result (self.new ≡ with_item self.old item) }
     {
-        self.put(Item::Text(copied(alloc, units)?))
-    }
-
-    /// The index of the 32 bits of an `int`.
-    pub fn integer(&mut self, bits: u32) -> Result<u16, MakeFault>
-        ensures items { OnOk result (self.new ≡ mention self.old (Item.Integer bits)) }
-        ensures index { IfOk result (λ i. item_at self.new i ≡ Some (Item.Integer bits)) }
-    {
-        self.put(Item::Integer(bits))
-    }
-
-    /// The index of a class.
-    pub fn class(&mut self, alloc: Global, name: &[u16]) -> Result<u16, MakeFault>
-        ensures items { OnOk result (self.new ≡ mention self.old (Item.Class name.now)) }
-        ensures index { IfOk result (λ i. item_at self.new i ≡ Some (Item.Class name.now)) }
-    {
-        let index = self.put(Item::Class(copied(alloc, name)?))?;
-        self.text(alloc, name)?;
-        Ok(index)
-    }
-
-    /// The index of a string.
-    pub fn string(&mut self, alloc: Global, text: &[u16]) -> Result<u16, MakeFault>
-        ensures items { OnOk result (self.new ≡ mention self.old (Item.Str text.now)) }
-        ensures index { IfOk result (λ i. item_at self.new i ≡ Some (Item.Str text.now)) }
-    {
-        let index = self.put(Item::Str(copied(alloc, text)?))?;
-        self.text(alloc, text)?;
-        Ok(index)
-    }
-
-    /// The index of a name and type.
-    pub fn name_and_type(
-        &mut self,
-        alloc: Global,
-        name: &[u16],
-        descriptor: &[u16],
-    ) -> Result<u16, MakeFault>
-        ensures items { OnOk result (self.new ≡ mention self.old (Item.NameAndType name.now descriptor.now)) }
-        ensures index { IfOk result (λ i. item_at self.new i ≡ Some (Item.NameAndType name.now descriptor.now)) }
-    {
-        let pair = Item::NameAndType(copied(alloc, name)?, copied(alloc, descriptor)?);
-        let index = self.put(pair)?;
-        self.text(alloc, name)?;
-        self.text(alloc, descriptor)?;
-        Ok(index)
-    }
-
-    // What a member names: its class, and its name and type.
-    fn member_parts(
-        &mut self,
-        alloc: Global,
-        owner: &[u16],
-        name: &[u16],
-        descriptor: &[u16],
-    ) -> Result<(), MakeFault>
-        ensures { OnOk result (self.new ≡ mention (mention self.old (Item.Class owner.now)) (Item.NameAndType name.now descriptor.now)) }
-    {
-        self.class(alloc, owner)?;
-        self.name_and_type(alloc, name, descriptor)?;
+        self.items.insert_full(item)?;
         Ok(())
     }
 
-    /// The index of a field.
-    pub fn field(
-        &mut self,
-        alloc: Global,
-        owner: &[u16],
-        name: &[u16],
-        descriptor: &[u16],
-    ) -> Result<u16, MakeFault>
-        ensures items { OnOk result (self.new ≡ mention self.old (Item.Field owner.now name.now descriptor.now)) }
-        ensures index { IfOk result (λ i. item_at self.new i ≡ Some (Item.Field owner.now name.now descriptor.now)) }
+    /// Mentions a text.
+    pub(crate) fn mention_text(&mut self, alloc: Global, text: &Units) -> Result<(), NoMemory>
+        ensures { OnOk result (self.new ≡ mention self.old (Item.Text text.now)) }
     {
-        let (class, named) = (copied(alloc, owner)?, copied(alloc, name)?);
-        let index = self.put(Item::Field(class, named, copied(alloc, descriptor)?))?;
-        self.member_parts(alloc, owner, name, descriptor)?;
-        Ok(index)
+        self.put(Item::Text(copy_of(alloc, text)?))
     }
 
-    /// The index of a method of a class.
-    pub fn method(
-        &mut self,
-        alloc: Global,
-        owner: &[u16],
-        name: &[u16],
-        descriptor: &[u16],
-    ) -> Result<u16, MakeFault>
-        ensures items { OnOk result (self.new ≡ mention self.old (Item.Method owner.now name.now descriptor.now)) }
-        ensures index { IfOk result (λ i. item_at self.new i ≡ Some (Item.Method owner.now name.now descriptor.now)) }
+    /// Mentions a class.
+    pub(crate) fn mention_class(&mut self, alloc: Global, name: &Units) -> Result<(), NoMemory>
+        ensures { OnOk result (self.new ≡ mention self.old (Item.Class name.now)) }
     {
-        let (class, named) = (copied(alloc, owner)?, copied(alloc, name)?);
-        let index = self.put(Item::Method(class, named, copied(alloc, descriptor)?))?;
-        self.member_parts(alloc, owner, name, descriptor)?;
-        Ok(index)
+        self.put(Item::Class(copy_of(alloc, name)?))?;
+        self.mention_text(alloc, name)
     }
 
-    /// The index of a method of an interface.
-    pub fn interface_method(
+    // Mentions a name and a descriptor.
+    fn mention_pair(
         &mut self,
         alloc: Global,
-        owner: &[u16],
-        name: &[u16],
-        descriptor: &[u16],
-    ) -> Result<u16, MakeFault>
-        ensures items { OnOk result (self.new ≡ mention self.old (Item.InterfaceMethod owner.now name.now descriptor.now)) }
-        ensures index { IfOk result (λ i. item_at self.new i ≡ Some (Item.InterfaceMethod owner.now name.now descriptor.now)) }
+        name: &Units,
+        descriptor: &Units,
+    ) -> Result<(), NoMemory>
+        ensures { OnOk result (self.new ≡ mention self.old (Item.NameAndType name.now descriptor.now)) }
     {
-        let (class, named) = (copied(alloc, owner)?, copied(alloc, name)?);
-        let index = self.put(Item::InterfaceMethod(class, named, copied(alloc, descriptor)?))?;
-        self.member_parts(alloc, owner, name, descriptor)?;
-        Ok(index)
+        let pair = Item::NameAndType(copy_of(alloc, name)?, copy_of(alloc, descriptor)?);
+        self.put(pair)?;
+        self.mention_text(alloc, name)?;
+        self.mention_text(alloc, descriptor)
     }
 
-    // The index of an item, and 0 where it isn't there.
-    fn index_of(&self, item: &Item) -> u16
+    /// Mentions an item: it, and what it names, stand in the pool from then on.
+    pub fn mention(&mut self, alloc: Global, item: &Item) -> Result<(), NoMemory>
+        ensures { OnOk result (self.new ≡ mention self.old item.now) }
+    {
+        self.put(item.copied(alloc)?)?;
+        match item {
+            Item::Text(_) | Item::Integer(_) => Ok(()),
+            Item::Class(text) | Item::Str(text) => self.mention_text(alloc, text),
+            Item::NameAndType(name, descriptor) => {
+                self.mention_text(alloc, name)?;
+                self.mention_text(alloc, descriptor)
+            }
+            Item::Field(owner, name, descriptor)
+            | Item::Method(owner, name, descriptor)
+            | Item::InterfaceMethod(owner, name, descriptor) => {
+                self.mention_class(alloc, owner)?;
+                self.mention_pair(alloc, name, descriptor)
+            }
+        }
+    }
+
+    /// The index of an item, and 0 where it isn't there.
+    pub fn index_of(&self, item: &Item) -> u16
         ensures { result ≡ index_of self.now item.now }
     {
         match self.items.get_index_of(item) {
@@ -217,23 +114,23 @@ impl PoolMaker {
         }
     }
 
-    fn text_index(&self, alloc: Global, units: &Units) -> Result<u16, NoMemory>
-        ensures { IfOk result (λ i. i ≡ index_of self.now (Item.Text units.now)) }
+    pub(crate) fn text_index(&self, alloc: Global, text: &Units) -> Result<u16, NoMemory>
+        ensures { IfOk result (λ i. i ≡ index_of self.now (Item.Text text.now)) }
     {
-        Ok(self.index_of(&Item::Text(copied(alloc, units.as_slice())?)))
+        Ok(self.index_of(&Item::Text(copy_of(alloc, text)?)))
     }
 
-    fn class_index(&self, alloc: Global, name: &Units) -> Result<u16, NoMemory>
+    pub(crate) fn class_index(&self, alloc: Global, name: &Units) -> Result<u16, NoMemory>
         ensures { IfOk result (λ i. i ≡ index_of self.now (Item.Class name.now)) }
     {
-        Ok(self.index_of(&Item::Class(copied(alloc, name.as_slice())?)))
+        Ok(self.index_of(&Item::Class(copy_of(alloc, name)?)))
     }
 
     fn pair_index(&self, alloc: Global, name: &Units, descriptor: &Units) -> Result<u16, NoMemory>
         ensures { IfOk result (λ i. i ≡ index_of self.now (Item.NameAndType name.now descriptor.now)) }
     {
-        let name = copied(alloc, name.as_slice())?;
-        let descriptor = copied(alloc, descriptor.as_slice())?;
+        let name = copy_of(alloc, name)?;
+        let descriptor = copy_of(alloc, descriptor)?;
         Ok(self.index_of(&Item::NameAndType(name, descriptor)))
     }
 
@@ -242,7 +139,7 @@ impl PoolMaker {
         ensures { IfOk result (λ e. e ≡ entry_of self.now item.now) }
     {
         match item {
-            Item::Text(units) => Ok(Entry::Utf8(copied(alloc, units.as_slice())?)),
+            Item::Text(text) => Ok(Entry::Utf8(copy_of(alloc, text)?)),
             Item::Integer(bits) => Ok(Entry::Integer(*bits)),
             Item::Class(name) => Ok(Entry::Class(self.text_index(alloc, name)?)),
             Item::Str(text) => Ok(Entry::Text(self.text_index(alloc, text)?)),

@@ -10,8 +10,13 @@
 //! - `field`, `method`, `name`: what a text is as a descriptor or a name.
 //! - `make`: the indexes that a pool maker gives to mentions of two classes and a member, named by three letters, and
 //!   the pool.
+//! - `core`: the core class of a number, written and read again.
+//! - `boot`: `jop/Boot` for calls of the classes that are named and main of the last of them, written and read again.
+//!
+//! The rows of the last two words were made by `examples/classes/core.py`.
 #![tactic(auto)]
 
+mod brought;
 mod classes;
 mod found;
 mod making;
@@ -32,6 +37,8 @@ fn answer(alloc: Global, row: &Row) -> Result<Found, AllocError> {
         Word::Method => texts::of_method(alloc, &row.bytes),
         Word::Name => texts::of_name(alloc, &row.bytes),
         Word::Make => making::of_letters(alloc, &row.bytes),
+        Word::Core => brought::of_core(alloc, &row.bytes),
+        Word::Boot => brought::of_boot(alloc, &row.bytes),
     }
 }
 

@@ -12,6 +12,8 @@ pub enum Word {
     Method,
     Name,
     Make,
+    Core,
+    Boot,
 }
 
 /// A row of the table.
@@ -31,6 +33,8 @@ fn word_of(text: &str) -> Option<Word> {
         "method" => Some(Word::Method),
         "name" => Some(Word::Name),
         "make" => Some(Word::Make),
+        "core" => Some(Word::Core),
+        "boot" => Some(Word::Boot),
         _ => None,
     }
 }

@@ -9,8 +9,8 @@ use descriptors::{argument_words, field_type, method_type};
 use jop_base::FormatFault;
 use std::alloc::{AllocError, Global};
 
-// The units of an ASCII text.
-fn units_of(alloc: Global, text: &[u8]) -> Result<Vec<u16>, AllocError> {
+/// The units of an ASCII text.
+pub(crate) fn units_of(alloc: Global, text: &[u8]) -> Result<Vec<u16>, AllocError> {
     text.iter().map(|byte| u16::from(*byte)).collect(alloc)
 }
 

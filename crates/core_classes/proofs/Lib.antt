@@ -1,0 +1,5 @@
+pub mod TableLemmas
+pub mod RightLemmas
+pub mod CoreLaws
+pub mod BootLaws
+pub mod SaysLaws
