@@ -1,13 +1,4 @@
-pub mod Facts
-pub mod Hierarchies
-pub mod Fields
-pub mod Selections
-pub mod Numbering
-pub mod Programs
-pub mod Objects
-pub mod Statics
-pub mod Calls
-pub mod Decoded
-pub mod Table
-pub mod Entries
-pub mod Rows
+pub mod ListLemmas
+pub mod MemberLemmas
+pub mod MentionLemmas
+pub mod ComponentLemmas

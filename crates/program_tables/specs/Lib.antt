@@ -2,6 +2,7 @@ pub mod Lists
 pub mod Instructions
 pub mod Kinds
 pub mod Numbers
+pub mod Members
 pub mod Core
 pub mod Operands
 pub mod Resolved
@@ -10,4 +11,5 @@ pub mod FrameClasses
 pub mod Unresolved
 pub mod Placed
 pub mod Resolving
+pub mod Tables
 pub mod Laws

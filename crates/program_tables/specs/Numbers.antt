@@ -59,6 +59,9 @@ is_instance_field cs f = is_field_with (λ k. not (is_static k)) cs f
 abbrev pub static_fields : List ClassFile → List Place
 static_fields cs = filter (is_static_field cs) (fields_by_number cs)
 
+abbrev pub static_number : List ClassFile → Place → Option ℕ
+static_number cs f = index_of (same_place f) (static_fields cs)
+
 -- the instance fields that the class declares
 abbrev pub own_instance_fields : List ClassFile → (class : ℕ) → List Place
 own_instance_fields cs c = filter (is_instance_field cs) (option_map_or (λ k. map (λ i. (c, i)) (range_with_len 0 (length k.fields))) (slice_get cs c) [])
@@ -67,10 +70,16 @@ own_instance_fields cs c = filter (is_instance_field cs) (option_map_or (λ k. m
 abbrev pub instance_fields : List ClassFile → (class : ℕ) → List Place
 instance_fields cs c = flat_map (own_instance_fields cs) (reverse (superclasses cs c))
 
+-- the index of an instance field among those of its class
+abbrev pub instance_number : List ClassFile → Place → Option ℕ
+instance_number cs f = index_of (same_place f) (instance_fields cs f.0)
+
 -- a method's text: its class's name, a dot, its name and its descriptor, as bytes
+abbrev pub member_text : ClassFile → Member → List ℕ
+member_text c m = utf8_bytes (name_of c) ++ 46 ∷ (utf8_bytes (text_at c.pool m.name) ++ utf8_bytes (text_at c.pool m.descriptor))
+
 abbrev pub method_text : List ClassFile → Place → List ℕ
-method_text cs m =
-    option_map_or (λ c. option_map_or (λ k. utf8_bytes (name_of c) ++ 46 ∷ (utf8_bytes (text_at c.pool k.name) ++ utf8_bytes (text_at c.pool k.descriptor))) (method_at cs m) []) (slice_get cs m.0) []
+method_text cs m = option_map_or (λ c. option_map_or (member_text c) (method_at cs m) []) (slice_get cs m.0) []
 
 -- ---- types
 
@@ -94,7 +103,11 @@ arrays_mentioned_by cs c p = used_by p.instr.op (class_kind cs c (named_in c p.i
 abbrev pub arrays_mentioned_in : List ClassFile → ClassFile → List Kind
 arrays_mentioned_in cs c = flat_map (λ m. flat_map (arrays_mentioned_by cs c) (instructions_of m)) c.methods
 
--- the arrays of numbers by their array type codes, the classes, then the arrays of references at their first mention
+-- the arrays of numbers by their array type codes, then so many classes
+abbrev pub first_types : (classes : ℕ) → List Kind
+first_types n = map OfNumbers (range_with_len 4 8) ++ map OfClass (range_with_len 0 n)
+
+-- the arrays of numbers, the classes, then the arrays of references at their first mention
 unfoldable pub types_of : List ClassFile → List Kind
 types_of cs =
     map OfNumbers (range_with_len 4 8) ++ (map OfClass (range_with_len 0 (length cs)) ++ distinct same_kind (flat_map (arrays_mentioned_in cs) cs))

@@ -1,33 +1,7 @@
 //! Laws of the definitions in `specs/`. The functions do nothing; a caller whose proof needs a law calls its function.
-ghost use Rattle.program_tables.specs.Laws.{HierarchyLaw, FieldLaw, SelectionLaw, ProgramLaw};
+ghost use Rattle.program_tables.specs.Laws.{ComponentsAreTypes};
 
-use class_rules::laws::{fields_have_constants, methods_have_code};
-use descriptors::laws::{field_descriptors, method_descriptors};
-
-/// What resolved classes extend is an order with Object at its top (JVM Specification SE 8, 4.1, 4.10).
-pub fn resolved_classes_are_ordered()
-    ensures { HierarchyLaw }
+/// The component of an array of references that is among the types is among them too.
+pub fn components_are_types()
+    ensures { ComponentsAreTypes }
 {}
-
-/// A resolved class has the fields of what it extends first, at the same indexes.
-pub fn fields_come_after_those_above()
-    ensures { FieldLaw }
-{}
-
-/// Where there are objects of a class, a method with code is selected in it for each instance method of what it extends
-/// (JVM Specification SE 8, 5.4.5, 5.4.6).
-pub fn methods_with_code_are_selected()
-    ensures { SelectionLaw }
-{
-    methods_have_code();
-}
-
-/// A program of resolved classes has what typing presupposes of a program.
-pub fn resolved_programs_are_lawful()
-    ensures { ProgramLaw }
-{
-    methods_have_code();
-    fields_have_constants();
-    field_descriptors();
-    method_descriptors();
-}

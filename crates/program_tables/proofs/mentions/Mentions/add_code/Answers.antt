@@ -1,0 +1,70 @@
+use Rattle.std.proofs.Common.{◌<◌, List, ℕ, [], Option, Some, None, length, get_or, take_all, refl, sym, ap, ◌∙◌, subst}
+use Rattle.std.specs.Option.{option_map_or}
+use Rattle.std.specs.List.{flat_map}
+use Rattle.std.proofs.lemmas.List.Elements.{Contains-get_or}
+use Rattle.jop_opcodes.specs.declared.instruction.Instr.{Instr}
+use Rattle.jop_opcodes.specs.Start.{starts_of}
+use Rattle.bytecode_model.specs.Program.{as_instr}
+use Rattle.bytecode_model.specs.Types.{Kind, same_kind}
+use Rattle.class_lookup.specs.Parts.{same_text}
+use Rattle.program_tables.specs.Instructions.{Placed, placed_at, named_in}
+use Rattle.program_tables.specs.Lists.{with_items}
+use Rattle.program_tables.specs.Numbers.{arrays_mentioned_by, string_in, constant_named}
+use Rattle.program_tables.specs.Tables.{kinds_of, texts_of}
+use Rattle.program_tables.proofs.MentionLemmas.{next_place, all_places, no_instr}
+use Rattle.program_tables.proofs.mentions.Mentions.add_code.Goals as goal
+use Rattle.program_tables.proofs.mentions.Mentions.add_code.Goals.{in-Ok+in_ok-add_instruction, in_default}
+
+pub decode-requires-clause-inside : goal.decode-requires-clause-inside
+decode-requires-clause-inside c =
+    let code = c.args.code.now in
+    let i = c.loop-pc.pc-index in
+    let e = c.deref-pc-items.ensures.value ∙ c.in_ok-starts.ensures in
+    let lt = subst (λ (xs : List ℕ). i < length xs) e c.loop-pc-test.true in
+    subst (λ (xs : List ℕ). get_or xs i 0 < length code) (sym e) ((c.starts_follow_one_another.ensures code).within_code (get_or (starts_of code) i 0) (Contains-get_or (starts_of code) i 0 lt))
+
+pub loop-pc-preserved : goal.loop-pc-preserved
+loop-pc-preserved c =
+    let class = c.args.class.now in
+    let code = c.args.code.now in
+    let ps = c.deref-pc-items.result.now in
+    let i = c.loop-pc.pc-index in
+    let pc = get_or ps i 0 in
+    let self = c.loop-pc.self in
+    let types = λ (after : List Kind) (o : Option Instr).
+    next_place same_kind (arrays_mentioned_by c.args.classes.now class) code ps i pc (kinds_of c.args.self.now.types) (kinds_of self.types) after o c.loop-pc-test.true refl c.loop-pc.invariant.types in
+    let strings = λ (after : List (List ℕ)) (o : Option Instr).
+    next_place same_text (λ (p : Placed). string_in class.pool (constant_named (named_in class p.instr))) code ps i pc (texts_of c.args.self.now.strings) (texts_of self.strings) after o c.loop-pc-test.true refl c.loop-pc.invariant.strings in
+    elim c.match-decode.branch [
+      | in-Ok+in_ok-add_instruction w ↦
+          let e = ap as_instr (sym c.decode.ensures.exact ∙ w.in-Ok.is) in
+          record {
+            types = ap (λ s. kinds_of s.types) w.self-is ∙ types (kinds_of w.add_instruction.new.self.types) (Some w.in-Ok.instr) e w.in_ok-add_instruction.ensures.types;
+            strings = ap (λ s. texts_of s.strings) w.self-is ∙ strings (texts_of w.add_instruction.new.self.strings) (Some w.in-Ok.instr) e w.in_ok-add_instruction.ensures.strings;
+          }
+      | in_default w ↦
+          let e = ap as_instr (sym c.decode.ensures.exact) ∙ no_instr c.decode.result w.in_default.not-Ok in
+          record {
+            types = ap (λ s. kinds_of s.types) w.self-is ∙ types (kinds_of self.types) None e refl;
+            strings = ap (λ s. texts_of s.strings) w.self-is ∙ strings (texts_of self.strings) None e refl;
+          }
+    ]
+
+pub returns-clause-types : goal.returns-clause-types
+returns-clause-types c =
+    let f = arrays_mentioned_by c.args.classes.now c.args.class.now in
+    let code = c.args.code.now in
+    let ps = c.deref-pc-items.result.now in
+    let e = c.deref-pc-items.ensures.value ∙ c.in_ok-starts.ensures in
+    c.loop-pc.invariant.types
+    ∙ ap (with_items same_kind (kinds_of c.args.self.now.types)) (ap (flat_map (λ q. option_map_or f (placed_at code q) [])) (take_all c.loop-pc.pc-index ps c.loop-pc-test.false ∙ e) ∙ all_places f code)
+
+pub returns-clause-strings : goal.returns-clause-strings
+returns-clause-strings c =
+    let class = c.args.class.now in
+    let f = λ (p : Placed). string_in class.pool (constant_named (named_in class p.instr)) in
+    let code = c.args.code.now in
+    let ps = c.deref-pc-items.result.now in
+    let e = c.deref-pc-items.ensures.value ∙ c.in_ok-starts.ensures in
+    c.loop-pc.invariant.strings
+    ∙ ap (with_items same_text (texts_of c.args.self.now.strings)) (ap (flat_map (λ q. option_map_or f (placed_at code q) [])) (take_all c.loop-pc.pc-index ps c.loop-pc-test.false ∙ e) ∙ all_places f code)

@@ -1,0 +1,100 @@
+//! What objects of the types are that Class entries and descriptors name (JVM Specification SE 8, 4.3.2, 4.4.1).
+ghost use Rattle.std.specs.Prelude.{◌≡◌, ◌<◌, option_map, IfOk, IfSome};
+ghost use Rattle.bytecode_model.specs.Lists.{onto};
+ghost use Rattle.program_tables.specs.Kinds.{type_named, array_code, kind_of_type, kind_of_entry};
+ghost use Rattle.program_tables.specs.Tables.{kind_seen};
+
+use class_lookup::Classes;
+use class_lookup::parts::class_text;
+use class_pool::Pool;
+use descriptors::names::is_class_name;
+use descriptors::{Element, FieldType, field_type};
+use jop_base::{FormatFault, NoMemory};
+use std::alloc::Global;
+
+/// What an object is: an instance of a class or an array of numbers, or an array of so many dimensions whose innermost elements are
+/// references to these.
+#[derive(Clone, Copy, PartialEq, Eq, Hash)]
+pub struct ObjectKind {
+    pub dimensions: u16,
+    pub base: Base,
+}
+
+/// A class, by its number; or arrays of numbers, by their array type code (6.5.newarray).
+#[derive(Clone, Copy, PartialEq, Eq, Hash)]
+pub enum Base {
+    Class(u32),
+    Numbers(u8),
+}
+
+/// The array type code of an array with such elements.
+fn array_code(element: &Element) -> u8
+    ensures { result ≡ array_code element.now }
+{
+    match element {
+        Element::Class(_) => 0,
+        Element::Boolean => 4,
+        Element::Char => 5,
+        Element::Float => 6,
+        Element::Double => 7,
+        Element::Byte => 8,
+        Element::Short => 9,
+        Element::Int => 10,
+        Element::Long => 11,
+    }
+}
+
+/// What an object of a reference type is, where the type's class is there.
+fn kind_of_type(classes: &Classes, of: &FieldType) -> Option<ObjectKind>
+    ensures kind { option_map kind_seen result ≡ kind_of_type classes.now of.now }
+    ensures within { IfSome result (λ kind. kind.dimensions < 256) }
+{
+    if let Element::Class(name) = &of.element {
+        let class = classes.find_class(name.as_slice())?;
+        return Some(ObjectKind {
+            dimensions: u16::from(of.dimensions),
+            base: Base::Class(class),
+        });
+    }
+    Some(ObjectKind {
+        dimensions: u16::from(of.dimensions.checked_sub(1)?),
+        base: Base::Numbers(array_code(&of.element)),
+    })
+}
+
+/// What an object of a type is that a Class entry names by this text.
+fn kind_named(
+    alloc: Global,
+    classes: &Classes,
+    text: &[u16],
+) -> Result<Option<ObjectKind>, NoMemory>
+    ensures kind { IfOk result (λ kind. option_map kind_seen kind ≡ onto (type_named text.now) (kind_of_type classes.now)) }
+    ensures within { IfOk result (λ kind. IfSome kind (λ k. k.dimensions < 256)) }
+{
+    if is_class_name(text) {
+        return Ok(
+            classes.find_class(text).map(|class| ObjectKind {
+                dimensions: 0,
+                base: Base::Class(class),
+            }),
+        );
+    }
+    match field_type(alloc, text) {
+        Ok(of) => Ok(kind_of_type(classes, &of)),
+        Err(FormatFault::Bad) => Ok(None),
+        Err(FormatFault::NoMemory) => Err(NoMemory),
+    }
+}
+
+/// What an object of the type of a Class entry is.
+pub(crate) fn kind_of_entry(
+    alloc: Global,
+    classes: &Classes,
+    pool: &Pool,
+    index: u16,
+) -> Result<Option<ObjectKind>, NoMemory>
+    ensures kind { IfOk result (λ kind. option_map kind_seen kind ≡ kind_of_entry classes.now pool.now index) }
+    ensures within { IfOk result (λ kind. IfSome kind (λ k. k.dimensions < 256)) }
+{
+    kind_named(alloc, classes, class_text(pool, index))
+}

@@ -1,0 +1,101 @@
+//! What an instruction names in the pool (JVM Specification SE 8, 4.4, 4.9.1 and 6.5).
+ghost use Rattle.std.specs.Prelude.{◌≡◌, ◌<◌, ◌^◌, length, Some};
+ghost use Rattle.std.specs.Option.{option_copied};
+ghost use Rattle.bytecode_model.specs.Lists.{onto};
+ghost use Rattle.class_pool.specs.Grammar.{entry_at};
+ghost use Rattle.program_tables.specs.Instructions.{is_ldc, is_field_access, is_class_use, takes_method, takes_interface_method, named_by, named_in};
+ghost use Rattle.program_tables.specs.Tables.{seen_in};
+
+use class_pool::{ClassFile, Entry, Pool};
+use jop_opcodes::Instr;
+
+/// What a pool entry gives to an instruction, by indexes of the pool: a constant; a class; a field or a method, by the Class entry
+/// through which it is named and its NameAndType entry.
+#[derive(Clone, Copy)]
+pub enum Named {
+    Constant(u16),
+    Class(u16),
+    Field(u16, u16),
+    /// A method that is named as one of a class.
+    Method(u16, u16),
+    /// A method that is named as one of an interface.
+    InterfaceMethod(u16, u16),
+}
+
+/// The entry of an index.
+pub(crate) fn entry_at(pool: &Pool, index: u16) -> Option<&Entry>
+    ensures { option_copied result ≡ entry_at pool.now index }
+{
+    let place = usize::from(index.checked_sub(1)?);
+    pool.entries().get(place)
+}
+
+/// Whether the opcode is ldc or ldc_w.
+fn is_ldc(op: u8) -> bool
+    ensures { result ≡ is_ldc op }
+{
+    op == 18 || op == 19
+}
+
+/// Whether the opcode reads or writes a field.
+fn is_field_access(op: u8) -> bool
+    ensures { result ≡ is_field_access op }
+{
+    op >= 178 && op <= 181
+}
+
+/// Whether the opcode names a class.
+fn is_class_use(op: u8) -> bool
+    ensures { result ≡ is_class_use op }
+{
+    op == 187 || op == 189 || op == 192 || op == 193
+}
+
+/// Whether the opcode takes a method of a class.
+fn takes_method(op: u8) -> bool
+    ensures { result ≡ takes_method op }
+{
+    op >= 182 && op <= 184
+}
+
+/// Whether the opcode takes a method of an interface, in a class file of this version.
+fn takes_interface_method(major: u16, op: u8) -> bool
+    ensures { result ≡ takes_interface_method major op }
+{
+    op == 185 || (major >= 52 && (op == 183 || op == 184))
+}
+
+/// What an entry gives to an opcode.
+fn named_by(pool: &Pool, major: u16, op: u8, index: u16, entry: &Entry) -> Option<Named>
+    requires { entry_at pool.now index ≡ Some entry.now }
+    ensures { onto result (seen_in pool.now) ≡ named_by pool.now major op index entry.now }
+{
+    match entry {
+        Entry::Integer(_)
+        | Entry::Float(_)
+        | Entry::Text(_)
+        | Entry::Handle(_, _)
+        | Entry::MethodType(_) => is_ldc(op).then_some(Named::Constant(index)),
+        Entry::Long(_) | Entry::Double(_) => (op == 20).then_some(Named::Constant(index)),
+        Entry::Class(_) if is_ldc(op) => Some(Named::Constant(index)),
+        Entry::Class(_) => is_class_use(op).then_some(Named::Class(index)),
+        Entry::Field(class, member) => {
+            is_field_access(op).then_some(Named::Field(*class, *member))
+        }
+        Entry::Method(class, member) => takes_method(op).then_some(Named::Method(*class, *member)),
+        Entry::InterfaceMethod(class, member) => takes_interface_method(major, op).then_some(
+            Named::InterfaceMethod(*class, *member),
+        ),
+        Entry::Utf8(_) | Entry::NameAndType(_, _) | Entry::Dynamic(_, _) | Entry::Second => None,
+    }
+}
+
+/// What an instruction of a class names.
+pub fn named_in(class: &ClassFile, instr: &Instr) -> Option<Named>
+    requires { length class.now.pool < 2 ^ 16 }
+    ensures { onto result (seen_in class.now.pool) ≡ named_in class.now instr.now }
+{
+    let index = u16::try_from(instr.first.unsigned_abs()).ok()?;
+    let entry = entry_at(&class.pool, index)?;
+    named_by(&class.pool, class.major, instr.op, index, entry)
+}

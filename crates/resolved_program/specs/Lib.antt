@@ -1,0 +1,3 @@
+pub mod Resolved
+pub mod Instances
+pub mod Types
