@@ -1,0 +1,7 @@
+pub mod Fault
+pub mod Types
+pub mod Table
+pub mod Locals
+pub mod Frames
+pub mod Laws
+pub mod Examples

@@ -1,0 +1,66 @@
+//! What instructions begin at places of a code (JVM Specification SE 8, 4.9.1).
+ghost use Rattle.std.specs.Prelude.{◌≡◌};
+ghost use Rattle.std.specs.List.{list_all};
+ghost use Rattle.std.specs.List.Sorted.{IsStrictlyIncreasing};
+ghost use Rattle.list_words.specs.Numbers.{is_among};
+ghost use Rattle.jop_opcodes.specs.Start.{starts_of};
+ghost use Rattle.frame_types.specs.Types.{is_start, is_new, names_new};
+
+use crate::types::VarType;
+use jop_opcodes::laws::starts_follow_one_another;
+
+/// The opcode `new`.
+const NEW: u8 = 187;
+
+/// A code with the places at which its instructions begin.
+#[derive(Clone, Copy)]
+pub(crate) struct Placed<'a> {
+    pub code: &'a [u8],
+    pub starts: &'a [u32],
+}
+
+// Whether the number is among these, which rise.
+fn is_among(numbers: &[u32], number: u32) -> bool
+    requires { IsStrictlyIncreasing numbers.now }
+    ensures { result ≡ is_among numbers.now number }
+{
+    numbers.binary_search(&number).is_ok()
+}
+
+/// Whether an instruction begins at the place.
+pub(crate) fn is_start(placed: Placed<'_>, place: u32) -> bool
+    requires { placed.starts.now ≡ starts_of placed.code.now }
+    ensures { result ≡ is_start placed.entry.code.now place }
+{
+    starts_follow_one_another();
+    is_among(placed.starts, place)
+}
+
+// Whether it is a `new`.
+fn is_new(placed: Placed<'_>, place: u32) -> bool
+    requires { placed.starts.now ≡ starts_of placed.code.now }
+    ensures { result ≡ is_new placed.entry.code.now place }
+{
+    is_start(placed, place)
+        && (place as usize) < placed.code.len()
+        && placed.code[place as usize] == NEW
+}
+
+// Whether a type that isn't initialised was made by a `new`.
+fn names_new(placed: Placed<'_>, t: &VarType) -> bool
+    requires { placed.starts.now ≡ starts_of placed.code.now }
+    ensures { result ≡ names_new placed.entry.code.now t.now }
+{
+    match t {
+        VarType::Uninitialized(place) => is_new(placed, *place),
+        _ => true,
+    }
+}
+
+/// Whether each of them that isn't initialised was.
+pub(crate) fn all_name_new(placed: Placed<'_>, types: &[VarType]) -> bool
+    requires { placed.starts.now ≡ starts_of placed.code.now }
+    ensures { result ≡ list_all (names_new placed.entry.code.now) types.now }
+{
+    types.iter().all(|t| names_new(placed, t))
+}

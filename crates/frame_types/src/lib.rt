@@ -1,0 +1,13 @@
+//! The frames of types that a method's StackMapTable gives, by the names of classes (JVM Specification SE 8, 4.7.4 and
+//! 4.10.1).
+#![tactic(auto)]
+
+mod code;
+mod first;
+pub mod laws;
+mod mapping;
+mod read;
+mod types;
+
+pub use mapping::frames;
+pub use types::{Frames, MapFault, TypeFrame, VarType};

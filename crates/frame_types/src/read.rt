@@ -1,0 +1,261 @@
+//! A StackMapTable as it is read (JVM Specification SE 8, 4.7.4).
+ghost use Rattle.std.specs.Prelude.{◌≡◌, ◌-◌, ◌≤◌, ◌<◌};
+ghost use Rattle.jop_base.specs.Reading.{Gives};
+ghost use Rattle.class_reader.specs.Reading.{many_in, counted_in};
+ghost use Rattle.frame_types.specs.Table.{object_in, uninitialized_in, tagged_in, type_in, one_item_in, append_in, full_in, change_in, frame_in, map_entry_in, table_in, entries_of};
+
+use crate::types::VarType;
+use class_lookup::parts::text_at;
+use class_pool::numbers::{u8_at, u16_at};
+use class_pool::{Code, Pool};
+use items::Items;
+use jop_base::FormatFault;
+use std::alloc::Global;
+
+/// What an entry changes of the frame before it. The operand stack is empty where nothing is said of it.
+#[derive(Drop)]
+pub(crate) enum Change {
+    /// same_frame and same_frame_extended: the same local variables.
+    Same,
+    /// same_locals_1_stack_item_frame and its extended form: the same local variables, and one item on the operand stack.
+    OneItem(VarType),
+    /// chop_frame: so many of the last local variables are absent.
+    Chop(u8),
+    /// append_frame: these local variables follow.
+    Append(Items<VarType>),
+    /// full_frame: all local variables, and the operand stack from its bottom to its top.
+    Full(Items<VarType>, Items<VarType>),
+}
+
+/// An entry of a StackMapTable.
+#[derive(Drop)]
+pub(crate) struct MapEntry {
+    /// How far it stands behind the least place at which it may stand.
+    pub offset: u16,
+    pub change: Change,
+}
+
+#[tactic(auto, unfolding(crate::specs::Table::object_in))]
+fn object_at<'a>(
+    alloc: Global,
+    pool: &Pool,
+    bytes: &'a [u8],
+) -> Result<(VarType, &'a [u8]), FormatFault>
+    ensures { Gives (λ x. (x.0, x.1.now)) result (object_in pool.now bytes.now) }
+{
+    let (index, rest) = u16_at(bytes)?;
+    let Some(name) = pool.class_name(index) else {
+        return Err(FormatFault::Bad);
+    };
+    let name = Items::new(Vec::from_slice(alloc, text_at(pool, name))?);
+    Ok((VarType::Object(name), rest))
+}
+
+#[tactic(auto, unfolding(crate::specs::Table::uninitialized_in))]
+fn uninitialized_at(bytes: &[u8]) -> Result<(VarType, &[u8]), FormatFault>
+    ensures { Gives (λ x. (x.0, x.1.now)) result (uninitialized_in bytes.now) }
+{
+    let (place, rest) = u16_at(bytes)?;
+    Ok((VarType::Uninitialized(u32::from(place)), rest))
+}
+
+// What stands behind a tag.
+#[tactic(auto, unfolding(crate::specs::Table::tagged_in))]
+fn tagged_at<'a>(
+    alloc: Global,
+    pool: &Pool,
+    tag: u8,
+    bytes: &'a [u8],
+) -> Result<(VarType, &'a [u8]), FormatFault>
+    ensures { Gives (λ x. (x.0, x.1.now)) result (tagged_in pool.now tag bytes.now) }
+{
+    match tag {
+        0 => Ok((VarType::Top, bytes)),
+        1 => Ok((VarType::Integer, bytes)),
+        4 => Ok((VarType::Long, bytes)),
+        5 => Ok((VarType::Null, bytes)),
+        6 => Ok((VarType::UninitializedThis, bytes)),
+        7 => object_at(alloc, pool, bytes),
+        8 => uninitialized_at(bytes),
+        _ => Err(FormatFault::Bad),
+    }
+}
+
+#[tactic(auto, unfolding(crate::specs::Table::type_in))]
+fn type_at<'a>(
+    alloc: Global,
+    pool: &Pool,
+    bytes: &'a [u8],
+) -> Result<(VarType, &'a [u8]), FormatFault>
+    ensures { Gives (λ x. (x.0, x.1.now)) result (type_in pool.now bytes.now) }
+{
+    let (tag, rest) = u8_at(bytes)?;
+    tagged_at(alloc, pool, tag, rest)
+}
+
+fn many_types<'a>(
+    alloc: Global,
+    pool: &Pool,
+    count: u16,
+    bytes: &'a [u8],
+) -> Result<(Vec<VarType>, &'a [u8]), FormatFault>
+    ensures { Gives (λ x. (x.0.items, x.1.now)) result (many_in (type_in pool.now) count bytes.now) }
+{
+    let mut types = Vec::new(alloc);
+    let mut rest = bytes;
+    for _ in 0..count {
+        let (found, after) = type_at(alloc, pool, rest)?;
+        types.push(found)?;
+        rest = after;
+    }
+    Ok((types, rest))
+}
+
+#[tactic(auto, unfolding(class_reader::specs::Reading::counted_in))]
+fn types_at<'a>(
+    alloc: Global,
+    pool: &Pool,
+    bytes: &'a [u8],
+) -> Result<(Items<VarType>, &'a [u8]), FormatFault>
+    ensures { Gives (λ x. (x.0, x.1.now)) result (counted_in (type_in pool.now) bytes.now) }
+{
+    let (count, rest) = u16_at(bytes)?;
+    let (types, rest) = many_types(alloc, pool, count, rest)?;
+    Ok((Items::new(types), rest))
+}
+
+#[tactic(auto, unfolding(crate::specs::Table::one_item_in))]
+fn one_item_at<'a>(
+    alloc: Global,
+    pool: &Pool,
+    bytes: &'a [u8],
+) -> Result<(Change, &'a [u8]), FormatFault>
+    ensures { Gives (λ x. (x.0, x.1.now)) result (one_item_in pool.now bytes.now) }
+{
+    let (item, rest) = type_at(alloc, pool, bytes)?;
+    Ok((Change::OneItem(item), rest))
+}
+
+#[tactic(auto, unfolding(crate::specs::Table::append_in))]
+fn append_at<'a>(
+    alloc: Global,
+    pool: &Pool,
+    count: u8,
+    bytes: &'a [u8],
+) -> Result<(Change, &'a [u8]), FormatFault>
+    ensures { Gives (λ x. (x.0, x.1.now)) result (append_in pool.now count bytes.now) }
+{
+    let (locals, rest) = many_types(alloc, pool, u16::from(count), bytes)?;
+    Ok((Change::Append(Items::new(locals)), rest))
+}
+
+#[tactic(auto, unfolding(crate::specs::Table::full_in))]
+fn full_at<'a>(
+    alloc: Global,
+    pool: &Pool,
+    bytes: &'a [u8],
+) -> Result<(Change, &'a [u8]), FormatFault>
+    ensures { Gives (λ x. (x.0, x.1.now)) result (full_in pool.now bytes.now) }
+{
+    let (locals, rest) = types_at(alloc, pool, bytes)?;
+    let (stack, rest) = types_at(alloc, pool, rest)?;
+    Ok((Change::Full(locals, stack), rest))
+}
+
+// What stands behind the offset of a frame that has one of two bytes.
+#[tactic(auto, unfolding(crate::specs::Table::change_in))]
+fn change_at<'a>(
+    alloc: Global,
+    pool: &Pool,
+    tag: u8,
+    bytes: &'a [u8],
+) -> Result<(Change, &'a [u8]), FormatFault>
+    requires { 247 ≤ tag }
+    ensures { Gives (λ x. (x.0, x.1.now)) result (change_in pool.now tag bytes.now) }
+{
+    match tag {
+        247 => one_item_at(alloc, pool, bytes),
+        248..=250 => Ok((Change::Chop(251 - tag), bytes)),
+        251 => Ok((Change::Same, bytes)),
+        252..=254 => append_at(alloc, pool, tag - 251, bytes),
+        _ => full_at(alloc, pool, bytes),
+    }
+}
+
+// What stands behind the tag of a frame.
+#[tactic(auto, unfolding(crate::specs::Table::frame_in))]
+fn frame_at<'a>(
+    alloc: Global,
+    pool: &Pool,
+    tag: u8,
+    bytes: &'a [u8],
+) -> Result<(MapEntry, &'a [u8]), FormatFault>
+    ensures { Gives (λ x. (x.0, x.1.now)) result (frame_in pool.now tag bytes.now) }
+{
+    let (offset, (change, rest)) = match tag {
+        0..=63 => (u16::from(tag), (Change::Same, bytes)),
+        64..=127 => (u16::from(tag - 64), one_item_at(alloc, pool, bytes)?),
+        128..=246 => return Err(FormatFault::Bad),
+        _ => {
+            let (offset, rest) = u16_at(bytes)?;
+            (offset, change_at(alloc, pool, tag, rest)?)
+        }
+    };
+    Ok((MapEntry { offset, change }, rest))
+}
+
+#[tactic(auto, unfolding(crate::specs::Table::map_entry_in))]
+fn map_entry_at<'a>(
+    alloc: Global,
+    pool: &Pool,
+    bytes: &'a [u8],
+) -> Result<(MapEntry, &'a [u8]), FormatFault>
+    ensures { Gives (λ x. (x.0, x.1.now)) result (map_entry_in pool.now bytes.now) }
+{
+    let (tag, rest) = u8_at(bytes)?;
+    frame_at(alloc, pool, tag, rest)
+}
+
+fn many_entries<'a>(
+    alloc: Global,
+    pool: &Pool,
+    count: u16,
+    bytes: &'a [u8],
+) -> Result<(Vec<MapEntry>, &'a [u8]), FormatFault>
+    ensures { Gives (λ x. (x.0.items, x.1.now)) result (many_in (map_entry_in pool.now) count bytes.now) }
+{
+    let mut entries = Vec::new(alloc);
+    let mut rest = bytes;
+    for _ in 0..count {
+        let (entry, after) = map_entry_at(alloc, pool, rest)?;
+        entries.push(entry)?;
+        rest = after;
+    }
+    Ok((entries, rest))
+}
+
+#[tactic(auto, unfolding(crate::specs::Table::table_in, class_reader::specs::Reading::counted_in))]
+fn table_of(alloc: Global, pool: &Pool, bytes: &[u8]) -> Result<Vec<MapEntry>, FormatFault>
+    ensures { Gives (λ x. x.items) result (table_in pool.now bytes.now) }
+{
+    let (count, rest) = u16_at(bytes)?;
+    let (entries, rest) = many_entries(alloc, pool, count, rest)?;
+    if !rest.is_empty() {
+        return Err(FormatFault::Bad);
+    }
+    Ok(entries)
+}
+
+/// The entries of a code's StackMapTable; a code without one has none.
+pub(crate) fn entries_of(
+    alloc: Global,
+    pool: &Pool,
+    code: &Code,
+) -> Result<Vec<MapEntry>, FormatFault>
+    ensures { Gives (λ x. x.items) result (entries_of pool.now code.now) }
+{
+    match code.stack_map(pool) {
+        Some(bytes) => table_of(alloc, pool, bytes),
+        None => Ok(Vec::new(alloc)),
+    }
+}
