@@ -2,3 +2,6 @@ pub mod OneCycle
 pub mod ResetWords
 pub mod Kept
 pub mod Tells
+pub mod StepTable
+pub mod Fetching
+pub mod Pausing

@@ -1,5 +1,5 @@
 -- What a cycle is where the word of the ROM is known.
-use Rattle.std.proofs.Common.{◌≡◌, ◌≢◌, ℕ, ◌≤◌, ◌%◌, ◌^◌, ◌∙◌, refl, sym, ap, Bool, true, false, cond, nat_lt, subst, arith, List, [], ◌∷◌, Some, None}
+use Rattle.std.proofs.Common.{◌≡◌, ◌≢◌, ℕ, ◌%◌, ◌^◌, ◌∙◌, refl, sym, ap, Bool, true, false, cond, nat_lt, subst, arith, List, [], ◌∷◌, Some, None}
 use Rattle.std.specs.Prelude.{slice_index}
 use Rattle.std.specs.declared.option.Option.{Option}
 use Rattle.micro_isa.specs.declared.Body.{Body}
@@ -20,22 +20,19 @@ use Rattle.jop_core.specs.Ticked.{Ticked, writes_of, notes_of}
 use Rattle.jop_core.proofs.Tells.{Passed-trans, Passed-quiet, Exchanged-after, Exchanged-before}
 use Rattle.jop_core.specs.Cycle.{cycle_of, asks_input, output_of, ran, counted, asks, body_asks, is_ldin, puts, body_outputs, is_stout}
 
-not_stalled : (s : State) → s.stall ≤ 0 → nat_lt 0 s.stall ≡ false
-not_stalled s none = let P : ℕ → Type 0 = λ k. nat_lt 0 k ≡ false in let zero : 0 ≡ s.stall = omega arith in subst P zero refl
-
-pub cycle_of-here : (s : State) (word : ℕ) (m : Option Micro) (input : Option ℕ) → s.stall ≤ 0 → word ≡ slice_index WORDS s.mpc → m ≡ micro_of word
+pub cycle_of-here : (s : State) (address : ℕ) (m : Option Micro) (input : Option ℕ) → nat_lt 0 s.stall ≡ false → address ≡ s.mpc → micro_of (slice_index WORDS address) ≡ m
     → cycle_of input s ≡ ran input m (counted s)
 unfolding cycle_of
-cycle_of-here s word m input none at is = rw (not_stalled s none, is, at) refl
+cycle_of-here s address m input still at is = rw (still, ← at, is) refl
 
-pub output_of-here : (s : State) (word : ℕ) (m : Option Micro) (a : ℕ) → s.stall ≤ 0 → word ≡ slice_index WORDS s.mpc → m ≡ micro_of word → a ≡ s.a
+pub output_of-here : (s : State) (address : ℕ) (m : Option Micro) (a : ℕ) → nat_lt 0 s.stall ≡ false → address ≡ s.mpc → micro_of (slice_index WORDS address) ≡ m → a ≡ s.a
     → output_of s ≡ puts m a
 unfolding output_of
-output_of-here s word m a none at is top = rw (not_stalled s none, is, at, top) refl
+output_of-here s address m a still at is top = rw (still, ← at, is, top) refl
 
-pub asks_input-here : (s : State) (word : ℕ) (m : Option Micro) → s.stall ≤ 0 → word ≡ slice_index WORDS s.mpc → m ≡ micro_of word → asks_input s ≡ asks m
+pub asks_input-here : (s : State) (address : ℕ) (m : Option Micro) → nat_lt 0 s.stall ≡ false → address ≡ s.mpc → micro_of (slice_index WORDS address) ≡ m → asks_input s ≡ asks m
 unfolding asks_input
-asks_input-here s word m none at is = rw (not_stalled s none, is, at) refl
+asks_input-here s address m still at is = rw (still, ← at, is) refl
 
 -- the state was handed over, and then a byte was asked for where the microinstruction asks for one
 pub record Begun (old : State) (asked : Bool) (input : Option ℕ) (t0 t2 : Told) : Type 0 where

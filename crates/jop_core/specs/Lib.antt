@@ -7,3 +7,4 @@ pub mod Ticked
 pub mod Scene
 pub mod Meaning
 pub mod Keeps
+pub mod Steps

@@ -9,6 +9,7 @@ mod halt;
 pub mod laws;
 mod machine;
 pub mod places;
+mod steps;
 mod tick;
 
 pub use bare_image::{Bare, BareFault, read_bare};

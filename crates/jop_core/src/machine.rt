@@ -1,8 +1,8 @@
 //! The machine, one cycle at a time.
-ghost use Rattle.std.specs.Prelude.{◌≡◌, ◌<◌, ◌^◌, ◌+◌, ◌-◌, [], ◌∷◌, MatchOption};
-ghost use Rattle.std.specs.Option.{ForSome};
-ghost use Rattle.micro_isa.specs.Words.{IsMicro};
-ghost use Rattle.jop_core.specs.Cycle.{performed, waits, ran, asks, body_asks, puts, body_outputs, at_boundary};
+ghost use Rattle.std.specs.Prelude.{◌≡◌, ◌<◌, ◌^◌, ◌+◌, ◌-◌, Some, true};
+ghost use Rattle.jop_core.specs.Cycle.{performed, waits, ran, asks, puts, at_boundary};
+ghost use Rattle.jop_core.specs.Steps.{meaning, HasTarget};
+ghost use Rattle.jop_core.specs.Meaning.{is_paused};
 ghost use Rattle.jop_core.specs.Ticked.{Ticked, AskedIn, PutOut};
 
 mod control;
@@ -13,15 +13,18 @@ mod reset;
 mod words;
 
 use crate::halt::Halt;
+use crate::steps::{Action, Step, step_at};
 use crate::tick::Tick;
 use jop_device::{DeviceFault, Devices};
 use memory_timing::Memory;
 use method_cache::MethodCache;
-use micro_isa::{Body, Micro, Operation, decode, operation_at};
-use microcode_rom::{RAISE, entry, rom};
+use microcode_rom::{RAISE, entry};
 pub use reset::{can_start, can_start_bare};
 use stack_cache::StackCache;
 use std::marker::Model;
+
+// The place of no word that a byte lies in.
+const NOT_FETCHED: u32 = u32::MAX;
 
 /// A machine with `N` on-chip words, of which there are 256, 512 or 1,024.
 #[derive(Drop)]
@@ -37,8 +40,13 @@ pub struct Machine<const N: usize> {
     opcode: u8,
     method: u32,
     cache: MethodCache,
+    // The bytes of the word of the current method that was fetched last, and its place there.
+    fetched: [u8; 4],
+    fetched_place: u32,
     stall: u32,
     halt: Halt,
+    // Whether no microinstruction runs: the machine has halted, or is stalled.
+    paused: bool,
     stack: StackCache<N>,
     memory: Memory,
     write_address: u32,
@@ -60,67 +68,52 @@ impl<const N: usize> Model for Machine<N> {
 
 impl<const N: usize> Machine<N> {
     // What a microinstruction does, where `ldin` is given this input.
-    fn perform(&mut self, m: Micro, input: Option<u8>)
-        requires { IsMicro m }
-        ensures { self.new ≡ performed input m self.old }
+    fn perform(&mut self, step: &Step, input: Option<u8>)
+        requires { HasTarget step.now.action }
+        ensures { self.new ≡ performed input (meaning step.now) self.old }
     {
-        match m.body {
-            Body::Plain(code) => {
-                self.operate(operation_at(code), input);
-                self.follow_flags(m);
-            }
-            Body::Stm(place) => {
-                self.store(place as u64);
-                self.follow_flags(m);
-            }
-            Body::Ldm(place) => {
-                self.push_word(place as u64);
-                self.follow_flags(m);
-            }
-            Body::Ldi(number) => {
-                self.push_word(32 + number as u64);
-                self.follow_flags(m);
-            }
-            Body::Bz(to) => {
+        match step.action {
+            Action::Bz(to) => {
                 let top = self.pop();
                 self.branch(top == 0, to);
             }
-            Body::Bnz(to) => {
+            Action::Bnz(to) => {
                 let top = self.pop();
                 self.branch(top > 0, to);
             }
-            Body::Jmp(to) => self.branch(true, to),
+            Action::Jmp(to) => self.branch(true, to),
+            _ => {
+                self.act(&step.action, input);
+                self.follow_flags(step);
+            }
         }
     }
 
     // Whether a microinstruction waits for the port.
-    fn waits_at(&self, m: Micro) -> bool
-        requires { IsMicro m }
-        ensures { result ≡ waits m self.now }
+    fn waits_at(&self, step: &Step) -> bool
+        ensures { result ≡ waits (meaning step.now) self.now }
     {
-        match m.body {
-            Body::Plain(code) => operation_at(code) == Operation::Wait && !self.memory.ready(),
+        match step.action {
+            Action::Wait => !self.memory.ready(),
             _ => false,
         }
     }
 
-    // Runs the microinstruction of a word of the ROM, if it has one.
-    fn run(&mut self, m: Option<Micro>, input: Option<u8>)
-        requires { ForSome m IsMicro }
-        ensures { self.new ≡ ran input m self.old }
+    // Runs a microinstruction.
+    fn run(&mut self, step: &Step, input: Option<u8>)
+        requires { HasTarget step.now.action }
+        ensures { self.new ≡ ran input (Some (meaning step.now)) self.old }
     {
-        if let Some(m) = m
-            && !self.waits_at(m)
-        {
-            self.perform(m, input);
+        if !self.waits_at(step) {
+            self.perform(step, input);
         }
     }
 
-    /// One clock: hands the state to the device, and then does a cycle. A machine that has halted does
-    /// nothing.
+    // A call of `cycle` where no microinstruction runs.
     #[tactic(auto, unfolding(crate::specs::Cycle::cycle_of, crate::specs::Cycle::asks_input, crate::specs::Cycle::output_of))]
-    pub fn cycle<D: Devices>(&mut self, device: &mut D) -> Tick
-        requires { self.old.clock < 2 ^ 64 - 1 }
+    fn pause<D: Devices>(&mut self, device: &mut D) -> Tick
+        requires clock { self.old.clock < 2 ^ 64 - 1 }
+        requires paused { is_paused self.old.stall self.old.halt ≡ true }
         ensures ticked { Ticked self.old self.new (D.told device.old) (D.told device.new) result }
         ensures clock { result ≡ Tick.Went → self.new.clock ≡ self.old.clock + 1 }
         ensures names { D.names device.new ≡ D.names device.old }
@@ -131,20 +124,35 @@ impl<const N: usize> Machine<N> {
         if let Err(_) = device.seen(self.seen()) {
             return Tick::SeenFault;
         }
-        if self.stall > 0 {
-            self.count();
-            self.stall -= 1;
-            return Tick::Went;
+        self.count();
+        self.stall -= 1;
+        self.paused = self.stall > 0;
+        Tick::Went
+    }
+
+    /// One clock: hands the state to the device, and then does a cycle. A machine that has halted does
+    /// nothing.
+    pub fn cycle<D: Devices>(&mut self, device: &mut D) -> Tick
+        requires { self.old.clock < 2 ^ 64 - 1 }
+        ensures ticked { Ticked self.old self.new (D.told device.old) (D.told device.new) result }
+        ensures clock { result ≡ Tick.Went → self.new.clock ≡ self.old.clock + 1 }
+        ensures names { D.names device.new ≡ D.names device.old }
+    {
+        if self.paused {
+            return self.pause(device);
         }
-        let m = decode(rom(self.mpc));
-        let Ok(input) = ask_in(device, m) else {
+        if let Err(_) = device.seen(self.seen()) {
+            return Tick::SeenFault;
+        }
+        let step = step_at(self.mpc);
+        let Ok(input) = ask_in(device, step) else {
             return Tick::ReadFault;
         };
-        if let Err(_) = put_out(device, m, self.a) {
+        if let Err(_) = put_out(device, step, self.a) {
             return Tick::WriteFault;
         }
         self.count();
-        self.run(m, input);
+        self.run(step, input);
         Tick::Went
     }
 
@@ -159,56 +167,23 @@ impl<const N: usize> Machine<N> {
 }
 
 // Asks for the next byte of the input, if a microinstruction does.
-fn ask_in<D: Devices>(device: &mut D, m: Option<Micro>) -> Result<Option<u8>, DeviceFault>
-    requires { ForSome m IsMicro }
-    ensures asked { AskedIn (D.told device.old) (D.told device.new) (asks m) result }
+fn ask_in<D: Devices>(device: &mut D, step: &Step) -> Result<Option<u8>, DeviceFault>
+    ensures asked { AskedIn (D.told device.old) (D.told device.new) (asks (Some (meaning step.now))) result }
     ensures names { D.names device.new ≡ D.names device.old }
 {
-    match m {
-        Some(m) if is_input(m) => device.input(),
+    match step.action {
+        Action::Ldin => device.input(),
         _ => Ok(None),
     }
 }
 
-fn is_input(m: Micro) -> bool
-    requires { IsMicro m }
-    ensures { result ≡ body_asks m.body }
-{
-    match m.body {
-        Body::Plain(code) => operation_at(code) == Operation::Ldin,
-        _ => false,
-    }
-}
-
-// Puts out the byte of a microinstruction, if it has one.
-fn put_out<D: Devices>(device: &mut D, m: Option<Micro>, a: u32) -> Result<(), DeviceFault>
-    requires { ForSome m IsMicro }
-    ensures put { PutOut (D.told device.old) (D.told device.new) (puts m a) result }
+// Puts the low byte of A out, if a microinstruction does.
+fn put_out<D: Devices>(device: &mut D, step: &Step, a: u32) -> Result<(), DeviceFault>
+    ensures put { PutOut (D.told device.old) (D.told device.new) (puts (Some (meaning step.now)) a) result }
     ensures names { D.names device.new ≡ D.names device.old }
 {
-    match byte_out(m, a) {
-        Some(byte) => device.output(byte),
-        None => Ok(()),
-    }
-}
-
-// The byte that a microinstruction puts out.
-fn byte_out(m: Option<Micro>, a: u32) -> Option<u8>
-    requires { ForSome m IsMicro }
-    ensures { MatchOption result (puts m a ≡ []) (λ byte. puts m a ≡ byte ∷ []) }
-{
-    match m {
-        Some(m) if is_output(m) => Some((a % 256) as u8),
-        _ => None,
-    }
-}
-
-fn is_output(m: Micro) -> bool
-    requires { IsMicro m }
-    ensures { result ≡ body_outputs m.body }
-{
-    match m.body {
-        Body::Plain(code) => operation_at(code) == Operation::Stout,
-        _ => false,
+    match step.action {
+        Action::Stout => device.output((a % 256) as u8),
+        _ => Ok(()),
     }
 }

@@ -135,6 +135,7 @@ impl MethodCache {
 
     /// Word `i` of method `m`. It is 0 past the method's words, and where the cache doesn't hold the
     /// method. It costs no search for the method that was selected or loaded last.
+    #[inline(always)]
     pub fn word(&self, m: u32, i: u32) -> u32
         ensures { result ≡ word_of m i self.now }
     {
@@ -145,6 +146,8 @@ impl MethodCache {
     }
 
     // The same of any method, by a search for it.
+    #[cold]
+    #[inline(never)]
     fn searched_word(&self, m: u32, i: u32) -> u32
         ensures { result ≡ word_of m i self.now }
     {

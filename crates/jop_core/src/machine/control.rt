@@ -2,10 +2,11 @@
 ghost use Rattle.std.specs.Prelude.{◌≡◌, ◌<◌, ◌^◌, ◌-◌, true, false};
 ghost use Rattle.jop_core.specs.State.{seen_of};
 ghost use Rattle.jop_core.specs.Cycle.{advanced, branched, with_opd, with_nxt, with_flags, counted};
+ghost use Rattle.jop_core.specs.Steps.{meaning};
 
 use crate::machine::Machine;
+use crate::steps::Step;
 use jop_device::Seen;
-use micro_isa::Micro;
 use microcode_rom::entry;
 
 impl<const N: usize> Machine<N> {
@@ -15,6 +16,7 @@ impl<const N: usize> Machine<N> {
         self.mpc = (self.mpc + 1) % 2048;
     }
 
+    #[tactic(auto, using(crate::proofs::Pausing::paused_at))]
     pub(super) fn branch(&mut self, taken: bool, to: u16)
         requires { to < 2048 }
         ensures { self.new ≡ branched taken to self.old }
@@ -22,6 +24,7 @@ impl<const N: usize> Machine<N> {
         if taken {
             self.mpc = to;
             self.stall = 2;
+            self.paused = true;
         } else {
             self.advance();
         }
@@ -45,13 +48,16 @@ impl<const N: usize> Machine<N> {
         self.mpc = entry(byte);
     }
 
-    pub(super) fn follow_flags(&mut self, m: Micro)
-        ensures { self.new ≡ with_flags m self.old }
+    pub(super) fn follow_flags(&mut self, step: &Step)
+        ensures { self.new ≡ with_flags (meaning step.now) self.old }
     {
-        if m.opd {
+        let Some(flags) = step.flags else {
+            return self.advance();
+        };
+        if flags.opd {
             self.shift_operand();
         }
-        if m.nxt {
+        if flags.nxt {
             self.dispatch();
         } else {
             self.advance();
@@ -76,6 +82,8 @@ impl<const N: usize> Machine<N> {
         ensures { self.new ≡ counted self.old }
     {
         self.clock += 1;
-        self.memory.tick();
+        if !self.memory.ready() {
+            self.memory.tick();
+        }
     }
 }

@@ -4,7 +4,7 @@ ghost use Rattle.method_cache.specs.Contents.{is_cached};
 ghost use Rattle.jop_core.specs.Operations.{switched, looked_up, can_switch, code_place, code_words};
 
 use crate::code::code_at;
-use crate::machine::Machine;
+use crate::machine::{Machine, NOT_FETCHED};
 
 impl<const N: usize> Machine<N> {
     // Makes the method at A's place the current one, and loads it where the cache doesn't hold it.
@@ -36,6 +36,7 @@ impl<const N: usize> Machine<N> {
     }
 
     // Looks up a method whose code lies at a place of memory.
+    #[tactic(auto, using(crate::proofs::Fetching::not_fetched, crate::proofs::Pausing::paused_at))]
     fn look_up(&mut self, m: u32, place: u32, words: u32)
         requires can { can_switch self.old m ≡ true }
         requires at { place ≡ code_place self.old.port.words m }
@@ -43,12 +44,14 @@ impl<const N: usize> Machine<N> {
         ensures { self.new ≡ looked_up (is_cached m self.old.cache) m self.old }
     {
         self.method = m;
+        self.fetched_place = NOT_FETCHED;
         if self.cache.select(m) {
             self.hits = self.hits.wrapping_add(1);
         } else {
             self.cache.load(m, self.memory.words(place, words));
             self.misses = self.misses.wrapping_add(1);
             self.stall = 4 + words * (2 + self.memory.read_wait());
+            self.paused = true;
         }
     }
 }

@@ -1,80 +1,81 @@
-//! The operations that have a code of their own.
-ghost use Rattle.std.specs.Prelude.{◌≡◌, ◌<◌};
-ghost use Rattle.jop_core.specs.Operations.{input_word, combined, after_binary, operated, halted_at_boot, branch_target};
+//! What microinstructions do, apart from branches, flags and the next address.
+ghost use Rattle.std.specs.Prelude.{◌≡◌, ◌≢◌, ◌<◌};
+ghost use Rattle.jop_core.specs.Operations.{input_word, operated, halted_at_boot, branch_target};
+ghost use Rattle.jop_core.specs.Steps.{body_of, acted, replaced};
 
 use crate::halt::Halt;
 use crate::machine::Machine;
 use crate::places::STACK;
+use crate::steps::Action;
 use core_words::{branch_holds, number, shift_right, sign_extend8, sign_extend16, signed_less};
 use micro_isa::Operation;
 
 impl<const N: usize> Machine<N> {
-    // An operation on B and A.
-    fn binary(&mut self, op: Operation)
-        ensures { self.new ≡ after_binary op self.old }
+    // Pops, and sets A: what an operation on B and A does with its result.
+    fn replace(&mut self, word: u32)
+        ensures { self.new ≡ replaced word self.old }
     {
-        let a = self.pop();
-        let b = self.a;
-        self.a = combine(op, b, a);
+        let _ = self.pop();
+        self.a = word;
     }
 
-    // What an operation does, apart from the flags of its word and the next address, where `ldin` is given
-    // this input.
-    pub(super) fn operate(&mut self, op: Operation, input: Option<u8>)
-        ensures { self.new ≡ operated input op self.old }
+    // What a microinstruction that doesn't branch does, apart from its flags, where `ldin` is given this input.
+    // One match decides among all of them.
+    pub(super) fn act(&mut self, action: &Action, input: Option<u8>)
+        ensures { self.new ≡ acted input (body_of action.now) self.old }
     {
-        let vp = self.vp as u64;
-        let ar = self.ar as u64;
-        let operand = self.operand;
-        match op {
-            Operation::Nop | Operation::Wait => {}
-            Operation::Pop | Operation::Stout => {
+        match *action {
+            Action::Nop | Action::Wait | Action::Bz(_) | Action::Bnz(_) | Action::Jmp(_) => {}
+            Action::Pop | Action::Stout => {
                 let _ = self.pop();
             }
-            Operation::Add
-            | Operation::Sub
-            | Operation::And
-            | Operation::Or
-            | Operation::Xor
-            | Operation::Shl
-            | Operation::Shr
-            | Operation::Ushr
-            | Operation::Mul
-            | Operation::Slt
-            | Operation::Sltu => self.binary(op),
-            Operation::Dup => self.push(self.a),
-            Operation::Ldo => self.push(operand),
-            Operation::Ldo8 => self.push(sign_extend8(operand)),
-            Operation::Ldo16 => self.push(sign_extend16(operand)),
-            Operation::Ldl => self.push_word(vp + operand as u64),
-            Operation::Stl => self.store(vp + operand as u64),
-            Operation::Ld0 => self.push_word(vp),
-            Operation::Ld1 => self.push_word(vp + 1),
-            Operation::Ld2 => self.push_word(vp + 2),
-            Operation::Ld3 => self.push_word(vp + 3),
-            Operation::St0 => self.store(vp),
-            Operation::St1 => self.store(vp + 1),
-            Operation::St2 => self.store(vp + 2),
-            Operation::St3 => self.store(vp + 3),
-            Operation::Ldvp => self.push(self.vp),
-            Operation::Stvp => self.set_vp(),
-            Operation::Ldsp => self.push(self.sp),
-            Operation::Stsp => self.set_sp(),
-            Operation::Ldjpc => self.push(self.jpc as u32),
-            Operation::Stjpc => self.set_jpc(),
-            Operation::Star => self.set_ar(),
-            Operation::Ldmi => self.push_word(ar),
-            Operation::Stmi => self.store(ar),
-            Operation::Stmra => self.start_read(),
-            Operation::Stmwa => self.set_write_address(),
-            Operation::Stmwd => self.start_write(),
-            Operation::Ldmrd => self.push_value(),
-            Operation::Stbc => self.switch(),
-            Operation::Jbr => self.branch_if(),
-            Operation::Jbg => self.go_to_target(),
-            Operation::Ldin => self.push(word_of_input(input)),
-            Operation::Hltb => self.halt_at_boot(Halt::Ended),
-            Operation::Hltu => self.halt_at_boot(Halt::Uncaught),
+            Action::Dup => self.push(self.a),
+            Action::Add => self.replace(self.b.wrapping_add(self.a)),
+            Action::Sub => self.replace(self.b.wrapping_sub(self.a)),
+            Action::And => self.replace(self.b & self.a),
+            Action::Or => self.replace(self.b | self.a),
+            Action::Xor => self.replace(self.b ^ self.a),
+            Action::Shl => self.replace(self.b.wrapping_shl(self.a)),
+            Action::Shr => self.replace(shift_right(self.b, self.a % 32)),
+            Action::Ushr => self.replace(self.b.wrapping_shr(self.a)),
+            Action::Mul => self.replace(self.b.wrapping_mul(self.a)),
+            Action::Slt => self.replace(number(signed_less(self.b, self.a))),
+            Action::Sltu => self.replace(number(self.b < self.a)),
+            Action::Ldo => self.push(self.operand),
+            Action::Ldo8 => self.push(sign_extend8(self.operand)),
+            Action::Ldo16 => self.push(sign_extend16(self.operand)),
+            Action::Ldl => self.push_word(self.vp as u64 + self.operand as u64),
+            Action::Stl => self.store(self.vp as u64 + self.operand as u64),
+            Action::Ld0 => self.push_word(self.vp as u64),
+            Action::Ld1 => self.push_word(self.vp as u64 + 1),
+            Action::Ld2 => self.push_word(self.vp as u64 + 2),
+            Action::Ld3 => self.push_word(self.vp as u64 + 3),
+            Action::St0 => self.store(self.vp as u64),
+            Action::St1 => self.store(self.vp as u64 + 1),
+            Action::St2 => self.store(self.vp as u64 + 2),
+            Action::St3 => self.store(self.vp as u64 + 3),
+            Action::Ldvp => self.push(self.vp),
+            Action::Stvp => self.set_vp(),
+            Action::Ldsp => self.push(self.sp),
+            Action::Stsp => self.set_sp(),
+            Action::Ldjpc => self.push(self.jpc as u32),
+            Action::Stjpc => self.set_jpc(),
+            Action::Star => self.set_ar(),
+            Action::Ldmi => self.push_word(self.ar as u64),
+            Action::Stmi => self.store(self.ar as u64),
+            Action::Stmra => self.start_read(),
+            Action::Stmwa => self.set_write_address(),
+            Action::Stmwd => self.start_write(),
+            Action::Ldmrd => self.push_value(),
+            Action::Stbc => self.switch(),
+            Action::Jbr => self.branch_if(),
+            Action::Jbg => self.go_to_target(),
+            Action::Ldin => self.push(word_of_input(input)),
+            Action::Hltb => self.halt_at_boot(Halt::Ended),
+            Action::Hltu => self.halt_at_boot(Halt::Uncaught),
+            Action::Stm(place) => self.store(place as u64),
+            Action::Ldm(place) => self.push_word(place as u64),
+            Action::Ldi(number) => self.push_word(32 + number as u64),
         }
     }
 
@@ -165,11 +166,14 @@ impl<const N: usize> Machine<N> {
     }
 
     // Halts, where the top frame is boot's.
+    #[tactic(auto, using(crate::proofs::Pausing::paused_halted))]
     fn halt_at_boot(&mut self, halt: Halt)
+        requires { halt ≢ Halt.Running }
         ensures { self.new ≡ halted_at_boot halt self.old }
     {
         if self.vp == STACK {
             self.halt = halt;
+            self.paused = true;
         }
     }
 }
@@ -181,24 +185,5 @@ fn word_of_input(input: Option<u8>) -> u32
     match input {
         Some(byte) => byte as u32,
         None => u32::MAX,
-    }
-}
-
-fn combine(op: Operation, b: u32, a: u32) -> u32
-    ensures { result ≡ combined op b a }
-{
-    match op {
-        Operation::Add => b.wrapping_add(a),
-        Operation::Sub => b.wrapping_sub(a),
-        Operation::And => b & a,
-        Operation::Or => b | a,
-        Operation::Xor => b ^ a,
-        Operation::Shl => b.wrapping_shl(a),
-        Operation::Shr => shift_right(b, a % 32),
-        Operation::Ushr => b.wrapping_shr(a),
-        Operation::Mul => b.wrapping_mul(a),
-        Operation::Slt => number(signed_less(b, a)),
-        Operation::Sltu => number(b < a),
-        _ => b,
     }
 }

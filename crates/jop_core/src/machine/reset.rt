@@ -7,7 +7,7 @@ ghost use Rattle.jop_core.specs.Starts.{starts, IsLinkedBoot, first_words};
 
 use crate::code::code_at;
 use crate::halt::Halt;
-use crate::machine::Machine;
+use crate::machine::{Machine, NOT_FETCHED};
 use crate::places;
 use bare_image::Bare;
 use core_words::laws::packed_has_words;
@@ -67,6 +67,7 @@ impl<const N: usize> Machine<N> {
     }
 
     // A machine at reset, whose boot method has this code.
+    #[tactic(auto, using(crate::proofs::Fetching::not_fetched))]
     fn begin(
         alloc: Global,
         boot: Boot,
@@ -96,8 +97,11 @@ impl<const N: usize> Machine<N> {
             opcode,
             method: boot.place,
             cache,
+            fetched: [0; 4],
+            fetched_place: NOT_FETCHED,
             stall: 0,
             halt: Halt::Running,
+            paused: false,
             stack,
             memory,
             write_address: 0,

@@ -2,6 +2,7 @@
 ghost use Rattle.std.specs.Prelude.{◌≡◌, ◌<◌, ◌%◌, length};
 ghost use Rattle.jop_core.specs.Operations.{pushed, popped, stored, word_at, place_of};
 ghost use Rattle.jop_core.specs.Cycle.{byte_at};
+ghost use Rattle.jop_core.specs.Meaning.{bytes_of};
 
 use crate::machine::Machine;
 use core_words::byte_of_word;
@@ -63,10 +64,29 @@ impl<const N: usize> Machine<N> {
         self.stack.write(place, top);
     }
 
-    pub(super) fn byte(&self) -> u8
-        ensures { result ≡ byte_at self.now }
+    // The byte at jpc. Its word is fetched where it isn't the one that was fetched last.
+    #[inline(always)]
+    #[tactic(auto, using(crate::proofs::Fetching::byte_among), unfolding(crate::specs::Meaning::IsFetched))]
+    pub(super) fn byte(&mut self) -> u8
+        ensures byte { result ≡ byte_at self.old }
+        ensures unchanged { self.new ≡ self.old }
     {
         let place = self.jpc as u32;
-        byte_of_word(self.cache.word(self.method, place / 4), place % 4)
+        if place / 4 != self.fetched_place {
+            self.fetched = bytes_of_word(self.cache.word(self.method, place / 4));
+            self.fetched_place = place / 4;
+        }
+        self.fetched[(place % 4) as usize]
     }
+}
+
+fn bytes_of_word(word: u32) -> [u8; 4]
+    ensures { result ≡ bytes_of word }
+{
+    [
+        byte_of_word(word, 0),
+        byte_of_word(word, 1),
+        byte_of_word(word, 2),
+        byte_of_word(word, 3),
+    ]
 }
