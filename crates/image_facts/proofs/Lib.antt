@@ -1,3 +1,4 @@
 pub mod Pieces
 pub mod Regions
 pub mod Making
+pub mod Staying

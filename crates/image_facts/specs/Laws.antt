@@ -1,14 +1,14 @@
 -- What holds of words among other words, and so of the words of an image.
-use Rattle.std.specs.Prelude.{◌≡◌, ℕ, ◌+◌, ◌<◌, List, [], ◌∷◌, ◌++◌, length, map, take, sum_by, slice_get, slice_index, slice_set, slice_range, Some}
+use Rattle.std.specs.Prelude.{◌≡◌, ℕ, ◌+◌, ◌<◌, ◌≤◌, List, [], ◌∷◌, ◌++◌, length, map, take, sum_by, slice_get, slice_index, slice_set, slice_range, Some}
 use Rattle.std.specs.List.{flat_map}
 use Rattle.bytecode_model.specs.declared.Value.{Value}
 use Rattle.bytecode_model.specs.Lists.{replaced}
 use Rattle.bytecode_model.specs.Types.{Declared, default}
-use Rattle.bytecode_model.specs.State.{Object}
-use Rattle.bytecode_model.specs.Program.{Program, kind_of}
+use Rattle.bytecode_model.specs.State.{Object, State}
+use Rattle.bytecode_model.specs.Program.{Program, Limits, kind_of}
 use Rattle.bytecode_model.specs.Sizes.{value_words, header_words}
 use Rattle.bytecode_model.specs.Steps.{written}
-use Rattle.bytecode_model.specs.WellFormed.{AreValues, AreObjects, AreAlike}
+use Rattle.bytecode_model.specs.WellFormed.{AreValues, AreObjects, AreAlike, IsWellFormed}
 use Rattle.image_facts.specs.Within.{LieAt, DifferAt}
 use Rattle.image_facts.specs.Words.{words_of, object_image, declared_words}
 use Rattle.image_facts.specs.Places.{Places, AreFixed, static_place, object_place, end_of, words_with}
@@ -98,3 +98,8 @@ WordsEnd = (P : Program) (pl : Places) (statics : List Value) (objects : List Ob
 abbrev pub ObjectsFollow : Type 0
 ObjectsFollow = (P : Program) (pl : Places) (statics : List Value) (objects : List Object) (o : Object) → AreValues (length objects) statics → AreObjects P (length objects) objects
     → AreValues (length objects) o.parts → words_with P pl statics (objects ++ o ∷ []) ≡ words_with P pl statics objects ++ object_image P pl.type (object_place P pl objects) o
+
+-- The first objects of a state lie where those of the start do, and so does what follows them.
+abbrev pub FirstObjectsStay : Type 0
+FirstObjectsStay = (P : Program) (pl : Places) (limits : Limits) (s : State) (p : ℕ) → AreObjects P (length P.first_objects) P.first_objects → IsWellFormed P limits s
+    → p ≤ length P.first_objects → object_place P pl s.objects p ≡ object_place P pl P.first_objects p

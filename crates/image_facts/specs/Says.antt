@@ -9,6 +9,7 @@ use Rattle.bytecode_model.specs.Types.{Kind, OfClass, OfNumbers, OfReferences, t
 use Rattle.bytecode_model.specs.Program.{Program, Method, Body, Handler, Operand, NoOperand, AnInt, ALong, AString, AStatic, AField, AMethod, AType, body_of, instr_at, type_number, is_of}
 use Rattle.bytecode_model.specs.Effects.{Fault, fault_object, component_of, has_class, selected}
 use Rattle.bytecode_model.specs.Steps.{taken_types}
+use Rattle.bytecode_model.specs.WellFormed.{AreObjects}
 use Rattle.image_facts.specs.Words.{int_word, high_word, low_word, is_long_type, declared_words}
 use Rattle.image_facts.specs.Places.{Places, AreFixed, static_place, object_place, image_words, pool_of}
 
@@ -168,4 +169,6 @@ SaysAll false P pl = IsBare P
 pub record Says (P : Program) (pl : Places) : Type 0 where
   pub codes : (m : ℕ) → IfSome (body_of P m) (λ b. IsCode b.code)
   pub apart : (m n : ℕ) → IsSome (body_of P m) → IsSome (body_of P n) → pl.method m ≡ pl.method n → m ≡ n
+  -- the objects that are there at the start are well formed
+  pub first : AreObjects P (length P.first_objects) P.first_objects
   pub all : SaysAll P.linked P pl

@@ -3,7 +3,7 @@
 //! caller whose proof needs a law calls its function.
 #![tactic(auto)]
 
-ghost use Rattle.image_facts.specs.Laws.{FieldsAreWide, FixedWordsLie, LieThrough, ListsGoOn, ObjectsFollow, ObjectsLie, PairsAreWritten, PartsDiffer, PartsLie, PiecesDiffer, PiecesLie, RangesAreRead, StaticsDiffer, StaticsLie, WordsAreRead, WordsAreWritten, WordsEnd};
+ghost use Rattle.image_facts.specs.Laws.{FieldsAreWide, FirstObjectsStay, FixedWordsLie, LieThrough, ListsGoOn, ObjectsFollow, ObjectsLie, PairsAreWritten, PartsDiffer, PartsLie, PiecesDiffer, PiecesLie, RangesAreRead, StaticsDiffer, StaticsLie, WordsAreRead, WordsAreWritten, WordsEnd};
 
 /// Words that lie in others are read from there, and written there.
 pub fn words_are_read_and_written()
@@ -40,4 +40,9 @@ pub fn image_words_differ()
 pub fn image_words_grow()
     ensures end { WordsEnd }
     ensures made { ObjectsFollow }
+{}
+
+/// The objects that are there at the start stay where they lie.
+pub fn first_objects_stay()
+    ensures { FirstObjectsStay }
 {}

@@ -1,5 +1,5 @@
 -- What a device tells, and what each of its calls does to that.
-use Rattle.std.specs.Prelude.{◌≡◌, ℕ, ◌≤◌, Bool, true, false, List, [], ◌∷◌, Some, None, Ok, Err}
+use Rattle.std.specs.Prelude.{◌≡◌, ℕ, ◌^◌, ◌<◌, ◌≤◌, Bool, true, false, List, [], ◌∷◌, Some, None, Ok, Err}
 use Rattle.std.specs.declared.option.Option.{Option}
 use Rattle.std.specs.declared.result.Result.{Result}
 use Rattle.telling.specs.Telling.{Grew, Rose}
@@ -52,11 +52,19 @@ pub record OnlySees (old new : Told) : Type 0 where
   pub writes : new.write_faults ≡ old.write_faults
   pub sees : old.seen_faults ≤ new.seen_faults
 
+-- what is given is a byte, or the end
+abbrev pub IsGiven : Option ℕ → Type 0
+IsGiven None = Unit {0}
+IsGiven (Some byte) = byte < 2 ^ 8
+
 -- the first byte that is left was given and is left no more; none is given exactly where none is left
+abbrev pub GivesFirst : Option (List ℕ) → Option (List ℕ) → Option ℕ → Type 0
+GivesFirst None new byte = Unit {0}
+GivesFirst (Some (b ∷ bytes)) new byte = (byte ≡ Some b) × (new ≡ Some bytes)
+GivesFirst (Some []) new byte = (byte ≡ None) × (new ≡ Some [])
+
 abbrev pub Gives : Option (List ℕ) → Option (List ℕ) → Option ℕ → Type 0
-Gives None new byte = Unit {0}
-Gives (Some (b ∷ bytes)) new byte = (byte ≡ Some b) × (new ≡ Some bytes)
-Gives (Some []) new byte = (byte ≡ None) × (new ≡ Some [])
+Gives old new byte = IsGiven byte × GivesFirst old new byte
 
 -- a byte was asked for, and all else stays
 pub record TookByte (old new : Told) (byte : Option ℕ) : Type 0 where

@@ -27,7 +27,7 @@ abbrev is_none : Form → Bool
 is_none NotAnOpcode = true
 is_none _ = false
 
-abbrev is_widened : Form → Bool
+abbrev pub is_widened : Form → Bool
 is_widened (Widened plain widened) = true
 is_widened _ = false
 
@@ -40,7 +40,7 @@ none_where_unassigned : (byte : ℕ) → byte < 256 → is_none (row_of byte).fo
 unfolding row_of
 none_where_unassigned = same_at (λ byte. is_none (row_of byte).form) is_unassigned refl
 
-widened_where_wide : (byte : ℕ) → byte < 256 → is_widened (row_of byte).form ≡ may_be_wide byte
+pub widened_where_wide : (byte : ℕ) → byte < 256 → is_widened (row_of byte).form ≡ may_be_wide byte
 unfolding row_of
 widened_where_wide = same_at (λ byte. is_widened (row_of byte).form) may_be_wide refl
 
@@ -48,7 +48,7 @@ wide_at_196 : (byte : ℕ) → byte < 256 → is_wide (row_of byte).form ≡ (by
 unfolding row_of
 wide_at_196 = same_at (λ byte. is_wide (row_of byte).form) (λ byte. byte == 196) refl
 
-form_196 : (row_of 196).form ≡ Wide
+pub form_196 : (row_of 196).form ≡ Wide
 unfolding row_of
 form_196 = refl
 

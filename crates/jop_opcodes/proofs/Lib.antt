@@ -7,3 +7,4 @@ pub mod StartLemmas
 pub mod Examples
 pub mod TargetLemmas
 pub mod SwitchLemmas
+pub mod ReadingLemmas

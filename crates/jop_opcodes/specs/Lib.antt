@@ -6,3 +6,4 @@ pub mod Instruction
 pub mod Fault
 pub mod Start
 pub mod Target
+pub mod Reading

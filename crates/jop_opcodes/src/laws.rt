@@ -3,6 +3,7 @@
 
 ghost use Rattle.std.specs.Prelude.{ℕ, ◌<◌, List};
 ghost use Rattle.jop_opcodes.specs.declared.instruction.Instr.{Instr};
+ghost use Rattle.jop_opcodes.specs.Reading.{InstructionsAreOfTheirForm, WideOnesAreOfTheirForm, WideOnesMayBeWide};
 ghost use Rattle.jop_opcodes.specs.Start.{AreStarts, IsFirstBad, IsPartition};
 ghost use Rattle.jop_opcodes.specs.Target.{TargetsFitKind, WholeIsWithin, IsLocal};
 
@@ -34,4 +35,11 @@ pub fn first_bad_is_a_start()
 /// Where a code is whole instructions, each of its bytes belongs to exactly one of them.
 pub fn instructions_partition_the_code()
     ensures { (code : List ℕ) → IsPartition code }
+{}
+
+/// What an instruction is, field by field, where its opcode is known.
+pub fn instructions_are_read()
+    ensures forms { InstructionsAreOfTheirForm }
+    ensures wide_opcodes { WideOnesMayBeWide }
+    ensures wide_forms { WideOnesAreOfTheirForm }
 {}

@@ -9,24 +9,18 @@ use Rattle.bytecode_model.specs.Types.{is_long}
 use Rattle.bytecode_model.specs.Slots.{spread, padded}
 use Rattle.machine_stands.specs.Frames.{AreLocals, AreOperands}
 use Rattle.machine_stands.specs.Calling.{Passed}
+use Rattle.machine_stands.specs.Operands.{Parts}
 use Rattle.machine_stands.proofs.Defined.{some_same, onto_defined}
 use Rattle.machine_stands.proofs.Counting.{locals_count}
 
 -- ---- the words of some operands, and of the others
 
-record Apart (place : ℕ → ℕ) (taken rest : List Value) (words : List ℕ) : Type 0 where
-  upper : List ℕ
-  lower : List ℕ
-  split : words ≡ upper ++ lower
-  first : AreOperands place taken upper
-  others : AreOperands place rest lower
+one_more : (place : ℕ → ℕ) (v : Value) (vs rest : List Value) (w : ℕ) (ws : List ℕ) → ((us : List ℕ) → AreOperands place vs us → AreOperands place (v ∷ vs) (w ∷ us)) → Parts place vs rest ws
+    → Parts place (v ∷ vs) rest (w ∷ ws)
+one_more place v vs rest w ws more a = record { upper_words = w ∷ a.upper_words; lower_words = a.lower_words; split = ap (λ (us : List ℕ). w ∷ us) a.split; are_upper = more a.upper_words a.are_upper; are_lower = a.are_lower }
 
-one_more : (place : ℕ → ℕ) (v : Value) (vs rest : List Value) (w : ℕ) (ws : List ℕ) → ((us : List ℕ) → AreOperands place vs us → AreOperands place (v ∷ vs) (w ∷ us)) → Apart place vs rest ws
-    → Apart place (v ∷ vs) rest (w ∷ ws)
-one_more place v vs rest w ws more a = record { upper = w ∷ a.upper; lower = a.lower; split = ap (λ (us : List ℕ). w ∷ us) a.split; first = more a.upper a.first; others = a.others }
-
-apart : (place : ℕ → ℕ) (taken rest : List Value) (words : List ℕ) → AreOperands place (taken ++ rest) words → Apart place taken rest words
-apart place [] rest words h = record { upper = []; lower = words; split = refl; first = tt; others = h }
+pub apart : (place : ℕ → ℕ) (taken rest : List Value) (words : List ℕ) → AreOperands place (taken ++ rest) words → Parts place taken rest words
+apart place [] rest words h = record { upper_words = []; lower_words = words; split = refl; are_upper = tt; are_lower = h }
 apart place (Int n ∷ vs) rest [] h = absurd h
 apart place (Long n ∷ vs) rest [] h = absurd h
 apart place (Ref p ∷ vs) rest [] h = absurd h
@@ -35,7 +29,7 @@ apart place (Unset ∷ vs) rest [] h = absurd h
 apart place (Long n ∷ vs) rest (w ∷ []) h = absurd h.0
 apart place (Long n ∷ vs) rest (low ∷ high ∷ ws) h =
     let a = apart place vs rest ws h.2 in
-    record { upper = low ∷ high ∷ a.upper; lower = a.lower; split = ap (λ (us : List ℕ). low ∷ high ∷ us) a.split; first = (h.0, h.1, a.first); others = a.others }
+    record { upper_words = low ∷ high ∷ a.upper_words; lower_words = a.lower_words; split = ap (λ (us : List ℕ). low ∷ high ∷ us) a.split; are_upper = (h.0, h.1, a.are_upper); are_lower = a.are_lower }
 apart place (Int n ∷ vs) rest (w ∷ ws) h = one_more place (Int n) vs rest w ws (λ us q. (h.0, q)) (apart place vs rest ws h.1)
 apart place (Ref p ∷ vs) rest (w ∷ ws) h = one_more place (Ref p) vs rest w ws (λ us q. (h.0, q)) (apart place vs rest ws h.1)
 apart place (Null ∷ vs) rest (w ∷ ws) h = one_more place Null vs rest w ws (λ us q. (h.0, q)) (apart place vs rest ws h.1)
@@ -109,14 +103,14 @@ pub arguments_passed : (place : ℕ → ℕ) (taken rest : List Value) (words : 
     → padded Unset size (spread is_long Unset (reverse taken)) ≡ Some locals → Passed place rest words size locals
 arguments_passed place taken rest words size locals h g =
     let a = apart place taken rest words h in
-    let around : reverse_aux a.upper [] ≡ reverse a.upper = reverse_aux-eq a.upper [] ∙ append-nil (reverse a.upper) in
+    let around : reverse_aux a.upper_words [] ≡ reverse a.upper_words = reverse_aux-eq a.upper_words [] ∙ append-nil (reverse a.upper_words) in
     let values : reverse_aux taken [] ≡ reverse taken = reverse_aux-eq taken [] ∙ append-nil (reverse taken) in
     let first = subst (λ (ws : List ℕ). AreLocals place (spread is_long Unset (reverse taken)) ws) around
-    (subst (λ (vs : List Value). AreLocals place (spread is_long Unset vs) (reverse_aux a.upper [])) values (turned place taken [] a.upper [] a.first tt)) in
+    (subst (λ (vs : List Value). AreLocals place (spread is_long Unset vs) (reverse_aux a.upper_words [])) values (turned place taken [] a.upper_words [] a.are_upper tt)) in
     record {
-      arguments = a.upper;
-      others = a.lower;
+      arguments = a.upper_words;
+      others = a.lower_words;
       split = a.split;
-      stay = a.others;
-      become = λ more c. filled place size (spread is_long Unset (reverse taken)) locals (reverse a.upper) more first g (omega (arith, length-reverse a.upper, c));
+      stay = a.are_lower;
+      become = λ more c. filled place size (spread is_long Unset (reverse taken)) locals (reverse a.upper_words) more first g (omega (arith, length-reverse a.upper_words, c));
     }

@@ -17,8 +17,7 @@ use Rattle.micro_sketch.specs.View.{env_of}
 use Rattle.micro_sketch.specs.Row.{StandsAt, Effect, DidRow}
 use Rattle.micro_sketch.specs.Rows.{Makes, finishes, end_of, RunsRow}
 use Rattle.micro_sketch.specs.RowLaws.{FinishRuns}
-use Rattle.micro_sketch.proofs.Scenes.{followed_by, UsesUp, scene_is, run-length}
-use Rattle.micro_sketch.proofs.During.{state-followed, output_during-followed, output-reversed}
+use Rattle.micro_sketch.specs.StepLaws.{AreRunLaws, followed_by, UsesUp}
 use Rattle.bytecode_model.specs.declared.Ending.{Ending}
 use Rattle.bytecode_model.specs.declared.Ending.TheVariants.{Running}
 use Rattle.bytecode_model.specs.State.{Frame, State}
@@ -31,6 +30,11 @@ use Rattle.machine_stands.specs.Seen.{seen, MachinesAreSeen}
 use Rattle.machine_stands.specs.Again.{GoesOn, MachinesStandAgain}
 use Rattle.machine_stands.proofs.Defined.{holds_at}
 use Rattle.machine_stands.proofs.Seeing.{at_instruction}
+
+-- what holds of machines that stand for a running state, and of runs
+pub record ComingLaws : Type 0 where
+  pub seen : MachinesAreSeen
+  pub runs : AreRunLaws
 
 -- ---- the answers that a run takes
 
@@ -51,20 +55,21 @@ left_behind true (answer ∷ answers) more found = refl
 
 next_followed : (more : List (Option ℕ)) (c : Scene) → (asks_input c.state ≡ true → c.answers ≢ []) → next_scene (followed_by more c) ≡ followed_by more (next_scene c)
 next_followed more c found =
-    scene_is (next_scene (followed_by more c)) (next_scene c).state ((next_scene c).answers ++ more) (next_scene c).output
-    (ap (λ answer. cycle_of answer c.state) (given_first (asks_input c.state) c.answers more found)) (left_behind (asks_input c.state) c.answers more found) refl
+    let of : machine.State → List (Option ℕ) → Scene = λ state answers. record { state = state; answers = answers; output = (next_scene c).output } in
+    ap (λ answer. of (cycle_of answer c.state) (left_over (asks_input c.state) (c.answers ++ more))) (given_first (asks_input c.state) c.answers more found)
+    ∙ ap (of (next_scene c).state) (left_behind (asks_input c.state) c.answers more found)
 
 -- a run that leaves the one answer behind those of a scene takes these and none behind them
-pub uses_up : (k : ℕ) (c : Scene) → (run k (followed_by (None ∷ []) c)).answers ≡ None ∷ [] → UsesUp k c
-uses_up zero c h more = ap (λ (xs : List (Option ℕ)). xs ++ more) (no_more c.answers h)
-uses_up (suc k) c h more =
+pub uses_up : AreRunLaws → (k : ℕ) (c : Scene) → (run k (followed_by (None ∷ []) c)).answers ≡ None ∷ [] → UsesUp k c
+uses_up laws zero c h more = ap (λ (xs : List (Option ℕ)). xs ++ more) (no_more c.answers h)
+uses_up laws (suc k) c h more =
     let found : asks_input c.state ≡ true → c.answers ≢ [] = λ asking none.
     let start : (next_scene (followed_by (None ∷ []) c)).answers ≡ [] =
     ap (λ asks. left_over asks (c.answers ++ None ∷ [])) asking ∙ ap (λ (xs : List (Option ℕ)). left_over true (xs ++ None ∷ [])) none in
-    let fewer = run-length k (next_scene (followed_by (None ∷ []) c)) in
+    let fewer = laws.answers_shrink k (next_scene (followed_by (None ∷ []) c)) in
     omega (arith, fewer, ap (λ (xs : List (Option ℕ)). length xs) start, ap (λ (xs : List (Option ℕ)). length xs) h) in
     let onward = ap (λ (z : Scene). (run k z).answers) (sym (next_followed (None ∷ []) c found)) ∙ h in
-    ap (λ (z : Scene). (run k z).answers) (next_followed more c found) ∙ uses_up k (next_scene c) onward more
+    ap (λ (z : Scene). (run k z).answers) (next_followed more c found) ∙ uses_up laws k (next_scene c) onward more
 
 -- ---- what a row costs
 
@@ -98,12 +103,12 @@ same_found s s' f g callers mode mode' frames frames' =
     same_count k = grind (arith, nat_tests)
 
 -- a run of the sketch to its end, where it stands for s', is the step
-pub comes_by : MachinesAreSeen → (P : Program) (pl : Places) (n size : ℕ) (m : machine.State) (answer : Option ℕ) (s s' : State) (h : IsStep P pl n size m answer s s') (i : Instr) (taken : List (Option ℕ))
+pub comes_by : ComingLaws → (P : Program) (pl : Places) (n size : ℕ) (m : machine.State) (answer : Option ℕ) (s s' : State) (h : IsStep P pl n size m answer s s') (i : Instr) (taken : List (Option ℕ))
     (after : Sketch) (r : Reaches n (seen (params m i.count 0) (taken ++ None ∷ []) m h.stands.words h.stands.below) after (env_of m)) (micro stall : ℕ)
     → s.mode ≡ Running → instr_at P h.stands.top.method h.stands.top.pc ≡ Some i → s'.answers ≡ s.answers ++ taken → after.answers ≡ None ∷ [] → s'.output ≡ s.output ++ reverse after.output → IsDone after
     → StandsFor P pl n size (conc n after r.env) s' → r.cycles ≡ micro + stall → ((c : ℕ) → IsCost m.opcode (params m i.count 0) c → micro ≤ c) → LooksUp P pl (found_by s s') m (conc n after r.env) stall
     → ComesTo P pl n size m s s'
-comes_by are_seen P pl n size m answer s s' h i taken after r micro stall mode instr took left put done stands sum cost look_up =
+comes_by coming P pl n size m answer s s' h i taken after r micro stall mode instr took left put done stands sum cost look_up =
     let st = h.stands in
     let p = params m i.count 0 in
     let answers : List (Option ℕ) = taken ++ None ∷ [] in
@@ -112,28 +117,30 @@ comes_by are_seen P pl n size m answer s s' h i taken after r micro stall mode i
     let k = r.cycles in
     let new = conc n after r.env in
     let here = at_instruction P pl m s st.top st.body s.mode mode st.at in
-    let sees = (are_seen P pl n size m s p answers st h.well_formed mode refl refl).stands in
+    let sees = (coming.seen P pl n size m s p answers st h.well_formed mode refl refl).stands in
     -- the run
+    let followed : (i j : ℕ) → UsesUp (i + j) (begun m taken) → (more : List (Option ℕ)) → (run i (begun m (taken ++ more))).state ≡ (run i (begun m taken)).state =
+    λ i j uses more. ap (λ (z : Scene). z.state) (coming.runs.run_followed i j (begun m taken) uses more) in
     let begins : begun m answers ≡ scene n x e = ap (λ (y : machine.State). begun y answers) sees.same in
     let runs : run k (begun m answers) ≡ scene n after r.env = ap (λ (z : Scene). run k z) begins ∙ r.same in
-    let all : UsesUp k (begun m taken) = uses_up k (begun m taken) (ap (λ (z : Scene). z.answers) runs ∙ left) in
+    let all : UsesUp k (begun m taken) = uses_up coming.runs k (begun m taken) (ap (λ (z : Scene). z.answers) runs ∙ left) in
     let all_of : UsesUp (k + 0) (begun m taken) = let U : ℕ → Type 0 = λ j. UsesUp j (begun m taken) in subst U (sym (add-zero k)) all in
-    let ends : (run k (begun m taken)).state ≡ new = sym (state-followed k 0 (begun m taken) all_of (None ∷ [])) ∙ ap (λ (z : Scene). z.state) runs in
+    let ends : (run k (begun m taken)).state ≡ new = sym (followed k 0 all_of (None ∷ [])) ∙ ap (λ (z : Scene). z.state) runs in
     let part : (j : ℕ) → suc j < k → (run (suc j) (begun m taken)).state ≡ (run (suc j) (begun m answers)).state = λ j l.
     let U : ℕ → Type 0 = λ q. UsesUp q (begun m taken) in
     let apart : k ≡ suc j + (k - suc j) = omega (arith, l) in
-    sym (state-followed (suc j) (k - suc j) (begun m taken) (subst U apart all) (None ∷ [])) in
+    sym (followed (suc j) (k - suc j) (subst U apart all) (None ∷ [])) in
     -- what it puts out
     let out : output_during k (begun m taken) ≡ reverse after.output =
-    sym (output_during-followed k 0 (begun m taken) all_of (None ∷ [])) ∙ sym (reverse-reverse (output_during k (begun m answers)))
-    ∙ ap reverse (sym (append-nil (reverse (output_during k (begun m answers)))) ∙ sym (output-reversed k (begun m answers)) ∙ ap (λ (z : Scene). z.output) runs) in
+    sym (coming.runs.output_followed k 0 (begun m taken) all_of (None ∷ [])) ∙ sym (reverse-reverse (output_during k (begun m answers)))
+    ∙ ap reverse (sym (append-nil (reverse (output_during k (begun m answers)))) ∙ sym (coming.runs.output_turned k (begun m answers)) ∙ ap (λ (z : Scene). z.output) runs) in
     record {
       new = new;
       answers = taken;
       took = took;
       cycles = k;
       positive = r.positive;
-      ran = λ more. state-followed k 0 (begun m taken) all_of more ∙ ends;
+      ran = λ more. followed k 0 all_of more ∙ ends;
       left = λ more. all more;
       boundary = r.ending ∙ done.done;
       quiet = λ j l. ap at_boundary (part j l ∙ ap (λ (z : Scene). (run (suc j) z).state) begins) ∙ r.quiet j l;
@@ -146,12 +153,12 @@ comes_by are_seen P pl n size m answer s s' h i taken after r micro stall mode i
       look_up = look_up;
     }
 
-pub row_comes : MachinesAreSeen → MachinesStandAgain → (P : Program) (pl : Places) (n size : ℕ) (m : machine.State) (answer : Option ℕ) (s s' : State) (h : IsStep P pl n size m answer s s') (i : Instr) (taken : List (Option ℕ)) (f : Effect)
+pub row_comes : ComingLaws → MachinesStandAgain → (P : Program) (pl : Places) (n size : ℕ) (m : machine.State) (answer : Option ℕ) (s s' : State) (h : IsStep P pl n size m answer s s') (i : Instr) (taken : List (Option ℕ)) (f : Effect)
     → s.mode ≡ Running → instr_at P h.stands.top.method h.stands.top.pc ≡ Some i → s'.answers ≡ s.answers ++ taken → f.answers ≡ None ∷ [] → s'.output ≡ s.output ++ reverse f.output
     → GoesOn P pl n size m s s' h.stands f
     → RunsRow n (params m i.count 0) m.opcode f (seen (params m i.count 0) (taken ++ None ∷ []) m h.stands.words h.stands.below) (env_of m)
     → ComesTo P pl n size m s s'
-row_comes are_seen again P pl n size m answer s s' h i taken f mode instr took left put goes r =
+row_comes coming again P pl n size m answer s s' h i taken f mode instr took left put goes r =
     let st = h.stands in
     let p = params m i.count 0 in
     let answers : List (Option ℕ) = taken ++ None ∷ [] in
@@ -171,7 +178,7 @@ row_comes are_seen again P pl n size m answer s s' h i taken f mode instr took l
       clock = r.reaches.clock;
       cost = r.cost;
     } in
-    comes_by are_seen P pl n size m answer s s' h i taken r.after r.reaches k 0 mode instr took (r.follows.answers ∙ left) (put ∙ ap (λ (ws : List ℕ). s.output ++ reverse ws) (sym r.follows.output)) r.done
+    comes_by coming P pl n size m answer s s' h i taken r.after r.reaches k 0 mode instr took (r.follows.answers ∙ left) (put ∙ ap (λ (ws : List ℕ). s.output ++ reverse ws) (sym r.follows.output)) r.done
     (again P pl n size m new s s' st p answers f k h.says h.next_well_formed mode goes did) (sym (add-zero k)) r.cost
     (subst (λ o. LooksUp P pl o m new 0) (sym (same_found s s' st.top goes.top st.callers mode goes.mode st.frames goes.frames))
     (refl, r.follows.kept.cache, r.follows.kept.hits, r.follows.kept.misses))

@@ -12,3 +12,8 @@ pub mod Stopping
 pub mod Loading
 pub mod Switching
 pub mod Calling
+pub mod Reading
+pub mod Shown
+pub mod Going
+pub mod Operands
+pub mod Fixed

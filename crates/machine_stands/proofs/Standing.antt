@@ -48,6 +48,9 @@ pub record StandingLaws : Type 0 where
 pub least_size : (n : ℕ) → IsSize n → 256 ≤ n
 least_size n h = ⊎_elim (λ is. omega (arith, is)) (λ larger. ⊎_elim (λ is. omega (arith, is)) (λ is. omega (arith, is)) larger) h
 
+pub greatest_size : (n : ℕ) → IsSize n → n ≤ 1024
+greatest_size n h = ⊎_elim (λ is. omega (arith, is)) (λ larger. ⊎_elim (λ is. omega (arith, is)) (λ is. omega (arith, is)) larger) h
+
 length_constants : length constants ≡ 32
 unfolding constants
 length_constants = refl

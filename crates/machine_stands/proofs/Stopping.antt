@@ -22,12 +22,12 @@ use Rattle.machine_stands.specs.Frames.{FrameWords, stacked, AreFrames}
 use Rattle.machine_stands.specs.StandsFor.{AreLeft, IsAt, IsAtRaise, memory_of}
 use Rattle.machine_stands.specs.Comes.{params, found_between, found_by, LooksUp, ComesTo}
 use Rattle.machine_stands.specs.Simulates.{IsStep}
-use Rattle.machine_stands.specs.Seen.{seen, MachinesAreSeen}
+use Rattle.machine_stands.specs.Seen.{seen}
 use Rattle.machine_stands.specs.Again.{registers_of}
 use Rattle.machine_stands.specs.Stopping.{SameRest, RaisesOn, RunsToEnd}
 use Rattle.machine_stands.proofs.Registers.{registers_listed, low_at}
 use Rattle.machine_stands.proofs.Standing.{stand_there, same_cache, in_order, least_size}
-use Rattle.machine_stands.proofs.Coming.{port_idle, comes_by}
+use Rattle.machine_stands.proofs.Coming.{ComingLaws, port_idle, comes_by}
 
 -- the memory is the same where the static fields and the objects are
 pub same_memory : (P : Program) (pl : Places) (size : ℕ) (s s' : State) → SameRest s s' → memory_of P pl size s ≡ memory_of P pl size s'
@@ -45,17 +45,17 @@ ended_found s s' mode mode' = ap (λ (md : Ending). found_between s.frames s'.fr
 abbrev emptied : Frame → Frame
 emptied f = record f { operands = [] }
 
-pub raise_comes : StackHasWords → MachinesAreSeen → (P : Program) (pl : Places) (n size : ℕ) (m : machine.State) (answer : Option ℕ) (s s' : State) (h : IsStep P pl n size m answer s s') (i : Instr) (p : ℕ) (f : rows.Raising)
+pub raise_comes : StackHasWords → ComingLaws → (P : Program) (pl : Places) (n size : ℕ) (m : machine.State) (answer : Option ℕ) (s s' : State) (h : IsStep P pl n size m answer s s') (i : Instr) (p : ℕ) (f : rows.Raising)
     → s.mode ≡ Running → instr_at P h.stands.top.method h.stands.top.pc ≡ Some i → RaisesOn P pl n size m s s' h.stands i p f
     → RunsToRaise n (params m i.count 0) m.opcode f (seen (params m i.count 0) (None ∷ []) m h.stands.words h.stands.below) (env_of m)
     → ComesTo P pl n size m s s'
-raise_comes count are_seen P pl n size m answer s s' h i p f mode instr on r =
+raise_comes count coming P pl n size m answer s s' h i p f mode instr on r =
     let st = h.stands in
     let x = seen (params m i.count 0) (None ∷ []) m st.words st.below in
     let y = r.after in
     let e = r.reaches.env in
     let new = conc n y e in
-    let sees = are_seen P pl n size m s (params m i.count 0) (None ∷ []) st h.well_formed mode refl refl in
+    let sees = coming.seen P pl n size m s (params m i.count 0) (None ∷ []) st h.well_formed mode refl refl in
     let has = same_cache P pl n size m s y.cache st r.raises.kept.cache in
     let top = emptied st.top in
     let words : FrameWords = record st.words { operands = [] } in
@@ -105,19 +105,19 @@ raise_comes count are_seen P pl n size m answer s s' h i p f mode instr on r =
       copies = has.2;
       at = subst (λ (md : Ending). IsAt P pl new s' top st.body md) (sym on.mode) at;
     }) in
-    comes_by are_seen P pl n size m answer s s' h i [] y r.reaches r.reaches.cycles 0 mode instr (on.rest.answers ∙ sym (append-nil s.answers)) r.raises.answers
+    comes_by coming P pl n size m answer s s' h i [] y r.reaches r.reaches.cycles 0 mode instr (on.rest.answers ∙ sym (append-nil s.answers)) r.raises.answers
     (on.rest.output ∙ sym (append-nil s.output) ∙ ap (λ (ws : List ℕ). s.output ++ reverse ws) (sym r.raises.output)) r.done stands (sym (add-zero r.reaches.cycles)) r.cost
     (subst (λ o. LooksUp P pl o m new 0) (sym (raising_found s s' p mode on.mode)) (refl, r.raises.kept.cache, r.raises.kept.hits, r.raises.kept.misses))
 
-pub end_comes : StackHasWords → MachinesAreSeen → (P : Program) (pl : Places) (n size : ℕ) (m : machine.State) (answer : Option ℕ) (s s' : State) (h : IsStep P pl n size m answer s s') (i : Instr)
+pub end_comes : StackHasWords → ComingLaws → (P : Program) (pl : Places) (n size : ℕ) (m : machine.State) (answer : Option ℕ) (s s' : State) (h : IsStep P pl n size m answer s s') (i : Instr)
     → s.mode ≡ Running → instr_at P h.stands.top.method h.stands.top.pc ≡ Some i → s'.mode ≡ Ended → s'.frames ≡ s.frames → SameRest s s'
     → RunsToEnd n m (seen (params m i.count 0) (None ∷ []) m h.stands.words h.stands.below) i.count → ComesTo P pl n size m s s'
-end_comes count are_seen P pl n size m answer s s' h i mode instr ended frames rest r =
+end_comes count coming P pl n size m answer s s' h i mode instr ended frames rest r =
     let st = h.stands in
     let y = r.after in
     let e = r.reaches.env in
     let new = conc n y e in
-    let sees = are_seen P pl n size m s (params m i.count 0) (None ∷ []) st h.well_formed mode refl refl in
+    let sees = coming.seen P pl n size m s (params m i.count 0) (None ∷ []) st h.well_formed mode refl refl in
     let has = same_cache P pl n size m s y.cache st r.halts.kept.cache in
     let long : 64 ≤ length m.stack = omega (arith, st.sizes.stack, least_size n st.sizes.is_size) in
     let raised = slice_index m.stack RAISED in
@@ -150,6 +150,6 @@ end_comes count are_seen P pl n size m answer s s' h i mode instr ended frames r
       copies = has.2;
       at = subst (λ (md : Ending). IsAt P pl new s' st.top st.body md) (sym ended) r.halts.halt;
     }) in
-    comes_by are_seen P pl n size m answer s s' h i [] y r.reaches r.reaches.cycles 0 mode instr (rest.answers ∙ sym (append-nil s.answers)) r.halts.answers
+    comes_by coming P pl n size m answer s s' h i [] y r.reaches r.reaches.cycles 0 mode instr (rest.answers ∙ sym (append-nil s.answers)) r.halts.answers
     (rest.output ∙ sym (append-nil s.output) ∙ ap (λ (ws : List ℕ). s.output ++ reverse ws) (sym r.halts.output)) r.done stands (sym (add-zero r.reaches.cycles)) r.cost
     (subst (λ o. LooksUp P pl o m new 0) (sym (ended_found s s' mode ended)) (refl, r.halts.kept.cache, r.halts.kept.hits, r.halts.kept.misses))

@@ -29,14 +29,14 @@ use Rattle.machine_stands.specs.Frames.{stacked}
 use Rattle.machine_stands.specs.StandsFor.{AreLeft, IsAt, IsAtInstruction}
 use Rattle.machine_stands.specs.Comes.{params, found_between, found_by, top_method, Found, LooksUp, ComesTo}
 use Rattle.machine_stands.specs.Simulates.{IsStep}
-use Rattle.machine_stands.specs.Seen.{seen, MachinesAreSeen}
+use Rattle.machine_stands.specs.Seen.{seen}
 use Rattle.machine_stands.specs.Switching.{FindsBy, SwitchesOn}
 use Rattle.machine_stands.proofs.Defined.{holds_at}
 use Rattle.machine_stands.proofs.Copies.{byte_is}
 use Rattle.machine_stands.proofs.Standing.{StandingLaws, HasCache, stand_there, in_order}
 use Rattle.machine_stands.proofs.Loading.{load}
 use Rattle.machine_stands.proofs.Stopping.{same_memory}
-use Rattle.machine_stands.proofs.Coming.{port_idle, comes_by}
+use Rattle.machine_stands.proofs.Coming.{ComingLaws, port_idle, comes_by}
 
 -- ---- the look-up
 
@@ -75,11 +75,11 @@ other_found s s' top callers mode mode' frames other =
     ap (λ (md : Ending). found_between s.frames s'.frames md s'.mode) mode ∙ ap (λ (md : Ending). found_between s.frames s'.frames Running md) mode'
     ∙ ap (λ (b : Bool). if b then None else top_method s'.frames) other ∙ ap top_method frames
 
-pub switch_comes : StandingLaws → PackedHasWords → MachinesAreSeen → (P : Program) (pl : Places) (n size : ℕ) (m : machine.State) (answer : Option ℕ) (s s' : State) (h : IsStep P pl n size m answer s s') (i : Instr) (f : Switch)
+pub switch_comes : StandingLaws → PackedHasWords → ComingLaws → (P : Program) (pl : Places) (n size : ℕ) (m : machine.State) (answer : Option ℕ) (s s' : State) (h : IsStep P pl n size m answer s s') (i : Instr) (f : Switch)
     → s.mode ≡ Running → instr_at P h.stands.top.method h.stands.top.pc ≡ Some i → SwitchesOn P pl n size m s s' f
     → RunsSwitch n (params m i.count 0) m.opcode f (seen (params m i.count 0) (None ∷ []) m h.stands.words h.stands.below) (env_of m)
     → ComesTo P pl n size m s s'
-switch_comes laws packed are_seen P pl n size m answer s s' h i f mode instr on r =
+switch_comes laws packed coming P pl n size m answer s s' h i f mode instr on r =
     let st = h.stands in
     let p = params m i.count 0 in
     let x = seen p (None ∷ []) m st.words st.below in
@@ -87,7 +87,7 @@ switch_comes laws packed are_seen P pl n size m answer s s' h i f mode instr on 
     let e = r.reaches.env in
     let new = conc n y e in
     let k = on.top.method in
-    let sees = are_seen P pl n size m s p (None ∷ []) st h.well_formed mode refl refl in
+    let sees = coming.seen P pl n size m s p (None ∷ []) st h.well_formed mode refl refl in
     let parts = split n p m.opcode x y (env_of m) sees.stands.entry r.reaches in
     let stall = stalls y p.r in
     let look = looks packed P pl size m new k on.body f stall (st.room, st.cache, st.copies) on.is_body r.switches.cache r.switches.hits r.switches.misses
@@ -135,7 +135,7 @@ switch_comes laws packed are_seen P pl n size m answer s s' h i f mode instr on 
       copies = look.0.2;
       at = subst (λ (md : Ending). IsAt P pl new s' on.top on.body md) (sym on.mode) at;
     }) in
-    comes_by are_seen P pl n size m answer s s' h i [] y r.reaches parts.micro stall mode instr (on.rest.answers ∙ sym (append-nil s.answers)) (r.switches.answers ∙ on.answers)
+    comes_by coming P pl n size m answer s s' h i [] y r.reaches parts.micro stall mode instr (on.rest.answers ∙ sym (append-nil s.answers)) (r.switches.answers ∙ on.answers)
     (on.rest.output ∙ sym (append-nil s.output) ∙ ap (λ (ws : List ℕ). s.output ++ reverse ws) (sym (r.switches.output ∙ on.output))) r.done stands parts.sum
     (λ c is. omega (arith, r.cost c is, parts.sum))
     (subst (λ o. LooksUp P pl o m new stall) (sym (other_found s s' on.top on.callers mode on.mode on.frames on.other))

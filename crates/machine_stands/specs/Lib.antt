@@ -9,3 +9,9 @@ pub mod Again
 pub mod Stopping
 pub mod Switching
 pub mod Calling
+pub mod Reading
+pub mod Shown
+pub mod Going
+pub mod Operands
+pub mod Fixed
+pub mod Counted

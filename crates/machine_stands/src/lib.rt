@@ -3,11 +3,17 @@
 //! function.
 #![tactic(auto)]
 
+ghost use Rattle.machine_stands.specs.Counted.{FiveAreSaved, FramesHaveRoom};
 ghost use Rattle.machine_stands.specs.Again.{MachinesStandAgain, MadeRowsRun, RowsCome};
 ghost use Rattle.machine_stands.specs.Bare.{BareImagesBegin, BareImagesSay};
 ghost use Rattle.machine_stands.specs.Calling.{ArgumentsArePassed};
+ghost use Rattle.machine_stands.specs.Fixed.{FixedWordsAreRead, PoolsAreRead, RaiseListIsRead};
+ghost use Rattle.machine_stands.specs.Going.{FramesGoOn, FramesRaise};
 ghost use Rattle.machine_stands.specs.Memory.{LongFieldsAreWritten};
+ghost use Rattle.machine_stands.specs.Operands.{OneWordIsOnTop, OneWordIsPushed, OperandsAreJoined, OperandsArePartedAnywhere, OperandsHaveWords, TwoWordsAreOnTop};
+ghost use Rattle.machine_stands.specs.Reading.{LookupSwitchesAreRead, PlainOnesAreRead, RowsAreRead, TableSwitchesAreRead, WideOnesAreRead, WideOnesHaveOpcodes};
 ghost use Rattle.machine_stands.specs.Seen.{MachinesAreSeen};
+ghost use Rattle.machine_stands.specs.Shown.{SketchesShow};
 ghost use Rattle.machine_stands.specs.Stopping.{EndsCome, RaisesCome};
 ghost use Rattle.machine_stands.specs.Switching.{SwitchesCome};
 
@@ -57,6 +63,7 @@ pub fn rows_come()
 {
     micro_sketch::laws::rows_are_steps();
     micro_sketch::laws::opcodes_keep_their_costs();
+    micro_sketch::laws::runs_add_up();
     machines_are_seen();
     machines_stand_again();
 }
@@ -67,6 +74,7 @@ pub fn rows_stop()
     ensures ends { EndsCome }
 {
     micro_sketch::laws::rows_are_steps();
+    micro_sketch::laws::runs_add_up();
     machines_are_seen();
 }
 
@@ -78,10 +86,70 @@ pub fn rows_switch()
     core_words::laws::packed_has_bytes();
     core_words::laws::packed_has_words();
     micro_sketch::laws::rows_are_steps();
+    micro_sketch::laws::runs_add_up();
     machines_are_seen();
 }
 
 /// The arguments of a call, as they stand on the stack of the caller, are the first local variables of the new frame.
 pub fn arguments_are_passed()
     ensures { ArgumentsArePassed }
+{}
+
+/// The row of the instruction that a machine is about to run, and what the instruction is where its opcode is known.
+pub fn rows_are_read()
+    ensures any { RowsAreRead }
+    ensures plain { PlainOnesAreRead }
+    ensures table_switches { TableSwitchesAreRead }
+    ensures lookup_switches { LookupSwitchesAreRead }
+    ensures wide_opcodes { WideOnesHaveOpcodes }
+    ensures wide { WideOnesAreRead }
+{
+    jop_opcodes::laws::instructions_end_within();
+    jop_opcodes::laws::instructions_are_read();
+}
+
+/// The sketch of a machine shows the top frame, the bytes of its method and the registers.
+pub fn sketches_show()
+    ensures { SketchesShow }
+{
+    core_words::laws::packed_has_bytes();
+    machines_are_seen();
+}
+
+/// A row that goes on in its frame, or raises, from the words that it makes to where the machine stands for the next state.
+pub fn frames_go_on()
+    ensures goes { FramesGoOn }
+    ensures raises { FramesRaise }
+{
+    sketches_show();
+    rows_come();
+    rows_stop();
+}
+
+/// The words of operands, by value.
+pub fn operands_have_words()
+    ensures one { OneWordIsOnTop }
+    ensures two { TwoWordsAreOnTop }
+    ensures pushed { OneWordIsPushed }
+    ensures parts { OperandsArePartedAnywhere }
+    ensures joined { OperandsAreJoined }
+    ensures count { OperandsHaveWords }
+{}
+
+/// What is read in the memory of the words that nothing writes, among them pools and the list of what instructions raise.
+pub fn fixed_words_are_read()
+    ensures words { FixedWordsAreRead }
+    ensures raise_list { RaiseListIsRead }
+    ensures pools { PoolsAreRead }
+{
+    image_facts::words_lie();
+    image_facts::words_are_read_and_written();
+    image_facts::image_words_lie();
+    image_facts::first_objects_stay();
+}
+
+/// The words of frames are at most as many as the frames may take.
+pub fn frames_have_room()
+    ensures room { FramesHaveRoom }
+    ensures saved { FiveAreSaved }
 {}

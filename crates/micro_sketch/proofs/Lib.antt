@@ -24,3 +24,5 @@ pub mod Rowing
 pub mod Making
 pub mod Breaking
 pub mod RowSteps
+pub mod LowLoads
+mod FramePlaces

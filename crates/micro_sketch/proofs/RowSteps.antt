@@ -44,7 +44,7 @@ finish_runs n p op x e s h g = done_run n g.words g.guesses x e h.shape h.idle h
 -- a boundary comes soon, whatever the input answers
 
 pub run_comes_soon : CostsAreSmall → RunComesSoon
-run_comes_soon costs n p op x e s range h runs answers =
+run_comes_soon costs n p op x e s range h runs answers given =
     let z = expecting answers x in
     let r = runs answers in
     let at = stands_expecting n p op x e s answers h in

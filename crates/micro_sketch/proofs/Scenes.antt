@@ -4,7 +4,7 @@ use Rattle.std.specs.declared.option.Option.{Option}
 use Rattle.jop_core.specs.State.{State}
 use Rattle.jop_core.specs.Cycle.{cycle_of, asks_input, output_of}
 use Rattle.jop_core.specs.Scene.{Scene, begun, rest_of, given, left_over, next_scene, run}
-pub use Rattle.micro_sketch.specs.StepLaws.{after_output}
+pub use Rattle.micro_sketch.specs.StepLaws.{after_output, followed_by, UsesUp}
 
 pub run-suc : (k : ℕ) (c : Scene) → run (suc k) c ≡ next_scene (run k c)
 run-suc zero c = refl
@@ -47,13 +47,6 @@ run-length zero c = omega arith
 run-length (suc k) c = omega (arith, run-length k (next_scene c), left_over-length (asks_input c.state) c.answers)
 
 -- Answers behind those that a run takes don't matter to it.
-
-abbrev pub followed_by : List (Option ℕ) → Scene → Scene
-followed_by more c = record c { answers = c.answers ++ more }
-
--- so many cycles take all answers of a scene and none behind them
-abbrev pub UsesUp : ℕ → Scene → Type 0
-UsesUp k c = (more : List (Option ℕ)) → (run k (followed_by more c)).answers ≡ more
 
 given-followed : (asks : Bool) (answers more : List (Option ℕ)) → (asks ≡ true → answers ≢ []) → given asks (answers ++ more) ≡ given asks answers
 given-followed false answers more found = refl

@@ -7,9 +7,9 @@ use Rattle.jop_core.specs.declared.tick.Tick.TheVariants.{Went}
 use Rattle.jop_core.specs.State.{State, seen_of}
 use Rattle.jop_core.specs.Cycle.{cycle_of, asks_input, output_of, at_boundary, is_running}
 use Rattle.jop_core.specs.Scene.{Scene, begun, given, left_over, run, output_during, seen_during, notes_during}
-use Rattle.jop_device.specs.Told.{Told, GivesWhere}
+use Rattle.jop_device.specs.Told.{Told, GivesWhere, GivesEach}
 use Rattle.jop_core.specs.Ticked.{Ticked, notes_of}
-use Rattle.micro_sketch.specs.Ends.{EndsSoon}
+use Rattle.micro_sketch.specs.Ends.{AreGiven, EndsSoon}
 use Rattle.micro_sketch.specs.declared.step.Stepped.{Stepped}
 use Rattle.micro_sketch.specs.declared.step.Stepped.TheVariants.{Next, Raise, Halted, ReadFault, WriteFault, SeenFault}
 use Rattle.micro_sketch.specs.Step.{StandsAs}
@@ -186,10 +186,18 @@ arrived old mid new t0 t1 t2 far tick boundary =
       quiet = λ i below. quiet i (omega (arith, below));
     }
 
+-- the answers of a device are bytes, or the end
+pub are_given : (old new : Option (List ℕ)) (answers : List (Option ℕ)) → GivesEach old new answers → AreGiven answers
+are_given old new [] h = tt
+are_given old new (answer ∷ answers) h = (h.1.0, are_given h.0 new answers h.2)
+
+pub given_so_far : (old mid : State) (t0 t1 : Told) → (far : Underway old mid t0 t1) → AreGiven far.answers
+given_so_far old mid t0 t1 far = are_given t0.left t1.left far.answers far.ran.device.left
+
 -- a boundary that is known to come is still to come
-pub still_below : (old mid : State) (t0 t1 : Told) → (far : Underway old mid t0 t1) → (ends : EndsSoon old) → far.cycles ≤ (ends far.answers).after
+pub still_below : (old mid : State) (t0 t1 : Told) → (far : Underway old mid t0 t1) → (ends : EndsSoon old) → far.cycles ≤ (ends far.answers (given_so_far old mid t0 t1 far)).after
 still_below old mid t0 t1 far ends =
-    let soon = ends far.answers in
+    let soon = ends far.answers (given_so_far old mid t0 t1 far) in
     ⊎_elim
     (λ past. absurd (let clash : false ≡ true = sym (far.quiet soon.after (omega (arith, past))) ∙ soon.boundary in cc))
     (λ from. from)
@@ -197,7 +205,7 @@ still_below old mid t0 t1 far ends =
 
 pub clock_below : (old mid : State) (t0 t1 : Told) → Underway old mid t0 t1 → EndsSoon old → old.clock < 2 ^ 63 → mid.clock < 2 ^ 63 + 2 ^ 62
 clock_below old mid t0 t1 far ends start =
-    let soon = (ends far.answers).soon in
+    let soon = (ends far.answers (given_so_far old mid t0 t1 far)).soon in
     omega (arith, still_below old mid t0 t1 far ends, soon, far.clock)
 
 -- what a step answers at a boundary

@@ -2,14 +2,14 @@
 use Rattle.std.specs.Prelude.{ℕ, ◌≡◌, suc, ◌+◌, ◌^◌, ◌<◌, ◌≤◌, true, false, Bool, List, [], ◌++◌, length, slice_index}
 use Rattle.std.specs.declared.option.Option.{Option}
 use mathlib.Core.List.{reverse_aux}
-use Rattle.micro_isa.specs.declared.operation.Operation.TheVariants.{Stsp}
+use Rattle.micro_isa.specs.declared.operation.Operation.TheVariants.{Ldmi, Stsp}
 use Rattle.microcode_rom.specs.declared.TheConstants.{ENTRIES, RAISE}
 use Rattle.micro_flow.specs.declared.CostParams.{CostParams}
 use Rattle.micro_flow.specs.Walk.{turns_at, IsGreatest, IsCost, IsRaiseCost}
 use Rattle.jop_core.specs.State.{State}
 use Rattle.jop_core.specs.Cycle.{at_boundary}
 use Rattle.jop_core.specs.Scene.{Scene, run}
-use Rattle.micro_sketch.specs.Sketch.{Sketch, apop, exec, lead, opd_byte}
+use Rattle.micro_sketch.specs.Sketch.{Sketch, apop, apush, exec, lead, opd_byte}
 use Rattle.micro_sketch.specs.Stands.{Env, Shaped, PortFits, Goes, Reaches, IsDone, conc, scene, stalls}
 use Rattle.micro_sketch.specs.Frames.{whole, split, reframed, cut, RunsNext}
 use Rattle.micro_sketch.specs.View.{sketch_of, env_of, Viewable}
@@ -40,6 +40,15 @@ abbrev pub StackPointerComesDown : Type 0
 StackPointerComesDown = (n : ℕ) (x : Sketch) (e : Env) (opd nxt : Bool) (deep under gone : List ℕ) → Goes x → Shaped n x → PortFits x.busy e → RunsNext Stsp opd nxt x →
     (apop x).deep ≡ deep ++ reverse_aux under gone → x.top ≡ length deep + 63 + length under → (lead nxt (opd_byte opd (cut x deep under gone))).fine ≡ true →
     Reaches n x (lead nxt (opd_byte opd (cut x deep under gone))) e
+
+-- x with the word of a place below 32 on its stack
+abbrev pub with_low : ℕ → Sketch → Sketch
+with_low place x = apush (slice_index x.low place) x
+
+-- A word ldmi whose AR is below 32 puts that low word on the stack.
+abbrev pub LowWordIsLoaded : Type 0
+LowWordIsLoaded = (n : ℕ) (x : Sketch) (e : Env) (opd nxt : Bool) → Goes x → Shaped n x → PortFits x.busy e → RunsNext Ldmi opd nxt x → x.ar < 32 →
+    (lead nxt (opd_byte opd (with_low x.ar x))).fine ≡ true → Reaches n x (lead nxt (opd_byte opd (with_low x.ar x))) e
 
 -- Each machine in range is what its sketch stands for, wherever its words are split.
 abbrev pub SeenAsSketch : Type 0

@@ -9,3 +9,4 @@ pub mod StepLaws
 pub mod Row
 pub mod Rows
 pub mod RowLaws
+pub mod FrameLaws

@@ -1,5 +1,5 @@
 -- What follows of steps.
-use Rattle.std.specs.Prelude.{ℕ, suc, ◌≡◌, ◌+◌, List, [], ◌∷◌, ◌++◌}
+use Rattle.std.specs.Prelude.{ℕ, suc, ◌≡◌, ◌+◌, ◌≤◌, List, [], ◌∷◌, ◌++◌, length, reverse}
 use Rattle.std.specs.declared.option.Option.{Option}
 use Rattle.jop_core.specs.State.{State, seen_of}
 use Rattle.jop_core.specs.Scene.{Scene, begun, run, output_during, seen_during}
@@ -15,6 +15,14 @@ StepsAddUp = (m n : ℕ) (old mid new : State) (t0 t1 t2 : Told) (earlier later 
 abbrev pub after_output : List ℕ → Scene → Scene
 after_output before c = record c { output = c.output ++ before }
 
+-- a scene whose input gives further answers behind its own
+abbrev pub followed_by : List (Option ℕ) → Scene → Scene
+followed_by more c = record c { answers = c.answers ++ more }
+
+-- so many cycles take all answers of a scene and none behind them
+abbrev pub UsesUp : ℕ → Scene → Type 0
+UsesUp k c = (more : List (Option ℕ)) → (run k (followed_by more c)).answers ≡ more
+
 -- Runs in parts: what they come to, what they put out and which states they hand over, and what was put out before them doesn't matter to them.
 pub record AreRunLaws : Type 0 where
   pub run_adds : (m n : ℕ) (c : Scene) → run (m + n) c ≡ run n (run m c)
@@ -26,3 +34,9 @@ pub record AreRunLaws : Type 0 where
   pub ran_none : (s : State) (told : Told) → Ran 0 s s told told []
   pub ran_adds : StepsAddUp
   pub ran_ends : (n : ℕ) (old new : State) (t0 t1 : Told) (answers : List (Option ℕ)) → Ran n old new t0 t1 answers → (run n (begun old answers)).state ≡ new
+  -- answers behind those that a run takes don't matter to it
+  pub answers_shrink : (k : ℕ) (c : Scene) → length (run k c).answers ≤ length c.answers
+  pub run_followed : (i k : ℕ) (c : Scene) → UsesUp (i + k) c → (more : List (Option ℕ)) → run i (followed_by more c) ≡ followed_by more (run i c)
+  pub output_followed : (i k : ℕ) (c : Scene) → UsesUp (i + k) c → (more : List (Option ℕ)) → output_during i (followed_by more c) ≡ output_during i c
+  -- the output of a scene has the last byte first
+  pub output_turned : (k : ℕ) (c : Scene) → (run k c).output ≡ reverse (output_during k c) ++ c.output

@@ -1,4 +1,5 @@
-ghost use Rattle.micro_sketch.specs.Laws.{MachineFollows, SplitsAnywhere, Reframes, StackPointerMoves, StackPointerComesDown, SeenAsSketch, RunsGoOn, RunsBetweenAlike, CostsHold, RaiseCostHolds, FirstIsReached, BoundaryComesSoon};
+ghost use Rattle.micro_sketch.specs.FrameLaws.{FramePlaceMoves, SwitchRunsOn};
+ghost use Rattle.micro_sketch.specs.Laws.{MachineFollows, SplitsAnywhere, Reframes, StackPointerMoves, StackPointerComesDown, LowWordIsLoaded, SeenAsSketch, RunsGoOn, RunsBetweenAlike, CostsHold, RaiseCostHolds, FirstIsReached, BoundaryComesSoon};
 ghost use Rattle.micro_sketch.specs.StepLaws.{StepsAddUp, AreRunLaws};
 ghost use Rattle.micro_sketch.specs.RowLaws.{AreRowLaws};
 
@@ -27,6 +28,11 @@ pub fn stack_pointer_moves()
 /// A stack pointer that comes down leaves the words past it.
 pub fn stack_pointer_comes_down()
     ensures { StackPointerComesDown }
+{}
+
+/// A word below place 32 is loaded from where AR says.
+pub fn low_word_is_loaded()
+    ensures { LowWordIsLoaded }
 {}
 
 /// Each machine in range is what its sketch stands for.
@@ -80,4 +86,10 @@ pub fn rows_are_steps()
 /// Runs in parts make whole runs, and what was put out before doesn't matter to them.
 pub fn runs_add_up()
     ensures { AreRunLaws }
+{}
+
+/// The place of the frame moves, and a row that goes on in another frame comes to an opcode.
+pub fn frames_change()
+    ensures moves { FramePlaceMoves }
+    ensures runs_on { SwitchRunsOn }
 {}

@@ -6,4 +6,4 @@ returns c = switch_comes (record {
   starts = c.starts_follow_one_another.ensures;
   bytes = c.packed_has_bytes.ensures;
   words = c.rows_are_steps.ensures.stack_has_words;
-}) c.packed_has_words.ensures c.machines_are_seen.ensures
+}) c.packed_has_words.ensures (record { seen = c.machines_are_seen.ensures; runs = c.runs_add_up.ensures })

@@ -1,5 +1,5 @@
-use Rattle.micro_sketch.proofs.Scenes.{run-add, run-after_output}
-use Rattle.micro_sketch.proofs.During.{output_during-zero, output_during-add, output_during-after_output, seen_during-suc}
+use Rattle.micro_sketch.proofs.Scenes.{run-length, run-followed, run-add, run-after_output}
+use Rattle.micro_sketch.proofs.During.{output_during-followed, output_during-zero, output_during-add, output_during-after_output, output-reversed, seen_during-suc}
 use Rattle.micro_sketch.proofs.Stepping.{Ran-none, Ran-add, Ran-end}
 use Rattle.micro_sketch.proofs.laws.runs_add_up.Goals as goal
 
@@ -14,4 +14,8 @@ returns c = record {
   ran_none = Ran-none;
   ran_adds = Ran-add;
   ran_ends = Ran-end;
+  answers_shrink = run-length;
+  run_followed = run-followed;
+  output_followed = output_during-followed;
+  output_turned = output-reversed;
 }
