@@ -1,4 +1,5 @@
 mod Shaping
+mod RowRuns
 mod Numbers
 mod Locals
 mod Stacks
@@ -21,3 +22,4 @@ mod DivideRows
 mod LongRows
 mod Steps
 mod Examples
+mod Running

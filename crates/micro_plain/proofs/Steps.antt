@@ -10,10 +10,10 @@ use Rattle.micro_sketch.specs.Sketch.{Sketch}
 use Rattle.micro_sketch.specs.Stands.{Env, Reaches, IsDone, stalls, stalls_for}
 use Rattle.micro_sketch.specs.Ends.{EndsSoon}
 use Rattle.micro_sketch.specs.Step.{Arrived, Went}
-use Rattle.micro_sketch.specs.Row.{StandsAt, DidRow, Effect, Follows, WasSilent}
+use Rattle.micro_sketch.specs.Row.{StandsAt, DidRow, Effect, WasSilent}
 use Rattle.micro_sketch.specs.declared.step.Stepped.{Stepped}
 use Rattle.micro_sketch.specs.declared.step.Stepped.TheVariants.{Next, Raise, Halted, ReadFault, WriteFault, SeenFault}
-use Rattle.micro_sketch.specs.Rows.{Makes, finishes, end_of, expecting, Silent, TakesNone, PutsNone, Raises, DidRaise, LandsAt, RunsRow, RunsToRaise}
+use Rattle.micro_sketch.specs.Rows.{Makes, finishes, end_of, expecting, Silent, TakesNone, PutsNone, DidRaise, LandsAt}
 use Rattle.micro_sketch.specs.RowLaws.{AreRowLaws, AlwaysSilent}
 use Rattle.jop_core.specs.declared.tick.Tick.TheVariants as ticks
 use Rattle.micro_plain.specs.Opcodes.{PlainOp, OfNumber, OfLocal, OfStack, OfLong, OfDivision, OfBranch, OfSwitch, OfWide, code_of, effect, IsReady, raises, raised_by}
@@ -21,16 +21,18 @@ use Rattle.micro_plain.specs.NumberOps.{NumberOp, Nop, number_code, number_effec
 use Rattle.micro_plain.specs.LocalOps.{LocalOp, Iload, Lload, Lload0, Lload1, Lload2, Lload3, Lstore, Lstore0, Lstore1, Lstore2, Lstore3, local_code, local_effect, local_ready}
 use Rattle.micro_plain.specs.StackOps.{StackOp, Pop, Dup2X2, stack_code, stack_effect, stack_ready}
 use Rattle.micro_plain.specs.LongOps.{LongOp, Ladd, Lsub, Lneg, Lshl, Lshr, Lushr, Land, Lor, Lxor, I2l, L2i, Lcmp, long_code, long_effect, long_ready, HasTwoLongs, HasLongBelow}
-use Rattle.micro_plain.specs.DivisionOps.{DivisionOp, Idiv, Irem, division_effect, division_raises, CanDivide, HasOperands}
+use Rattle.micro_plain.specs.DivisionOps.{DivisionOp, Idiv, Irem, division_effect, CanDivide, HasOperands}
 use Rattle.micro_plain.specs.BranchOps.{BranchOp, Ifeq, branch_code, branch_effect}
 use Rattle.micro_plain.specs.SwitchOps.{SwitchOp, Tableswitch, Lookupswitch, switch_effect, switch_ready}
 use Rattle.micro_plain.specs.WideOps.{WideOp, WideIload, WideLload, WideAload, WideIstore, WideLstore, WideAstore, WideIinc, wide_effect, wide_ready, HasWide, HasWideLong}
 use Rattle.micro_plain.specs.Stepped.{IsPlain, DoesRow, ComesToRaise, DidPlain}
 use Rattle.micro_plain.proofs.Shaping.{Row}
+use Rattle.micro_plain.proofs.RowRuns.{RowRun, RaiseRun}
 use Rattle.micro_plain.proofs.Numbers.{number_row}
 use Rattle.micro_plain.proofs.Locals.{local_row}
 use Rattle.micro_plain.proofs.Stacks.{stack_row}
 use Rattle.micro_plain.proofs.LongRows.{long_row}
+use Rattle.micro_plain.proofs.DivideRunning.{DivisionLaws}
 use Rattle.micro_plain.proofs.DivideRows.{idiv_divides, irem_divides}
 use Rattle.micro_plain.proofs.DivideRaises.{idiv_to_raise, irem_to_raise}
 use Rattle.micro_plain.proofs.Branches.{branch_row}
@@ -154,19 +156,6 @@ ready_expecting (OfBranch op) x answers ready = ready
 ready_expecting (OfSwitch op) x answers ready = switch_expects op x answers ready
 ready_expecting (OfWide op) x answers ready = wide_expects op x answers ready
 
--- a run from x that has the effect, and one that raises
-record RowRun (n : ℕ) (f : Effect) (x : Sketch) (e : Env) : Type 0 where
-  after : Sketch
-  reaches : Reaches n x after e
-  done : IsDone after
-  follows : Follows f x after
-
-record RaiseRun (n : ℕ) (x : Sketch) (e : Env) : Type 0 where
-  after : Sketch
-  reaches : Reaches n x after e
-  done : IsDone after
-  raises : Raises (raised_by x) x after
-
 -- what both have
 record AnyRun (n : ℕ) (x : Sketch) (e : Env) : Type 0 where
   after : Sketch
@@ -178,7 +167,7 @@ record AnyRun (n : ℕ) (x : Sketch) (e : Env) : Type 0 where
   loaded : after.words ≡ 0
   running : after.halt ≡ Running
 
-no_stalls : (y : Sketch) (r : ℕ) → y.loads ≡ 0 → y.words ≡ 0 → stalls y r ≡ 0
+pub no_stalls : (y : Sketch) (r : ℕ) → y.loads ≡ 0 → y.words ≡ 0 → stalls y r ≡ 0
 no_stalls y r loads words = let none : stalls_for 0 0 r ≡ 0 = omega arith in ap (λ k. stalls_for k y.words r) loads ∙ ap (λ k. stalls_for 0 k r) words ∙ none
 
 abbrev row_any : (n : ℕ) (op : PlainOp) (x : Sketch) (e : Env) → RowRun n (effect op x) x e → AnyRun n x e
@@ -211,12 +200,6 @@ not_zero_by d other same = let yes : (d == 0) ≡ true = eq-eqb d 0 same in let 
 can_divide : (x : Sketch) → HasOperands x → (x.top == 0) ≡ false → CanDivide x
 can_divide x h other = record { dividend = h.dividend; divisor = h.divisor; not_zero = not_zero_by x.top other }
 
-of_row : (n : ℕ) (p : CostParams) (op : ℕ) (f : Effect) (x : Sketch) (e : Env) → RunsRow n p op f x e → RowRun n f x e
-of_row n p op f x e r = record { after = r.after; reaches = r.reaches; done = r.done; follows = r.follows }
-
-of_raise : (n : ℕ) (p : CostParams) (op : ℕ) (x : Sketch) (e : Env) → RunsToRaise n p op (division_raises x) x e → RaiseRun n x e
-of_raise n p op x e r = record { after = r.after; reaches = r.reaches; done = r.done; raises = r.raises }
-
 takes_none : (n : ℕ) (x : Sketch) (e : Env) (answers : List (Option ℕ)) → Silent n (expecting answers x) e → TakesNone n (expecting answers x) e
 takes_none n x e answers s = record { run = record { after = s.after; reaches = s.reaches; done = s.done }; answers = s.answers }
 
@@ -226,7 +209,7 @@ puts_none n x e answers s = record { run = record { after = s.after; reaches = s
 pub plain_runs : (n : ℕ) (s : State) → IsPlain n s → s.halt ≡ Running
 plain_runs n s plain = ap (λ (z : State). z.halt) plain.stands.same ∙ plain.stands.running
 
-module _ (laws : AreRowLaws) where
+module _ (laws : AreRowLaws) (divides : DivisionLaws) where
   -- a row by computing, from the sketch as it stands at the entry
   computed : (n : ℕ) (p : CostParams) (code : ℕ) (f : Sketch → Effect) (x : Sketch) (e : Env) (s : State) → StandsAt n p code x e s → Row code f x → RowRun n (f x) x e
   computed n p code f x e s stands row =
@@ -236,7 +219,7 @@ module _ (laws : AreRowLaws) where
       record { after = end_of x g; reaches = laws.finish_runs n p code x e s stands g; done = g.done; follows = m.follows }
 
   -- where no opcode raises
-  row_run : (n : ℕ) (p : CostParams) (op : PlainOp) (x : Sketch) (e : Env) (s : State) → StandsAt n p (code_of op) x e s → IsReady op x → raises op x ≡ false → RowRun n (effect op x) x e
+  pub row_run : (n : ℕ) (p : CostParams) (op : PlainOp) (x : Sketch) (e : Env) (s : State) → StandsAt n p (code_of op) x e s → IsReady op x → raises op x ≡ false → RowRun n (effect op x) x e
   row_run n p (OfNumber op) x e s stands ready calm = computed n p (number_code op) (number_effect op) x e s stands (number_row op x)
   row_run n p (OfLocal op) x e s stands ready calm =
       let Q : Sketch → Type 0 = λ z. local_ready op z in
@@ -245,8 +228,8 @@ module _ (laws : AreRowLaws) where
   row_run n p (OfLong op) x e s stands ready calm =
       let Q : Sketch → Type 0 = λ z. long_ready op z in
       computed n p (long_code op) (long_effect op) x e s stands (long_row op x ready (subst Q (laws.enters n p (long_code op) x e s stands) ready))
-  row_run n p (OfDivision Idiv) x e s stands ready calm = of_row n p 108 (division_effect Idiv x) x e (idiv_divides n p x e s stands (can_divide x ready calm))
-  row_run n p (OfDivision Irem) x e s stands ready calm = of_row n p 112 (division_effect Irem x) x e (irem_divides n p x e s stands (can_divide x ready calm))
+  row_run n p (OfDivision Idiv) x e s stands ready calm = idiv_divides divides n p x e s stands (can_divide x ready calm)
+  row_run n p (OfDivision Irem) x e s stands ready calm = irem_divides divides n p x e s stands (can_divide x ready calm)
   row_run n p (OfBranch op) x e s stands ready calm = computed n p (branch_code op) (branch_effect op) x e s stands (branch_row op x)
   row_run n p (OfSwitch Tableswitch) x e s stands ready calm =
       let Q : Sketch → Type 0 = λ z. switch_ready Tableswitch z in
@@ -259,13 +242,13 @@ module _ (laws : AreRowLaws) where
       computed n p 196 (wide_effect op) x e s stands (wide_row op x (subst Q (laws.enters n p 196 x e s stands) ready))
 
   -- and where one does
-  raise_run : (n : ℕ) (p : CostParams) (op : PlainOp) (x : Sketch) (e : Env) (s : State) → StandsAt n p (code_of op) x e s → IsReady op x → raises op x ≡ true → RaiseRun n x e
+  pub raise_run : (n : ℕ) (p : CostParams) (op : PlainOp) (x : Sketch) (e : Env) (s : State) → StandsAt n p (code_of op) x e s → IsReady op x → raises op x ≡ true → RaiseRun n x e
   raise_run n p (OfNumber op) x e s stands ready hot = cc
   raise_run n p (OfLocal op) x e s stands ready hot = cc
   raise_run n p (OfStack op) x e s stands ready hot = cc
   raise_run n p (OfLong op) x e s stands ready hot = cc
-  raise_run n p (OfDivision Idiv) x e s stands ready hot = of_raise n p 108 x e (idiv_to_raise n p x e s stands ready.list (eqb-true x.top 0 hot))
-  raise_run n p (OfDivision Irem) x e s stands ready hot = of_raise n p 112 x e (irem_to_raise n p x e s stands ready.list (eqb-true x.top 0 hot))
+  raise_run n p (OfDivision Idiv) x e s stands ready hot = idiv_to_raise divides n p x e s stands ready.list (eqb-true x.top 0 hot)
+  raise_run n p (OfDivision Irem) x e s stands ready hot = irem_to_raise divides n p x e s stands ready.list (eqb-true x.top 0 hot)
   raise_run n p (OfBranch op) x e s stands ready hot = cc
   raise_run n p (OfSwitch op) x e s stands ready hot = cc
   raise_run n p (OfWide op) x e s stands ready hot = cc

@@ -9,3 +9,4 @@ pub mod SwitchOps
 pub mod WideOps
 pub mod Opcodes
 pub mod Stepped
+pub mod Laws
