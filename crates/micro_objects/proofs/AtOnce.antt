@@ -1,5 +1,5 @@
 -- The first cycle of each of these rows comes to a boundary. So a call on the device that fails leaves the machine as it was.
-use Rattle.std.proofs.Common.{◌≡◌, ℕ, ◌==◌, ◌||◌, true, ⊎_elim, refl, ap, ◌∙◌, eq-eqb}
+use Rattle.std.proofs.Common.{◌≡◌, ℕ, ◌==◌, ◌||◌, true, refl, ap, ◌∙◌, eq-eqb}
 use Rattle.std.specs.declared.option.Option.{Option}
 use Rattle.microcode_rom.specs.declared.TheConstants.{RAISE}
 use Rattle.jop_core.specs.declared.tick.Tick.{Tick}
@@ -11,8 +11,8 @@ use Rattle.micro_sketch.specs.Stands.{Env, conc}
 use Rattle.micro_sketch.specs.Step.{Broke}
 use Rattle.micro_sketch.specs.Rows.{entered}
 use Rattle.micro_sketch.specs.RowLaws.{AreRowLaws, FailsSilently}
-use Rattle.micro_objects.specs.Opcodes.{DeviceOp, Impdep1, Impdep2, code_of, return_code}
-use Rattle.micro_objects.specs.Stepped.{HasRow}
+use Rattle.micro_objects.specs.Opcodes.{DeviceOp, Impdep1, Impdep2, code_of}
+use Rattle.micro_objects.specs.Stepped.{IsDevice}
 
 -- an address is the same as itself
 at_entry : (k : ℕ) → (k == k || k == RAISE) ≡ true
@@ -23,23 +23,14 @@ unfolding cycle_of
 device_at_once n Impdep1 x e input = at_entry (entry_of (abyte x))
 device_at_once n Impdep2 x e input = at_entry (entry_of (abyte x))
 
-return_at_once : (n : ℕ) (x : Sketch) (e : Env) (input : Option ℕ) → x.vp ≡ 64 → at_boundary (cycle_of input (conc n (entered return_code x) e)) ≡ true
-unfolding cycle_of
-return_at_once n x e input boot = ap (λ (k : ℕ). at_boundary (cycle_of input (conc n (record (entered return_code x) { vp = k }) e))) boot
-
 module _ (laws : AreRowLaws) where
-  boundary_at_once : (n : ℕ) (s : State) → HasRow n s → (input : Option ℕ) → at_boundary (cycle_of input s) ≡ true
-  boundary_at_once n s row input =
-      ⊎_elim
-      (λ d. ap (λ (z : State). at_boundary (cycle_of input z)) d.stands.same
+  boundary_at_once : (n : ℕ) (s : State) → IsDevice n s → (input : Option ℕ) → at_boundary (cycle_of input s) ≡ true
+  boundary_at_once n s d input =
+      ap (λ (z : State). at_boundary (cycle_of input z)) d.stands.same
       ∙ ap (λ (z : Sketch). at_boundary (cycle_of input (conc n z d.env))) (laws.enters n d.params (code_of d.op) d.sketch d.env s d.stands)
-      ∙ device_at_once n d.op d.sketch d.env input)
-      (λ r. ap (λ (z : State). at_boundary (cycle_of input z)) r.stands.same
-      ∙ ap (λ (z : Sketch). at_boundary (cycle_of input (conc n z r.env))) (laws.enters n r.params return_code r.sketch r.env s r.stands)
-      ∙ return_at_once n r.sketch r.env input r.boot)
-      row
+      ∙ device_at_once n d.op d.sketch d.env input
 
-  pub fault_leaves : (n : ℕ) (old new : State) (t0 t1 : Told) (tick : Tick) → HasRow n old → Broke old new t0 t1 tick → (new ≡ old) × FailsSilently old new t0 t1 tick
-  fault_leaves n old new t0 t1 tick row broke =
-      let once = boundary_at_once n old row in
+  pub fault_leaves : (n : ℕ) (old new : State) (t0 t1 : Told) (tick : Tick) → IsDevice n old → Broke old new t0 t1 tick → (new ≡ old) × FailsSilently old new t0 t1 tick
+  fault_leaves n old new t0 t1 tick device broke =
+      let once = boundary_at_once n old device in
       ((laws.breaks_at_once old new t0 t1 tick once broke).0, λ b. (laws.breaks_at_once old new t0 t1 tick once b).1)

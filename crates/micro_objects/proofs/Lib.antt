@@ -2,3 +2,4 @@ pub mod Rows
 pub mod AtOnce
 pub mod Steps
 pub mod Examples
+mod DeviceStates

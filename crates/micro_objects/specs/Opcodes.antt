@@ -1,4 +1,4 @@
--- What the opcodes of devices make of the words of the stack, and how boot's return ends the run.
+-- What the opcodes of devices make of the words of the stack.
 use Rattle.std.specs.Prelude.{ℕ, ◌%◌, ◌^◌, [], ◌∷◌}
 use Rattle.jop_core.specs.Operations.{input_word}
 use Rattle.jop_core.specs.Scene.{first_of, rest_of}
@@ -23,7 +23,3 @@ effect Impdep2 x = record (unchanged x) { words = x.next ∷ x.under; output = x
 abbrev pub answers_taken : DeviceOp → ℕ
 answers_taken Impdep1 = 1
 answers_taken Impdep2 = 0
-
--- the opcode of return
-abbrev pub return_code : ℕ
-return_code = 177

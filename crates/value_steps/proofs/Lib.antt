@@ -1,0 +1,13 @@
+pub mod Defined
+pub mod Locals
+pub mod Ints
+pub mod Scenes
+pub mod Pushing
+pub mod Moving
+pub mod Shuffling
+pub mod Shapes
+pub mod Constants
+pub mod LocalLines
+pub mod StackLines
+pub mod PoolLines
+pub mod Moves
