@@ -8,6 +8,7 @@ use Rattle.bare_image.specs.Bare.{Image, IsBare}
 use Rattle.jop_cli.specs.declared.outcome.Refusal.TheVariants.{TooBig, BadImage, NotBuilt}
 use Rattle.jop_cli.specs.declared.outcome.Ending.{Ending}
 use Rattle.jop_cli.specs.declared.outcome.Ending.TheVariants.{Ended, Refused, Spent, ReadFault, WriteFault, NoMemory}
+use Rattle.bytecode_model.specs.declared.Ending.TheVariants as modes
 use Rattle.jop_cli.specs.Run.{RunsTo, RunsInPart}
 
 -- why the file of a word wasn't read, what is told of it, and its counts of faults
@@ -36,9 +37,9 @@ ImageFault bytes ending = ⊥
 -- how the run of an image ends, what out and the watch then hold, and out's count of faults
 abbrev pub Ran : Image → (limit : ℕ) → (held held' : Option (List ℕ)) → (handed handed' : Option (List Seen)) → (faults faults' : ℕ) → Ending → Type 0
 Ran image limit held held' handed handed' faults faults' (Ended counts) =
-    RunsTo image limit true held held' handed handed' counts × (faults ≤ faults')
+    RunsTo image limit modes.Ended held held' handed handed' counts × (faults ≤ faults')
 Ran image limit held held' handed handed' faults faults' (Spent counts) =
-    RunsTo image limit false held held' handed handed' counts × (limit ≤ counts.clock) × (faults ≤ faults')
+    RunsTo image limit modes.Running held held' handed handed' counts × (limit ≤ counts.clock) × (faults ≤ faults')
 Ran image limit held held' handed handed' faults faults' WriteFault =
     RunsInPart image limit held held' handed handed' × Rose faults faults'
 Ran image limit held held' handed handed' faults faults' NoMemory = (held' ≡ held) × (handed' ≡ handed) × (faults' ≡ faults)

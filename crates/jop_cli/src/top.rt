@@ -11,7 +11,7 @@ use crate::lines::{put_line, put_text};
 use crate::outcome::{Counts, Ending, Outcome, Refusal};
 use crate::run::{RunEnd, run};
 use crate::words::read_words;
-use bare_steps::laws::reset_is_underway;
+use boundary::Running;
 use jop_core::{Bare, BareFault, Config, Machine, Watch, read_bare};
 use jop_outside::{Files, LONGEST_FILE, ReadAll, Sink, Source, read_all};
 use std::alloc::Global;
@@ -66,13 +66,12 @@ fn run_image<O: Sink, V: Watch>(
         (O.faults out.old) (O.faults out.new) result }
     ensures leaves { LeavesOut (outcome_of result) → (out.new ≡ out.old) × (watch.new ≡ watch.old) }
 {
-    reset_is_underway();
-    let Ok(mut machine) = Machine::<1024>::bare(alloc, bare, Config::default()) else {
+    let Ok(mut running) = Running::<1024>::start_bare(alloc, bare, Config::default()) else {
         return Ending::NoMemory;
     };
-    match run(&mut machine, out, watch, limit) {
-        RunEnd::Ended => Ending::Ended(counts_of(&machine)),
-        RunEnd::Spent => Ending::Spent(counts_of(&machine)),
+    match run(&mut running, out, watch, limit) {
+        RunEnd::Ended => Ending::Ended(counts_of(running.machine())),
+        RunEnd::Spent => Ending::Spent(counts_of(running.machine())),
         RunEnd::WriteFault => Ending::WriteFault,
         RunEnd::SeenFault => unreachable!(),
     }

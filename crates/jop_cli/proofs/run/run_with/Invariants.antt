@@ -1,12 +1,15 @@
 use Rattle.std.proofs.Common.{◌≡◌, ◌-◌}
+use Rattle.boundary.specs.declared.answer.Boundary.TheVariants as answers
 use Rattle.jop_cli.proofs.Marching.{FarAll}
 use Rattle.jop_cli.proofs.run.run_with.Given as goal
 
-abbrev pub invariant-loop-machine : goal.invariant-loop-machine
-invariant-loop-machine g l = record {
+abbrev pub invariant-loop-running : goal.invariant-loop-running
+invariant-loop-running g l = record {
   names : g.D.Devices.names l.device ≡ g.D.Devices.names l.fn.device;
-  far : FarAll g.row.N l.fn.machine l.limit l.machine (g.D.Devices.told l.fn.device) (g.D.Devices.told l.device);
+  image : l.running.image ≡ l.fn.running.image;
+  mode : l.running.mode ≡ answers.Bytecode;
+  far : FarAll g.row.N l.fn.running.image l.fn.running.machine l.limit l.running.machine (g.D.Devices.told l.fn.device) (g.D.Devices.told l.device);
 }
 
-abbrev pub decreases-loop-machine : goal.decreases-loop-machine
-decreases-loop-machine g l = l.limit - l.machine.clock
+abbrev pub decreases-loop-running : goal.decreases-loop-running
+decreases-loop-running g l = l.limit - l.running.machine.clock

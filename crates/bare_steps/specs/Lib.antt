@@ -1,4 +1,0 @@
-pub mod Bytecode
-pub mod StandsFor
-pub mod Step
-pub mod Reset

@@ -1,0 +1,26 @@
+-- Activations take cycles.
+use Rattle.std.proofs.Common.{◌≡◌, ℕ, zero, suc, ◌+◌, ◌<◌, List, [], ◌∷◌, ◌++◌, ap, arith}
+use Rattle.jop_core.specs.State as machine
+use Rattle.jop_core.specs.Cycle.{asks_input}
+use Rattle.jop_core.specs.Keeps.{CyclesKeep}
+use Rattle.jop_core.specs.Scene.{Scene, next_scene, given, begun, run}
+use Rattle.boundary.specs.Setting.{Setting}
+use Rattle.boundary.specs.Activations.{Stage, Follows, StaysAbove, ActivationsTakeCycles}
+
+module _ (keep : CyclesKeep) where
+  clock_after : (n : ℕ) (c : Scene) → (run n c).state.clock ≡ c.state.clock + n
+  clock_after zero c = omega arith
+  clock_after (suc n) c = omega (arith, clock_after n (next_scene c), (keep (given (asks_input c.state) c.answers) c.state).clock)
+
+  step_takes : (g : Setting) (a b : Stage) → Follows g a b → a.machine.clock < b.machine.clock
+  step_takes g a b f =
+      let ends = ap (λ (m : machine.State). m.clock) (f.comes.ran []) in
+      let is = ap (λ (m : machine.State). m.clock) f.new_is in
+      omega (arith, ends, is, clock_after f.comes.cycles (begun a.machine (f.comes.answers ++ [])), f.comes.positive)
+
+  stay_takes : (g : Setting) (frames : ℕ) (a : Stage) (cs : List Stage) (b : Stage) → StaysAbove g frames a cs b → a.machine.clock < b.machine.clock
+  stay_takes g frames a [] b h = step_takes g a b h
+  stay_takes g frames a (c ∷ cs) b h = omega (arith, step_takes g a c h.1, stay_takes g frames c cs b h.2)
+
+  pub take_cycles : ActivationsTakeCycles
+  take_cycles g method a b h = omega (arith, step_takes g a h.first h.begins, stay_takes g _ h.first h.between b h.stays)

@@ -1,0 +1,14 @@
+pub mod Obeys
+pub mod Landings
+pub mod Stages
+pub mod Ending
+pub mod Advancing
+pub mod Keeping
+pub mod BareRows
+pub mod BareWalk
+pub mod BarePrograms
+pub mod Starting
+pub mod BareStepping
+pub mod Reading
+pub mod Built
+pub mod Lasting

@@ -1,0 +1,85 @@
+-- One step of the machine and of the bytecode together.
+use Rattle.std.specs.Prelude.{◌≡◌, ℕ, List, [], ◌∷◌, ◌++◌, Some, IsSomeAnd}
+use Rattle.std.specs.declared.option.Option.{Option}
+use Rattle.jop_device.specs.Told.{Told}
+use Rattle.jop_core.specs.declared.tick.Tick.TheVariants as ticks
+use Rattle.jop_core.specs.State as machine
+use Rattle.jop_core.specs.Cycle.{output_of}
+use Rattle.jop_core.specs.Scene.{begun, first_of, output_during}
+use Rattle.micro_sketch.specs.Step.{Ran, Broke}
+use Rattle.bytecode_model.specs.State.{State}
+use Rattle.bytecode_model.specs.Steps.{step}
+use Rattle.bytecode_model.specs.WellFormed.{IsAnswer}
+use Rattle.bytecode_typing.specs.Fits.{Fits}
+use Rattle.machine_stands.specs.Comes.{ComesTo}
+use Rattle.boundary.specs.declared.answer.Boundary.{Boundary}
+use Rattle.boundary.specs.declared.answer.Boundary.TheVariants as answers
+use Rattle.boundary.specs.Answers.{answer_of}
+use Rattle.boundary.specs.Setting.{Setting, limits, IsSetting, Stands}
+
+-- From the state, for which the machine stood, both came to the next one. On the way the device gave just the answers that the step takes, was given just the
+-- bytes that it puts out, and was handed each state of the machine from which a cycle was done.
+pub record Advances (g : Setting) (s : State) (old new : machine.State) (told told' : Told) : Type 0 where
+  pub answer : Option ℕ
+  pub byte : IsAnswer answer
+  pub next : State
+  pub is_next : step g.program (limits g) answer s ≡ Some next
+  pub fits : Fits g.program g.types (limits g) next
+  pub comes : ComesTo g.program g.places g.chip g.memory old s next
+  pub answer_is : answer ≡ first_of comes.answers
+  pub new_is : comes.new ≡ new
+  pub ran : Ran comes.cycles old new told told' comes.answers
+
+-- and how the next state goes on is the answer
+abbrev pub Reaches : (g : Setting) → State → (old new : machine.State) → (told told' : Told) → Boundary → Type 0
+Reaches g s old new told told' answer = (a : Advances g s old new told told') × (answer_of a.next.mode ≡ answer)
+
+-- ---- where a call on the device failed
+
+-- whatever the input answers, the step holds this of the next state
+abbrev pub AfterStep : Setting → State → (Option ℕ → State → Type 0) → Type 0
+AfterStep g s K = (answer : Option ℕ) → IsAnswer answer → IsSomeAnd (step g.program (limits g) answer s) (K answer)
+
+-- these answers were given, and these bytes put out, before the call that failed: they are the first of what the step takes and puts out
+pub record IsPart (g : Setting) (s : State) (answers : List (Option ℕ)) (output : List ℕ) : Type 0 where
+  pub answer : Option ℕ
+  pub byte : IsAnswer answer
+  pub next : State
+  pub is_next : step g.program (limits g) answer s ≡ Some next
+  pub other_answers : List (Option ℕ)
+  pub took : next.answers ≡ s.answers ++ (answers ++ other_answers)
+  pub other_output : List ℕ
+  pub put : next.output ≡ s.output ++ (output ++ other_output)
+
+-- The machine stands where it was about to ask for the answer that the step takes, and nothing was answered or put out before.
+pub record FailsToRead (g : Setting) (s : State) (old new : machine.State) (told told' : Told) : Type 0 where
+  pub broke : Broke old new told told' ticks.ReadFault
+  pub answers : broke.answers ≡ []
+  pub output : output_during broke.cycles (begun old []) ≡ []
+  pub takes : AfterStep g s (λ answer t. t.answers ≡ s.answers ++ answer ∷ [])
+
+-- The machine stands where it was about to put out the byte that the step puts out, and nothing was answered or put out before.
+pub record FailsToWrite (g : Setting) (s : State) (old new : machine.State) (told told' : Told) : Type 0 where
+  pub broke : Broke old new told told' ticks.WriteFault
+  pub answers : broke.answers ≡ []
+  pub output : output_during broke.cycles (begun old []) ≡ []
+  pub puts : AfterStep g s (λ answer t. t.output ≡ s.output ++ output_of new)
+
+-- The machine stands where its state was handed to the device.
+pub record FailsToShow (g : Setting) (s : State) (old new : machine.State) (told told' : Told) : Type 0 where
+  pub broke : Broke old new told told' ticks.SeenFault
+  pub part : IsPart g s broke.answers (output_during broke.cycles (begun old broke.answers))
+
+-- ---- by the answer
+
+abbrev pub StepsTo : (g : Setting) → State → (old new : machine.State) → (told told' : Told) → Boundary → Type 0
+StepsTo g s old new told told' answers.ReadFault = FailsToRead g s old new told told'
+StepsTo g s old new told told' answers.WriteFault = FailsToWrite g s old new told told'
+StepsTo g s old new told told' answers.SeenFault = FailsToShow g s old new told told'
+StepsTo g s old new told told' answers.Stopped = ⊥
+StepsTo g s old new told told' answers.NotBuilt = ⊥
+StepsTo g s old new told told' answer = Reaches g s old new told told' answer
+
+-- so it is for each program and state for which the machine stood
+abbrev pub StepsAll : (old new : machine.State) → (told told' : Told) → Boundary → Type 0
+StepsAll old new told told' answer = (g : Setting) (s : State) → IsSetting g → Stands g old s → StepsTo g s old new told told' answer

@@ -1,0 +1,43 @@
+-- What is proved of the code of bare images.
+use Rattle.std.specs.Prelude.{◌≡◌, ◌⊎◌, ℕ, true, List, [], ◌∷◌, Some, None}
+use Rattle.std.specs.declared.option.Option.{Option}
+use Rattle.jop_opcodes.specs.Bytes.{u1}
+use Rattle.jop_opcodes.specs.Start.{IsStart}
+use Rattle.bare_image.specs.Bare.{Image, IsImage}
+use Rattle.jop_core.specs.State as machine
+use Rattle.bytecode_model.specs.declared.Ending.TheVariants.{Running, Ended}
+use Rattle.bytecode_model.specs.Lists.{onto}
+use Rattle.bytecode_model.specs.State.{Frame, State}
+use Rattle.bytecode_model.specs.Program.{Program, body_of}
+use Rattle.bytecode_model.specs.Steps.{step}
+use Rattle.bytecode_model.specs.WellFormed.{IsAnswer}
+use Rattle.machine_stands.specs.Simulates.{is_bare}
+use Rattle.boundary.specs.Families.{is_built}
+use Rattle.boundary.specs.Setting.{limits, Stands, bare_setting}
+
+-- each of its instructions has one of the opcodes that a bare image may have
+abbrev pub BareOpcodes : Type 0
+BareOpcodes = (image : Image) → IsImage image → (pc : ℕ) → IsStart image.code pc → is_bare (u1 image.code pc) ≡ true
+
+abbrev pub top_frame : List Frame → Option Frame
+top_frame [] = None
+top_frame (f ∷ fs) = Some f
+
+-- the opcode of the instruction at which a state stands
+abbrev pub opcode_of : Program → State → Option ℕ
+opcode_of P s = onto (top_frame s.frames) (λ f. onto (body_of P f.method) (λ b. Some (u1 b.code f.pc)))
+
+-- A step takes nothing from the input, goes on or ends, and puts something out at impdep2 alone.
+pub record IsBareStep (P : Program) (s t : State) : Type 0 where
+  pub answers : t.answers ≡ s.answers
+  pub mode : (t.mode ≡ Running) ⊎ (t.mode ≡ Ended)
+  pub output : (t.output ≡ s.output) ⊎ (opcode_of P s ≡ Some 255)
+
+-- so do all steps of bare images
+abbrev pub BareImagesStep : Type 0
+BareImagesStep = (image : Image) (chip memory : ℕ) (m : machine.State) (answer : Option ℕ) (s t : State) → let g = bare_setting image chip memory in
+    IsImage image → Stands g m s → s.mode ≡ Running → IsAnswer answer → step g.program (limits g) answer s ≡ Some t → IsBareStep g.program s t
+
+-- From each instruction of a bare image the machine goes on.
+abbrev pub BareImagesAreBuilt : Type 0
+BareImagesAreBuilt = (image : Image) (chip memory : ℕ) (m : machine.State) (s : State) → IsImage image → Stands (bare_setting image chip memory) m s → s.mode ≡ Running → is_built m.opcode ≡ true

@@ -1,0 +1,10 @@
+pub mod Setting
+pub mod Answers
+pub mod Families
+pub mod Advances
+pub mod Session
+pub mod Meaning
+pub mod BareLaws
+pub mod StageLaws
+pub mod Laws
+pub mod Activations

@@ -1,0 +1,12 @@
+//! A run of the machine over a program, from one boundary to the next: each is a step of the bytecode, for which the
+//! machine then stands.
+#![tactic(auto)]
+
+mod answer;
+mod family;
+/// Laws of the definitions in `specs/`. Each is a function without a body, whose contract says it.
+pub mod laws;
+mod running;
+
+pub use answer::Boundary;
+pub use running::Running;
