@@ -1,0 +1,4 @@
+pub mod Numbers
+pub mod Labels
+pub mod Names
+pub mod Lines
