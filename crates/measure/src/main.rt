@@ -1,16 +1,22 @@
 //! Measures how fast the parts run that take the most time.
 //!
 //! - `measure` alone does a little of each, and prints no times.
-//! - `measure cycles N` steps a machine N cycles.
+//! - `measure loop NAME N` steps a machine N cycles over a loop, and prints the registers and the cycles per second. The loops
+//!   are `ints`, `calls` and `arrays`.
+//! - `measure words NAME` prints what a simulator needs to run such a loop: `simulator/machine.c` reads it.
 //! - `measure run N` runs the longest bare image N times, and prints the cycles per second.
+//! - `measure classes` makes classes and selects the methods of each, and prints how many microseconds each part took.
 //! - `measure graphs` finds the greatest walks of graphs like those of the longest methods, and prints how many
 //!   microseconds each part took.
 #![tactic(auto)]
 
-mod cycles;
+mod classes;
 mod graphs;
+mod images;
+mod loops;
 mod runs;
 
+use images::Loop;
 use jop_text::read_u64;
 use std::process::ExitCode;
 use std::{env, io};
@@ -23,22 +29,38 @@ const NO_TASK: u8 = 2;
 enum Task {
     /// A little of each.
     All,
-    /// So many cycles of a machine.
-    Cycles(u64),
+    /// So many cycles of a machine over a loop.
+    Cycles(Loop, u64),
+    /// What another simulator needs to run a loop.
+    Words(Loop),
     /// So many runs of an image.
     Runs(u64),
+    /// Classes with their hierarchy.
+    Classes,
     /// The greatest walks of large graphs.
     Graphs,
+}
+
+fn loop_of(name: &str) -> Option<Loop> {
+    match name {
+        "ints" => Some(Loop::Ints),
+        "calls" => Some(Loop::Calls),
+        "arrays" => Some(Loop::Arrays),
+        _ => None,
+    }
 }
 
 // The task that the words after the program's name ask for.
 fn task_of(words: &[String]) -> Option<Task> {
     match words {
         [] => Some(Task::All),
+        [task] if task.as_str() == "classes" => Some(Task::Classes),
         [task] if task.as_str() == "graphs" => Some(Task::Graphs),
-        [task, count] if task.as_str() == "cycles" => {
-            read_u64(count.as_bytes()).map(|count| Task::Cycles(count))
+        [task, name, count] if task.as_str() == "loop" => {
+            let which = loop_of(name)?;
+            read_u64(count.as_bytes()).map(|count| Task::Cycles(which, count))
         }
+        [task, name] if task.as_str() == "words" => loop_of(name).map(|which| Task::Words(which)),
         [task, count] if task.as_str() == "run" => {
             read_u64(count.as_bytes()).map(|count| Task::Runs(count))
         }
@@ -49,12 +71,17 @@ fn task_of(words: &[String]) -> Option<Task> {
 fn measure(rt: &HostRuntime, task: Task) -> io::Result<()> {
     match task {
         Task::All => {
-            cycles::show(rt, 1_000_000)?;
+            for which in [Loop::Ints, Loop::Calls, Loop::Arrays] {
+                loops::show(rt, which, 100_000, false)?;
+            }
             runs::show(rt, 2, false)?;
+            classes::show(rt, 10, false)?;
             graphs::show_small(rt)
         }
-        Task::Cycles(count) => cycles::show(rt, count),
+        Task::Cycles(which, count) => loops::show(rt, which, count, true),
+        Task::Words(which) => loops::show_words(rt, which),
         Task::Runs(count) => runs::show(rt, count, true),
+        Task::Classes => classes::show(rt, 1_000, true),
         Task::Graphs => graphs::show_large(rt),
     }
 }
@@ -65,7 +92,7 @@ fn main(rt: HostRuntime) -> io::Result<ExitCode> {
         words.push(word)?;
     }
     let Some(task) = task_of(&words) else {
-        println!(rt; "usage: measure [cycles N | run N | graphs]")?;
+        println!(rt; "usage: measure [loop NAME N | words NAME | run N | classes | graphs]")?;
         return Ok(ExitCode::from(NO_TASK));
     };
     measure(&rt, task)?;
