@@ -99,7 +99,8 @@ impl<const N: usize> Machine<N> {
         }
     }
 
-    // Runs a microinstruction.
+    // Runs a microinstruction. It is the most of a cycle, so it is made part of each caller's.
+    #[inline(always)]
     fn run(&mut self, step: &Step, input: Option<u8>)
         requires { HasTarget step.now.action }
         ensures { self.new ≡ ran input (Some (meaning step.now)) self.old }
