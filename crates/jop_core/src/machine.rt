@@ -68,6 +68,7 @@ impl<const N: usize> Model for Machine<N> {
 
 impl<const N: usize> Machine<N> {
     // What a microinstruction does, where `ldin` is given this input.
+    #[inline(always)]
     fn perform(&mut self, step: &Step, input: Option<u8>)
         requires { HasTarget step.now.action }
         ensures { self.new ≡ performed input (meaning step.now) self.old }
@@ -99,7 +100,8 @@ impl<const N: usize> Machine<N> {
         }
     }
 
-    // Runs a microinstruction. It is the most of a cycle, so it is made part of each caller's.
+    // Runs a microinstruction. It is the most of a cycle, so it is made part of each caller's, with `perform`,
+    // `act` and `follow_flags`: a program with two devices has two cycles, and LLVM would call what they share.
     #[inline(always)]
     fn run(&mut self, step: &Step, input: Option<u8>)
         requires { HasTarget step.now.action }

@@ -48,6 +48,7 @@ impl<const N: usize> Machine<N> {
         self.mpc = entry(byte);
     }
 
+    #[inline(always)]
     pub(super) fn follow_flags(&mut self, step: &Step)
         ensures { self.new ≡ with_flags (meaning step.now) self.old }
     {

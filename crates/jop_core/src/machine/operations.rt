@@ -21,6 +21,7 @@ impl<const N: usize> Machine<N> {
 
     // What a microinstruction that doesn't branch does, apart from its flags, where `ldin` is given this input.
     // One match decides among all of them.
+    #[inline(always)]
     pub(super) fn act(&mut self, action: &Action, input: Option<u8>)
         ensures { self.new ≡ acted input (body_of action.now) self.old }
     {
