@@ -6,7 +6,7 @@ use Rattle.jop_opcodes.specs.declared.instruction.Case.{Case}
 use Rattle.bytecode_model.specs.declared.Value.{Value}
 use Rattle.bytecode_model.specs.declared.Value.TheVariants.{Int, Long, Ref, Null, Unset}
 use Rattle.bytecode_model.specs.Lists.{onto, replaced, natural}
-use Rattle.bytecode_model.specs.Types.{NumberType, IntType, LongType, Kind, OfClass, OfNumbers, OfReferences, Declared, is_moved, suits, is_long, zero_of, default, element_type}
+use Rattle.bytecode_model.specs.Types.{NumberType, IntType, LongType, References, Kind, OfClass, OfNumbers, OfReferences, Declared, is_moved, suits, is_long, zero_of, default, element_type}
 use Rattle.bytecode_model.specs.State.{Object, Frame, State}
 use Rattle.bytecode_model.specs.Program.{Program, Limits, Method, kind_of, type_number, is_of}
 use Rattle.bytecode_model.specs.Sizes.{object_words, made_words}
@@ -169,6 +169,11 @@ abbrev pub is_array_of : (codes : List ℕ) → Option Kind → Bool
 is_array_of codes (Some (OfNumbers a)) = list_any (λ c. c == a) codes
 is_array_of codes k = false
 
+abbrev pub is_array : Option Kind → Bool
+is_array (Some (OfNumbers a)) = true
+is_array (Some (OfReferences k)) = true
+is_array k = false
+
 abbrev pub component_of : Option Kind → Option Kind
 component_of (Some (OfReferences k)) = Some k
 component_of k = None
@@ -215,14 +220,18 @@ effect P limits s f next (rows.PutStatic k) =
     on_top f.operands (λ v rest. on (slice_get P.statics k) (λ d. only_if (suits d v) (WriteStatic k v next f.locals rest)))
 effect P limits s f next (rows.GetField named owner k) =
     on_object s.objects f.operands (λ p o rest. only_if (has_class P (kind_of P o) owner) (on (slice_get o.parts k) (λ v. Go next f.locals (v ∷ rest))))
+-- The value has the field's width before the object below it is looked at: only so is it known which word is the object's (6.5.putfield, 6.5.aastore).
 effect P limits s f next (rows.PutField named owner k) =
-    on_top f.operands (λ v rest. on_object s.objects rest (λ p o rest2.
-    only_if (has_class P (kind_of P o) owner) (on (slice_get (P.fields owner) k) (λ d. only_if (suits d v) (WritePart p k v next f.locals rest2)))))
-effect P limits s f next (rows.New c) = allocate P limits s (OfClass c) (map default (P.fields c)) next f.locals f.operands
+    on_top f.operands (λ v rest. on (slice_get (P.fields owner) k) (λ d. only_if (suits d v) (on_object s.objects rest (λ p o rest2.
+    only_if (has_class P (kind_of P o) owner) (WritePart p k v next f.locals rest2)))))
+-- of a class that isn't abstract (6.5.new)
+effect P limits s f next (rows.New c) = only_if (P.is_concrete c) (allocate P limits s (OfClass c) (map default (P.fields c)) next f.locals f.operands)
 effect P limits s f next (rows.NewNumbers code) =
     on_size f.operands (λ size rest. allocate P limits s (OfNumbers code) (replicate size (zero_of (element_type code))) next f.locals rest)
 effect P limits s f next (rows.NewReferences k) = on_size f.operands (λ size rest. allocate P limits s (OfReferences k) (replicate size Null) next f.locals rest)
-effect P limits s f next rows.Length = on_object s.objects f.operands (λ p o rest. Go next f.locals (Int (pos (length o.parts)) ∷ rest))
+-- of an array alone (6.5.arraylength)
+effect P limits s f next rows.Length =
+    on_object s.objects f.operands (λ p o rest. only_if (is_array (kind_of P o)) (Go next f.locals (Int (pos (length o.parts)) ∷ rest)))
 effect P limits s f next (rows.LoadNumber t codes) =
     on_number IntType f.operands (λ n rest. on_object s.objects rest (λ p o rest2.
     only_if (is_array_of codes (kind_of P o)) (on_element o n (λ i v. Go next f.locals (v ∷ rest2)))))
@@ -233,9 +242,9 @@ effect P limits s f next rows.LoadReference =
     on_number IntType f.operands (λ n rest. on_object s.objects rest (λ p o rest2.
     on (component_of (kind_of P o)) (λ k. on_element o n (λ i v. Go next f.locals (v ∷ rest2)))))
 effect P limits s f next rows.StoreReference =
-    on_top f.operands (λ v rest. on_number IntType rest (λ n rest2. on_object s.objects rest2 (λ p o rest3.
+    on_top f.operands (λ v rest. only_if (is_moved References v) (on_number IntType rest (λ n rest2. on_object s.objects rest2 (λ p o rest3.
     on (component_of (kind_of P o)) (λ k. on_element o n (λ i old. on (is_instance P s.objects true k v) (λ b.
-    if b then WritePart p i v next f.locals rest3 else fault ArrayStoreException))))))
+    if b then WritePart p i v next f.locals rest3 else fault ArrayStoreException)))))))
 effect P limits s f next (rows.Cast k) =
     on_top f.operands (λ v rest. on (is_instance P s.objects true k v) (λ b. if b then Go next f.locals (v ∷ rest) else fault ClassCastException))
 effect P limits s f next (rows.Test k) =

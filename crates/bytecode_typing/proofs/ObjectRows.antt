@@ -8,13 +8,13 @@ use Rattle.std.proofs.lemmas.Int.{fits_signed_from_abs}
 use Rattle.bytecode_model.specs.declared.Value.{Value}
 use Rattle.bytecode_model.specs.declared.Value.TheVariants.{Int, Long, Ref, Null, Unset}
 use Rattle.bytecode_model.specs.Lists.{onto, natural}
-use Rattle.bytecode_model.specs.Types.{NumberType, IntType, LongType, Kind, OfClass, OfNumbers, OfReferences, Declared, Numeric, Reference, suits, zero_of, default, element_type}
+use Rattle.bytecode_model.specs.Types.{NumberType, IntType, LongType, References, Kind, OfClass, OfNumbers, OfReferences, Declared, Numeric, Reference, is_moved, suits, zero_of, default, element_type}
 use Rattle.bytecode_model.specs.State.{Object, Frame, State}
 use Rattle.bytecode_model.specs.Program.{Program, Limits, Method, Body, kind_of, type_number, is_of, object_class, serializable_class, cloneable_class, throwable_class}
 use Rattle.bytecode_model.specs.Sizes.{object_words, made_words}
 use Rattle.bytecode_model.specs.Rows as rows
 use Rattle.bytecode_model.specs.Rows.{Row}
-use Rattle.bytecode_model.specs.Effects.{Effect, Go, Make, WritePart, Fault, ArrayIndexOutOfBoundsException, ArrayStoreException, ClassCastException, NegativeArraySizeException, NullPointerException, OutOfMemoryError, fault, fault_object, on, or_fault, only_if, on_number, on_object, number, has_class, is_instance, allocate, on_size, is_array_of, component_of, on_element, effect}
+use Rattle.bytecode_model.specs.Effects.{Effect, Go, Make, WritePart, Fault, ArrayIndexOutOfBoundsException, ArrayStoreException, ClassCastException, NegativeArraySizeException, NullPointerException, OutOfMemoryError, fault, fault_object, on, or_fault, only_if, on_number, on_object, number, has_class, is_instance, allocate, on_size, is_array_of, is_array, component_of, on_element, effect}
 use Rattle.bytecode_model.specs.Steps.{row_in}
 use Rattle.bytecode_model.specs.WellFormed.{AreSpaced}
 use Rattle.bytecode_typing.specs.Tests.{Holds, AllTwo}
@@ -144,17 +144,25 @@ module _ (P : Program) (types : Typing) (law : Lawful P) (limits : Limits) (s : 
       field_parts : (c owner k : ℕ) (d : Declared) (parts : List Value) → Holds (P.extends c owner) → slice_get (P.fields owner) k ≡ Some d → AllTwo (HasDeclared P ks) (P.fields c) parts → (same : slice_get (P.fields c) k ≡ Some d) × (v : Value) × (slice_get parts k ≡ Some v) × HasDeclared P ks d v
       field_parts c owner k d parts x e h = let r = field_at c owner k d parts x e h in (r.0, r.1.0, r.1.1, r.1.2)
 
+  -- what is below the top, where the typing has something there
+  one_below : (go : VarType → List VarType → Checked) (ts : List VarType) (vs : List Value) (then_ : List Value → Effect) → AllTwo (HasItem P f.method m ks) ts vs → IsChecked (on_type ts go) K
+      → ((u : VarType) (v : Value) (rest : List VarType) (ops : List Value) → HasItem P f.method m ks u v → AllTwo (HasItem P f.method m ks) rest ops → IsChecked (go u rest) K → Fit (then_ (v ∷ ops))) → Fit (then_ vs)
+  one_below go [] vs then_ h c next_ = absurd c
+  one_below go (u ∷ ts) [] then_ h c next_ = absurd h
+  one_below go (u ∷ ts) (v ∷ vs) then_ h c next_ = next_ u v ts vs h.0 h.1 c
+
   pub put_field_fits : (named owner k : ℕ) → IsFieldOf P named owner → RowChecked (rows.PutField named owner k) → Fit (effect P limits s f next (rows.PutField named owner k))
   put_field_fits named owner k field c =
       let (d, ed, c1) = found_checked K (slice_get (P.fields owner) k) rule.Operand _ c in
       top_fits P types law f.method m b ks Fit K _ t.stack f.operands _ hs c1 (λ u v rest ops hv h c.
-      object_top _ rest ops _ h c (λ u2 r rest2 ops2 hr h2 c.
+      one_below _ rest ops (λ vs. on (slice_get (P.fields owner) k) (λ d. only_if (suits d v) (on_object s.objects vs (λ p o rest2. only_if (has_class P (kind_of P o) owner) (WritePart p k v next f.locals rest2))))) h c
+      (λ u2 r rest2 ops2 hr h2 c.
       let (a, c2) = need_checked K (is_seen_for P f.method m b (types f.method) f.pc t d u && is_seen_as P f.method m b (types f.method) f.pc t (OfClass named) u2) rule.Stack _ c in
       let w = seen_declared P types law limits s m b f t count spaced hl hs next d u v (both_left (is_seen_for P f.method m b (types f.method) f.pc t d u) _ a) hv in
-      object_fits (OfClass named) r ops2 _ (seen_reference (OfClass named) u2 r (both_right (is_seen_for P f.method m b (types f.method) f.pc t d u) _ a) hr.0) (λ p o kind eo ek mb parts.
+      on_some Fit (slice_get (P.fields owner) k) d _ ed (only_so Fit (suits d v) _ (declared_suits P ks d v w)
+      (object_fits (OfClass named) r ops2 _ (seen_reference (OfClass named) u2 r (both_right (is_seen_for P f.method m b (types f.method) f.pc t d u) _ a) hr.0) (λ p o kind eo ek mb parts.
       let (cl, is, x) = field_class P law named owner k d kind field ed (is_then P kind named field.class mb) in
       only_so Fit (has_class P (kind_of P o) owner) _ (class_so o kind cl owner ek is x)
-      (on_some Fit (slice_get (P.fields owner) k) d _ ed (only_so Fit (suits d v) _ (declared_suits P ks d v w)
       (write p o kind cl d v eo ek is x ed parts w, on_to rest2 ops2 c2.3 h2))))))
     where
       write : (p : ℕ) (o : Object) (kind : Kind) (cl : ℕ) (d : Declared) (v : Value) → slice_get s.objects p ≡ Some o → kind_of P o ≡ Some kind → kind ≡ OfClass cl → Holds (P.extends cl owner) → slice_get (P.fields owner) k ≡ Some d → PartsFit P ks kind o.parts → HasDeclared P ks d v → IsWrite P s.objects p k v
@@ -197,11 +205,12 @@ module _ (P : Program) (types : Typing) (law : Lawful P) (limits : Limits) (s : 
   new_fits c at row c1 =
       let fl = (need_checked K (not (holds_made f.pc t.stack)) rule.Stack _ c1).1.3 in
       let made : made_at P f.method f.pc ≡ Some c = ap (λ (o : Option (ℕ × Row)). onto o (λ x. class_made_by x.1)) at in
-      make_fits (OfClass c) (map default (P.fields c)) f.locals f.operands row.1 (row.0, defaults_fit P ks (P.fields c)) (λ j kj.
+      only_so Fit (P.is_concrete c) _ row.0
+      (make_fits (OfClass c) (map default (P.fields c)) f.locals f.operands row.1 (row.0, defaults_fit P ks (P.fields c)) (λ j kj.
       arrive P types law f.method m b (ks ++ j ∷ []) next (record t { locals = map (substituted (Uninitialized f.pc) Top) t.locals; stack = Uninitialized f.pc ∷ t.stack }) f.locals (Ref (length s.objects) ∷ f.operands) fl count spaced
       (grown j (map (substituted (Uninitialized f.pc) Top) t.locals) f.locals
       (retype_two (Has P f.method m ks) (Has P f.method m ks) (substituted (Uninitialized f.pc) Top) (λ u v h. renewed P f.method m ks (Uninitialized f.pc) Top u v (λ x g. has_value P f.method m ks (Uninitialized f.pc) x g) h) t.locals f.locals hl))
-      ((some_at (kind_in P (ks ++ j ∷ []) (length s.objects)) (OfClass c) _ (new_kind P s.objects j ∙ kj) (some_at (made_at P f.method f.pc) c _ made refl), refl), grown_items j t.stack f.operands hs))
+      ((some_at (kind_in P (ks ++ j ∷ []) (length s.objects)) (OfClass c) _ (new_kind P s.objects j ∙ kj) (some_at (made_at P f.method f.pc) c _ made refl), refl), grown_items j t.stack f.operands hs)))
 
   array_going : (k : Kind) (rest : List VarType) (ops : List Value) → Holds (flows_to P (record t { locals = t.locals; stack = ReferenceTo k ∷ rest }) (types f.method next)) → AllTwo (HasItem P f.method m ks) rest ops → (j : ℕ) → slice_get P.types j ≡ Some k → IsGoing P types f.method m b (ks ++ j ∷ []) next f.locals (Ref (length s.objects) ∷ ops)
   array_going k rest ops fl h j kj =
@@ -258,6 +267,15 @@ module _ (P : Program) (types : Typing) (law : Lawful P) (limits : Limits) (s : 
   array_length (OfReferences l) (OfNumbers c) parts g mb h = absurd mb
   array_length (OfClass c) kind parts g mb h = absurd g
 
+  an_array : (k kind : Kind) → Holds (is_array_type (ReferenceTo k)) → Holds (may_be P kind k) → is_array (Some kind) ≡ true
+  an_array (OfNumbers a) (OfNumbers c) g mb = refl
+  an_array (OfReferences l) (OfReferences j) g mb = refl
+  an_array (OfNumbers a) (OfClass c) g mb = absurd mb
+  an_array (OfNumbers a) (OfReferences j) g mb = absurd mb
+  an_array (OfReferences l) (OfClass c) g mb = absurd mb
+  an_array (OfReferences l) (OfNumbers c) g mb = absurd mb
+  an_array (OfClass c) kind g mb = absurd g
+
   as_array : (u : VarType) (v : Value) → Holds (is_array_type u) → Has P f.method m ks u v → (k : Kind) × Holds (is_array_type (ReferenceTo k)) × Has P f.method m ks (ReferenceTo k) v
   as_array NullReference Null a h = (OfNumbers 0, tt, tt)
   as_array NullReference v a h = absurd h
@@ -271,7 +289,8 @@ module _ (P : Program) (types : Typing) (law : Lawful P) (limits : Limits) (s : 
       let (a, c2) = need_checked K (is_array_type u) rule.Stack _ c in
       let (k, g, hk) = as_array u v a hv.0 in
       object_fits k v ops _ hk (λ p o kind eo ek mb parts.
-      on_to (Integer ∷ rest) (Int (pos (length o.parts)) ∷ ops) c2.3 ((fits_signed_from_abs w32 (pos (length o.parts)) (omega (arith, array_length k kind o.parts g mb parts)), refl), h)))
+      only_so Fit (is_array (kind_of P o)) _ (ap is_array ek ∙ an_array k kind g mb)
+      (on_to (Integer ∷ rest) (Int (pos (length o.parts)) ∷ ops) c2.3 ((fits_signed_from_abs w32 (pos (length o.parts)) (omega (arith, array_length k kind o.parts g mb parts)), refl), h))))
 
   element_fits : (d : Declared) (o : Object) (x : ℤ) (go : ℕ → Value → Effect) → HasEach P ks d o.parts → ((k : ℕ) (v : Value) → slice_get o.parts k ≡ Some v → HasDeclared P ks d v → Fit (go k v)) → Fit (on_element o x go)
   element_fits d o (negsuc k) go h then_ = faults ArrayIndexOutOfBoundsException
@@ -426,10 +445,18 @@ module _ (P : Program) (types : Typing) (law : Lawful P) (limits : Limits) (s : 
   store_reference_fits c =
       top_fits P types law f.method m b ks Fit K _ t.stack f.operands _ hs c (λ u v rest ops hv h c.
       let (a, c2) = need_checked K (is_reference_type u) rule.Stack _ c in
-      number_fits P types law f.method m b ks Fit K IntType _ rest ops _ h c2 (λ x rest2 ops2 h2 c.
+      only_so Fit (is_moved References v) _ (a_reference v (as_object P law f.method m ks u v a hv.0))
+      (number_fits P types law f.method m b ks Fit K IntType _ rest ops _ h c2 (λ x rest2 ops2 h2 c.
       object_top _ rest2 ops2 _ h2 c (λ u2 r rest3 ops3 hr h3 c.
-      let (g, c3) = need_checked K (is_there (component_type u2)) rule.Stack _ c in array u2 r v x rest3 ops3 g hr.0 (as_object P law f.method m ks u v a hv.0) c3.3 h3)))
+      let (g, c3) = need_checked K (is_there (component_type u2)) rule.Stack _ c in array u2 r v x rest3 ops3 g hr.0 (as_object P law f.method m ks u v a hv.0) c3.3 h3))))
     where
+      a_reference : (v : Value) → Has P f.method m ks (ReferenceTo (OfClass object_class)) v → is_moved References v ≡ true
+      a_reference (Ref p) h = refl
+      a_reference Null h = refl
+      a_reference (Int i) h = absurd h
+      a_reference (Long i) h = absurd h
+      a_reference Unset h = absurd h
+
       stored : (y : Bool) (j : Kind) (p i : ℕ) (o : Object) (old v : Value) (rest : List VarType) (ops : List Value) → slice_get s.objects p ≡ Some o → kind_of P o ≡ Some (OfReferences j) → PartsFit P ks (OfReferences j) o.parts → slice_get o.parts i ≡ Some old → HasDeclared P ks (Reference j) old → (Holds y → HasDeclared P ks (Reference j) v)
           → Holds (flows_to P (record t { locals = t.locals; stack = rest }) (types f.method next)) → AllTwo (HasItem P f.method m ks) rest ops → Fit (if y then WritePart p i v next f.locals ops else fault ArrayStoreException)
       stored true j p i o old v rest ops eo ek parts eold hold g fl h =
