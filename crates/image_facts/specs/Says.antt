@@ -1,9 +1,10 @@
 -- What the words of an image say of a program.
-use Rattle.std.specs.Prelude.{◌≡◌, ◌⊎◌, ℕ, ◌+◌, ◌*◌, ◌/◌, ◌%◌, ◌^◌, ◌<◌, ◌≤◌, pos, Bool, true, false, List, [], ◌∷◌, ◌++◌, length, replicate, take, sum_by, All, slice_get, slice_index, Option, Some, None, IsSome, IfSome, IsSomeAnd, if◌then◌else◌}
+use Rattle.std.specs.Prelude.{◌≡◌, ◌⊎◌, ℕ, ◌+◌, ◌*◌, ◌/◌, ◌%◌, ◌^◌, ◌<◌, ◌≤◌, pos, Bool, true, false, List, [], ◌∷◌, ◌++◌, length, replicate, take, sum_by, All, slice_get, slice_index, Ok, Option, Some, None, IsSome, IfSome, IsSomeAnd, if◌then◌else◌}
 use Rattle.std.specs.List.{flat_map}
 use Rattle.std.specs.Int.{div_ceil}
 use Rattle.core_words.specs.Packed.{words_for, words_of_bytes}
 use Rattle.jop_opcodes.specs.declared.instruction.Instr.{Instr}
+use Rattle.jop_opcodes.specs.Instruction.{decoded}
 use Rattle.jop_opcodes.specs.Start.{IsStart}
 use Rattle.bytecode_model.specs.Types.{Kind, OfClass, OfNumbers, OfReferences, t_boolean}
 use Rattle.bytecode_model.specs.Program.{Program, Method, Body, Handler, Operand, NoOperand, AnInt, ALong, AString, AStatic, AField, AMethod, AType, body_of, instr_at, type_number, is_of}
@@ -43,10 +44,16 @@ method_words P pl k b =
     (b.max_locals * 2 ^ 16 + b.max_stack) ∷ (argument_words k * 2 ^ 16 + words_for (length b.code)) ∷ pl.pool k.owner ∷ length b.handlers
     ∷ (flat_map (handler_words P) b.handlers ++ words_of_bytes b.code)
 
--- the ends of the range fit half a word each, and the type has a number
-pub record IsEntry (P : Program) (h : Handler) : Type 0 where
+-- no instruction goes across the place
+abbrev pub IsBetween : (code : List ℕ) → (place : ℕ) → Type 0
+IsBetween code place = (pc : ℕ) (i : Instr) → IsStart code pc → decoded code pc ≡ Ok i → (place ≤ pc) ⊎ (pc + i.length ≤ place)
+
+-- The ends of the range fit half a word each, and lie between instructions or at the code's end (4.7.3). The type has a number.
+pub record IsEntry (P : Program) (code : List ℕ) (h : Handler) : Type 0 where
   pub start : h.start < 2 ^ 16
   pub end : h.end < 2 ^ 16
+  pub begins : IsBetween code h.start
+  pub ends : IsBetween code h.end
   pub caught : IfSome h.caught (λ k. IsSome (type_number P k))
 
 pub record SaysMethod (P : Program) (pl : Places) (m : ℕ) (k : Method) (b : Body) : Type 0 where
@@ -54,7 +61,7 @@ pub record SaysMethod (P : Program) (pl : Places) (m : ℕ) (k : Method) (b : Bo
   pub nonzero : 0 < pl.method m
   pub max_locals : b.max_locals < 2 ^ 16
   pub max_stack : b.max_stack < 2 ^ 16
-  pub entries : All (IsEntry P) b.handlers
+  pub entries : All (IsEntry P b.code) b.handlers
 
 -- ---- types
 
@@ -64,11 +71,12 @@ instance_words P (OfClass c) = if P.is_interface c then 0 else 1 + sum_by declar
 instance_words P k = 0
 
 -- The record of a type: its number, the words of an instance, the type of an array's elements, its two tables, and bit by bit, 32 in a word, whether
--- the type of each number is this one or a supertype.
+-- the type of each number is this one or a supertype. No instance has so many words that the place behind it would be none.
 pub record SaysType (P : Program) (pl : Places) (t : ℕ) (k : Kind) : Type 0 where
   pub supertypes : List ℕ
   pub words : AreFixed P pl (pl.type t) (t ∷ instance_words P k ∷ counted_type P (component_of (Some k)) ∷ pl.method_table t ∷ pl.interface_table t ∷ supertypes)
   pub count : length supertypes ≡ div_ceil (length P.types) 32
+  pub size : instance_words P k < 2 ^ 31
   pub bits : (u : ℕ) → IfSome (slice_get P.types u) (λ l. slice_index supertypes (u / 32) / 2 ^ (u % 32) % 2 ≡ bit_of (is_of P k l))
   pub component : IfSome (component_of (Some k)) (λ l. IsSome (type_number P l))
 
@@ -106,8 +114,10 @@ pub record IsInterfaceNumber (P : Program) (pl : Places) (m interface number : �
   pub other : (t : ℕ) (k : Kind) → slice_get P.types t ≡ Some k → has_class P (Some k) interface ≡ false → AreFixed P pl (pl.interface_table t + number) (0 ∷ [])
 
 -- The two words of a method: where it runs without a selection, its place; else the words of its arguments, and a slot or an interface method's number.
+-- What invokespecial names isn't abstract (6.5.invokespecial).
 pub record MeansMethod (P : Program) (pl : Places) (op named m : ℕ) (k : Method) (first second : ℕ) : Type 0 where
   pub itself : (op ≡ invokespecial) ⊎ (op ≡ invokestatic) → IsSome k.body → first ≡ pl.method m
+  pub code : op ≡ invokespecial → IsSome k.body
   pub virtual : op ≡ invokevirtual → (second / 2 ^ 24 ≡ argument_words k) × IsSlot P pl named m (second % 2 ^ 24)
   pub interface : op ≡ invokeinterface → (second / 2 ^ 24 ≡ argument_words k) × IsInterfaceNumber P pl m k.owner (second % 2 ^ 24)
 
@@ -154,6 +164,10 @@ pub record SaysLinked (P : Program) (pl : Places) : Type 0 where
   pub raise_objects : 9 ≤ length P.first_objects
   pub methods : (m : ℕ) (k : Method) (b : Body) → slice_get P.methods m ≡ Some k → k.body ≡ Some b → SaysMethod P pl m k b
   pub types : (t : ℕ) → IfSome (slice_get P.types t) (SaysType P pl t)
+  -- a type's number and one fit a word
+  pub few_types : length P.types < 2 ^ 31
+  -- there are instances of no interface
+  pub concrete : (c : ℕ) → P.is_concrete c ≡ true → P.is_interface c ≡ false
   pub operands : (m pc index : ℕ) (k : Method) (b : Body) (i : Instr) → slice_get P.methods m ≡ Some k → k.body ≡ Some b → IsStart b.code pc
       → instr_at P m pc ≡ Some i → i.first ≡ pos index → SaysOperand P pl i.op (pl.pool k.owner + 2 * index) (P.operand m pc)
 
