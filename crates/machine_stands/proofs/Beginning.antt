@@ -164,6 +164,7 @@ bare_begins packed bytes n image config s size grammar can boot =
         ar = omega (arith, large);
         memory = length-replicate {A = ℕ} (memory - 0) 0 ∙ omega arith;
         small = omega (arith, config.most_memory);
+        most = config.most_memory;
       };
       room = record { image = omega arith; methods = rooms image cache can };
       stall = refl;

@@ -17,3 +17,4 @@ pub mod Shown
 pub mod Going
 pub mod Operands
 pub mod Fixed
+pub mod Unwinding

@@ -87,10 +87,10 @@ body_of_top P pl words size m s f callers st e = subst (λ (u : Frame). body_of 
 -- what the effect is, with these operands on top
 put_effect : (P : Program) (limits : Limits) (s : State) (f : Frame) (next named owner k p : ℕ) (n : ℤ) (rest : List Value) → f.operands ≡ Long n ∷ Ref p ∷ rest
     → effect P limits s f next (PutField named owner k)
-    ≡ on (slice_get s.objects p) (λ o. only_if (has_class P (kind_of P o) owner) (on (slice_get (P.fields owner) k) (λ d. only_if (suits d (Long n)) (WritePart p k (Long n) next f.locals rest))))
+    ≡ on (slice_get (P.fields owner) k) (λ d. only_if (suits d (Long n)) (on (slice_get s.objects p) (λ o. only_if (has_class P (kind_of P o) owner) (WritePart p k (Long n) next f.locals rest))))
 put_effect P limits s f next named owner k p n rest e =
-    ap (λ ops. on_top ops (λ v rest. on_object s.objects rest (λ p o rest2.
-    only_if (has_class P (kind_of P o) owner) (on (slice_get (P.fields owner) k) (λ d. only_if (suits d v) (WritePart p k v next f.locals rest2)))))) e
+    ap (λ ops. on_top ops (λ v rest. on (slice_get (P.fields owner) k) (λ d. only_if (suits d v) (on_object s.objects rest (λ p o rest2.
+    only_if (has_class P (kind_of P o) owner) (WritePart p k v next f.locals rest2)))))) e
 
 pub long_field_written : ImageLaws → (P : Program) (pl : Places) (words size : ℕ) (m : machine.State) (answer : Option ℕ) (s s' : State) (f : Frame) (callers : List Frame) (i : Instr)
     (next index named owner k p : ℕ) (n : ℤ) (rest : List Value) → IsStep P pl words size m answer s s' → s.mode ≡ Running → s.frames ≡ f ∷ callers → instr_at P f.method f.pc ≡ Some i
@@ -102,13 +102,13 @@ long_field_written laws P pl words size m answer s s' f callers i next index nam
     -- the step is defined
     let goes = sym (step_is P limits answer s f callers (next, PutField named owner k) mode frames row
     ∙ ap (λ e. applied P limits answer s f callers e) (put_effect P limits s f next named owner k p n rest ops)) ∙ h.step in
-    let o = on_defined P limits answer s f callers s' (slice_get s.objects p)
-    (λ o. only_if (has_class P (kind_of P o) owner) (on (slice_get (P.fields owner) k) (λ d. only_if (suits d (Long n)) (WritePart p k (Long n) next f.locals rest)))) goes in
-    let b = only_if_defined P limits answer s f callers s' (has_class P (kind_of P o.0) owner)
-    (on (slice_get (P.fields owner) k) (λ d. only_if (suits d (Long n)) (WritePart p k (Long n) next f.locals rest))) o.2 in
-    let d = on_defined P limits answer s f callers s' (slice_get (P.fields owner) k) (λ d. only_if (suits d (Long n)) (WritePart p k (Long n) next f.locals rest)) b.1 in
-    let w = only_if_defined P limits answer s f callers s' (suits d.0 (Long n)) (WritePart p k (Long n) next f.locals rest) d.2 in
-    let x = onto_defined (written s.objects p k (Long n)) (λ os. Some (with_top (record s { objects = os }) callers (record f { pc = next; locals = f.locals; operands = rest }))) s' w.1 in
+    let put = WritePart p k (Long n) next f.locals rest in
+    let d = on_defined P limits answer s f callers s' (slice_get (P.fields owner) k)
+    (λ d. only_if (suits d (Long n)) (on (slice_get s.objects p) (λ o. only_if (has_class P (kind_of P o) owner) put))) goes in
+    let w = only_if_defined P limits answer s f callers s' (suits d.0 (Long n)) (on (slice_get s.objects p) (λ o. only_if (has_class P (kind_of P o) owner) put)) d.2 in
+    let o = on_defined P limits answer s f callers s' (slice_get s.objects p) (λ o. only_if (has_class P (kind_of P o) owner) put) w.1 in
+    let b = only_if_defined P limits answer s f callers s' (has_class P (kind_of P o.0) owner) put o.2 in
+    let x = onto_defined (written s.objects p k (Long n)) (λ os. Some (with_top (record s { objects = os }) callers (record f { pc = next; locals = f.locals; operands = rest }))) s' b.1 in
     let c = class_is P (kind_of P o.0) owner b.0 in
     let long : d.0 ≡ Numeric LongType = long_suits d.0 n w.0 in
     -- the entry

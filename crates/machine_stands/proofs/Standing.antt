@@ -7,6 +7,7 @@ use Rattle.std.proofs.Math.Seq.{take-append-add, drop-append_seam, take-append_s
 use Rattle.std.proofs.lemmas.List.{reverse-append, reverse-reverse, length-reverse}
 use Rattle.stack_cache.specs.Size.{IsSize}
 use Rattle.microcode_rom.specs.declared.TheConstants.{CONSTANTS as NUMBERS}
+use Rattle.memory_timing.specs.declared.TheConstants.{MAX_MEMORY}
 use Rattle.core_words.specs.Packed.{PackedHasBytes}
 use Rattle.method_cache.specs.Contents.{Cache, IsCache, is_cached, word_of}
 use Rattle.micro_flow.specs.declared.CostParams.{CostParams}
@@ -120,6 +121,7 @@ pub record Pieces (P : Program) (pl : Places) (n size : ℕ) (s : State) (x : Sk
   pub shape : Shaped n x
   pub as_many : length x.memory ≡ size
   pub small : size < 2 ^ 32
+  pub most : size ≤ MAX_MEMORY
   pub room : HasRoom P pl size x.cache
   pub idle : e.port ≡ 0
   pub top : Frame
@@ -143,7 +145,7 @@ pub record Pieces (P : Program) (pl : Places) (n size : ℕ) (s : State) (x : Sk
 
 pub stand_there : StackHasWords → (P : Program) (pl : Places) (n size : ℕ) (s : State) (x : Sketch) (e : Env) → Pieces P pl n size s x e → StandsFor P pl n size (conc n x e) s
 stand_there count P pl n size s x e h = record {
-  sizes = record { is_size = h.is_size; stack = count n x h.shape; ar = mod-lt x.ar (omega (arith, least_size n h.is_size)); memory = h.as_many; small = h.small };
+  sizes = record { is_size = h.is_size; stack = count n x h.shape; ar = mod-lt x.ar (omega (arith, least_size n h.is_size)); memory = h.as_many; small = h.small; most = h.most };
   room = h.room;
   stall = refl;
   idle = h.idle;
@@ -216,6 +218,7 @@ stands_again laws P pl n size m new s s' st p answers f cycles says well mode g 
       shape = d.shape;
       as_many = ap length d.follows.memory ∙ g.as_many ∙ st.sizes.memory;
       small = st.sizes.small;
+      most = st.sizes.most;
       room = has.0;
       idle = d.idle;
       top = g.top;

@@ -82,6 +82,7 @@ raise_comes count coming P pl n size m answer s s' h i p f mode instr on r =
       shape = r.reaches.shape;
       as_many = ap length r.raises.memory ∙ st.sizes.memory;
       small = st.sizes.small;
+      most = st.sizes.most;
       room = has.0;
       idle = port_idle y.busy e r.done.idle r.reaches.port;
       top = top;
@@ -129,6 +130,7 @@ end_comes count coming P pl n size m answer s s' h i mode instr ended frames res
       shape = r.reaches.shape;
       as_many = ap length r.halts.memory ∙ st.sizes.memory;
       small = st.sizes.small;
+      most = st.sizes.most;
       room = has.0;
       idle = port_idle y.busy e r.done.idle r.reaches.port;
       top = st.top;

@@ -40,7 +40,7 @@ use Rattle.machine_stands.proofs.Coming.{ComingLaws, port_idle, comes_by}
 
 -- ---- the look-up
 
-looks : PackedHasWords → (P : Program) (pl : Places) (size : ℕ) (m new : machine.State) (k : ℕ) (b : Body) (f : Switch) (stall : ℕ) → HasCache P pl size m.cache → body_of P k ≡ Some b
+pub looks : PackedHasWords → (P : Program) (pl : Places) (size : ℕ) (m new : machine.State) (k : ℕ) (b : Body) (f : Switch) (stall : ℕ) → HasCache P pl size m.cache → body_of P k ≡ Some b
     → new.cache ≡ f.cache → new.hits ≡ f.hits → new.misses ≡ f.misses → stall ≡ f.loads * 4 + f.loaded * (2 + m.port.read)
     → (hit : Bool) → is_cached (pl.method k) m.cache ≡ hit → FindsBy hit (pl.method k) (words_of_bytes b.code) m f
     → HasCache P pl size new.cache × (is_cached (pl.method k) new.cache ≡ true) × Found hit (pl.method k) (words_of_bytes b.code) m new stall
@@ -114,6 +114,7 @@ switch_comes laws packed coming P pl n size m answer s s' h i f mode instr on r 
       shape = r.reaches.shape;
       as_many = ap length (r.switches.memory ∙ on.memory) ∙ st.sizes.memory;
       small = st.sizes.small;
+      most = st.sizes.most;
       room = look.0.0;
       idle = port_idle y.busy e r.done.idle r.reaches.port;
       top = on.top;

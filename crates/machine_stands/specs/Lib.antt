@@ -15,3 +15,4 @@ pub mod Going
 pub mod Operands
 pub mod Fixed
 pub mod Counted
+pub mod Unwinding

@@ -3,6 +3,7 @@ use Rattle.std.specs.Prelude.{◌≡◌, ℕ, ◌+◌, ◌-◌, ◌^◌, ◌<◌
 use Rattle.stack_cache.specs.Size.{IsSize}
 use Rattle.microcode_rom.specs.declared.TheConstants.{CONSTANTS as NUMBERS, RAISE}
 use Rattle.method_cache.specs.Contents.{Entry, Cache, IsCache, is_cached, can_load}
+use Rattle.memory_timing.specs.declared.TheConstants.{MAX_MEMORY}
 use Rattle.memory_timing.specs.Port.{padded}
 use Rattle.core_words.specs.Packed.{words_for, words_of_bytes}
 use Rattle.jop_opcodes.specs.Bytes.{u1}
@@ -29,13 +30,14 @@ stack_words m = take (m.sp + 1 - STACK) (drop STACK m.stack) ++ m.b ∷ m.a ∷ 
 abbrev pub limits_of : Program → Places → (n size : ℕ) → Limits
 limits_of P pl n size = record { frames = n - 80; heap = size - image_words P pl }
 
--- the numbers of its words, among those on the chip the one that is addressed
+-- the numbers of its words, among those on the chip the one that is addressed; those of the memory are at most as many as a configuration may have
 pub record HasSizes (n size : ℕ) (m : machine.State) : Type 0 where
   pub is_size : IsSize n
   pub stack : length m.stack ≡ n
   pub ar : m.ar < n
   pub memory : length m.port.words ≡ size
   pub small : size < 2 ^ 32
+  pub most : size ≤ MAX_MEMORY
 
 -- the memory holds the image, and each method fits the cache
 pub record HasRoom (P : Program) (pl : Places) (size : ℕ) (c : Cache) : Type 0 where

@@ -16,6 +16,7 @@ ghost use Rattle.machine_stands.specs.Seen.{MachinesAreSeen};
 ghost use Rattle.machine_stands.specs.Shown.{SketchesShow};
 ghost use Rattle.machine_stands.specs.Stopping.{EndsCome, RaisesCome};
 ghost use Rattle.machine_stands.specs.Switching.{SwitchesCome};
+ghost use Rattle.machine_stands.specs.Unwinding.{RaisesAreSeen, HandlersCome, DropsCome, UncaughtCome};
 
 /// A bare image, seen as a program, has no words that could say anything else.
 pub fn bare_images_say()
@@ -153,3 +154,19 @@ pub fn frames_have_room()
     ensures room { FramesHaveRoom }
     ensures saved { FiveAreSaved }
 {}
+
+/// A machine at the raise routine as a sketch, and what it comes to: a handler, the caller's frame, or the end of the run.
+pub fn raises_unwind()
+    ensures seen { RaisesAreSeen }
+    ensures handlers { HandlersCome }
+    ensures drops { DropsCome }
+    ensures uncaught { UncaughtCome }
+{
+    jop_opcodes::laws::starts_follow_one_another();
+    core_words::laws::packed_has_bytes();
+    core_words::laws::packed_has_words();
+    micro_sketch::laws::rows_are_steps();
+    micro_sketch::laws::machines_are_seen_as_sketches();
+    micro_sketch::laws::raise_keeps_its_cost();
+    micro_sketch::laws::runs_add_up();
+}

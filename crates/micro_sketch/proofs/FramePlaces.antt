@@ -1,5 +1,5 @@
 -- A word stvp, which may move the frame's place past the words below the stack.
-use Rattle.std.proofs.Common.{◌≡◌, ℕ, ◌-◌, ◌%◌, ◌^◌, ◌<◌, ◌&&◌, ◌||◌, Bool, true, false, [], ◌∷◌, ◌++◌, nat_lt, length, if◌then◌else◌, refl, sym, ap, ◌∙◌, subst, None, Option}
+use Rattle.std.proofs.Common.{◌≡◌, ℕ, ◌-◌, ◌%◌, ◌^◌, ◌<◌, ◌&&◌, ◌||◌, true, false, [], ◌∷◌, ◌++◌, nat_lt, length, if◌then◌else◌, refl, sym, ap, ◌∙◌, subst, None, Option}
 use Rattle.std.proofs.Math.Nat.{mod-eq_of_lt}
 use Rattle.micro_isa.specs.declared.Body.TheVariants.{Plain}
 use Rattle.micro_isa.specs.declared.Micro.{Micro}
@@ -10,8 +10,8 @@ use Rattle.jop_core.specs.State.{State}
 use Rattle.jop_core.specs.Scene.{given, left_over}
 use Rattle.jop_core.specs.Operations.{operated}
 use Rattle.jop_core.specs.Cycle.{is_wait, is_ldin, is_stout}
-use Rattle.micro_sketch.specs.Sketch.{Sketch, apop, lead, opd_byte}
-use Rattle.micro_sketch.specs.Stands.{Env, Shaped, Does, Goes, Reaches, PortFits, conc, stack_of, tick}
+use Rattle.micro_sketch.specs.Sketch.{Sketch, apop}
+use Rattle.micro_sketch.specs.Stands.{Env, Shaped, Does, PortFits, conc, stack_of, tick}
 use Rattle.micro_sketch.specs.FrameLaws.{framed, FramePlaceMoves, SwitchRunsOn}
 use Rattle.micro_sketch.proofs.OnChip.{pop_sim, length_stack}
 use Rattle.micro_sketch.proofs.Counts.{keeps_pop, was_flags}

@@ -25,4 +25,5 @@ pub mod Making
 pub mod Breaking
 pub mod RowSteps
 pub mod LowLoads
+mod StackLoads
 mod FramePlaces

@@ -10,3 +10,4 @@ pub mod Row
 pub mod Rows
 pub mod RowLaws
 pub mod FrameLaws
+pub mod StackLaws

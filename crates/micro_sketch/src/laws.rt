@@ -1,5 +1,6 @@
 ghost use Rattle.micro_sketch.specs.FrameLaws.{FramePlaceMoves, SwitchRunsOn};
 ghost use Rattle.micro_sketch.specs.Laws.{MachineFollows, SplitsAnywhere, Reframes, StackPointerMoves, StackPointerComesDown, LowWordIsLoaded, SeenAsSketch, RunsGoOn, RunsBetweenAlike, CostsHold, RaiseCostHolds, FirstIsReached, BoundaryComesSoon};
+ghost use Rattle.micro_sketch.specs.StackLaws.{StackWordIsLoaded};
 ghost use Rattle.micro_sketch.specs.StepLaws.{StepsAddUp, AreRunLaws};
 ghost use Rattle.micro_sketch.specs.RowLaws.{AreRowLaws};
 
@@ -33,6 +34,11 @@ pub fn stack_pointer_comes_down()
 /// A word below place 32 is loaded from where AR says.
 pub fn low_word_is_loaded()
     ensures { LowWordIsLoaded }
+{}
+
+/// A word from place 64 on is loaded from where AR says, also one past the stack pointer.
+pub fn stack_word_is_loaded()
+    ensures { StackWordIsLoaded }
 {}
 
 /// Each machine in range is what its sketch stands for.
