@@ -1,11 +1,8 @@
--- The parts of the microcode of invokestatic, by computing on the sketch.
-use Rattle.std.proofs.Common.{◌≡◌, ℕ, ◌+◌, ◌-◌, ◌*◌, ◌/◌, ◌%◌, ◌^◌, ◌&&◌, Bool, true, false, List, [], ◌∷◌, length, nat_lt, bit_and, if◌then◌else◌, refl}
+-- The first part of the microcode of invokestatic, by computing on the sketch.
+use Rattle.std.proofs.Common.{◌≡◌, ℕ, ◌+◌, ◌-◌, ◌*◌, ◌/◌, ◌%◌, ◌^◌, List, [], ◌∷◌, length, refl}
 use Rattle.std.specs.Prelude.{slice_index}
-use Rattle.jop_core.specs.Operations.{number_of}
 use Rattle.microcode_rom.specs.declared.addresses.TheConstants.{INVOKESTATIC, INVOKE}
-use Rattle.jop_core.specs.Operations.{code_words}
-use Rattle.method_cache.specs.Contents.{is_cached}
-use Rattle.micro_sketch.specs.Sketch.{Sketch, exec, abyte, same_bool, can_find, found_words, cached, missed, go_on}
+use Rattle.micro_sketch.specs.Sketch.{Sketch, exec, abyte}
 use Rattle.micro_plain.specs.Operand.{past}
 use Rattle.micro_calls.proofs.Parts.{Low, at}
 
@@ -18,8 +15,11 @@ begun f = record f { operand = 0; loads = 0; words = 0; output = [] }
 abbrev pub raw_index : Sketch → ℕ
 raw_index f = ((0 * 2 ^ 8 + abyte f) % 2 ^ 32 * 2 ^ 8 + abyte (past 1 f)) % 2 ^ 32
 
+abbrev pub raw_entry : Sketch → Low → ℕ
+raw_entry f v = ((raw_index f + raw_index f) % 2 ^ 32 + v.pool) % 2 ^ 32
+
 abbrev pub raw_method : Sketch → Low → ℕ
-raw_method f v = slice_index f.memory (((raw_index f + raw_index f) % 2 ^ 32 + v.pool) % 2 ^ 32)
+raw_method f v = slice_index f.memory (raw_entry f v)
 
 abbrev pub raw_arguments : Sketch → (method : ℕ) → ℕ
 raw_arguments f m = slice_index f.memory ((m + 1) % 2 ^ 32) / 2 ^ 16
@@ -27,86 +27,18 @@ raw_arguments f m = slice_index f.memory ((m + 1) % 2 ^ 32) / 2 ^ 16
 abbrev pub raw_sp : Sketch → (under : List ℕ) → (arguments : ℕ) → ℕ
 raw_sp f us a = (length f.deep + 63 + length us + (2 ^ 32 - a)) % 2 ^ 32
 
-abbrev pub limits : Sketch → (method : ℕ) → ℕ
-limits f m = slice_index f.memory m
+-- ---- to the common part
 
-abbrev pub raw_sum : Sketch → (method frames : ℕ) → ℕ
-raw_sum f m frames = (((bit_and (limits f m) 65535 + limits f m / 2 ^ 16) % 2 ^ 32 + 5) % 2 ^ 32 + frames) % 2 ^ 32
+-- f where an operand, the last word that was read, and the places in the scratch words are these
+abbrev pub with_method : Sketch → (index value : ℕ) → Sketch
+with_method f index value = record (begun f) { operand = index; jpc = (past 2 f).jpc; value = value }
 
-abbrev pub raw_pool : Sketch → (method : ℕ) → ℕ
-raw_pool f m = slice_index f.memory ((m + 2) % 2 ^ 32)
+abbrev pub low_method : Low → (method arguments sp : ℕ) → Low
+low_method v m a sp = record v { s0 = m; s1 = a; s6 = sp }
 
--- ---- to the frame's place
+abbrev pub at_invoke : Sketch → Low → (t u k : ℕ) → (us js : List ℕ) → (index method arguments sp : ℕ) → Sketch
+at_invoke f v t u k us js index m a sp = at INVOKE (with_method f index (slice_index f.memory ((m + 1) % 2 ^ 32))) (low_method v m a sp) t u us (u ∷ t ∷ k ∷ js)
 
--- what was read: the method and the words of its arguments, its local variables, the sum of the frames, the SP to be saved, the pool and the frame's place
-pub record Reads : Type 0 where
-  pub index : ℕ
-  pub method : ℕ
-  pub arguments : ℕ
-  pub locals : ℕ
-  pub sum : ℕ
-  pub sp : ℕ
-  pub pool : ℕ
-  pub place : ℕ
-  pub fits : Bool
-
-abbrev pub raw_reads : Sketch → Low → (under : List ℕ) → Reads
-raw_reads f v us =
-    let m = raw_method f v in
-    let a = raw_arguments f m in
-    record {
-      index = raw_index f;
-      method = m;
-      arguments = a;
-      locals = limits f m / 2 ^ 16;
-      sum = raw_sum f m v.frames;
-      sp = raw_sp f us a;
-      pool = raw_pool f m;
-      place = (raw_sp f us a + 3) % 2 ^ 32;
-      fits = same_bool false (nat_lt 0 (number_of (nat_lt v.most (raw_sum f m v.frames)))) && true;
-    }
-
-abbrev pub low_with : Sketch → Low → Reads → Low
-low_with f v r = record v { s0 = r.method; s1 = r.arguments; s4 = r.locals; s5 = r.sum; s6 = r.sp; s7 = r.pool; s8 = f.vp; frames = r.sum }
-
-abbrev pub read_by : Sketch → Reads → Sketch
-read_by f r = record (begun f) { operand = r.index; jpc = (past 2 f).jpc; value = r.pool }
-
-abbrev pub at_place : Sketch → Low → (t u k : ℕ) → (us js : List ℕ) → Reads → Sketch
-at_place f v t u k us js r = record (at (INVOKE + 37) (read_by f r) (low_with f v r) r.place t (u ∷ us) (t ∷ k ∷ js)) { fine = r.fits }
-
-pub reads : (f : Sketch) (v : Low) (t u j1 j2 j3 : ℕ) (us js : List ℕ) → exec 61 (false ∷ []) (at INVOKESTATIC (begun f) v t u us (j1 ∷ j2 ∷ j3 ∷ js))
-    ≡ at_place f v t u (bit_and (limits f (raw_method f v)) 65535) us js (raw_reads f v us)
-reads f v t u j1 j2 j3 us js = refl
-
--- ---- to the new SP, which is that of the last local variable
-
-abbrev pub raw_last : Sketch → Low → ℕ
-raw_last f v = ((f.vp + v.s4) % 2 ^ 32 + (2 ^ 32 - 1)) % 2 ^ 32
-
-abbrev pub at_cut : Sketch → Low → (t u : ℕ) → (us js : List ℕ) → (last : ℕ) → Sketch
-at_cut f v t u us js last = at (INVOKE + 49) f (record v { s15 = last }) last t (u ∷ us) (t ∷ js)
-
-pub cuts : (f : Sketch) (v : Low) (t u j1 j2 : ℕ) (us js : List ℕ) → exec 11 [] (at (INVOKE + 38) f v t u us (j1 ∷ j2 ∷ js)) ≡ at_cut f v t u us js (raw_last f v)
-cuts f v t u j1 j2 us js = refl
-
--- ---- the saved words, and the method
-
-abbrev pub at_saving : Sketch → Low → (t u a b q1 q2 q3 q4 : ℕ) → List ℕ → Sketch
-at_saving f v t u a b q1 q2 q3 q4 js = at (INVOKE + 50) f v t u (b ∷ a ∷ []) (q1 ∷ q2 ∷ q3 ∷ q4 ∷ js)
-
-abbrev pub entering : Sketch → Low → (a b : ℕ) → (above : List ℕ) → Bool → Sketch
-entering f v a b above ok = go_on (record (at (INVOKE + 64) f (record v { pool = v.s7; method = v.s0 }) v.method v.pool (v.s8 ∷ f.jpc ∷ v.s6 ∷ b ∷ a ∷ []) above) {
-  jpc = 0;
-  method = v.s0;
-  cache = cached v.s0 (found_words f v.s0) f.cache;
-  hits = if is_cached v.s0 f.cache then (f.hits + 1) % 2 ^ 64 else f.hits;
-  misses = if is_cached v.s0 f.cache then f.misses else (f.misses + 1) % 2 ^ 64;
-  loads = f.loads + missed v.s0 f.cache;
-  words = f.words + missed v.s0 f.cache * code_words f.memory v.s0;
-  fine = ok;
-})
-
-pub enters : (f : Sketch) (v : Low) (t u a b q1 q2 q3 q4 : ℕ) (js : List ℕ) → let x = at_saving f v t u a b q1 q2 q3 q4 js in
-    exec 15 [] x ≡ entering f v a b (exec 15 [] x).above ((can_find f v.s0 && true) && true)
-enters f v t u a b q1 q2 q3 q4 js = refl
+pub begins : (f : Sketch) (v : Low) (t u j1 j2 j3 : ℕ) (us js : List ℕ) → exec 24 [] (at INVOKESTATIC (begun f) v t u us (j1 ∷ j2 ∷ j3 ∷ js))
+    ≡ at_invoke f v t u j3 us js (raw_index f) (raw_method f v) (raw_arguments f (raw_method f v)) (raw_sp f us (raw_arguments f (raw_method f v)))
+begins f v t u j1 j2 j3 us js = refl

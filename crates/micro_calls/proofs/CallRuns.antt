@@ -9,8 +9,7 @@ use Rattle.micro_sketch.specs.Rows.{entered, head_of, tail_of, RunsToRaise}
 use Rattle.micro_calls.specs.Calls.{Invokestatic, CanCall, fits, RunsCall, overflow}
 use Rattle.micro_calls.specs.Laws.{CallsRun, CallsRaise}
 use Rattle.micro_calls.proofs.Parts.{PartLaws, low_of, no_stalls}
-use Rattle.micro_calls.proofs.CallMade.{call_made}
-use Rattle.micro_calls.proofs.CallRaises.{call_raises}
+use Rattle.micro_calls.proofs.CallMade.{call_made, call_raises}
 
 entry_runs : PartLaws → (n : ℕ) (p : CostParams) (x : Sketch) (e : Env) (s : State) → let z = entered 184 x in StandsAt n p 184 z e s → (c : CanCall n Invokestatic z) → fits Invokestatic z ≡ true
     → RunsCall n p Invokestatic z e c

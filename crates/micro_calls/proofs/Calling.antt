@@ -1,20 +1,18 @@
--- A call, put together of its parts.
-use Rattle.std.proofs.Common.{◌≡◌, ℕ, ◌+◌, ◌-◌, ◌*◌, ◌/◌, ◌%◌, ◌^◌, ◌<◌, ◌≤◌, ◌&&◌, Bool, true, false, nat_lt, nat_le, List, [], ◌∷◌, ◌++◌, length, reverse, bit_and, sym, ap, ◌∙◌, arith, append_assoc, length-append}
+-- A static call, from its opcode's entry to the common part of the calls.
+use Rattle.std.proofs.Common.{◌≡◌, ℕ, ◌+◌, ◌-◌, ◌*◌, ◌/◌, ◌%◌, ◌^◌, ◌<◌, ◌≤◌, List, [], ◌∷◌, length, sym, ap, ◌∙◌, refl, arith, length-append}
 use Rattle.std.specs.Prelude.{slice_index}
 use Rattle.std.proofs.Math.Nat.{mod-eq_of_lt}
-use Rattle.std.proofs.lemmas.Nat.{and_mask}
-use Rattle.std.proofs.lemmas.Bool.Decides.{nat_tests}
-use Rattle.std.proofs.lemmas.List.{reverse-append}
-use mathlib.Core.List.{reverse_aux, reverse_aux-eq}
 use Rattle.microcode_rom.specs.declared.addresses.TheConstants.{INVOKESTATIC}
-use Rattle.jop_core.specs.Operations.{number_of}
-use Rattle.micro_sketch.specs.Sketch.{Sketch, abyte, same_bool}
-use Rattle.micro_sketch.specs.Stands.{Shaped}
+use Rattle.micro_sketch.specs.Sketch.{Sketch, abyte}
+use Rattle.micro_sketch.specs.Stands.{Env, Shaped, Reaches}
 use Rattle.micro_plain.specs.Operand.{past, two_byte_operand}
-use Rattle.micro_calls.specs.Method.{max_locals, argument_words, frame_words, pool}
-use Rattle.micro_calls.specs.Calls.{Invokestatic, called, CanCall, fits}
-use Rattle.micro_calls.proofs.Parts.{Low, at}
-use Rattle.micro_calls.proofs.CallRows.{begun, raw_index, raw_method, raw_arguments, raw_sp, limits, raw_sum, raw_pool, Reads, raw_reads}
+use Rattle.micro_calls.specs.Method.{argument_words}
+use Rattle.micro_calls.specs.Calls.{Invokestatic, called, CanCall}
+use Rattle.micro_calls.specs.Entry.{CanEnter}
+use Rattle.micro_calls.proofs.Parts.{PartLaws, Low, at, computed}
+use Rattle.micro_calls.proofs.InvokeRows.{invoking}
+use Rattle.micro_calls.proofs.Invoking.{less_mod}
+use Rattle.micro_calls.proofs.CallRows.{begun, raw_index, raw_method, raw_arguments, raw_sp, with_method, at_invoke, begins}
 
 -- ---- numbers
 
@@ -39,92 +37,52 @@ twice i p h =
 pub entry_is : (f : Sketch) (p : ℕ) → ((raw_index f + raw_index f) % 2 ^ 32 + p) % 2 ^ 32 ≡ (p + 2 * two_byte_operand f) % 2 ^ 32
 entry_is f p = ap (λ (i : ℕ). ((i + i) % 2 ^ 32 + p) % 2 ^ 32) (index_is f) ∙ twice (two_byte_operand f) p (index_small f)
 
-pub less_mod : (a b : ℕ) → b ≤ a → a < 2 ^ 32 → (a + (2 ^ 32 - b)) % 2 ^ 32 ≡ a - b
-less_mod a b h l = omega arith
+-- the SP to be saved is that below the arguments
+pub sp_is : (deep under taken others : ℕ) → under + 2 ≡ taken + others → deep + 63 + under < 2 ^ 32 → taken ≤ deep + 63 + under → (deep + 63 + under + (2 ^ 32 - taken)) % 2 ^ 32 ≡ 64 + (deep + others) - 3
+sp_is deep under taken others h small most = less_mod (deep + 63 + under) taken most small ∙ omega arith
 
-pub sum_is : (w frames : ℕ) → w < 2 ^ 32 → frames + (w / 2 ^ 16 + 5 + w % 2 ^ 16) < 2 ^ 32
-    → (((bit_and w 65535 + w / 2 ^ 16) % 2 ^ 32 + 5) % 2 ^ 32 + frames) % 2 ^ 32 ≡ frames + (w / 2 ^ 16 + 5 + w % 2 ^ 16)
-sum_is w frames h s =
-    let a : ℕ = w / 2 ^ 16 in
-    let b : ℕ = w % 2 ^ 16 in
-    let one : (b + a) % 2 ^ 32 ≡ b + a = mod-eq_of_lt (omega arith) in
-    let two : (b + a + 5) % 2 ^ 32 ≡ b + a + 5 = mod-eq_of_lt (omega arith) in
-    let three : (b + a + 5 + frames) % 2 ^ 32 ≡ b + a + 5 + frames = mod-eq_of_lt (omega arith) in
-    ap (λ (k : ℕ). (((k + a) % 2 ^ 32 + 5) % 2 ^ 32 + frames) % 2 ^ 32) (and_mask w 16)
-    ∙ ap (λ (k : ℕ). ((k + 5) % 2 ^ 32 + frames) % 2 ^ 32) one
-    ∙ ap (λ (k : ℕ). (k + frames) % 2 ^ 32) two ∙ three ∙ omega arith
-
--- a test that is passed
-passes : (most sum : ℕ) → nat_le sum most ≡ true → (same_bool false (nat_lt 0 (number_of (nat_lt most sum))) && true) ≡ true
-passes most sum h =
-    let no : nat_lt most sum ≡ false = grind (arith, nat_tests, h) in
-    ap (λ (b : Bool). same_bool false (nat_lt 0 (number_of b)) && true) no
-
--- ---- lists
-
--- the words of the stack and some past it, where some of those on top are the arguments
-pub turned : (deep arguments others more above : List ℕ) → deep ++ reverse_aux (arguments ++ others) (more ++ above) ≡ (deep ++ (reverse others ++ (reverse arguments ++ more))) ++ above
-turned deep arguments others more above =
-    ap (λ (ws : List ℕ). deep ++ ws) (reverse_aux-eq (arguments ++ others) (more ++ above) ∙ ap (λ (ws : List ℕ). ws ++ (more ++ above)) (reverse-append arguments others))
-    ∙ regrouped deep (reverse others) (reverse arguments) more above
-  where
-    regrouped : (a b c d e : List ℕ) → a ++ ((b ++ c) ++ (d ++ e)) ≡ (a ++ (b ++ (c ++ d))) ++ e
-    regrouped a b c d e = simp append_assoc
-
--- what the part to the frame's place reads
-abbrev pub clean_reads : Sketch → Low → (others : List ℕ) → Reads
-clean_reads f v others =
-    let x = at INVOKESTATIC (begun f) v 0 0 [] [] in
-    let m = called Invokestatic x in
-    let below = length f.deep + length others in
-    record {
-      index = two_byte_operand f;
-      method = m;
-      arguments = argument_words f.memory m;
-      locals = max_locals f.memory m;
-      sum = v.frames + frame_words f.memory m;
-      sp = 64 + below - 3;
-      pool = pool f.memory m;
-      place = 64 + below;
-      fits = true;
-    }
+-- ---- to the common part
 
 -- a call that can be done, about to begin
 abbrev pub beginning : Sketch → Low → (t u j1 j2 j3 : ℕ) → (us js : List ℕ) → Sketch
 beginning f v t u j1 j2 j3 us js = at INVOKESTATIC (begun f) v t u us (j1 ∷ j2 ∷ j3 ∷ js)
 
-pub reads_are : (n : ℕ) (f : Sketch) (v : Low) (t u j1 j2 j3 : ℕ) (us js : List ℕ) → (c : CanCall n Invokestatic (beginning f v t u j1 j2 j3 us js)) → fits Invokestatic (beginning f v t u j1 j2 j3 us js) ≡ true
-    → Shaped n (beginning f v t u j1 j2 j3 us js) → raw_reads f v us ≡ clean_reads f v c.others
-reads_are n f v t u j1 j2 j3 us js c fit h =
-    let m = called Invokestatic (beginning f v t u j1 j2 j3 us js) in
-    let below = length f.deep + length c.others in
+-- the sketch at the common part
+abbrev pub f_at : Sketch → (method : ℕ) → Sketch
+f_at f m = with_method f (two_byte_operand f) (slice_index f.memory ((m + 1) % 2 ^ 32))
+
+abbrev pub v_at : Sketch → Low → (method : ℕ) → Low
+v_at f v m = record v { s1 = argument_words f.memory m }
+
+abbrev pub invoked : Sketch → Low → (m t u j3 : ℕ) → (us js others : List ℕ) → Sketch
+invoked f v m t u j3 us js others = invoking (f_at f m) (v_at f v m) m (length f.deep + length others) t u u t j3 us js
+
+pub to_invoke : PartLaws → (n : ℕ) (f : Sketch) (v : Low) (t u j1 j2 j3 : ℕ) (us js : List ℕ) (e : Env) → let x = beginning f v t u j1 j2 j3 us js in (c : CanCall n Invokestatic x) → Shaped n x → e.port ≡ 0
+    → Reaches n x (invoked f v (called Invokestatic x) t u j3 us js c.others) e
+to_invoke laws n f v t u j1 j2 j3 us js e c h port =
+    let x = beginning f v t u j1 j2 j3 us js in
+    let m = called Invokestatic x in
     let place = c.method.place in
     let count = c.count in
-    let room = c.room fit in
     let size = c.size in
     let total = h.total in
     let words : length us + 2 ≡ length c.arguments + length c.others = omega (arith, ap (λ (ws : List ℕ). length ws) c.split, length-append c.arguments c.others) in
     let em : raw_method f v ≡ m = ap (λ (k : ℕ). slice_index f.memory k) (entry_is f v.pool) in
     let ea : raw_arguments f (raw_method f v) ≡ argument_words f.memory m =
     ap (λ (k : ℕ). raw_arguments f k) em ∙ ap (λ (k : ℕ). slice_index f.memory k / 2 ^ 16) (mod-eq_of_lt {n = m + 1} {m = 2 ^ 32} (omega arith)) in
-    let es : raw_sp f us (raw_arguments f (raw_method f v)) ≡ 64 + below - 3 =
-    ap (λ (k : ℕ). raw_sp f us k) (ea ∙ sym count) ∙ less_mod (length f.deep + 63 + length us) (length c.arguments) (omega arith) (omega arith) ∙ omega arith in
-    let et : raw_sum f (raw_method f v) v.frames ≡ v.frames + frame_words f.memory m =
-    ap (λ (k : ℕ). raw_sum f k v.frames) em ∙ sum_is (limits f m) v.frames c.method.limits c.sum in
-    let ep : raw_pool f (raw_method f v) ≡ pool f.memory m =
-    ap (λ (k : ℕ). raw_pool f k) em ∙ ap (λ (k : ℕ). slice_index f.memory k) (mod-eq_of_lt {n = m + 2} {m = 2 ^ 32} place) in
-    let el : (raw_sp f us (raw_arguments f (raw_method f v)) + 3) % 2 ^ 32 ≡ 64 + below =
-    ap (λ (k : ℕ). (k + 3) % 2 ^ 32) es ∙ mod-eq_of_lt {n = 64 + below - 3 + 3} {m = 2 ^ 32} (omega arith) ∙ omega arith in
-    let ok : (same_bool false (nat_lt 0 (number_of (nat_lt v.most (raw_sum f (raw_method f v) v.frames)))) && true) ≡ true =
-    ap (λ (k : ℕ). same_bool false (nat_lt 0 (number_of (nat_lt v.most k))) && true) et ∙ passes v.most (v.frames + frame_words f.memory m) fit in
-    λ i. record {
-      index = index_is f i;
-      method = em i;
-      arguments = ea i;
-      locals = limits f (em i) / 2 ^ 16;
-      sum = et i;
-      sp = es i;
-      pool = ep i;
-      place = el i;
-      fits = ok i;
-    }
+    let es : raw_sp f us (raw_arguments f (raw_method f v)) ≡ 64 + (length f.deep + length c.others) - 3 =
+    ap (λ (k : ℕ). raw_sp f us k) (ea ∙ sym count) ∙ sp_is (length f.deep) (length us) (length c.arguments) (length c.others) words (omega arith) (omega arith) in
+    computed laws n 23 [] x (invoked f v m t u j3 us js c.others) e h port (begins f v t u j1 j2 j3 us js ∙ (λ i. at_invoke f v t u j3 us js (index_is f i) (em i) (ea i) (es i))) refl
+
+-- what the method's frame needs there
+pub can_enter : (n : ℕ) (f : Sketch) (v : Low) (t u j1 j2 j3 : ℕ) (us js : List ℕ) → let x = beginning f v t u j1 j2 j3 us js in (c : CanCall n Invokestatic x)
+    → CanEnter n (invoked f v (called Invokestatic x) t u j3 us js c.others) (called Invokestatic x) c.arguments c.others
+can_enter n f v t u j1 j2 j3 us js c = record {
+  method = record { limits = c.method.limits; place = c.method.place; found = c.method.found };
+  split = c.split;
+  most = c.most;
+  room = c.room;
+  size = c.size;
+  sum = c.sum;
+  raise_list = c.raise_list;
+}

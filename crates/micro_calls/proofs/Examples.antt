@@ -5,7 +5,8 @@ use Rattle.method_cache.specs.Contents.{Cache}
 use Rattle.micro_sketch.specs.Sketch.{Sketch}
 use Rattle.micro_sketch.specs.Rows.{Switch}
 use Rattle.micro_calls.specs.Method.{max_locals, max_stack, argument_words, pool, frame_words}
-use Rattle.micro_calls.specs.Calls.{Invokestatic, called, sum_with, fits, call}
+use Rattle.micro_calls.specs.Calls.{Invokestatic, called, fits, call}
+use Rattle.micro_calls.specs.Entry.{sum_with}
 use Rattle.micro_calls.specs.Returns.{Return, Ireturn, Lreturn, result}
 
 -- A method at place 12, of two local variables, three operands and one argument, whose class has its pool at 100; it has one word of code. The pool

@@ -4,24 +4,23 @@ use Rattle.std.specs.Prelude.{slice_get, slice_index, slice_range, IfSome, IsTru
 use Rattle.std.specs.List.{flat_map}
 use Rattle.std.proofs.lemmas.Bool.Decides.{nat_tests}
 use Rattle.core_words.specs.Packed.{words_for, words_of_bytes, PackedHasWords}
-use Rattle.method_cache.specs.Contents.{can_load}
-use Rattle.micro_flow.specs.declared.CostParams.{CostParams}
+use Rattle.method_cache.specs.Contents.{Cache, can_load}
 use Rattle.jop_core.specs.State as machine
 use Rattle.jop_core.specs.Operations.{code_words, code_place}
-use Rattle.micro_sketch.specs.Sketch.{Sketch, found_words}
+use Rattle.micro_sketch.specs.Sketch.{Sketch}
+use Rattle.bytecode_model.specs.Lists.{onto}
 use Rattle.bytecode_model.specs.State.{State}
 use Rattle.bytecode_model.specs.Program.{Program, Method, Body, Handler, body_of}
 use Rattle.bytecode_model.specs.WellFormed.{IsWellFormed}
 use Rattle.image_facts.specs.Within.{LieAt}
 use Rattle.image_facts.specs.Places.{Places, words_with}
 use Rattle.image_facts.specs.Says as says
-use Rattle.image_facts.specs.Says.{Says, SaysLinked, SaysMethod, IsCode, method_words, handler_words}
+use Rattle.image_facts.specs.Says.{Says, SaysAll, SaysLinked, SaysMethod, IsCode, method_words, handler_words}
 use Rattle.image_facts.specs.Laws.{FixedWordsLie, ListsGoOn, LieThrough, RangesAreRead}
 use Rattle.memory_timing.specs.Port.{padded}
 use Rattle.machine_stands.specs.StandsFor.{StandsFor, limits_of}
-use Rattle.machine_stands.specs.Seen.{seen}
 use Rattle.machine_stands.specs.Fixed.{FixedWordsAreRead}
-use Rattle.micro_calls.specs.Method.{max_locals, max_stack, argument_words, pool, IsMethod}
+use Rattle.micro_calls.specs.Coming.{IsRead, MethodsAreRead}
 
 pub record ReadLaws : Type 0 where
   pub words : FixedWordsAreRead
@@ -30,18 +29,6 @@ pub record ReadLaws : Type 0 where
   pub through : LieThrough
   pub ranges : RangesAreRead
   pub packed : PackedHasWords
-
--- what the microcode reads of a method at a place
-pub record IsRead (P : Program) (pl : Places) (x : Sketch) (k : Method) (b : Body) (m : ℕ) : Type 0 where
-  pub locals : max_locals x.memory m ≡ b.max_locals
-  pub stack : max_stack x.memory m ≡ b.max_stack
-  pub few_locals : b.max_locals < 2 ^ 16
-  pub few_operands : b.max_stack < 2 ^ 16
-  pub arguments : argument_words x.memory m ≡ says.argument_words k
-  pub pool_is : pool x.memory m ≡ pl.pool k.owner
-  pub is_method : IsMethod x m
-  pub code : found_words x m ≡ words_of_bytes b.code
-  pub code_count : code_words x.memory m ≡ length (words_of_bytes b.code)
 
 -- ---- numbers
 
@@ -90,11 +77,11 @@ both_tests a b e h = ap (λ (t : Bool). t && b) e ∙ h
 
 -- ---- the record
 
-pub method_read : ReadLaws → (P : Program) (pl : Places) (n size : ℕ) (m : machine.State) (s : State) (p : CostParams) (answers : List (Option ℕ)) (st : StandsFor P pl n size m s) → IsWellFormed P (limits_of P pl n size) s
+-- on a sketch with the memory and the cache of the machine
+read_here : ReadLaws → (P : Program) (pl : Places) (n size : ℕ) (m : machine.State) (s : State) (st : StandsFor P pl n size m s) (y : Sketch) → IsWellFormed P (limits_of P pl n size) s
     → Says P pl → SaysLinked P pl → (j : ℕ) (k : Method) (b : Body) → slice_get P.methods j ≡ Some k → k.body ≡ Some b → body_of P j ≡ Some b
-    → IsRead P pl (seen p answers m st.words st.below) k b (pl.method j)
-method_read laws P pl n size m s p answers st well says_all linked j k b method body body_is =
-    let x = seen p answers m st.words st.below in
+    → IsRead P pl (record y { memory = m.port.words; cache = m.cache }) k b (pl.method j)
+read_here laws P pl n size m s st y well says_all linked j k b method body body_is =
     let memory = m.port.words in
     let place = pl.method j in
     let said = linked.methods j k b method body in
@@ -131,3 +118,11 @@ method_read laws P pl n size m s p answers st well says_all linked j k b method 
           ∙ ap (λ (i : ℕ). slice_range memory (place + (4 + length hs)) (place + (4 + length hs) + i)) count ∙ laws.ranges memory (place + (4 + length hs)) cs there;
       code_count = count;
     }
+
+pub method_read : ReadLaws → MethodsAreRead
+method_read laws P pl n size m s st x j k b well says_all linked method body memory cache =
+    let body_is : body_of P j ≡ Some b = ap (λ o. onto o (λ (u : Method). u.body)) method ∙ body in
+    let said : SaysLinked P pl = subst (λ t. SaysAll t P pl) linked says_all.all in
+    let at : List ℕ → Cache → Sketch = λ words c. record x { memory = words; cache = c } in
+    let same : at m.port.words m.cache ≡ x = λ i. at (sym memory i) (sym cache i) in
+    subst (λ (y : Sketch). IsRead P pl y k b (pl.method j)) same (read_here laws P pl n size m s st x well says_all said j k b method body body_is)

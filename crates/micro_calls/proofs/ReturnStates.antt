@@ -43,7 +43,7 @@ use Rattle.micro_calls.specs.Method as record_at
 use Rattle.micro_calls.specs.Method.{with_method, looked_up, as_it_stands}
 use Rattle.micro_calls.specs.Returns as returns
 use Rattle.micro_calls.specs.Returns.{ReturnOp, Return, Ireturn, Areturn, Lreturn, return_code, result, Saved, saved_words, CanReturn}
-use Rattle.micro_calls.proofs.MethodRead.{IsRead, method_read}
+use Rattle.micro_calls.specs.Coming.{IsRead}
 use Rattle.micro_calls.proofs.Arguments.{some_same, onto_defined}
 use Rattle.micro_calls.proofs.Scenes.{StateLaws, size_small, register, Counted, counted, finds}
 use Rattle.micro_calls.proofs.ReturnSteps.{Leaves, leaves, form_read, is_return, returned, leaving}
@@ -88,7 +88,7 @@ module _ (laws : StateLaws) (P : Program) (pl : Places) (n size : ℕ) (m : mach
   registers k = register P pl n size m s h.stands (params m 0 0) x shows k
 
   here : Counted P pl n size m s h.stands
-  here = counted laws P pl n size m s h.stands h.well_formed
+  here = counted laws.room P pl n size m s h.stands h.well_formed
 
   at : IsAtRow P pl n size m answer s s' h.stands instr (rows.Return (returned op))
   at =
@@ -114,7 +114,7 @@ module _ (laws : StateLaws) (P : Program) (pl : Places) (n size : ℕ) (m : mach
       record {
         method = k.0;
         is_method = k.1;
-        read = method_read laws.read P pl n size m s (params m 0 0) (None ∷ []) h.stands h.well_formed h.says (subst (λ t. SaysAll t P pl) linked h.says.all) f.method k.0 b k.1 k.2 body;
+        read = laws.methods P pl n size m s h.stands x f.method k.0 b h.well_formed h.says linked k.1 k.2 refl refl;
       }
 
   -- ---- back in the caller

@@ -13,7 +13,7 @@ use Rattle.micro_calls.specs.Method.{max_locals, frame_words}
 use Rattle.micro_calls.specs.Returns as returns
 use Rattle.micro_calls.specs.Returns.{ReturnOp, Return, Ireturn, Areturn, Lreturn, Saved, saved_words, CanReturn}
 use Rattle.micro_calls.proofs.Parts.{PartLaws, Low, computed, followed_by, Last, last_two}
-use Rattle.micro_calls.proofs.Calling.{less_mod}
+use Rattle.micro_calls.proofs.Invoking.{less_mod}
 use Rattle.micro_calls.proofs.CallRows.{begun}
 use Rattle.micro_calls.proofs.ReturnRows.{first_word, second_word, further_words, first_scratch, second_scratch, returning, limits_of, raw_frames, raw_top, left_over, low_left, at_cut, above_boot, first_words, first_guesses, leaves, at_saved, low_taken, at_second_cut, takes_over, at_caller, last_words, resuming, resumes}
 

@@ -30,27 +30,35 @@ use Rattle.machine_stands.specs.Counted.{FramesHaveRoom, FiveAreSaved}
 use Rattle.machine_stands.specs.Again.{registers_of}
 use Rattle.micro_calls.specs.Method.{looked_up}
 use Rattle.micro_calls.specs.Laws.{CallsRun, CallsRaise, ReturnsRun, ReturnsEnd}
-use Rattle.micro_calls.proofs.MethodRead.{ReadLaws}
+use Rattle.micro_calls.specs.Coming.{MethodsAreRead, CallsCome}
+
+-- the laws that calls of every kind rest on
+pub record CallLaws : Type 0 where
+  pub shows : SketchesShow
+  pub switches : SwitchesCome
+  pub raises : RaisesCome
+  pub count : OperandsHaveWords
+  pub passed : ArgumentsArePassed
+  pub list : RaiseListIsRead
+  pub methods : MethodsAreRead
+  pub room : FramesHaveRoom
 
 pub record StateLaws : Type 0 where
   pub plain : PlainOnesAreRead
   pub shows : SketchesShow
   pub switches : SwitchesCome
-  pub raises : RaisesCome
   pub ends : EndsCome
-  pub count : OperandsHaveWords
   pub one : OneWordIsOnTop
   pub two : TwoWordsAreOnTop
   pub pushed : OneWordIsPushed
-  pub passed : ArgumentsArePassed
-  pub list : RaiseListIsRead
   pub pools : PoolsAreRead
   pub within : (code : List ℕ) (pc : ℕ) → WholeIsWithin code pc
-  pub read : ReadLaws
+  pub methods : MethodsAreRead
   pub room : FramesHaveRoom
   pub saved : FiveAreSaved
   pub calls : CallsRun
   pub overflows : CallsRaise
+  pub come : CallsCome
   pub returns : ReturnsRun
   pub last : ReturnsEnd
 
@@ -80,12 +88,12 @@ pub record Counted (P : Program) (pl : Places) (n size : ℕ) (m : machine.State
 pub frame_is : (P : Program) (f : Frame) (b : Body) → body_of P f.method ≡ Some b → frame_words P f ≡ body_words b
 frame_is P f b e = ap (λ o. elim o [ None ↦ 0 | Some u ↦ body_words u ]) e
 
-pub counted : StateLaws → (P : Program) (pl : Places) (n size : ℕ) (m : machine.State) (s : State) (st : StandsFor P pl n size m s) → IsWellFormed P (limits_of P pl n size) s → Counted P pl n size m s st
-counted laws P pl n size m s st well =
+pub counted : FramesHaveRoom → (P : Program) (pl : Places) (n size : ℕ) (m : machine.State) (s : State) (st : StandsFor P pl n size m s) → IsWellFormed P (limits_of P pl n size) s → Counted P pl n size m s st
+counted room P pl n size m s st well =
     let frames = subst (λ (fs : List Frame). formed.AreFrames P (length s.objects) fs) st.frames well.frames in
     let top = frame_is P st.top st.body st.is_body in
     record {
-      below = laws.room P pl (object_place P pl s.objects) (length s.objects) st.callers st.below st.are_frames.1 frames.1;
+      below = room P pl (object_place P pl s.objects) (length s.objects) st.callers st.below st.are_frames.1 frames.1;
       locals = (holds_at (body_of P st.top.method) st.body (formed.IsFrame P (length s.objects) st.top) st.is_body frames.0).locals;
       top = top;
       sum = ap (frames_words P) st.frames ∙ sum_by-cons (frame_words P) st.top st.callers ∙ ap (λ (k : ℕ). k + frames_words P st.callers) top;

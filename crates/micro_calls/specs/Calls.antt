@@ -1,13 +1,14 @@
 -- What the opcodes that call make of the words of the stack (JVM Specification SE 8, 2.6 and 6.5).
-use Rattle.std.specs.Prelude.{ℕ, ◌≡◌, ◌+◌, ◌-◌, ◌^◌, ◌<◌, ◌≤◌, Bool, true, nat_le, List, [], ◌∷◌, ◌++◌, length, reverse, drop, slice_index}
+use Rattle.std.specs.Prelude.{ℕ, ◌≡◌, ◌+◌, ◌^◌, ◌<◌, ◌≤◌, Bool, true, List, ◌++◌, length, slice_index}
 use Rattle.micro_flow.specs.declared.CostParams.{CostParams}
-use Rattle.jop_core.specs.declared.places.TheConstants.{POOL, METHOD, FRAME_SUM, FRAME_LIMIT, RAISE_LIST, STACK}
+use Rattle.jop_core.specs.declared.places.TheConstants.{RAISE_LIST, STACK}
 use Rattle.micro_sketch.specs.Sketch.{Sketch}
 use Rattle.micro_sketch.specs.Stands.{Env}
 use Rattle.micro_sketch.specs.Row.{words_of}
 use Rattle.micro_sketch.specs.Rows.{Switch, Raising, RunsSwitch}
 use Rattle.micro_plain.specs.Operand.{past, two_byte_operand, pool_word}
-use Rattle.micro_calls.specs.Method.{max_locals, argument_words, pool, frame_words, IsMethod, with_method, looked_up, as_it_stands}
+use Rattle.micro_calls.specs.Method.{max_locals, argument_words, IsMethod}
+use Rattle.micro_calls.specs.Entry.{sum_with, fits_at, enter, overflow_at}
 
 pub data CallOp : Type 0 where
   Invokestatic : CallOp
@@ -19,13 +20,9 @@ call_code Invokestatic = 184
 abbrev pub called : CallOp → Sketch → ℕ
 called Invokestatic x = pool_word x (two_byte_operand x)
 
--- the words of all frames with that of the method
-abbrev pub sum_with : Sketch → (method : ℕ) → ℕ
-sum_with x m = slice_index x.low FRAME_SUM + frame_words x.memory m
-
 -- the frames may take as many words
 abbrev pub fits : CallOp → Sketch → Bool
-fits op x = nat_le (sum_with x (called op x)) (slice_index x.low FRAME_LIMIT)
+fits op x = fits_at x (called op x)
 
 -- What a call needs, on a machine with n on-chip words. Of the words on top, the argument words are those that the method takes.
 pub record CanCall (n : ℕ) (op : CallOp) (x : Sketch) : Type 0 where
@@ -41,19 +38,9 @@ pub record CanCall (n : ℕ) (op : CallOp) (x : Sketch) : Type 0 where
   pub sum : sum_with x (called op x) < 2 ^ 32
   pub raise_list : slice_index x.low RAISE_LIST + 8 < 2 ^ 32
 
--- The new frame is above the words that aren't taken: the arguments and further words are its local variables, and it saves what the caller goes
--- on with. The method begins at its first byte.
+-- the frame that is made, behind the two bytes of the operand
 abbrev pub call : (op : CallOp) (x : Sketch) (arguments others more : List ℕ) → Switch
-call op x arguments others more =
-    let m = called op x in
-    let below = length x.deep + length others in
-    looked_up x m (record (as_it_stands x) {
-      words = slice_index x.low METHOD ∷ slice_index x.low POOL ∷ x.vp ∷ (past 2 x).jpc ∷ (STACK + below - 3) ∷ [];
-      deep = x.deep ++ (reverse others ++ (reverse arguments ++ more));
-      low = with_method (pool x.memory m) m (sum_with x m) (drop 24 x.low);
-      vp = STACK + below;
-      jpc = 0;
-    })
+call op x arguments others more = enter x (called op x) (past 2 x).jpc arguments others more
 
 -- The machine comes to the first instruction of the method so, where the further words are as many as the local variables ask for.
 pub record RunsCall (n : ℕ) (p : CostParams) (op : CallOp) (x : Sketch) (e : Env) (c : CanCall n op x) : Type 0 where
@@ -61,6 +48,6 @@ pub record RunsCall (n : ℕ) (p : CostParams) (op : CallOp) (x : Sketch) (e : E
   pub count : length c.arguments + length more ≡ max_locals x.memory (called op x)
   pub runs : RunsSwitch n p (call_code op) (call op x c.arguments c.others more) x e
 
--- StackOverflowError has the last place of the raise list; the words of the stack stay
+-- the words of the stack stay
 abbrev pub overflow : Sketch → Raising
-overflow x = record { words = words_of x; jpc = (past 2 x).jpc; object = slice_index x.memory (slice_index x.low RAISE_LIST + 8) }
+overflow x = overflow_at x (past 2 x).jpc

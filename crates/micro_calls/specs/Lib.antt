@@ -1,6 +1,11 @@
+pub mod Parts
 pub mod Method
+pub mod Entry
 pub mod Calls
+pub mod Tables
 pub mod Returns
 pub mod Stepped
 pub mod Laws
 pub mod Family
+pub mod Coming
+pub mod Raise
