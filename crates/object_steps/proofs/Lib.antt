@@ -1,0 +1,14 @@
+mod Raising
+mod TypeRows
+mod Types
+mod Objects
+mod Scenes
+mod TypeTests
+mod Monitors
+mod Made
+mod Staying
+mod MakingRows
+mod Making
+mod Allocation
+mod Arrays
+mod Families
