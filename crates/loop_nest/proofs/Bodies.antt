@@ -1,5 +1,5 @@
 -- The headers, and the marks of a loop's members.
-use Rattle.std.proofs.Common.{◌≡◌, ℕ, ◌+◌, ◌<◌, ◌↔◌, Bool, true, false, Option, Some, List, [], ◌∷◌, ◌++◌, length, get_or, set, All, Contains, refl, sym, ap, ◌∙◌, subst, inl, inr, arith}
+use Rattle.std.proofs.Common.{◌≡◌, ℕ, ◌+◌, ◌<◌, ◌↔◌, Bool, true, false, Option, Some, List, [], ◌∷◌, ◌++◌, length, get_or, set, All, Contains, sym, ap, ◌∙◌, subst, inl, inr, arith}
 use Rattle.std.specs.List.Sorted.{IsStrictlyIncreasing}
 use Rattle.std.proofs.lemmas.Bool.{cases_lt, cases_eq}
 use Rattle.std.proofs.lemmas.List.{map-append, length-map, get_or_append_left, get_or_push, length_push, get_or-set_same, get_or-set_other, length-set, get_or_default, get_or-map, map-set, set-get_or}

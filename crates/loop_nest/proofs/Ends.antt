@@ -60,14 +60,14 @@ within_end {g} {f} mf none (merged {c} {d} x p m can is) u =
     ]
 
 -- the edge by which a walk last comes to the class of its end from outside
-record Entry (g : Digraph) (c : ℕ → ℕ) (a : ℕ) : Type 0 where
-  source : ℕ
-  target : ℕ
-  edge : Edge g source target
-  outside : c source ≢ c target
-  inside : c target ≡ c a
+pub record Entry (g : Digraph) (c : ℕ → ℕ) (a : ℕ) : Type 0 where
+  pub source : ℕ
+  pub target : ℕ
+  pub edge : Edge g source target
+  pub outside : c source ≢ c target
+  pub inside : c target ≡ c a
 
-entry_on : {g : Digraph} (c : ℕ → ℕ) {z a : ℕ} {ns : List ℕ} → Walk g z a ns → c z ≢ c a → Entry g c a
+pub entry_on : {g : Digraph} (c : ℕ → ℕ) {z a : ℕ} {ns : List ℕ} → Walk g z a ns → c z ≢ c a → Entry g c a
 entry_on c (stay {u}) ne = absurd (ne refl)
 entry_on c (along {u} {v} {w} {ns} e t) ne =
     elim (cases_eq (c v) (c w)) [
@@ -97,7 +97,7 @@ same_names {g} {c} {d} reached mc none_c md none_d =
       | inr other ↦ ne_eqb (c a) a other ∙ sym (ne_eqb (d a) a (λ e. other (same_name md none_d mc none_c a r e)))
     ])
 
-unmerged : (g : Digraph) → Merged g (whole g)
+pub unmerged : (g : Digraph) → Merged g (whole g)
 unmerged g = record { class = λ u. u; merged = apart (λ u. refl); stands = stands_whole g (λ u. u) (λ u. refl) }
 
 pub reduction_has_one_end : ReductionHasOneEnd

@@ -22,3 +22,6 @@ mod Scanning
 mod Pointing
 mod Rows
 mod Outward
+mod SimpleWalks
+mod Parts
+mod PartLoops

@@ -1,8 +1,9 @@
 -- What holds of every graph, of its reduction and of its loops.
 use Rattle.std.specs.Prelude.{◌≡◌, ◌≢◌, ℕ, ◌<◌, ◌⊎◌, List, ◌∷◌, Contains}
 use Rattle.loop_nest.specs.Digraph.{Digraph, Edge, IsDigraph}
-use Rattle.loop_nest.specs.Walks.{Walk, Dominates, LeadsAround, IsReachable, IsBackEdge, IsMember, IsEntering, Takes}
+use Rattle.loop_nest.specs.Walks.{Walk, Dominates, LeadsAround, IsReachable, IsBackEdge, IsHeader, IsMember, IsEntering, Takes}
 use Rattle.loop_nest.specs.Reduction.{Leaves, IsReducible}
+use Rattle.loop_nest.specs.Parts.{IsReachedPart}
 
 -- where every node is reached, the reduction leaves the same nodes in whatever order its steps are done
 abbrev pub ReductionHasOneEnd : Type 0
@@ -49,3 +50,21 @@ WalksLeadOn = (g : Digraph) (u v x : ℕ) (ns : List ℕ) → Walk g u v ns → 
 -- a walk that ends elsewhere than where it starts comes to its end first by an edge, from a node to which it leads without its end
 abbrev pub WalksComeByEdges : Type 0
 WalksComeByEdges = (g : Digraph) (u w : ℕ) (ns : List ℕ) → Walk g u w ns → w ≢ u → (q : ℕ) × Edge g q w × LeadsAround g w u q
+
+-- a part of a reducible graph is reducible, where its entry reaches all of it
+abbrev pub PartsAreReducible : Type 0
+PartsAreReducible = (whole part : Digraph) (node : ℕ → ℕ) → IsDigraph whole → IsReducible whole → IsDigraph part → IsReachedPart whole part node → IsReducible part
+
+-- its back edges are back edges of the whole
+abbrev pub PartsHaveBackEdges : Type 0
+PartsHaveBackEdges =
+    (whole part : Digraph) (node : ℕ → ℕ) → IsDigraph whole → IsReducible whole → IsDigraph part → IsReachedPart whole part node → (u h : ℕ) → IsBackEdge part u h → IsBackEdge whole (node u) (node h)
+
+-- its headers are headers of the whole
+abbrev pub PartsHaveHeaders : Type 0
+PartsHaveHeaders = (whole part : Digraph) (node : ℕ → ℕ) → IsDigraph whole → IsReducible whole → IsDigraph part → IsReachedPart whole part node → (h : ℕ) → IsHeader part h → IsHeader whole (node h)
+
+-- and the members of its loops are members of the whole's
+abbrev pub PartsHaveMembers : Type 0
+PartsHaveMembers =
+    (whole part : Digraph) (node : ℕ → ℕ) → IsDigraph whole → IsReducible whole → IsDigraph part → IsReachedPart whole part node → (h x : ℕ) → IsMember part h x → IsMember whole (node h) (node x)

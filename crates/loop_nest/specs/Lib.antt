@@ -10,5 +10,6 @@ pub mod Search
 pub mod Faults
 pub mod Chains
 pub mod Pointers
+pub mod Parts
 pub mod Laws
 pub mod Order

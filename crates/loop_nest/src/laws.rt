@@ -1,21 +1,17 @@
 //! What holds of all graphs, of their reduction and of their loops. Each function does nothing: its
 //! contract is the law.
 
-ghost use Rattle.loop_nest.specs.Laws.{HeaderDominatesMembers, LoopIsEnteredAtHeader, EdgesToHeaderAreBackEdges, LoopsAreNested, CyclesTakeBackEdges, ReductionHasOneEnd, ReducibleIsReached, EntryDominatesAll, DominanceIsAntisymmetric, WalksLeadOn, WalksComeByEdges};
+ghost use Rattle.loop_nest.specs.Laws.{HeaderDominatesMembers, LoopIsEnteredAtHeader, EdgesToHeaderAreBackEdges, LoopsAreNested, CyclesTakeBackEdges, ReductionHasOneEnd, ReducibleIsReached, EntryDominatesAll, DominanceIsAntisymmetric, WalksLeadOn, WalksComeByEdges, PartsAreReducible, PartsHaveBackEdges, PartsHaveHeaders, PartsHaveMembers};
 
 /// A header dominates the members of its loop.
 pub fn headers_dominate_members()
     ensures { HeaderDominatesMembers }
 {}
 
-/// A loop is entered at its header alone.
+/// A loop is entered at its header alone, and within it each edge to its header is a back edge.
 pub fn loops_are_entered_at_headers()
-    ensures { LoopIsEnteredAtHeader }
-{}
-
-/// Within a loop each edge to its header is a back edge.
-pub fn edges_to_headers_are_back_edges()
-    ensures { EdgesToHeaderAreBackEdges }
+    ensures entered { LoopIsEnteredAtHeader }
+    ensures back { EdgesToHeaderAreBackEdges }
 {}
 
 /// Two loops with a common member are nested.
@@ -48,12 +44,18 @@ pub fn dominance_is_antisymmetric()
     ensures { DominanceIsAntisymmetric }
 {}
 
-/// A walk leads on from each node that it visits.
+/// A walk leads on from each node that it visits, and it comes to its end first by an edge, from a
+/// node to which it leads without its end.
 pub fn walks_lead_on()
-    ensures { WalksLeadOn }
+    ensures leads_on { WalksLeadOn }
+    ensures comes_by { WalksComeByEdges }
 {}
 
-/// A walk comes to its end first by an edge, from a node to which it leads without its end.
-pub fn walks_come_by_edges()
-    ensures { WalksComeByEdges }
+/// What the entry reaches of a part of a reducible graph is reducible; its back edges and headers are
+/// those of the whole, and the members of its loops are members of the whole's.
+pub fn parts_are_reducible()
+    ensures reducible { PartsAreReducible }
+    ensures back_edges { PartsHaveBackEdges }
+    ensures headers { PartsHaveHeaders }
+    ensures members { PartsHaveMembers }
 {}

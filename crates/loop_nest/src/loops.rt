@@ -47,6 +47,18 @@ impl Loop {
         self.members.as_slice()
     }
 
+    /// The nodes of the loop alone, rising.
+    pub fn into_members(self) -> Vec<u32>
+        ensures { result.items ≡ self.members }
+    {
+        let Loop {
+            header: _,
+            members,
+            outer: _,
+        } = self;
+        members
+    }
+
     /// Sets the number of the next outer loop.
     pub(crate) fn set_outer(&mut self, outer: Option<u32>)
         ensures { self.new ≡ record self.old { outer = outer } }
@@ -98,6 +110,14 @@ impl Nest {
         ensures { result.now ≡ self.now }
     {
         self.loops.as_slice()
+    }
+
+    /// The loops alone, headers rising.
+    pub fn into_loops(self) -> Vec<Loop>
+        ensures { result.items ≡ self }
+    {
+        let Nest { loops } = self;
+        loops
     }
 }
 

@@ -1,11 +1,11 @@
 -- The nodes from which an order starts, and edges that are counted off one by one.
 use Rattle.std.proofs.Common.{◌≡◌, ◌≢◌, ℕ, ◌+◌, ◌<◌, ◌≤◌, Bool, cond, eqb, List, [], ◌∷◌, ◌++◌, length, get_or, set, take, count_by, Contains, refl, sym, ap, ◌∙◌, subst, inl, inr, arith, append_assoc}
 use Rattle.std.proofs.lemmas.Bool.{cases_eq, eq-eqb, ne_eqb}
-use Rattle.std.proofs.lemmas.List.{length-set, get_or-set_same, get_or-set_other, append-nil}
+use Rattle.std.proofs.lemmas.List.{length-set, get_or-set_same, get_or-set_other}
 use Rattle.std.proofs.lemmas.List.Sums.{sum_by_push, sum_by_more_le}
 use Rattle.std.proofs.lemmas.List.Elements.{Contains-append_left, Contains-push, Contains-push_cases}
 use Rattle.path_solver.specs.Reaching.{IsFlagged}
-use Rattle.path_solver.specs.Ordering.{AreApart, AreStarts, AreCountedDown}
+use Rattle.path_solver.specs.Ordering.{AreStarts, AreCountedDown}
 use Rattle.path_solver.proofs.Elements.{nil_contains}
 use Rattle.path_solver.proofs.Apart.{apart_push, apart_none}
 

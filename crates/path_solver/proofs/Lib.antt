@@ -39,3 +39,6 @@ mod Solutions
 mod Listing
 mod AddingUp
 mod Costing
+mod SimpleParts
+mod BoundedReach
+mod Marking

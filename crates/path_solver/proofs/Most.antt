@@ -1,9 +1,8 @@
 -- The greatest of the numbers that some nodes have.
-use Rattle.std.proofs.Common.{◌≡◌, ℕ, max, List, [], ◌∷◌, ◌++◌, Contains, refl, ap, ◌∙◌, inl, inr, arith}
+use Rattle.std.proofs.Common.{◌≡◌, ℕ, max, List, [], ◌∷◌, ◌++◌, Contains, ap, ◌∙◌, inl, inr, arith}
 use Rattle.std.proofs.lemmas.Bool.{cases_lt}
 use Rattle.std.proofs.lemmas.List.Elements.{Contains-append_left, Contains-push, Contains-push_cases}
 use Rattle.path_solver.specs.Distances.{IsMost}
-use Rattle.path_solver.proofs.Elements.{nil_contains}
 
 pub most_push : (f : ℕ → ℕ) (us : List ℕ) (u m n : ℕ) → n ≡ max (f u) m → IsMost f us m → IsMost f (us ++ u ∷ []) n
 most_push f us u m n is h = record {

@@ -10,3 +10,5 @@ pub mod Totals
 pub mod LoopCosts
 pub mod Potentials
 pub mod Problem
+pub mod Laws
+pub mod Regions

@@ -1,21 +1,24 @@
 //! Greatest walks through a graph whose loops are bounded, with sections that show them.
 #![tactic(auto)]
 
-ghost use Rattle.std.specs.Prelude.{◌≡◌, ℕ, ◌<◌, List, Option, Some, Ok, length, map, All, IfOk, IfErr, IfNone, IfSome};
+ghost use Rattle.std.specs.Prelude.{◌≡◌, ℕ, ◌<◌, List, Option, Some, Ok, length, map, All, IfOk, IfErr, IfNone, IfSome, OnSome};
 ghost use Rattle.loop_nest.specs.Reduction.{IsReducible};
 ghost use Rattle.loop_nest.specs.Nest.{IsNest};
 ghost use Rattle.section_check.specs.Bounded.{IsBoundedWalk, IsGreatest};
+ghost use Rattle.path_solver.specs.Reaching.{ReachesExit};
 ghost use Rattle.path_solver.specs.Longest.{bounded_loops, AreLoopsOf, IsTooLarge, HasCause};
 ghost use Rattle.section_check.specs.Section.{IsInForm};
 ghost use Rattle.section_check.specs.Conditions.{Answers};
 
 mod certifying;
 mod distances;
+pub mod laws;
 mod loop_costs;
 mod measures;
 mod nest_laws;
 mod ordering;
 mod reaching;
+pub mod regions;
 pub mod solved;
 mod topology;
 mod totals;
@@ -34,10 +37,11 @@ use std::alloc::Global;
 use totals::{exceeds, iterations_exceed};
 
 /// The greatest walk from node 0 to an exit that keeps all bounds, with a section that shows that none
-/// costs more, or `None` where there is no such walk. `costs` has the cost of each node in cycles,
-/// `bounds` the bound of each loop, and `loads` the cycles that an entry of it loads, 0 where it loads
-/// nothing. The section has the loops of the nest, in its order, and marks none as a region. The time
-/// is near linear in the edges and the members of the loops.
+/// costs more, or `None` exactly where no exit is reached from node 0: then there is no such walk.
+/// `costs` has the cost of each node in cycles, `bounds` the bound of each loop, and `loads` the cycles
+/// that an entry of it loads, 0 where it loads nothing. The section has the loops of the nest, in its
+/// order, and marks none as a region: `longest_with_regions` does. The time is near linear in
+/// the edges and the members of the loops.
 ///
 /// # Errors
 ///
@@ -58,6 +62,8 @@ pub fn longest(
     requires loads { length loads.now ≡ length nest.now }
     ensures none { let loops = bounded_loops nest.now bounds.now loads.now in
         IfOk result (λ o. IfNone o ((ns : List ℕ) → ¬ IsBoundedWalk g.now loops ns)) }
+    ensures unreached { IfOk result (λ o. IfNone o (¬ ReachesExit g.now 0)) }
+    ensures reached { IfOk result (λ o. OnSome o (ReachesExit g.now 0)) }
     ensures greatest { let loops = bounded_loops nest.now bounds.now loads.now in
         IfOk result (λ o. IfSome o (λ s. IsGreatest g.now costs.now loops s.value)) }
     ensures loops { IfOk result (λ o. IfSome o (λ s. AreLoopsOf nest.now s.section.loops)) }

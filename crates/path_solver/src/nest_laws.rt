@@ -2,9 +2,8 @@
 ghost use Rattle.path_solver.specs.Problem.{AreNestLaws};
 
 use loop_nest::laws::{
-    dominance_is_antisymmetric, edges_to_headers_are_back_edges, entry_dominates_all,
-    headers_dominate_members, loops_are_entered_at_headers, loops_are_nested, reducible_is_reached,
-    walks_come_by_edges, walks_lead_on,
+    dominance_is_antisymmetric, entry_dominates_all, headers_dominate_members,
+    loops_are_entered_at_headers, loops_are_nested, reducible_is_reached, walks_lead_on,
 };
 use section_check::laws::{accepted_bound_iterations, accepted_bound_walks};
 
@@ -15,12 +14,10 @@ pub fn nest_laws()
     reducible_is_reached();
     headers_dominate_members();
     loops_are_entered_at_headers();
-    edges_to_headers_are_back_edges();
     loops_are_nested();
     entry_dominates_all();
     dominance_is_antisymmetric();
     walks_lead_on();
-    walks_come_by_edges();
     accepted_bound_walks();
     accepted_bound_iterations();
 }

@@ -20,7 +20,8 @@ impl Model for Solved {
 }
 
 impl Solved {
-    ghost use Rattle.std.specs.Prelude.{◌≡◌};
+    ghost use Rattle.std.specs.Prelude.{◌≡◌, length};
+    ghost use Rattle.section_check.specs.Regions.{with_regions};
 
     /// A value with a section.
     pub(crate) fn new(value: u64, section: Section) -> Self
@@ -41,6 +42,18 @@ impl Solved {
         ensures { result.now ≡ self.now.section }
     {
         &self.section
+    }
+
+    /// The same, with the section's loops marked as regions of which it is said that they are.
+    pub fn with_regions(self, regions: &[bool]) -> Solved
+        requires { length regions.now ≡ length self.section.loops }
+        ensures { result ≡ record self { section = with_regions self.section regions.now } }
+    {
+        let Solved { value, section } = self;
+        Solved {
+            value,
+            section: section.with_regions(regions),
+        }
     }
 
     /// The section alone.

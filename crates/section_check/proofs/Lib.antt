@@ -12,3 +12,6 @@ mod Deciding
 mod Sharing
 mod SimpleWalks
 mod NoExit
+mod Marking
+mod Regions
+mod Answering

@@ -4,4 +4,6 @@ pub mod Placing
 pub mod Heading
 pub mod Least
 pub mod Conditions
+pub mod Answering
+pub mod Regions
 pub mod Laws

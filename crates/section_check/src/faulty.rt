@@ -68,7 +68,7 @@ fn crosses(a: &CertLoop, b: &CertLoop) -> bool
 
 /// Whether another loop has the header of loop `i`. As headers don't fall, only those next to it need
 /// to be looked at.
-fn shares_header(loops: &[CertLoop], i: usize) -> bool
+pub fn shares_header(loops: &[CertLoop], i: usize) -> bool
     requires headers { HeadersRise loops.now }
     requires within { i < length loops.now }
     ensures { (l : CertifiedLoop) → IsAt loops.now i l → IsTrue result ↔ SharesHeader loops.now i l }
@@ -96,7 +96,7 @@ fn crosses_another(loops: &[CertLoop], i: usize) -> bool
 }
 
 /// Whether loop `k` is another loop than loop `i`, and a region in which that one lies.
-fn is_region_around(loops: &[CertLoop], k: usize, i: usize) -> bool
+pub fn is_region_around(loops: &[CertLoop], k: usize, i: usize) -> bool
     requires members { MembersRise loops.now }
     requires outer { k < length loops.now }
     requires inner { i < length loops.now }

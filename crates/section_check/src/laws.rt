@@ -1,6 +1,8 @@
 //! What accepted sections show. Each function does nothing: its contract is the law.
 
 ghost use Rattle.section_check.specs.Laws.{OwnBoundsSuffice, NoValueNoExit, AcceptedBoundWalks, AcceptedBoundIterations};
+ghost use Rattle.section_check.specs.Answering.{AnswersAreOne};
+ghost use Rattle.section_check.specs.Regions.{MarkedStaysAccepted};
 
 use loop_nest::laws::dominance_is_antisymmetric;
 
@@ -27,3 +29,14 @@ pub fn accepted_bound_iterations()
     // The law is for the proof.
     dominance_is_antisymmetric();
 }
+
+/// An accepted section stays accepted, with its value, where loops with loads are marked as regions of
+/// which none lies in another.
+pub fn marked_stays_accepted()
+    ensures { MarkedStaysAccepted }
+{}
+
+/// A section has one answer, so that all checks that answer rightly answer the same.
+pub fn answers_are_one()
+    ensures { AnswersAreOne }
+{}

@@ -2,10 +2,9 @@
 ghost use Rattle.std.specs.Prelude.{◌≡◌, ◌↔◌, IsTrue};
 ghost use Rattle.std.specs.List.Sorted.{IsStrictlyIncreasing};
 ghost use Rattle.section_check.specs.Section.{listed, MembersRise, IsInForm};
-ghost use Rattle.section_check.specs.Placing.{EntersAside, HoldsEntry, ExceedsLimit, IsMisplaced};
+ghost use Rattle.section_check.specs.Placing.{EntersAside, HeadsFaulty, HoldsEntry, ExceedsLimit, IsMisplaced};
 ghost use Rattle.section_check.specs.Least.{IsLeast, lesser_of, IsBeyond, IsMemberBeyond, LeadsAside, IsWrongEntry};
 
-use super::faulty::faulty_header;
 use super::lookups::has;
 use super::prices::signed_value;
 use super::section::{CertLoop, Section};
@@ -49,7 +48,7 @@ fn first_listed_beyond(nodes: &[(u32, i128)], n: u32) -> Option<u32>
 }
 
 /// The least member of a loop that isn't below `n`.
-fn first_member_beyond(loops: &[CertLoop], n: u32) -> Option<u32>
+pub fn first_member_beyond(loops: &[CertLoop], n: u32) -> Option<u32>
     requires { MembersRise loops.now }
     ensures { IsLeast (IsMemberBeyond n loops.now) result }
 {
@@ -75,7 +74,7 @@ fn enters_aside(loops: &[CertLoop], u: u32, v: u32) -> bool
 }
 
 /// The least node from which an edge enters a loop elsewhere than at its header.
-fn leads_aside(g: &Graph, loops: &[CertLoop]) -> Option<u32>
+pub fn leads_aside(g: &Graph, loops: &[CertLoop]) -> Option<u32>
     requires { MembersRise loops.now }
     ensures { IsLeast (LeadsAside g.now loops.now) result }
 {
@@ -126,15 +125,25 @@ fn wrong_entry(s: &Section, bounds: &[u32], loads: &[Option<u64>]) -> Option<u32
     }
 }
 
-/// The least node that is misplaced.
-pub fn misplaced(g: &Graph, s: &Section, bounds: &[u32], loads: &[Option<u64>]) -> Option<u32>
-    requires { IsInForm s.now bounds.now loads.now }
+/// The least node that is misplaced, where the least header of a faulty loop and the least node from
+/// which an edge enters a loop aside are known.
+pub fn misplaced(
+    g: &Graph,
+    s: &Section,
+    bounds: &[u32],
+    loads: &[Option<u64>],
+    faulty: Option<u32>,
+    aside: Option<u32>,
+) -> Option<u32>
+    requires form { IsInForm s.now bounds.now loads.now }
+    requires faulty { IsLeast (HeadsFaulty s.now.loops loads.now) faulty }
+    requires aside { IsLeast (LeadsAside g.now s.now.loops) aside }
     ensures { IsLeast (IsMisplaced g.now s.now bounds.now loads.now) result }
 {
     let no_node = lesser(
         first_listed_beyond(s.nodes(), g.nodes()),
         first_member_beyond(s.loops(), g.nodes()),
     );
-    let faulty = lesser(faulty_header(s.loops(), loads), leads_aside(g, s.loops()));
-    lesser(lesser(no_node, faulty), wrong_entry(s, bounds, loads))
+    let loops = lesser(faulty, aside);
+    lesser(lesser(no_node, loops), wrong_entry(s, bounds, loads))
 }

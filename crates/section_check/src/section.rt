@@ -1,4 +1,6 @@
 //! Sections of a certificate.
+ghost use Rattle.std.specs.Prelude.{◌≡◌, length};
+ghost use Rattle.section_check.specs.Regions.{marked};
 
 use std::marker::Model;
 
@@ -57,6 +59,26 @@ impl CertLoop {
         self.members.as_slice()
     }
 
+    /// The nodes of the loop alone, rising.
+    pub fn into_members(self) -> Vec<u32>
+        ensures { result.items ≡ self.members }
+    {
+        let CertLoop {
+            header: _,
+            iteration_cost: _,
+            members,
+            region: _,
+        } = self;
+        members
+    }
+
+    /// Says whether an entry pays the loads of a region.
+    fn set_region(&mut self, region: bool)
+        ensures { self.new ≡ record self.old { region = region } }
+    {
+        self.region = region;
+    }
+
     /// Whether an entry pays the loads of a region.
     pub fn region(&self) -> bool
         ensures { result ≡ self.now.region }
@@ -81,7 +103,8 @@ impl Model for Section {
 }
 
 impl Section {
-    ghost use Rattle.std.specs.Prelude.{◌≡◌};
+    ghost use Rattle.std.specs.Prelude.{◌≡◌, length};
+    ghost use Rattle.section_check.specs.Regions.{with_regions};
 
     /// The section with these nodes and their potentials, and these loops.
     pub fn new(nodes: Vec<(u32, i128)>, loops: Vec<CertLoop>) -> Self
@@ -111,6 +134,26 @@ impl Section {
     {
         let Section { nodes, loops } = self;
         (nodes, loops)
+    }
+
+    /// The same section, with the loops marked as regions of which it is said that they are.
+    pub fn with_regions(self, regions: &[bool]) -> Section
+        requires { length regions.now ≡ length self.loops }
+        ensures { result ≡ with_regions self regions.now }
+    {
+        let Section { nodes, mut loops } = self;
+        mark_regions(&mut loops, regions);
+        Section { nodes, loops }
+    }
+}
+
+/// Marks the loops as regions of which it is said that they are.
+fn mark_regions(loops: &mut [CertLoop], regions: &[bool])
+    requires { length regions.now ≡ length loops.old }
+    ensures { loops.new ≡ marked loops.old regions.now }
+{
+    for i in 0..regions.len() {
+        loops[i].set_region(regions[i]);
     }
 }
 

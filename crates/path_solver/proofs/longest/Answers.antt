@@ -68,6 +68,13 @@ returns-then-not-index-clause-fits c =
     nothing_too_large c.args.g.now flags c.args.costs.now _ c.reducible_is_reached.ensures c.nodes-nodes.ensures.valid c.requires.reducible c.in_ok-listed.ensures
     (both_ways (get_or flags 0 false) out)
 
+pub returns-then-not-index-clause-unreached : goal.returns-then-not-index-clause-unreached
+returns-then-not-index-clause-unreached c =
+    let flags = c.in_ok-listed.listed.items in
+    let lt = some_nodes c.args.g.now flags c.in_ok-listed.ensures c.nodes-nodes.ensures.valid in
+    let out = entry_flag flags c.index.result.now lt c.index.ensures ∙ c.if-not-index.true in
+    λ r. both_ways (get_or flags 0 false) out ((c.in_ok-listed.ensures.each 0).1 r)
+
 pub iterations_exceed-requires-clause-rising : goal.iterations_exceed-requires-clause-rising
 iterations_exceed-requires-clause-rising c =
     let P : List NaturalLoop → Type 0 = λ ls. All (λ l. IsStrictlyIncreasing l.members) ls in
@@ -153,6 +160,13 @@ solution c =
     let P : Solution → Type 0 = λ s. IsFound g loops c.args.costs.now c.args.bounds.now c.args.loads.now s.value s.section in
     let Q : Certified → Type 0 = λ s. IsFound g loops c.args.costs.now c.args.bounds.now c.args.loads.now value s in
     subst P (sym c.new-2.ensures) (subst Q (sym section) r)
+
+pub returns-clause-reached : goal.returns-clause-reached
+returns-clause-reached c =
+    let flags = c.in_ok-listed.listed.items in
+    let lt = some_nodes c.args.g.now flags c.in_ok-listed.ensures c.nodes-nodes.ensures.valid in
+    let entry = entry_flag flags c.index.result.now lt c.index.ensures ∙ c.if-not-index.false in
+    (c.in_ok-listed.ensures.each 0).0 entry
 
 pub returns-clause-greatest : goal.returns-clause-greatest
 returns-clause-greatest c = (solution c).greatest
