@@ -1,0 +1,5 @@
+mod Elements
+mod Moving
+mod Sweeping
+mod Crossings
+mod Falling

@@ -1,0 +1,4 @@
+pub mod Family
+pub mod Crossing
+pub mod Classes
+pub mod Splitting

@@ -1,0 +1,6 @@
+mod Elements
+mod Ranks
+mod Crossed
+mod Holding
+mod Faults
+mod Ordered
