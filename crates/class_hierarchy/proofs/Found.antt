@@ -104,7 +104,7 @@ field_found cs t a c s n h list same =
 
 -- ---- methods
 
-methods_are : (cs : List ClassFile) (t : Members) → AreMembers cs t → (s : Signature) (n : ℕ × ℕ) → numbers_in t.texts s ≡ Some n → (c : ℕ) → place_in t.methods.items n c ≡ declared_method cs s c
+pub methods_are : (cs : List ClassFile) (t : Members) → AreMembers cs t → (s : Signature) (n : ℕ × ℕ) → numbers_in t.texts s ≡ Some n → (c : ℕ) → place_in t.methods.items n c ≡ declared_method cs s c
 methods_are cs t a s n h c = place_is (λ k. k.methods) t.texts cs t.methods.items a.methods s n h c
 
 none_of_both : (b : Bool) (o r : Option Place) → o ≡ None → r ≡ None → None ≡ (if b then o else r)

@@ -7,3 +7,5 @@ pub mod Standing
 pub mod Found
 pub mod Reaching
 pub mod SelectedLemmas
+pub mod Closure
+pub mod CycleLemmas

@@ -93,7 +93,7 @@ undecided cs count n none r e = (
 )
 
 -- what is no class has nothing above it
-nothing_direct : (cs : List ClassFile) (c : ℕ) → length cs ≤ c → direct_supertypes cs c ≡ []
+pub nothing_direct : (cs : List ClassFile) (c : ℕ) → length cs ≤ c → direct_supertypes cs c ≡ []
 nothing_direct cs c g =
     let none = slice_get_past cs c g in
     ap (λ o. option_map_or (λ k. filter_map (find_class cs) (superinterface_names k)) o [] ++ option_to_list (onto o (λ k. find_class cs (superclass_name k)))) none

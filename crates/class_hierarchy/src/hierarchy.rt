@@ -1,11 +1,12 @@
 ghost use Rattle.std.specs.Prelude.{◌≡◌, ℕ, ◌<◌, List, length, IfOk};
-ghost use Rattle.class_lookup.specs.Hierarchy.{is_subclass, extends, IsAcyclic};
-ghost use Rattle.class_lookup.specs.Lookup.{find_field, find_method};
+ghost use Rattle.class_lookup.specs.Hierarchy.{is_subclass, extends, supertypes, IsAcyclic};
+ghost use Rattle.class_lookup.specs.Lookup.{declared_method, find_field, find_method};
 ghost use Rattle.class_lookup.specs.Parts.{Signature};
 ghost use Rattle.class_lookup.specs.Selection.{select, is_of_superclass, special};
+ghost use Rattle.upward_order.specs.Numbers.{IsSameSearch};
 
 use crate::above::{Above, above_of};
-use crate::members::{Members, first_declared, members_of};
+use crate::members::{Members, first_declared, members_of, place_in};
 use crate::selecting::{first_instance, first_overriding, first_public, name_at, numbers_at};
 use class_lookup::parts::has_flags;
 use class_lookup::{Classes, Place};
@@ -71,6 +72,23 @@ impl Hierarchy {
         ensures { result ≡ extends self.now class other }
     {
         self.above.supertypes[class as usize].contains(other)
+    }
+
+    /// The class with all its superclasses and superinterfaces, each once, in the order in which they are first met.
+    pub fn supertypes(&self, class: u32) -> &[u32]
+        requires { class < length self.now }
+        ensures { IsSameSearch result.now (supertypes self.now class) }
+    {
+        self.above.supertypes[class as usize].as_slice()
+    }
+
+    /// The method of this name and descriptor that the class declares.
+    pub fn declared_method(&self, class: u32, name: &[u16], descriptor: &[u16]) -> Option<Place>
+        requires { class < length self.now }
+        ensures { result ≡ declared_method self.now (record { name = name.now; descriptor = descriptor.now }) class }
+    {
+        let numbers = self.members.texts.numbers(name, descriptor)?;
+        place_in(&self.members.methods, numbers, class)
     }
 
     /// Whether the second class is a superclass of the first.

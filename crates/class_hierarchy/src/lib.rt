@@ -4,6 +4,8 @@
 
 mod above;
 mod acyclic;
+mod cycles;
+mod groups;
 mod hierarchy;
 mod members;
 mod methods;
@@ -12,4 +14,5 @@ mod texts;
 
 pub use acyclic::is_acyclic;
 pub use class_lookup::Place;
+pub use cycles::first_on_cycle;
 pub use hierarchy::Hierarchy;
