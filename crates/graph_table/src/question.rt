@@ -33,13 +33,14 @@ impl From<ParseIntError> for RowFault {
     }
 }
 
-/// A graph with the cost of each node, the bound of each loop and what an entry of it loads.
+/// A graph with the cost of each node, the bound of each loop and what an entry of it loads: nothing is
+/// said of a region that doesn't fit.
 #[derive(Drop)]
 pub struct Problem {
     pub graph: Graph,
     pub costs: Vec<u64>,
     pub bounds: Vec<u32>,
-    pub loads: Vec<u64>,
+    pub loads: Vec<Option<u64>>,
 }
 
 /// What a line asks.
@@ -51,6 +52,8 @@ pub enum Question {
     Blocks(Graph),
     /// The greatest walk.
     Longest(Problem),
+    /// The greatest walk, where it is said of each loop whether it is a region.
+    Regions(Problem, Vec<bool>),
     /// The check of a section.
     Check(Problem, Section),
     /// So many nodes, one after another.
@@ -86,13 +89,35 @@ fn potential(word: &str) -> Result<(u32, i128), RowFault> {
     Ok((u.parse()?, p.parse()?))
 }
 
-/// A region, such as `1:7:1,2`.
-fn region(alloc: Global, word: &str) -> Result<CertLoop, RowFault> {
+/// The load of a loop, or `-` for a region that doesn't fit.
+fn load(word: &str) -> Result<Option<u64>, RowFault> {
+    match word {
+        "-" => Ok(None),
+        load => Ok(Some(load.parse()?)),
+    }
+}
+
+/// Whether a loop is a region: `1` or `0`.
+fn flag(word: &str) -> Result<bool, RowFault> {
+    match word {
+        "0" => Ok(false),
+        "1" => Ok(true),
+        _ => Err(RowFault::Malformed),
+    }
+}
+
+/// Of each loop whether it is a region.
+fn flags(alloc: Global, regions: &str) -> Result<Vec<bool>, RowFault> {
+    regions.split_whitespace().map(flag).try_collect(alloc)
+}
+
+/// A loop, such as `1:7:1,2`.
+fn certified_loop(alloc: Global, word: &str) -> Result<CertLoop, RowFault> {
     let (header, rest) = word.split_once(':').ok_or(RowFault::Malformed)?;
     let (cost, members) = rest.split_once(':').ok_or(RowFault::Malformed)?;
     let members: Vec<&str> = members.split(',').collect(alloc)?;
     let members = numbers(alloc, &members)?;
-    Ok(CertLoop::new(header.parse()?, cost.parse()?, members, true))
+    Ok(CertLoop::new(header.parse()?, cost.parse()?, members, false))
 }
 
 /// The graph with these nodes, edges and exits.
@@ -118,18 +143,23 @@ fn make_problem(
         graph,
         costs: numbers(alloc, &words(alloc, costs)?)?,
         bounds: numbers(alloc, &words(alloc, bounds)?)?,
-        loads: numbers(alloc, &words(alloc, loads)?)?,
+        loads: loads.split_whitespace().map(load).try_collect(alloc)?,
     })
 }
 
-/// The section with these nodes and regions.
-fn section(alloc: Global, nodes: &str, regions: &str) -> Result<Section, RowFault> {
+/// The section with these nodes and loops, of which these are regions.
+fn section(alloc: Global, nodes: &str, loops: &str, regions: &str) -> Result<Section, RowFault> {
     let nodes: Vec<(u32, i128)> = nodes.split_whitespace().map(potential).try_collect(alloc)?;
-    let mut loops = Vec::new(alloc);
-    for word in regions.split_whitespace() {
-        loops.push(region(alloc, word)?)?;
+    let mut certified = Vec::new(alloc);
+    for word in loops.split_whitespace() {
+        certified.push(certified_loop(alloc, word)?)?;
     }
-    Ok(Section::new(nodes, loops))
+    let section = Section::new(nodes, certified);
+    let regions = flags(alloc, regions)?;
+    if regions.len() != section.loops().len() {
+        return Err(RowFault::Malformed);
+    }
+    Ok(section.with_regions(&regions))
 }
 
 impl Question {
@@ -144,10 +174,26 @@ impl Question {
                 let g = graph(alloc, n, es, xs)?;
                 Ok(Question::Longest(make_problem(alloc, g, costs, bounds, loads)?))
             }
-            ["check", n, es, xs, costs, bounds, loads, nodes, regions] => {
+            ["regions", n, es, xs, costs, bounds, loads, regions] => {
                 let g = graph(alloc, n, es, xs)?;
                 let problem = make_problem(alloc, g, costs, bounds, loads)?;
-                Ok(Question::Check(problem, section(alloc, nodes, regions)?))
+                Ok(Question::Regions(problem, flags(alloc, regions)?))
+            }
+            [
+                "check",
+                n,
+                es,
+                xs,
+                costs,
+                bounds,
+                loads,
+                nodes,
+                loops,
+                regions,
+            ] => {
+                let g = graph(alloc, n, es, xs)?;
+                let problem = make_problem(alloc, g, costs, bounds, loads)?;
+                Ok(Question::Check(problem, section(alloc, nodes, loops, regions)?))
             }
             _ => Err(RowFault::Malformed),
         }

@@ -4,9 +4,11 @@ use crate::question::Problem;
 use loop_nest::loops::{Loop, NestFault};
 use loop_nest::{Graph, blocks, is_graph, nest};
 use path_solver::form::is_in_form;
+use path_solver::regions::longest_with_regions;
 use path_solver::section::{Section, SectionFault};
 use path_solver::solved::SolveFault;
 use path_solver::{check_section, longest};
+use section_index::check_with_index;
 use std::alloc::{AllocError, Global};
 use std::{fmt, io};
 
@@ -92,7 +94,11 @@ pub fn show_longest(rt: &(impl Print + Alloc<A = Global>), problem: &Problem) ->
     if costs.len() != g.nodes() as usize || bounds.len() != loops || loads.len() != loops {
         return println!(rt; "  bad line");
     }
-    match longest(rt.alloc(), g, &nest, costs, bounds, loads) {
+    let loads: Vec<u64> = loads
+        .iter()
+        .map(|load| load.unwrap_or(0))
+        .collect(rt.alloc())?;
+    match longest(rt.alloc(), g, &nest, costs, bounds, &loads) {
         Ok(Some(solved)) => {
             let (value, section) = (solved.value(), solved.section());
             let potentials = Potentials(section.nodes());
@@ -109,7 +115,49 @@ pub fn show_longest(rt: &(impl Print + Alloc<A = Global>), problem: &Problem) ->
     }
 }
 
-/// Prints what the check of a section says.
+/// Prints the value of the greatest walk, and which loops are regions in the section that shows it.
+pub fn show_regions(
+    rt: &(impl Print + Alloc<A = Global>),
+    problem: &Problem,
+    regions: &[bool],
+) -> io::Result<()> {
+    let Problem {
+        graph: g,
+        costs,
+        bounds,
+        loads,
+    } = problem;
+    let Ok(nest) = nest(rt.alloc(), g) else {
+        return println!(rt; "  no nest");
+    };
+    let loops = nest.loops().len();
+    if costs.len() != g.nodes() as usize || bounds.len() != loops {
+        return println!(rt; "  bad line");
+    }
+    if loads.len() != loops || regions.len() != loops {
+        return println!(rt; "  bad line");
+    }
+    let loads: Vec<u64> = loads
+        .iter()
+        .map(|load| load.unwrap_or(0))
+        .collect(rt.alloc())?;
+    match longest_with_regions(rt.alloc(), g, &nest, costs, bounds, &loads, regions) {
+        Ok(Some(solved)) => {
+            let value = solved.value();
+            println!(rt; "  value {value}")?;
+            for l in solved.section().loops() {
+                let (header, article) = (l.header(), if l.region() { "a" } else { "no" });
+                println!(rt; "  loop {header}, {article} region")?;
+            }
+            Ok(())
+        }
+        Ok(None) => println!(rt; "  no walk"),
+        Err(SolveFault::TooLarge) => println!(rt; "  too large"),
+        Err(SolveFault::NoMemory) => Err(io::Error::from(AllocError)),
+    }
+}
+
+/// Prints what the checks of a section say, with an index of its loops and without.
 pub fn show_check(
     rt: &(impl Print + Alloc<A = Global>),
     problem: &Problem,
@@ -121,11 +169,17 @@ pub fn show_check(
         bounds,
         loads,
     } = problem;
-    let fitting: Vec<Option<u64>> = loads.iter().map(|load| Some(*load)).collect(rt.alloc())?;
-    if costs.len() != g.nodes() as usize || !is_in_form(section, bounds, &fitting) {
+    if costs.len() != g.nodes() as usize || !is_in_form(section, bounds, loads) {
         return println!(rt; "  bad line");
     }
-    match check_section(g, costs, bounds, &fitting, section) {
+    let shown = check_section(g, costs, bounds, loads, section);
+    let Ok(indexed) = check_with_index(rt.alloc(), g, costs, bounds, loads, section) else {
+        return Err(io::Error::from(AllocError));
+    };
+    if indexed != shown {
+        println!(rt; "  the two checks differ")?;
+    }
+    match shown {
         Ok(Some(value)) => println!(rt; "  value {value}"),
         Ok(None) => println!(rt; "  no value"),
         Err(SectionFault::Member(u)) => println!(rt; "  node {u} is misplaced"),
