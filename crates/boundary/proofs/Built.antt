@@ -8,8 +8,10 @@ use Rattle.machine_stands.specs.Comes.{ComesTo}
 use Rattle.machine_stands.specs.Simulates.{Simulates, is_bare}
 use Rattle.value_steps.specs.Family.{moves_values}
 use Rattle.number_steps.specs.Laws.{computes_numbers}
-use Rattle.micro_calls.specs.Family.{calls_or_returns}
+use Rattle.micro_calls.specs.Family.{calls_by_receiver, calls_or_returns, throws}
 use Rattle.micro_objects.specs.Family.{is_device}
+use Rattle.heap_steps.specs.Family.{is_of_array, is_of_field}
+use Rattle.object_steps.specs.Family.{allocates, is_monitor, tests_types}
 use Rattle.jop_opcodes.specs.Bytes.{u1}
 use Rattle.jop_opcodes.specs.Start.{IsStart}
 use Rattle.bytecode_model.specs.Program.{Body, body_of}
@@ -52,16 +54,61 @@ either_simulates f g first second P pl n size m answer s s' h mode family origin
     by_case (inl is) = first P pl n size m answer s s' h mode is origin
     by_case (inr is) = second P pl n size m answer s s' h mode is origin
 
-abbrev moves_or_computes : ℕ → Bool
-moves_or_computes op = moves_values op || computes_numbers op
+-- the laws of the families
+pub record FamilyLaws : Type 0 where
+  pub values : Simulates moves_values
+  pub numbers : Simulates computes_numbers
+  pub calls : Simulates calls_or_returns
+  pub by_receiver : Simulates calls_by_receiver
+  pub thrown : Simulates throws
+  pub devices : Simulates is_device
+  pub fields : Simulates is_of_field
+  pub arrays : Simulates is_of_array
+  pub made : Simulates allocates
+  pub tests : Simulates tests_types
+  pub monitors : Simulates is_monitor
 
-abbrev or_calls : ℕ → Bool
-or_calls op = moves_or_computes op || calls_or_returns op
+-- the families so far, each with one more
+abbrev with_numbers : ℕ → Bool
+with_numbers op = moves_values op || computes_numbers op
 
-pub all_simulate : Simulates moves_values → Simulates computes_numbers → Simulates calls_or_returns → Simulates is_device → Simulates is_built
+abbrev with_calls : ℕ → Bool
+with_calls op = with_numbers op || calls_or_returns op
+
+abbrev with_receivers : ℕ → Bool
+with_receivers op = with_calls op || calls_by_receiver op
+
+abbrev with_throws : ℕ → Bool
+with_throws op = with_receivers op || throws op
+
+abbrev with_devices : ℕ → Bool
+with_devices op = with_throws op || is_device op
+
+abbrev with_fields : ℕ → Bool
+with_fields op = with_devices op || is_of_field op
+
+abbrev with_arrays : ℕ → Bool
+with_arrays op = with_fields op || is_of_array op
+
+abbrev with_made : ℕ → Bool
+with_made op = with_arrays op || allocates op
+
+abbrev with_tests : ℕ → Bool
+with_tests op = with_made op || tests_types op
+
+pub all_simulate : FamilyLaws → Simulates is_built
 unfolding is_built
-all_simulate values numbers calls devices =
-    either_simulates or_calls is_device (either_simulates moves_or_computes calls_or_returns (either_simulates moves_values computes_numbers values numbers) calls) devices
+all_simulate laws =
+    let numbers = either_simulates moves_values computes_numbers laws.values laws.numbers in
+    let calls = either_simulates with_numbers calls_or_returns numbers laws.calls in
+    let by_receiver = either_simulates with_calls calls_by_receiver calls laws.by_receiver in
+    let thrown = either_simulates with_receivers throws by_receiver laws.thrown in
+    let devices = either_simulates with_throws is_device thrown laws.devices in
+    let fields = either_simulates with_devices is_of_field devices laws.fields in
+    let arrays = either_simulates with_fields is_of_array fields laws.arrays in
+    let made = either_simulates with_arrays allocates arrays laws.made in
+    let tests = either_simulates with_made tests_types made laws.tests in
+    either_simulates with_tests is_monitor tests laws.monitors
 
 -- ---- bare images
 

@@ -2,8 +2,11 @@
 use Rattle.std.specs.Prelude.{ℕ, Bool, ◌||◌}
 use Rattle.value_steps.specs.Family.{moves_values}
 use Rattle.number_steps.specs.Laws.{computes_numbers}
-use Rattle.micro_calls.specs.Family.{calls_or_returns}
+use Rattle.micro_calls.specs.Family.{calls_by_receiver, calls_or_returns, throws}
 use Rattle.micro_objects.specs.Family.{is_device}
+use Rattle.heap_steps.specs.Family.{is_of_array, is_of_field}
+use Rattle.object_steps.specs.Family.{allocates, is_monitor, tests_types}
 
 unfoldable pub is_built : ℕ → Bool
-is_built op = moves_values op || computes_numbers op || calls_or_returns op || is_device op
+is_built op =
+    moves_values op || computes_numbers op || calls_or_returns op || calls_by_receiver op || throws op || is_device op || is_of_field op || is_of_array op || allocates op || tests_types op || is_monitor op

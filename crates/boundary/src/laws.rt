@@ -31,7 +31,14 @@ pub fn families_are_simulated()
     value_steps::laws::values_are_moved();
     number_steps::laws::numbers_are_computed();
     micro_calls::laws::static_calls_and_returns();
+    micro_calls::laws::calls_by_receiver_come();
+    micro_calls::laws::throws_come();
     micro_objects::laws::devices_are_simulated();
+    heap_steps::laws::fields_are_simulated();
+    heap_steps::laws::arrays_are_simulated();
+    object_steps::laws::objects_are_made();
+    object_steps::laws::types_are_tested();
+    object_steps::laws::monitors_are_passed();
 }
 
 /// Each instruction of a bare image has one of the opcodes that it may have.
