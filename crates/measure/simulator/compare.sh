@@ -1,14 +1,14 @@
 #!/bin/bash
 # Compares the machine with a plain simulator in C, which gcc and clang compile: for each loop the cycles per second, by the
-# least user time of several runs, one program after the other.
+# least user time of many short runs, one program after the other.
 #
 #     simulator/compare.sh [CYCLES] [RUNS]
 #
 # It wants ../out/measure, as `rt run` builds it.
 set -e
 cd "$(dirname "$0")"
-cycles=${1:-100000000}
-runs=${2:-5}
+cycles=${1:-20000000}
+runs=${2:-21}
 work=$(mktemp -d)
 trap 'rm -r "$work"' EXIT
 gcc -O2 -o "$work/gcc" machine.c

@@ -4,7 +4,6 @@ ghost use Rattle.std.specs.Prelude.{◌≡◌, ℕ, None, []};
 use crate::images::{Loop, image_of};
 use jop_core::{Config, DeviceFault, Devices, Machine, Seen, Tick, can_start};
 use microcode_rom::{CONSTANTS, ENTRIES, WORDS};
-use std::alloc::Global;
 use std::io;
 use std::time::Instant;
 
@@ -61,12 +60,12 @@ fn step(machine: &mut Machine<1024>, cycles: u64) {
 
 /// Steps a machine over a loop so many cycles, and prints its registers. With `timed`, prints the cycles per second.
 pub fn show(rt: &HostRuntime, which: Loop, cycles: u64, timed: bool) -> io::Result<()> {
-    let words = image_of(rt.alloc(), which)?;
+    let words = image_of(which);
     let config = Config::default();
-    if !can_start(&words, config) {
+    if !can_start(words, config) {
         return println!(rt; "the image doesn't fit");
     }
-    let Ok(mut machine) = Machine::<1024>::new(rt.alloc(), &words, config) else {
+    let Ok(mut machine) = Machine::<1024>::new(rt.alloc(), words, config) else {
         return println!(rt; "no memory");
     };
     let start = Instant::now(rt)?;
@@ -124,7 +123,7 @@ pub fn show_words(rt: &HostRuntime, which: Loop) -> io::Result<()> {
     show_rom(rt, &WORDS)?;
     show_halves(rt, &ENTRIES)?;
     show_list(rt, &CONSTANTS)?;
-    let words = image_of(rt.alloc(), which)?;
+    let words = image_of(which);
     println!(*rt; "{}", words.len())?;
-    show_list(rt, &words)
+    show_list(rt, words)
 }

@@ -1,17 +1,12 @@
-//! Measures how fast the parts run that take the most time.
+//! Measures how fast the machine runs.
 //!
 //! - `measure` alone does a little of each, and prints no times.
 //! - `measure loop NAME N` steps a machine N cycles over a loop, and prints the registers and the cycles per second. The loops
 //!   are `ints`, `calls` and `arrays`.
 //! - `measure words NAME` prints what a simulator needs to run such a loop: `simulator/machine.c` reads it.
 //! - `measure run N` runs the longest bare image N times, and prints the cycles per second.
-//! - `measure classes` makes classes and selects the methods of each, and prints how many microseconds each part took.
-//! - `measure graphs` finds the greatest walks of graphs like those of the longest methods, and prints how many
-//!   microseconds each part took.
 #![tactic(auto)]
 
-mod classes;
-mod graphs;
 mod images;
 mod loops;
 mod runs;
@@ -35,11 +30,9 @@ enum Task {
     Words(Loop),
     /// So many runs of an image.
     Runs(u64),
-    /// Classes with their hierarchy.
-    Classes,
-    /// The greatest walks of large graphs.
-    Graphs,
 }
+
+const LOOPS: [Loop; 3] = [Loop::Ints, Loop::Calls, Loop::Arrays];
 
 fn loop_of(name: &str) -> Option<Loop> {
     match name {
@@ -54,8 +47,6 @@ fn loop_of(name: &str) -> Option<Loop> {
 fn task_of(words: &[String]) -> Option<Task> {
     match words {
         [] => Some(Task::All),
-        [task] if task.as_str() == "classes" => Some(Task::Classes),
-        [task] if task.as_str() == "graphs" => Some(Task::Graphs),
         [task, name, count] if task.as_str() == "loop" => {
             let which = loop_of(name)?;
             read_u64(count.as_bytes()).map(|count| Task::Cycles(which, count))
@@ -71,18 +62,14 @@ fn task_of(words: &[String]) -> Option<Task> {
 fn measure(rt: &HostRuntime, task: Task) -> io::Result<()> {
     match task {
         Task::All => {
-            for which in [Loop::Ints, Loop::Calls, Loop::Arrays] {
-                loops::show(rt, which, 100_000, false)?;
+            for which in &LOOPS {
+                loops::show(rt, *which, 100_000, false)?;
             }
-            runs::show(rt, 2, false)?;
-            classes::show(rt, 10, false)?;
-            graphs::show_small(rt)
+            runs::show(rt, 2, false)
         }
         Task::Cycles(which, count) => loops::show(rt, which, count, true),
         Task::Words(which) => loops::show_words(rt, which),
         Task::Runs(count) => runs::show(rt, count, true),
-        Task::Classes => classes::show(rt, 1_000, true),
-        Task::Graphs => graphs::show_large(rt),
     }
 }
 
@@ -92,7 +79,7 @@ fn main(rt: HostRuntime) -> io::Result<ExitCode> {
         words.push(word)?;
     }
     let Some(task) = task_of(&words) else {
-        println!(rt; "usage: measure [loop NAME N | words NAME | run N | classes | graphs]")?;
+        println!(rt; "usage: measure [loop NAME N | words NAME | run N]")?;
         return Ok(ExitCode::from(NO_TASK));
     };
     measure(&rt, task)?;

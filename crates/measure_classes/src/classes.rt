@@ -1,17 +1,24 @@
 // Classes with their hierarchy, and what is looked up and selected in them.
+ghost use Rattle.std.specs.Prelude.{◌<◌, length};
+
 use class_file::is_class;
 use class_hierarchy::{Hierarchy, is_acyclic};
 use class_lookup::{ClassFile, Classes};
 use class_making::parts::{Room, class, method, text};
 use class_making::{MethodPlan, Piece, make};
+use class_pool::Units;
 use class_write::write_class;
 use jop_base::NoMemory;
-use std::alloc::Global;
+use std::alloc::{AllocError, Global};
 use std::io;
+use std::rt::Clock;
 use std::time::Instant;
 
-/// The methods of a class.
-const METHODS: u32 = 20;
+/// The methods of a class, by their names.
+static NAMES: [&str; 20] = [
+    "m0", "m1", "m2", "m3", "m4", "m5", "m6", "m7", "m8", "m9", "m10", "m11", "m12", "m13", "m14",
+    "m15", "m16", "m17", "m18", "m19",
+];
 
 /// Each class is a subclass of the one before it, but for the first of a group of so many.
 const DEPTH: u32 = 10;
@@ -20,17 +27,16 @@ const PUBLIC: u16 = 0x0001;
 
 const OPEN_CLASS: u16 = 0x0021;
 
-// The methods of a class, m0, m1 and so on, which return at once.
+// The methods of a class, which return at once.
 fn methods(alloc: Global) -> Result<Vec<MethodPlan>, NoMemory> {
     let room = Room {
         max_stack: 0,
         max_locals: 1,
     };
     let mut methods = Vec::new(alloc);
-    for k in 0..METHODS {
-        let name = format!(in alloc; "m{k}")?;
+    for name in &NAMES {
         let pieces = vec![in alloc; Piece::Byte(0xb1)]?;
-        methods.push(method(alloc, PUBLIC, name.as_str(), "()V", room, pieces)?)?;
+        methods.push(method(alloc, PUBLIC, name, "()V", room, pieces)?)?;
     }
     Ok(methods)
 }
@@ -85,32 +91,37 @@ fn sizes(alloc: Global, classes: &[ClassFile]) -> Result<usize, NoMemory> {
     Ok(sum)
 }
 
-// How many methods are selected in a class for those that are found there by name.
-fn selected(alloc: Global, classes: &Hierarchy, number: u32) -> Result<u32, NoMemory> {
-    let descriptor = text(alloc, "()V")?;
+// The names of the methods.
+fn names(alloc: Global) -> Result<Vec<Units>, NoMemory> {
+    let mut names = Vec::new(alloc);
+    for name in &NAMES {
+        names.push(text(alloc, name)?)?;
+    }
+    Ok(names)
+}
+
+// How many methods of these names are selected in a class, for those that are found there.
+fn selected(classes: &Hierarchy, number: u32, names: &[Units], descriptor: &[u16]) -> u32
+    requires { number < length classes.now }
+{
     let mut count = 0u32;
-    for k in 0..METHODS {
-        let name = text(alloc, format!(in alloc; "m{k}")?.as_str())?;
-        if number < classes.classes().class_count()
-            && let Some(place) = classes.find_method(
-                number,
-                name.as_slice(),
-                descriptor.as_slice(),
-            )
+    for name in names {
+        if let Some(place) = classes.find_method(number, name.as_slice(), descriptor)
+            && classes.select(number, place).is_some()
         {
-            count = count.wrapping_add(u32::from(classes.select(number, place).is_some()));
+            count = count.wrapping_add(1);
         }
     }
-    Ok(count)
+    count
 }
 
 // How many are in all classes.
-fn all_selected(alloc: Global, classes: &Hierarchy) -> Result<u32, NoMemory> {
+fn all_selected(classes: &Hierarchy, names: &[Units], descriptor: &[u16]) -> u32 {
     let mut count = 0u32;
     for number in 0..classes.classes().class_count() {
-        count = count.wrapping_add(selected(alloc, classes, number)?);
+        count = count.wrapping_add(selected(classes, number, names, descriptor));
     }
-    Ok(count)
+    count
 }
 
 // The hierarchy of these classes.
@@ -126,27 +137,36 @@ fn hierarchy(alloc: Global, files: Vec<ClassFile>) -> Result<Option<Hierarchy>, 
     }
 }
 
-/// Makes so many classes of twenty methods, and selects each method in each class. With `timed`, prints how long that took.
-pub fn show(rt: &HostRuntime, count: u32, timed: bool) -> io::Result<()> {
-    let alloc = rt.alloc();
-    let Ok(files) = class_files(alloc, count) else {
-        return println!(rt; "no memory");
-    };
-    let Ok(bytes) = sizes(alloc, &files) else {
-        return println!(rt; "no memory");
-    };
+// What was made, where there was memory for it.
+fn whole<T>(made: Result<T, NoMemory>) -> io::Result<T> {
+    match made {
+        Ok(made) => Ok(made),
+        Err(_) => Err(AllocError)?,
+    }
+}
+
+// How many methods are selected in these classes, and how many microseconds that took.
+fn timed(rt: &(impl Clock + Alloc<A = Global>), classes: &Hierarchy) -> io::Result<(u32, u128)> {
+    let names = whole(names(rt.alloc()))?;
+    let descriptor = whole(text(rt.alloc(), "()V"))?;
     let start = Instant::now(rt)?;
-    let Ok(Some(classes)) = hierarchy(alloc, files) else {
+    let found = all_selected(classes, &names, descriptor.as_slice());
+    Ok((found, start.elapsed(rt)?.as_micros()))
+}
+
+/// Makes so many classes of twenty methods, and selects each method in each class. With `with_times`, prints how long that took.
+pub fn show(rt: &HostRuntime, count: u32, with_times: bool) -> io::Result<()> {
+    let alloc = rt.alloc();
+    let files = whole(class_files(alloc, count))?;
+    let bytes = whole(sizes(alloc, &files))?;
+    let start = Instant::now(rt)?;
+    let Some(classes) = whole(hierarchy(alloc, files))? else {
         return println!(rt; "no hierarchy");
     };
     let made = start.elapsed(rt)?.as_micros();
-    let start = Instant::now(rt)?;
-    let Ok(found) = all_selected(alloc, &classes) else {
-        return println!(rt; "no memory");
-    };
-    let looked_up = start.elapsed(rt)?.as_micros();
+    let (found, looked_up) = timed(rt, &classes)?;
     println!(rt; "classes={count} bytes={bytes} selected={found}")?;
-    if timed {
+    if with_times {
         println!(rt; "hierarchy_us={made} lookups_us={looked_up}")?;
     }
     Ok(())
