@@ -166,6 +166,8 @@ pub record SaysLinked (P : Program) (pl : Places) : Type 0 where
   pub types : (t : ℕ) → IfSome (slice_get P.types t) (SaysType P pl t)
   -- a type's number and one fit a word
   pub few_types : length P.types < 2 ^ 31
+  -- the types of classes stand behind those of arrays of numbers, in the order of the classes
+  pub class_numbers : (t c : ℕ) → slice_get P.types t ≡ Some (OfClass c) → t ≡ 8 + c
   -- there are instances of no interface
   pub concrete : (c : ℕ) → P.is_concrete c ≡ true → P.is_interface c ≡ false
   pub operands : (m pc index : ℕ) (k : Method) (b : Body) (i : Instr) → slice_get P.methods m ≡ Some k → k.body ≡ Some b → IsStart b.code pc

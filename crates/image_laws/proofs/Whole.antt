@@ -20,6 +20,7 @@ use Rattle.image_words.specs.Laws.{TypesLie, FrontLaw}
 use Rattle.image_laws.specs.Laws.{SupertypesAreSaid, ComponentsAreNumbered, CodesAreSaid, MethodsAreSaid, MethodsAreApart, FirstObjectsLaw, OperandsLaw, InstancesAreSmall, ImagesSayPrograms}
 use Rattle.image_laws.proofs.Said.{some_get}
 use Rattle.image_laws.proofs.Codes.{if_some}
+use Rattle.image_laws.proofs.Types.{class_numbered}
 
 type_said : TypesLie → SupertypesAreSaid → ComponentsAreNumbered → InstancesAreSmall → (cs : List ClassFile) → IsResolved cs → length (types_of cs) ≤ 2048 → (t : ℕ) → IfSome (slice_get (types_of cs) t) (SaysType (resolved cs) (places_of cs) t)
 type_said lie bits components small cs r few t =
@@ -64,6 +65,7 @@ says front lie bits components small codes methods apart first operands cs r lim
         methods = methods cs r catches tables;
         types = type_said lie bits components small cs r limits.types;
         few_types = omega (arith, few);
+        class_numbers = class_numbered cs;
         concrete = concrete cs r;
         operands = operands cs r limits.words;
       };
