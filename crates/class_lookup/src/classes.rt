@@ -57,6 +57,13 @@ impl Classes {
         })
     }
 
+    /// The classes, in their order.
+    pub fn into_classes(self) -> Vec<ClassFile>
+        ensures { result.items ≡ self }
+    {
+        self.classes
+    }
+
     /// How many classes there are.
     pub fn class_count(&self) -> u32
         ensures { result ≡ length self.now }

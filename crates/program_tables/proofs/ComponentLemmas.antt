@@ -1,12 +1,11 @@
 -- The component of an array of references that is among the types is among them.
-use Rattle.std.proofs.Common.{◌≡◌, ℕ, zero, suc, ◌<◌, Bool, true, false, ◌||◌, ◌==◌, List, [], ◌∷◌, ◌++◌, map, get_or, length, Option, Some, None, refl, sym, ap, ◌∙◌, subst, arith}
+use Rattle.std.proofs.Common.{◌≡◌, ℕ, zero, suc, ◌<◌, Bool, true, false, ◌||◌, ◌==◌, List, [], ◌∷◌, ◌++◌, map, length, Option, Some, None, refl, sym, ap, ◌∙◌, subst, arith}
 use Rattle.std.specs.Prelude.{is_some, slice_get, if◌then◌else◌}
 use Rattle.std.specs.Option.{option_map}
 use Rattle.std.specs.List.{flat_map, list_any, range_with_len}
 use Rattle.std.proofs.lemmas.Bool.{false≢true}
 use Rattle.std.proofs.lemmas.List.Folds.{list_any-append, list_any_at}
 use Rattle.std.proofs.lemmas.List.FromFn.{get_or-map-range_with_len, length-map-range_with_len}
-use Rattle.class_pool.specs.declared.entry.Entry.{Entry}
 use Rattle.class_pool.specs.declared.class.ClassFile.{ClassFile}
 use Rattle.descriptors.specs.declared.descriptor.Element.{Element}
 use Rattle.descriptors.specs.declared.descriptor.Element.TheVariants as elements
@@ -16,7 +15,7 @@ use Rattle.bytecode_model.specs.Types.{Kind, OfClass, OfNumbers, OfReferences, s
 use Rattle.class_lookup.specs.Parts.{same_text, name_of}
 use Rattle.class_lookup.specs.Hierarchy.{find_class}
 use Rattle.program_tables.specs.Instructions.{instructions_of, Named, Constant, Class, Field, Method, named_in}
-use Rattle.program_tables.specs.Kinds.{class_type, arrays_of, arrays_of_numbers, kind_by, kind_of_type, kind_of_entry}
+use Rattle.program_tables.specs.Kinds.{class_type, arrays_of, arrays_of_numbers, kind_by, kind_of_type}
 use Rattle.program_tables.specs.Lists.{distinct, with_item, with_items}
 use Rattle.program_tables.specs.Numbers.{reference_arrays, used_by, class_kind, arrays_mentioned_by, arrays_mentioned_in, first_types, types_of}
 use Rattle.program_tables.proofs.MentionLemmas.{first_mentions, kind_decides}

@@ -2,3 +2,8 @@ pub mod ListLemmas
 pub mod MemberLemmas
 pub mod MentionLemmas
 pub mod ComponentLemmas
+pub mod NumberingLemmas
+pub mod EntryLemmas
+pub mod TakenLemmas
+pub mod TableLemmas
+pub mod ShapeLemmas

@@ -13,3 +13,6 @@ pub mod Placed
 pub mod Resolving
 pub mod Tables
 pub mod Laws
+pub mod Meanings
+pub mod Taken
+pub mod Entries

@@ -45,7 +45,7 @@ fn array_code(element: &Element) -> u8
 }
 
 /// What an object of a reference type is, where the type's class is there.
-fn kind_of_type(classes: &Classes, of: &FieldType) -> Option<ObjectKind>
+pub(crate) fn kind_of_type(classes: &Classes, of: &FieldType) -> Option<ObjectKind>
     ensures kind { option_map kind_seen result ≡ kind_of_type classes.now of.now }
     ensures within { IfSome result (λ kind. kind.dimensions < 256) }
 {
@@ -72,12 +72,13 @@ fn kind_named(
     ensures within { IfOk result (λ kind. IfSome kind (λ k. k.dimensions < 256)) }
 {
     if is_class_name(text) {
-        return Ok(
-            classes.find_class(text).map(|class| ObjectKind {
+        return match classes.find_class(text) {
+            Some(class) => Ok(Some(ObjectKind {
                 dimensions: 0,
                 base: Base::Class(class),
-            }),
-        );
+            })),
+            None => Ok(None),
+        };
     }
     match field_type(alloc, text) {
         Ok(of) => Ok(kind_of_type(classes, &of)),
@@ -87,7 +88,7 @@ fn kind_named(
 }
 
 /// What an object of the type of a Class entry is.
-pub(crate) fn kind_of_entry(
+pub fn kind_of_entry(
     alloc: Global,
     classes: &Classes,
     pool: &Pool,

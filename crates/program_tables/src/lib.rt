@@ -6,17 +6,26 @@
 
 mod kinds;
 pub mod laws;
+mod meanings;
 mod members;
 mod mentions;
 mod named;
+mod operand;
 mod refusal;
+mod shapes;
 mod strings;
 mod types;
 
-pub use kinds::{Base, ObjectKind};
+pub use kinds::{Base, ObjectKind, kind_of_entry};
+pub use meanings::{
+    Meaning, class_meaning, constant_operand, entry_of, field_at, is_static_field, kind_in,
+    meaning_at, method_at, plain,
+};
 pub use members::{Members, Places, instance_fields_of, members_of};
 pub use mentions::{Mentioned, mentioned_by};
-pub use named::{Named, named_in};
+pub use named::{Named, named_in, takes_entry};
+pub use operand::{Declared, Handler, Instruction, MethodShape, Operand};
 pub use refusal::{Item, Site, Why};
+pub use shapes::{field_type_at, field_types_of, shapes_of};
 pub use strings::Strings;
 pub use types::Types;

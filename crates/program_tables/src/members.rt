@@ -140,20 +140,18 @@ fn add_own(
 pub(crate) fn add_members(
     places: &mut Vec<(u32, usize)>,
     which: Which,
-    classes: &[ClassFile],
+    classes: &Classes,
 ) -> Result<(), NoMemory>
-    requires { length classes.now < 4294967296 }
     ensures { OnOk result (places.new.items ≡ places.old.items ++ chosen which classes.now) }
 {
-    for (number, class) in classes.iter().enumerate() {
-        add_own(places, which, number as u32, class)?;
+    for number in 0..classes.class_count() {
+        add_own(places, which, number, classes.class(number))?;
     }
     Ok(())
 }
 
 /// The methods by number: those with code, then the others.
-pub(crate) fn methods_of(alloc: Global, classes: &[ClassFile]) -> Result<Places, NoMemory>
-    requires { length classes.now < 4294967296 }
+fn methods_of(alloc: Global, classes: &Classes) -> Result<Places, NoMemory>
     ensures { IfOk result (λ made. made ≡ methods_by_number classes.now) }
 {
     let mut places = Vec::new(alloc);
@@ -163,24 +161,12 @@ pub(crate) fn methods_of(alloc: Global, classes: &[ClassFile]) -> Result<Places,
     Ok(made)
 }
 
-/// The fields by number.
-pub(crate) fn fields_of(alloc: Global, classes: &[ClassFile]) -> Result<Places, NoMemory>
-    requires { length classes.now < 4294967296 }
-    ensures { IfOk result (λ made. made ≡ fields_by_number classes.now) }
+/// The members of one kind, in the order of their numbers.
+fn chosen_of(alloc: Global, which: Which, classes: &Classes) -> Result<Places, NoMemory>
+    ensures { IfOk result (λ made. made ≡ chosen which classes.now) }
 {
     let mut places = Vec::new(alloc);
-    add_members(&mut places, Which::Field, classes)?;
-    let made = Places::new(alloc, places)?;
-    Ok(made)
-}
-
-/// The static fields, in the order of their numbers.
-pub(crate) fn statics_of(alloc: Global, classes: &[ClassFile]) -> Result<Places, NoMemory>
-    requires { length classes.now < 4294967296 }
-    ensures { IfOk result (λ made. made ≡ static_fields classes.now) }
-{
-    let mut places = Vec::new(alloc);
-    add_members(&mut places, Which::StaticField, classes)?;
+    add_members(&mut places, which, classes)?;
     let made = Places::new(alloc, places)?;
     Ok(made)
 }
@@ -210,15 +196,17 @@ pub struct Members {
 }
 
 /// The tables of the members of these classes.
-pub fn members_of(alloc: Global, classes: &[ClassFile]) -> Result<Members, NoMemory>
-    requires { length classes.now < 4294967296 }
+pub fn members_of(alloc: Global, classes: &Classes) -> Result<Members, NoMemory>
     ensures methods { IfOk result (λ made. made.methods ≡ methods_by_number classes.now) }
     ensures fields { IfOk result (λ made. made.fields ≡ fields_by_number classes.now) }
     ensures statics { IfOk result (λ made. made.statics ≡ static_fields classes.now) }
 {
+    let methods = methods_of(alloc, classes)?;
+    let fields = chosen_of(alloc, Which::Field, classes)?;
+    let statics = chosen_of(alloc, Which::StaticField, classes)?;
     Ok(Members {
-        methods: methods_of(alloc, classes)?,
-        fields: fields_of(alloc, classes)?,
-        statics: statics_of(alloc, classes)?,
+        methods,
+        fields,
+        statics,
     })
 }

@@ -5,6 +5,7 @@ ghost use Rattle.bytecode_model.specs.Lists.{onto};
 ghost use Rattle.class_pool.specs.Grammar.{entry_at};
 ghost use Rattle.program_tables.specs.Instructions.{is_ldc, is_field_access, is_class_use, takes_method, takes_interface_method, named_by, named_in};
 ghost use Rattle.program_tables.specs.Tables.{seen_in};
+ghost use Rattle.program_tables.specs.Taken.{takes_entry};
 
 use class_pool::{ClassFile, Entry, Pool};
 use jop_opcodes::Instr;
@@ -63,6 +64,25 @@ fn takes_interface_method(major: u16, op: u8) -> bool
     ensures { result ≡ takes_interface_method major op }
 {
     op == 185 || (major >= 52 && (op == 183 || op == 184))
+}
+
+/// Whether an opcode takes what an entry gives, in a class file of this version; `ldc` takes no class.
+pub fn takes_entry(major: u16, op: u8, entry: &Entry) -> bool
+    ensures { result ≡ takes_entry major op entry.now }
+{
+    match entry {
+        Entry::Integer(_)
+        | Entry::Float(_)
+        | Entry::Text(_)
+        | Entry::Handle(_, _)
+        | Entry::MethodType(_) => is_ldc(op),
+        Entry::Long(_) | Entry::Double(_) => op == 20,
+        Entry::Class(_) => !is_ldc(op) && is_class_use(op),
+        Entry::Field(_, _) => is_field_access(op),
+        Entry::Method(_, _) => takes_method(op),
+        Entry::InterfaceMethod(_, _) => takes_interface_method(major, op),
+        Entry::Utf8(_) | Entry::NameAndType(_, _) | Entry::Dynamic(_, _) | Entry::Second => false,
+    }
 }
 
 /// What an entry gives to an opcode.

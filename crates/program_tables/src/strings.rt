@@ -1,4 +1,4 @@
-ghost use Rattle.std.specs.Prelude.{◌≡◌, ◌<◌, length, Some, IfOk, slice_get};
+ghost use Rattle.std.specs.Prelude.{◌≡◌, ◌<◌, length, Some, IfOk, IfSome, slice_get};
 ghost use Rattle.bytecode_model.specs.Lists.{index_of};
 ghost use Rattle.class_lookup.specs.Parts.{same_text};
 ghost use Rattle.program_tables.specs.Tables.{texts_of};
@@ -56,7 +56,8 @@ impl Strings {
 
     /// The number of a string.
     pub fn number(&self, units: &[u16]) -> Option<u32>
-        ensures { result ≡ index_of (same_text units.now) self.now }
+        ensures number { result ≡ index_of (same_text units.now) self.now }
+        ensures few { IfSome result (λ number. number < 1073741824) }
     {
         match self.texts.get_index_of(units) {
             Some(number) => Some(number as u32),

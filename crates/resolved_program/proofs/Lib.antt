@@ -1,2 +1,4 @@
 pub mod BoundLemmas
 pub mod InstanceLemmas
+pub mod InstructionLemmas
+pub mod MeaningLemmas

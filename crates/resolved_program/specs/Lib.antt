@@ -1,3 +1,4 @@
 pub mod Resolved
 pub mod Instances
 pub mod Types
+pub mod Entries

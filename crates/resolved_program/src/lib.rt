@@ -2,10 +2,13 @@
 //! and methods selected.
 #![tactic(auto)]
 
+mod entries;
 mod instances;
+mod instructions;
 mod names;
 mod program;
 mod types;
 
 pub use program::Program;
+pub use program_tables::{Declared, Handler, Instruction, MethodShape, Operand};
 pub use types::TypeName;

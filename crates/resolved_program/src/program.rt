@@ -1,19 +1,22 @@
 //! The resolved program with its tables.
-ghost use Rattle.std.specs.Prelude.{◌≡◌, ◌<◌, [], length, map, Some, None, IfOk, slice_get};
-ghost use Rattle.std.specs.Option.{option_copied};
+ghost use Rattle.std.specs.Prelude.{◌≡◌, ◌<◌, [], length, map, option_map, Some, None, IfOk, IfSome, slice_get};
+ghost use Rattle.std.specs.Option.{option_copied, IsSomeAnd};
 ghost use Rattle.std.specs.List.{AllByRecursion};
 ghost use Rattle.bytecode_model.specs.Lists.{onto};
 ghost use Rattle.class_pool.specs.Found.{code_of};
 ghost use Rattle.class_lookup.specs.Hierarchy.{find_class, superclass, superinterfaces, extends, IsAcyclic};
 ghost use Rattle.class_lookup.specs.Lookup.{method_at, find_field, find_method};
-ghost use Rattle.class_lookup.specs.Selection.{select};
+ghost use Rattle.class_lookup.specs.Selection.{select, special};
 ghost use Rattle.program_tables.specs.Numbers.{methods_by_number, method_number, method_text, fields_by_number, field_number, static_fields, static_number, instance_fields, instance_number, types_of, strings_of};
-ghost use Rattle.program_tables.specs.Resolved.{at_method};
+ghost use Rattle.program_tables.specs.Meanings.{declared_seen, HasShape};
+ghost use Rattle.program_tables.specs.Resolved.{at_method, declared_at, resolved};
 ghost use Rattle.program_tables.specs.Resolving.{IsResolved};
 ghost use Rattle.program_tables.specs.Tables.{kind_seen, HasBounds};
+ghost use Rattle.program_tables.specs.Entries.{meaning_at, meaning_seen};
 ghost use Rattle.resolved_program.specs.Resolved.{AreResolved};
 ghost use Rattle.resolved_program.specs.Types.{name_among};
 
+use crate::entries::{Tables, all_meanings};
 use crate::instances::{Instances, instances_of};
 use crate::names::member_text;
 use crate::types::{TypeName, name_at};
@@ -21,9 +24,13 @@ use class_hierarchy::{Hierarchy, Place};
 use class_lookup::{ClassFile, Classes};
 use class_pool::{Code, Member};
 use class_rules::laws::methods_have_code;
+use items::Items;
 use jop_base::NoMemory;
 use program_tables::laws::components_are_types;
-use program_tables::{Members, Mentioned, Strings, Types, members_of, mentioned_by};
+use program_tables::{
+    Declared, Meaning, Members, Mentioned, MethodShape, Strings, Types, field_type_at,
+    field_types_of, meaning_at, members_of, mentioned_by, shapes_of,
+};
 use std::alloc::Global;
 use std::marker::Model;
 
@@ -35,6 +42,9 @@ pub struct Program {
     members: Members,
     mentioned: Mentioned,
     instances: Instances,
+    entries: Vec<Items<Meaning>>,
+    shapes: Vec<MethodShape>,
+    held: Vec<Items<Option<Declared>>>,
 }
 
 impl Model for Program {
@@ -43,6 +53,8 @@ impl Model for Program {
     ghost use Rattle.program_tables.specs.Numbers.{methods_by_number, fields_by_number, static_fields, types_of, strings_of};
     ghost use Rattle.program_tables.specs.Tables.{kind_seen};
     ghost use Rattle.resolved_program.specs.Instances.{own_lists, instance_counts};
+    ghost use Rattle.program_tables.specs.Entries.{all_meanings, meanings_seen};
+    ghost use Rattle.program_tables.specs.Meanings.{field_types_in, types_seen, AreShapes};
     ghost use Rattle.resolved_program.specs.Resolved.{AreResolved};
 
     ghost Value = { List ClassFile };
@@ -56,7 +68,10 @@ impl Model for Program {
         × (map kind_seen a.mentioned.types ≡ types_of a.classes)
         × (a.mentioned.strings ≡ strings_of a.classes)
         × (a.instances.own.items ≡ own_lists a.classes)
-        × (a.instances.counts.items ≡ instance_counts a.classes) };
+        × (a.instances.counts.items ≡ instance_counts a.classes)
+        × (map meanings_seen a.entries.items ≡ all_meanings a.classes)
+        × AreShapes a.classes a.shapes.items
+        × (map types_seen a.held.items ≡ map (field_types_in a.classes) a.classes) };
 }
 
 /// No resolved class is above itself. It does nothing.
@@ -66,7 +81,7 @@ fn have_no_cycle(classes: &[ClassFile])
 {}
 
 /// Resolved classes have as few entries and bytes as class files have. It does nothing.
-fn have_bounds(classes: &[ClassFile])
+fn have_bounds(classes: &Hierarchy)
     requires { AreResolved classes.now }
     ensures { AllByRecursion HasBounds classes.now }
 {
@@ -82,19 +97,40 @@ impl Program {
         if classes.len() > u32::MAX as usize {
             return Err(NoMemory);
         }
-        let listed = classes.as_slice();
-        have_bounds(listed);
-        have_no_cycle(listed);
+        have_no_cycle(&classes);
+        let listed = Classes::new(alloc, classes)?;
+        let hierarchy = Hierarchy::new(alloc, listed)?;
+        let made = Self::from_hierarchy(alloc, hierarchy)?;
+        Ok(made)
+    }
+
+    /// The program that these classes are, which are resolved, with what stands above each.
+    pub fn from_hierarchy(alloc: Global, classes: Hierarchy) -> Result<Self, NoMemory>
+        requires { AreResolved classes }
+        ensures { IfOk result (λ made. made ≡ classes) }
+    {
+        have_bounds(&classes);
+        let listed = classes.classes();
         let members = members_of(alloc, listed)?;
-        let classes = Classes::new(alloc, classes)?;
-        let mentioned = mentioned_by(alloc, &classes)?;
-        let hierarchy = Hierarchy::new(alloc, classes)?;
-        let instances = instances_of(alloc, &hierarchy)?;
+        let mentioned = mentioned_by(alloc, listed)?;
+        let instances = instances_of(alloc, &classes)?;
+        let shapes = shapes_of(alloc, listed, &members.methods)?;
+        let held = field_types_of(alloc, listed)?;
+        let tables = Tables {
+            classes: &classes,
+            members: &members,
+            strings: &mentioned.strings,
+            instances: &instances,
+        };
+        let entries = all_meanings(alloc, &tables)?;
         Ok(Program {
-            classes: hierarchy,
+            classes,
             members,
             mentioned,
             instances,
+            entries,
+            shapes,
+            held,
         })
     }
 
@@ -111,6 +147,13 @@ impl Program {
     {
         self.is_resolved();
         methods_have_code();
+    }
+
+    /// The classes, with what stands above each and their members by name.
+    pub fn hierarchy(&self) -> &Hierarchy
+        ensures { result.now ≡ self.now }
+    {
+        &self.classes
     }
 
     /// How many classes there are.
@@ -195,6 +238,20 @@ impl Program {
         }
     }
 
+    /// The number of the method that `invokespecial` runs in a method of the class `current`, where the resolved one is named
+    /// through the class `named` (6.5.invokespecial).
+    pub fn special(&self, current: u32, named: u32, method: u32) -> Option<u32>
+        requires class { current < length self.now }
+        requires method { method < length (methods_by_number self.now) }
+        ensures { result ≡ at_method self.now method None (λ p. onto (special self.now current named p) (method_number self.now)) }
+    {
+        let resolved = self.members.methods.at(method);
+        match self.classes.special(current, named, resolved) {
+            Some(place) => self.members.methods.number(place),
+            None => None,
+        }
+    }
+
     /// How many methods there are.
     pub fn method_count(&self) -> u32
         ensures { result ≡ length (methods_by_number self.now) }
@@ -229,7 +286,7 @@ impl Program {
     }
 
     /// The method at a place of a class's list of methods, if there is one.
-    fn method_at(&self, place: Place) -> Option<&Member>
+    pub(crate) fn method_at(&self, place: Place) -> Option<&Member>
         ensures { option_copied result ≡ method_at self.now place }
     {
         let owner = self.class_at(place.class)?;
@@ -239,8 +296,11 @@ impl Program {
     /// The code of the method of this number, if it has code.
     pub fn code(&self, number: u32) -> Option<&Code>
         requires { number < length (methods_by_number self.now) }
-        ensures { option_copied result ≡ onto (onto (slice_get (methods_by_number self.now) number) (method_at self.now)) code_of }
+        ensures code { option_copied result ≡ onto (onto (slice_get (methods_by_number self.now) number) (method_at self.now)) code_of }
+        ensures small { IfSome result (λ code. length code.now.code < 65536) }
     {
+        self.is_resolved();
+        methods_have_code();
         self.method_at(self.method(number))?.code()
     }
 
@@ -257,6 +317,14 @@ impl Program {
             },
             None => Ok(Vec::new(alloc)),
         }
+    }
+
+    /// What the method of this number is apart from its code (4.3.3, 4.6).
+    pub fn shape(&self, number: u32) -> &MethodShape
+        requires { number < length (methods_by_number self.now) }
+        ensures { IsSomeAnd (slice_get (resolved self.now).methods number) (HasShape result.now) }
+    {
+        &self.shapes[number as usize]
     }
 
     /// How many fields there are.
@@ -279,6 +347,13 @@ impl Program {
         ensures { result ≡ field_number self.now place }
     {
         self.members.fields.number(place)
+    }
+
+    /// What the field at a place of a class's list of fields holds (4.3.2, 4.5).
+    pub fn field_type(&self, place: Place) -> Option<Declared>
+        ensures { option_map declared_seen result ≡ declared_at self.now place }
+    {
+        field_type_at(&self.held, place)
     }
 
     /// How many static fields there are.
@@ -356,5 +431,13 @@ impl Program {
         ensures { result.now ≡ strings_of self.now }
     {
         &self.mentioned.strings
+    }
+
+    /// What an entry of a class means; nothing where there is no such entry.
+    pub(crate) fn meaning(&self, class: u32, index: u32) -> Meaning
+        requires { class < length self.now }
+        ensures { (c : ClassFile) → slice_get self.now class ≡ Some c → meaning_seen result ≡ meaning_at self.now class c index }
+    {
+        meaning_at(self.entries[class as usize].as_slice(), index)
     }
 }

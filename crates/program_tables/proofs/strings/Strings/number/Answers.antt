@@ -9,10 +9,10 @@ found : (units : List ℕ) (texts : List (Vec ℕ Global)) (o : Option ℕ) → 
     → o ≡ index_of (same_text units) (map (λ v. v.items) texts)
 found units texts o h = h ∙ (position_is (λ v. same_text units v.items) texts ∙ index_of-map (same_text units) (λ v. v.items) texts)
 
-pub returns-in-Some : goal.returns-in-Some
-returns-in-Some c =
+pub returns-in-Some-clause-number : goal.returns-in-Some-clause-number
+returns-in-Some-clause-number c =
     sym c.in-Some.is ∙ (found c.args.units.now c.self.inside.texts.keys c.get_index_of.result c.get_index_of.ensures.index ∙ ap (index_of (same_text c.args.units.now)) c.self.view_is)
 
-pub returns-in-None : goal.returns-in-None
-returns-in-None c =
+pub returns-in-None-clause-number : goal.returns-in-None-clause-number
+returns-in-None-clause-number c =
     sym c.in-None.is ∙ (found c.args.units.now c.self.inside.texts.keys c.get_index_of.result c.get_index_of.ensures.index ∙ ap (index_of (same_text c.args.units.now)) c.self.view_is)
