@@ -1,0 +1,138 @@
+//! Fields that instructions name (JVM Specification SE 8, 5.4.3.2, 5.4.4, 6.5.getfield and the like).
+ghost use Rattle.std.specs.Prelude.{◌≡◌, ◌<◌, length, IfOk, Some};
+ghost use Rattle.class_lookup.specs.Parts.{signature_of};
+ghost use Rattle.class_lookup.specs.Lookup.{field_at};
+ghost use Rattle.program_tables.specs.Operands.{class_named};
+ghost use Rattle.program_tables.specs.Unresolved.{needs_static_field, writes_field};
+ghost use Rattle.unresolved_names.specs.Causes.{signature_seen};
+ghost use Rattle.unresolved_names.specs.Words.{field_reason, found_field_reason, nameable_entry, usable_field};
+
+use crate::access::{is_accessible_member, is_as_needed, is_free, is_writable_field};
+use crate::names::{class_in_entry, is_field_descriptor_there};
+use crate::parts::{Through, class_named, field_at};
+use class_hierarchy::{Hierarchy, Place};
+use class_lookup::parts::{has_flags, text_at};
+use class_pool::{ClassFile, Member};
+use jop_base::NoMemory;
+use program_tables::Why;
+use std::alloc::Global;
+
+fn needs_static_field(op: u8) -> bool
+    ensures { result ≡ needs_static_field op }
+{
+    op == 178 || op == 179
+}
+
+fn writes_field(op: u8) -> bool
+    ensures { result ≡ writes_field op }
+{
+    op == 179 || op == 181
+}
+
+/// Whether an instruction of the caller's method may use a field, which is named through a class.
+#[tactic(auto, using(crate::proofs::ReasonLemmas::field_used))]
+fn may_use_field(
+    classes: &Hierarchy,
+    caller: u32,
+    class: &ClassFile,
+    method: &Member,
+    op: u8,
+    index: u16,
+    through: Through,
+    place: Place,
+    field: &Member,
+) -> bool
+    requires caller { caller < length classes.now }
+    requires through { through.class < length classes.now }
+    requires named { class_named classes.now class.now index ≡ Some through.class }
+    requires may { through.may_be_named ≡ nameable_entry classes.now caller class.now index }
+    ensures { result ≡ usable_field classes.now caller class.now (signature_of class.now method.now) op index place field.now }
+{
+    let _ = index;
+    if is_free(classes.classes(), caller) {
+        return true;
+    }
+    if !through.may_be_named {
+        return false;
+    }
+    if !is_accessible_member(classes, caller, through.class, place.class, field) {
+        return false;
+    }
+    if !writes_field(op) {
+        return true;
+    }
+    is_writable_field(
+        caller,
+        place.class,
+        text_at(&class.pool, method.name),
+        field,
+    )
+}
+
+/// Why a field that is found isn't resolved.
+#[tactic(auto, using(crate::proofs::ReasonLemmas::field_judged))]
+fn why_field_found(
+    classes: &Hierarchy,
+    caller: u32,
+    class: &ClassFile,
+    method: &Member,
+    op: u8,
+    index: u16,
+    through: Through,
+    place: Place,
+) -> Option<Why>
+    requires caller { caller < length classes.now }
+    requires through { through.class < length classes.now }
+    requires named { class_named classes.now class.now index ≡ Some through.class }
+    requires may { through.may_be_named ≡ nameable_entry classes.now caller class.now index }
+    ensures { result ≡ found_field_reason classes.now caller class.now (signature_of class.now method.now) op index place (field_at classes.now place) }
+{
+    let Some(field) = field_at(classes.classes(), place) else {
+        return Some(Why::NoField);
+    };
+    if !may_use_field(
+        classes, caller, class, method, op, index, through, place, field,
+    ) {
+        Some(Why::NotAccessible)
+    } else if !is_as_needed(needs_static_field(op), has_flags(field.flags, 0x0008)) {
+        Some(Why::WrongKind)
+    } else {
+        None
+    }
+}
+
+/// Why the field isn't resolved that an instruction of the caller's method names through a Class entry, by its name and
+/// descriptor.
+#[tactic(auto, unfolding(crate::specs::Words::field_reason))]
+pub(crate) fn why_field(
+    alloc: Global,
+    classes: &Hierarchy,
+    caller: u32,
+    class: &ClassFile,
+    method: &Member,
+    op: u8,
+    index: u16,
+    name: &[u16],
+    descriptor: &[u16],
+) -> Result<Option<Why>, NoMemory>
+    requires { caller < length classes.now }
+    ensures { IfOk result (λ why. why ≡ field_reason classes.now caller class.now (signature_of class.now method.now) op index (signature_seen name.now descriptor.now)) }
+{
+    let named = class_in_entry(alloc, &class.pool, index)?;
+    if !named.is_there(classes.classes())
+        || !is_field_descriptor_there(alloc, classes.classes(), descriptor)?
+    {
+        return Ok(Some(Why::NoClass));
+    }
+    let Some(number) = class_named(classes.classes(), class, index) else {
+        return Ok(Some(Why::NoField));
+    };
+    let Some(place) = classes.find_field(number, name, descriptor) else {
+        return Ok(Some(Why::NoField));
+    };
+    let through = Through {
+        class: number,
+        may_be_named: named.may_be_named(classes.classes(), caller),
+    };
+    Ok(why_field_found(classes, caller, class, method, op, index, through, place))
+}

@@ -1,0 +1,280 @@
+//! Methods that instructions name (JVM Specification SE 8, 5.4.3.3, 5.4.3.4, 5.4.4, 6.5.invokevirtual and the like).
+ghost use Rattle.std.specs.Prelude.{◌≡◌, ◌<◌, ◌==◌, ◌||◌, not, length, IfOk, Some};
+ghost use Rattle.class_lookup.specs.Parts.{Signature, is_abstract, is_private};
+ghost use Rattle.class_lookup.specs.Lookup.{method_at};
+ghost use Rattle.class_lookup.specs.Selection.{is_method_with};
+ghost use Rattle.program_tables.specs.Operands.{class_named};
+ghost use Rattle.program_tables.specs.Unresolved.{calls_no_private, is_callable_name};
+ghost use Rattle.unresolved_names.specs.Causes.{signature_seen};
+ghost use Rattle.unresolved_names.specs.Words.{found_method_reason, method_reason, nameable_entry, right_method, rightly_named, rightly_special, usable_method};
+
+use crate::access::{is_accessible_member, is_as_needed, is_free};
+use crate::names::{class_in_entry, is_method_descriptor_there};
+use crate::parts::{Through, class_named, method_at};
+use class_hierarchy::{Hierarchy, Place};
+use class_lookup::Classes;
+use class_lookup::parts::has_flags;
+use class_pool::{ClassFile, Member};
+use descriptors::names::{is_class_initializer, is_instance_initializer};
+use jop_base::NoMemory;
+use program_tables::Why;
+use std::alloc::Global;
+
+/// Whether there is such a method, and it isn't abstract.
+fn is_not_abstract(classes: &Classes, place: Place) -> bool
+    ensures { result ≡ is_method_with (λ k. not (is_abstract k)) classes.now place }
+{
+    match method_at(classes, place) {
+        Some(method) => !has_flags(method.flags, 0x0400),
+        None => false,
+    }
+}
+
+/// Whether the caller may use a method, which is named through a class.
+#[tactic(auto, using(crate::proofs::ReasonLemmas::method_used))]
+fn may_use_method(
+    classes: &Hierarchy,
+    caller: u32,
+    class: &ClassFile,
+    index: u16,
+    through: Through,
+    place: Place,
+    method: &Member,
+) -> bool
+    requires caller { caller < length classes.now }
+    requires through { through.class < length classes.now }
+    requires named { class_named classes.now class.now index ≡ Some through.class }
+    requires may { through.may_be_named ≡ nameable_entry classes.now caller class.now index }
+    ensures { result ≡ usable_method classes.now caller class.now index place method.now }
+{
+    let _ = class;
+    let _ = index;
+    if is_free(classes.classes(), caller) {
+        return true;
+    }
+    if !through.may_be_named {
+        return false;
+    }
+    is_accessible_member(classes, caller, through.class, place.class, method)
+}
+
+/// Whether a method is named as one of an interface exactly where the class through which it is named is an interface.
+#[tactic(auto, unfolding(crate::specs::Words::rightly_named))]
+fn is_named_rightly(
+    classes: &Classes,
+    caller: u32,
+    class: &ClassFile,
+    of_interface: bool,
+    op: u8,
+    index: u16,
+    number: u32,
+) -> bool
+    requires below { number < length classes.now }
+    requires named { class_named classes.now class.now index ≡ Some number }
+    ensures { result ≡ rightly_named classes.now caller class.now of_interface op index }
+{
+    let _ = class;
+    let _ = index;
+    let through_interface = classes.is_interface(number);
+    if of_interface {
+        through_interface
+    } else {
+        (is_free(classes, caller) && op == 184) || !through_interface
+    }
+}
+
+/// Whether invokespecial may name the method, and runs one that isn't abstract.
+#[tactic(auto, unfolding(crate::specs::Words::rightly_special))]
+fn is_special(
+    classes: &Hierarchy,
+    caller: u32,
+    class: &ClassFile,
+    index: u16,
+    number: u32,
+    place: Place,
+) -> bool
+    requires caller { caller < length classes.now }
+    requires named { class_named classes.now class.now index ≡ Some number }
+    ensures { result ≡ rightly_special classes.now caller class.now index place }
+{
+    let _ = class;
+    let _ = index;
+    if !is_not_abstract(classes.classes(), place) {
+        return false;
+    }
+    match classes.special(caller, number, place) {
+        Some(taken) => is_not_abstract(classes.classes(), taken),
+        None => false,
+    }
+}
+
+/// Whether the instruction, invokevirtual or invokeinterface, names no private method.
+fn calls_no_private(op: u8) -> bool
+    ensures { result ≡ calls_no_private op }
+{
+    op == 182 || op == 185
+}
+
+/// Whether the method isn't private, where the instruction may name no private one.
+fn is_open_to_calls(op: u8, method: &Member) -> bool
+    ensures { result ≡ (not (calls_no_private op) || not (is_private method.now)) }
+{
+    !calls_no_private(op) || !has_flags(method.flags, 0x0002)
+}
+
+/// Whether the method is one for invokespecial, where this is the instruction.
+fn is_special_where_needed(
+    classes: &Hierarchy,
+    caller: u32,
+    class: &ClassFile,
+    op: u8,
+    index: u16,
+    number: u32,
+    place: Place,
+) -> bool
+    requires caller { caller < length classes.now }
+    requires named { class_named classes.now class.now index ≡ Some number }
+    ensures { result ≡ (not (op == 183) || rightly_special classes.now caller class.now index place) }
+{
+    op != 183 || is_special(classes, caller, class, index, number, place)
+}
+
+/// Whether an instruction may name a method of this name.
+fn is_callable_name(classes: &Classes, caller: u32, op: u8, name: &[u16]) -> bool
+    ensures { (s : Signature) → s.name ≡ name.now → result ≡ is_callable_name classes.now caller op s }
+{
+    (!is_instance_initializer(name) || op == 183)
+        && (!is_class_initializer(name) || is_free(classes, caller))
+}
+
+/// Whether the method is of the kind that the instruction needs.
+#[tactic(auto, using(crate::proofs::ReasonLemmas::right_kind))]
+fn is_right_method(
+    classes: &Hierarchy,
+    caller: u32,
+    class: &ClassFile,
+    of_interface: bool,
+    op: u8,
+    index: u16,
+    number: u32,
+    name: &[u16],
+    place: Place,
+    method: &Member,
+) -> bool
+    requires caller { caller < length classes.now }
+    requires below { number < length classes.now }
+    requires named { class_named classes.now class.now index ≡ Some number }
+    ensures { (s : Signature) → s.name ≡ name.now → result ≡ right_method classes.now caller class.now of_interface op index s place method.now }
+{
+    if !is_named_rightly(
+        classes.classes(),
+        caller,
+        class,
+        of_interface,
+        op,
+        index,
+        number,
+    ) {
+        return false;
+    }
+    if !is_as_needed(op == 184, has_flags(method.flags, 0x0008)) {
+        return false;
+    }
+    if !is_open_to_calls(op, method) {
+        return false;
+    }
+    if !is_special_where_needed(classes, caller, class, op, index, number, place) {
+        return false;
+    }
+    is_callable_name(classes.classes(), caller, op, name)
+}
+
+/// Why a method that is found isn't resolved.
+#[tactic(auto, using(crate::proofs::ReasonLemmas::method_judged))]
+fn why_method_found(
+    classes: &Hierarchy,
+    caller: u32,
+    class: &ClassFile,
+    of_interface: bool,
+    op: u8,
+    index: u16,
+    through: Through,
+    name: &[u16],
+    place: Place,
+) -> Option<Why>
+    requires caller { caller < length classes.now }
+    requires through { through.class < length classes.now }
+    requires named { class_named classes.now class.now index ≡ Some through.class }
+    requires may { through.may_be_named ≡ nameable_entry classes.now caller class.now index }
+    ensures { (s : Signature) → s.name ≡ name.now → result ≡ found_method_reason classes.now caller class.now of_interface op index s place (method_at classes.now place) }
+{
+    let Some(method) = method_at(classes.classes(), place) else {
+        return Some(Why::NoMethod);
+    };
+    if !may_use_method(classes, caller, class, index, through, place, method) {
+        return Some(Why::NotAccessible);
+    }
+    let number = through.class;
+    if is_right_method(
+        classes,
+        caller,
+        class,
+        of_interface,
+        op,
+        index,
+        number,
+        name,
+        place,
+        method,
+    ) {
+        None
+    } else {
+        Some(Why::WrongKind)
+    }
+}
+
+/// Why the method isn't resolved that an instruction of the caller names through a Class entry, by its name and descriptor;
+/// `of_interface` says whether it is named as a method of an interface.
+#[tactic(auto, unfolding(crate::specs::Words::method_reason))]
+pub(crate) fn why_method(
+    alloc: Global,
+    classes: &Hierarchy,
+    caller: u32,
+    class: &ClassFile,
+    of_interface: bool,
+    op: u8,
+    index: u16,
+    name: &[u16],
+    descriptor: &[u16],
+) -> Result<Option<Why>, NoMemory>
+    requires { caller < length classes.now }
+    ensures { IfOk result (λ why. why ≡ method_reason classes.now caller class.now of_interface op index (signature_seen name.now descriptor.now)) }
+{
+    let named = class_in_entry(alloc, &class.pool, index)?;
+    if !named.is_there(classes.classes())
+        || !is_method_descriptor_there(alloc, classes.classes(), descriptor)?
+    {
+        return Ok(Some(Why::NoClass));
+    }
+    let Some(number) = class_named(classes.classes(), class, index) else {
+        return Ok(Some(Why::NoMethod));
+    };
+    let Some(place) = classes.find_method(number, name, descriptor) else {
+        return Ok(Some(Why::NoMethod));
+    };
+    let through = Through {
+        class: number,
+        may_be_named: named.may_be_named(classes.classes(), caller),
+    };
+    Ok(why_method_found(
+        classes,
+        caller,
+        class,
+        of_interface,
+        op,
+        index,
+        through,
+        name,
+        place,
+    ))
+}
