@@ -1,0 +1,20 @@
+//! The core classes in a program (JVM Specification SE 8, chapter 5). The functions do nothing; a caller whose proof needs a law
+//! calls its function.
+ghost use Rattle.core_laws.specs.Laws.{CoreIsLinkable, CoreStandsFirst, CoreIsSupported};
+
+/// What the core classes name is resolved, and their places in the hierarchy are right, whichever classes stand behind them, if
+/// each of these has a name.
+pub fn core_is_linkable()
+    ensures { CoreIsLinkable }
+{}
+
+/// This machine supports all that stands in the core classes.
+pub fn core_is_supported()
+    ensures { CoreIsSupported }
+{}
+
+/// The core classes are those that the virtual machine knows, before other classes of which the last has the method that is run
+/// first.
+pub fn core_stands_first()
+    ensures { CoreStandsFirst }
+{}
