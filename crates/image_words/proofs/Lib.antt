@@ -4,3 +4,7 @@ pub mod Sizes
 pub mod Image
 pub mod Records
 pub mod Examples
+pub mod ListLemmas
+pub mod MemberLemmas
+pub mod TableLemmas
+pub mod FillLemmas

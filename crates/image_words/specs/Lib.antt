@@ -5,3 +5,4 @@ pub mod Regions
 pub mod Limits
 pub mod Laws
 pub mod Example
+pub mod Tables
