@@ -1,5 +1,5 @@
--- What the machine does from an instruction on, by where it then stands.
-use Rattle.std.proofs.Common.{◌≡◌, ◌≢◌, ℕ, ◌+◌, ◌≤◌, true, List, [], ◌∷◌, ◌++◌, length, Option, Some, refl, sym, ◌∙◌, ap, subst, arith, append-nil, length-append, ◌⊎◌, inl, inr}
+-- What the machine does from an instruction or a raise on, by where it then stands.
+use Rattle.std.proofs.Common.{◌≡◌, ◌≢◌, ℕ, ◌+◌, ◌≤◌, List, [], ◌∷◌, ◌++◌, length, Option, Some, refl, sym, ◌∙◌, ap, subst, arith, append-nil, length-append, ◌⊎◌, inl, inr}
 use Rattle.std.proofs.lemmas.List.{append_cancel_left}
 use Rattle.micro_flow.specs.Closed.{RaiseApart}
 use Rattle.microcode_rom.specs.declared.TheConstants.{RAISE}
@@ -13,22 +13,20 @@ use Rattle.jop_device.specs.Told.{Told, GivesEach}
 use Rattle.micro_sketch.specs.Ends.{AreGiven}
 use Rattle.micro_sketch.specs.Step.{Ran, Arrived, Broke}
 use Rattle.micro_sketch.specs.StepLaws.{AreRunLaws}
-use Rattle.bytecode_model.specs.declared.Ending.{Ending}
-use Rattle.bytecode_model.specs.declared.Ending.TheVariants.{Running, Raising, Ended, Uncaught}
+use Rattle.bytecode_typing.specs.Fits.{IsGoing}
 use Rattle.bytecode_model.specs.State.{State}
 use Rattle.bytecode_model.specs.Steps.{step}
 use Rattle.bytecode_model.specs.WellFormed.{IsAnswer}
 use Rattle.machine_stands.specs.StandsFor.{StandsFor}
 use Rattle.boundary.specs.declared.answer.Boundary.TheVariants as answers
-use Rattle.boundary.specs.Answers.{answer_of}
-use Rattle.boundary.specs.Families.{is_built}
+use Rattle.boundary.specs.Answers.{answer_of, answer_at_end}
 use Rattle.boundary.specs.Setting.{Setting, limits, IsSetting, Stands}
-use Rattle.boundary.specs.Session.{IsAtStep}
+use Rattle.boundary.specs.Session.{IsAtStep, HasEnded, EndsWith}
 use Rattle.boundary.specs.Advances.{Advances, Reaches, AfterStep, FailsToRead, FailsToWrite, FailsToShow}
 use Rattle.boundary.specs.StageLaws.{NextStage, StagesAdvance, StagesAgree}
-use Rattle.boundary.proofs.Obeys.{Sort, Plain, Takes, Puts, Obeys, IsCaught, StepSort, step_sort}
+use Rattle.boundary.proofs.Obeys.{Sort, Plain, Takes, Puts, Obeys, StepSort, step_sort}
 use Rattle.boundary.proofs.Landings.{comes_lands, arrived_lands, meets, Within, same_landing, broke_within}
-use Rattle.boundary.proofs.Stages.{some_in, at_mode, apart_at, running_here, first_given, taken_of}
+use Rattle.boundary.proofs.Stages.{some_in, goes_alike, running_here, raising_here, first_given, taken_of}
 
 are_given : (old new : Option (List ℕ)) (answers : List (Option ℕ)) → GivesEach old new answers → AreGiven answers
 are_given old new [] h = tt
@@ -72,30 +70,28 @@ given_first taken (x ∷ y ∷ ys) (inr one) few = absurd (omega (arith, ap (λ 
 
 -- ---- the machine
 
-module _ (advance : StagesAdvance) (agree : StagesAgree) (runs : AreRunLaws) (apart : RaiseApart) (old : machine.State) (here : IsAtStep old) (built : is_built old.opcode ≡ true) (g : Setting) (s : State) (is : IsSetting g) (st : Stands g old s) where
-  mode_is : s.mode ≡ Running
-  mode_is = agree old here g s is st
+module _ (advance : StagesAdvance) (agree : StagesAgree) (runs : AreRunLaws) (apart : RaiseApart) (old : machine.State) (here : IsAtStep old) (g : Setting) (s : State) (is : IsSetting g) (st : Stands g old s) where
+  going : IsGoing s.mode
+  going = goes_alike s.mode here.state.mode (agree old here g s is st) here.going
 
   -- ---- at a boundary
 
   pub record Arrival (new : machine.State) (t0 t1 : Told) : Type 0 where
     pub advances : Advances g s old new t0 t1
-    pub caught : IsCaught advances.next.mode
     pub stands : StandsFor g.program g.places g.chip g.memory new advances.next
 
   pub arrival : (new : machine.State) (t0 t1 : Told) → Arrived old new t0 t1 → Arrival new t0 t1
   arrival new t0 t1 a =
       let answer = first_of a.answers in
       let byte = first_given a.answers (are_given t0.left t1.left a.answers a.ran.device.left) in
-      let n = advance g old s is st mode_is built answer byte in
+      let n = advance g old s is st going answer byte in
       let c = n.comes in
-      let same = same_landing runs old c.new new c.answers a.answers c.cycles a.cycles (comes_lands g.program g.places g.chip g.memory old s n.next c) (arrived_lands old new t0 t1 a) (meets c.answers a.answers (taken_of g old s answer mode_is n)) in
+      let same = same_landing runs old c.new new c.answers a.answers c.cycles a.cycles (comes_lands g.program g.places g.chip g.memory old s n.next c) (arrived_lands old new t0 t1 a) (meets c.answers a.answers (taken_of g old s answer going n)) in
       let A : List (Option ℕ) → Type 0 = λ xs. Ran a.cycles old new t0 t1 xs in
       let C : ℕ → Type 0 = λ k. Ran k old new t0 t1 c.answers in
       let S : machine.State → Type 0 = λ m. StandsFor g.program g.places g.chip g.memory m n.next in
       record {
         advances = record { answer = answer; byte = byte; next = n.next; is_next = n.is_next; fits = n.fits; comes = c; answer_is = ap first_of (sym same.answers_are); new_is = same.new_is; ran = subst C (sym same.cycles_are) (subst A (sym same.answers_are) a.ran) };
-        caught = ((step_sort g.program (limits g) s mode_is).obeys answer n.next n.is_next).1;
         stands = subst S same.new_is c.stands;
       }
 
@@ -107,26 +103,18 @@ module _ (advance : StagesAdvance) (agree : StagesAgree) (runs : AreRunLaws) (ap
   pub raise_reached : (new : machine.State) (t0 t1 : Told) → Arrived old new t0 t1 → new.halt ≡ halts.Running → new.mpc ≡ RAISE → Reaches g s old new t0 t1 answers.Raise
   raise_reached new t0 t1 a running at_raise =
       let r = arrival new t0 t1 a in
-      let t = r.advances.next in
-      let by_mode : (mode : Ending) → t.mode ≡ mode → answer_of t.mode ≡ answers.Raise = λ mode e. raises t r.stands mode e in
-      (r.advances, by_mode t.mode refl)
-    where
-      raises : (t : State) (stands : StandsFor g.program g.places g.chip g.memory new t) (mode : Ending) → t.mode ≡ mode → answer_of t.mode ≡ answers.Raise
-      raises t stands Running e = absurd (apart_at apart g new t is stands e at_raise)
-      raises t stands (Raising p) e = ap answer_of e
-      raises t stands Ended e = let clash : halts.Ended ≡ halts.Running = sym (at_mode g.program g.places new t stands.top stands.body Ended e stands.at) ∙ running in absurd (cc)
-      raises t stands (Uncaught c) e = let clash : halts.Uncaught ≡ halts.Running = sym (at_mode g.program g.places new t stands.top stands.body (Uncaught c) e stands.at).halted ∙ running in absurd (cc)
+      (r.advances, raising_here apart g new r.advances.next is running at_raise r.stands r.advances.next.mode refl)
 
-  pub end_reached : (new : machine.State) (t0 t1 : Told) → Arrived old new t0 t1 → new.halt ≢ halts.Running → Reaches g s old new t0 t1 answers.Halted
-  end_reached new t0 t1 a halted =
+  -- each state for which the machine stands that has halted has ended so
+  pub end_reached : (new : machine.State) (t0 t1 : Told) (class : Option ℕ) → Arrived old new t0 t1 → EndsWith new class → (r : Advances g s old new t0 t1) × (answer_of r.next.mode ≡ answer_at_end class)
+  end_reached new t0 t1 class a ends =
       let r = arrival new t0 t1 a in
-      (r.advances, ends r.advances.next r.stands r.caught r.advances.next.mode refl)
-    where
-      ends : (t : State) (stands : StandsFor g.program g.places g.chip g.memory new t) → IsCaught t.mode → (mode : Ending) → t.mode ≡ mode → answer_of t.mode ≡ answers.Halted
-      ends t stands caught Running e = absurd (halted (at_mode g.program g.places new t stands.top stands.body Running e stands.at).running)
-      ends t stands caught (Raising p) e = absurd (halted (at_mode g.program g.places new t stands.top stands.body (Raising p) e stands.at).running)
-      ends t stands caught Ended e = ap answer_of e
-      ends t stands caught (Uncaught c) e = absurd (subst IsCaught e caught)
+      (r.advances, ends g r.advances.next is (record { stands = r.stands; fits = r.advances.fits }))
+
+  pub has_ended : (new : machine.State) (t0 t1 : Told) → Arrived old new t0 t1 → new.halt ≢ halts.Running → HasEnded new
+  has_ended new t0 t1 a halted =
+      let r = arrival new t0 t1 a in
+      record { setting = g; is_setting = is; state = r.advances.next; stands = record { stands = r.stands; fits = r.advances.fits }; halted = halted }
 
   -- ---- where a call on the device failed
 
@@ -140,12 +128,12 @@ module _ (advance : StagesAdvance) (agree : StagesAgree) (runs : AreRunLaws) (ap
   break_off new t0 t1 tick b =
       let answer = first_of b.answers in
       let byte = first_given b.answers (are_given t0.left b.before.left b.answers b.ran.device.left) in
-      let n = advance g old s is st mode_is built answer byte in
+      let n = advance g old s is st going answer byte in
       let c = n.comes in
       record {
         byte = byte;
         next = n;
-        within = broke_within runs old c.new new t0 t1 tick c.answers c.cycles b (comes_lands g.program g.places g.chip g.memory old s n.next c) (meets c.answers b.answers (taken_of g old s answer mode_is n));
+        within = broke_within runs old c.new new t0 t1 tick c.answers c.cycles b (comes_lands g.program g.places g.chip g.memory old s n.next c) (meets c.answers b.answers (taken_of g old s answer going n));
       }
 
   -- what the step puts out on the whole way
@@ -160,23 +148,23 @@ module _ (advance : StagesAdvance) (agree : StagesAgree) (runs : AreRunLaws) (ap
 
   after_each : (K : Option ℕ → State → Type 0) → ((answer : Option ℕ) (t : State) → step g.program (limits g) answer s ≡ Some t → K answer t) → AfterStep g s K
   after_each K each answer byte =
-      let n = advance g old s is st mode_is built answer byte in
+      let n = advance g old s is st going answer byte in
       some_in (step g.program (limits g) answer s) n.next (K answer) n.is_next (each answer n.next n.is_next)
 
   nothing_put : (new : machine.State) (t0 t1 : Told) (tick : Tick) (b : Broke old new t0 t1 tick) → b.answers ≡ [] → output_during b.cycles (begun old b.answers) ≡ [] → output_during b.cycles (begun old []) ≡ []
   nothing_put new t0 t1 tick b none put = ap (λ (xs : List (Option ℕ)). output_during b.cycles (begun old xs)) (sym none) ∙ put
 
   pub write_failed : (new : machine.State) (t0 t1 : Told) → Broke old new t0 t1 ticks.WriteFault → FailsToWrite g s old new t0 t1
-  write_failed new t0 t1 b = by_sort (step_sort g.program (limits g) s mode_is) (break_off new t0 t1 ticks.WriteFault b)
+  write_failed new t0 t1 b = by_sort (step_sort g.program (limits g) s going) (break_off new t0 t1 ticks.WriteFault b)
     where
       silent : (r : Break new t0 t1 ticks.WriteFault b) → r.next.next.output ≡ s.output → FailsToWrite g s old new t0 t1
       silent r h = absurd (b.tried.4 (no_part _ (output_of new) r.within.rest (sym (no_output (first_of b.answers) r.next h) ∙ r.within.output)).1)
 
-      on : (sort : Sort) → ((answer : Option ℕ) (t : State) → step g.program (limits g) answer s ≡ Some t → Obeys sort answer s t × IsCaught t.mode) → (r : Break new t0 t1 ticks.WriteFault b) → FailsToWrite g s old new t0 t1
-      on Plain obeys r = silent r (obeys (first_of b.answers) r.next.next r.next.is_next).0.1
-      on Takes obeys r = silent r (obeys (first_of b.answers) r.next.next r.next.is_next).0.1
+      on : (sort : Sort) → ((answer : Option ℕ) (t : State) → step g.program (limits g) answer s ≡ Some t → Obeys sort answer s t) → (r : Break new t0 t1 ticks.WriteFault b) → FailsToWrite g s old new t0 t1
+      on Plain obeys r = silent r (obeys (first_of b.answers) r.next.next r.next.is_next).1
+      on Takes obeys r = silent r (obeys (first_of b.answers) r.next.next r.next.is_next).1
       on (Puts byte) obeys r =
-          let did = (obeys (first_of b.answers) r.next.next r.next.is_next).0 in
+          let did = obeys (first_of b.answers) r.next.next r.next.is_next in
           let whole = whole_output (first_of b.answers) r.next (byte ∷ []) did.1 in
           let middle = middle_is byte _ (output_of new) r.within.rest (sym whole ∙ r.within.output) b.tried.4 in
           let taken = no_answers (first_of b.answers) r.next did.0 in
@@ -185,30 +173,30 @@ module _ (advance : StagesAdvance) (agree : StagesAgree) (runs : AreRunLaws) (ap
             broke = b;
             answers = none;
             output = nothing_put new t0 t1 ticks.WriteFault b none middle.none;
-            puts = after_each (λ answer t. t.output ≡ s.output ++ output_of new) (λ answer t h. (obeys answer t h).0.1 ∙ ap (λ (out : List ℕ). s.output ++ out) (sym middle.is));
+            puts = after_each (λ answer t. t.output ≡ s.output ++ output_of new) (λ answer t h. (obeys answer t h).1 ∙ ap (λ (out : List ℕ). s.output ++ out) (sym middle.is));
           }
 
       by_sort : StepSort g.program (limits g) s → Break new t0 t1 ticks.WriteFault b → FailsToWrite g s old new t0 t1
       by_sort sort r = on sort.sort sort.obeys r
 
   pub read_failed : (new : machine.State) (t0 t1 : Told) → Broke old new t0 t1 ticks.ReadFault → FailsToRead g s old new t0 t1
-  read_failed new t0 t1 b = by_sort (step_sort g.program (limits g) s mode_is) (break_off new t0 t1 ticks.ReadFault b)
+  read_failed new t0 t1 b = by_sort (step_sort g.program (limits g) s going) (break_off new t0 t1 ticks.ReadFault b)
     where
       unasked : (r : Break new t0 t1 ticks.ReadFault b) → r.next.next.answers ≡ s.answers → FailsToRead g s old new t0 t1
       unasked r h = absurd (omega (arith, r.within.asks b.tried.4, ap (λ (xs : List (Option ℕ)). length xs) (no_answers (first_of b.answers) r.next h)))
 
-      on : (sort : Sort) → ((answer : Option ℕ) (t : State) → step g.program (limits g) answer s ≡ Some t → Obeys sort answer s t × IsCaught t.mode) → (r : Break new t0 t1 ticks.ReadFault b) → FailsToRead g s old new t0 t1
-      on Plain obeys r = unasked r (obeys (first_of b.answers) r.next.next r.next.is_next).0.0
-      on (Puts byte) obeys r = unasked r (obeys (first_of b.answers) r.next.next r.next.is_next).0.0
+      on : (sort : Sort) → ((answer : Option ℕ) (t : State) → step g.program (limits g) answer s ≡ Some t → Obeys sort answer s t) → (r : Break new t0 t1 ticks.ReadFault b) → FailsToRead g s old new t0 t1
+      on Plain obeys r = unasked r (obeys (first_of b.answers) r.next.next r.next.is_next).0
+      on (Puts byte) obeys r = unasked r (obeys (first_of b.answers) r.next.next r.next.is_next).0
       on Takes obeys r =
-          let did = (obeys (first_of b.answers) r.next.next r.next.is_next).0 in
+          let did = obeys (first_of b.answers) r.next.next r.next.is_next in
           let taken : r.next.comes.answers ≡ first_of b.answers ∷ [] = append_cancel_left s.answers r.next.comes.answers (first_of b.answers ∷ []) (sym r.next.comes.took ∙ did.0) in
           let none : b.answers ≡ [] = empty b.answers (omega (arith, r.within.asks b.tried.4, ap (λ (xs : List (Option ℕ)). length xs) taken)) in
           record {
             broke = b;
             answers = none;
             output = nothing_put new t0 t1 ticks.ReadFault b none (no_part _ (output_of new) r.within.rest (sym (no_output (first_of b.answers) r.next did.1) ∙ r.within.output)).0;
-            takes = after_each (λ answer t. t.answers ≡ s.answers ++ answer ∷ []) (λ answer t h. (obeys answer t h).0.0);
+            takes = after_each (λ answer t. t.answers ≡ s.answers ++ answer ∷ []) (λ answer t h. (obeys answer t h).0);
           }
 
       by_sort : StepSort g.program (limits g) s → Break new t0 t1 ticks.ReadFault b → FailsToRead g s old new t0 t1
@@ -218,7 +206,7 @@ module _ (advance : StagesAdvance) (agree : StagesAgree) (runs : AreRunLaws) (ap
   show_failed new t0 t1 b =
       let r = break_off new t0 t1 ticks.SeenFault b in
       let n = r.next in
-      let (other, is_taken) = given_first n.comes.answers b.answers (taken_of g old s (first_of b.answers) mode_is n) r.within.fewer in
+      let (other, is_taken) = given_first n.comes.answers b.answers (taken_of g old s (first_of b.answers) going n) r.within.fewer in
       record {
         broke = b;
         part = record {

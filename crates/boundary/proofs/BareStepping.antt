@@ -1,6 +1,6 @@
 -- Steps of bare images.
 use Rattle.std.proofs.Common.{◌≡◌, ℕ, zero, suc, Bool, true, false, ℤ, List, [], ◌∷◌, length, Option, Some, None, refl, sym, ◌∙◌, ap, subst, ◌⊎◌, inl, inr, ⊎_elim}
-use Rattle.std.specs.Prelude.{IsSomeAnd, slice_get}
+use Rattle.std.specs.Prelude.{slice_get}
 use Rattle.bare_image.specs.Bare.{Image}
 use Rattle.jop_opcodes.specs.Bytes.{u1}
 use Rattle.jop_opcodes.specs.Start.{IsStart}
@@ -9,17 +9,16 @@ use Rattle.bytecode_model.specs.declared.Value.TheVariants.{Int, Long, Ref, Null
 use Rattle.bytecode_model.specs.declared.Ending.{Ending}
 use Rattle.bytecode_model.specs.declared.Ending.TheVariants.{Running, Raising, Ended, Uncaught}
 use Rattle.bytecode_model.specs.Lists.{onto}
-use Rattle.bytecode_model.specs.Types.{NumberType, IntType, LongType, OfClass, is_moved}
+use Rattle.bytecode_model.specs.Types.{NumberType, IntType, LongType, is_moved}
 use Rattle.bytecode_model.specs.State.{Frame, State}
-use Rattle.bytecode_model.specs.Program.{Program, Limits, Body, body_of, is_of, throwable_class}
+use Rattle.bytecode_model.specs.Program.{Program, Limits, Body, body_of}
 use Rattle.bytecode_model.specs.Rows as rows
 use Rattle.bytecode_model.specs.Rows.{Row, Takes}
 use Rattle.bytecode_model.specs.Effects.{Effect, Stuck, Go, Make, WritePart, WriteStatic, Take, Give, Call, Leave, Raise, Fault, ArithmeticException, fault_object, effect, on, or_fault, only_if, on_top, on_number, on_numbers, number, shuffle, stored}
 use Rattle.bytecode_model.specs.Steps.{step, step_in, applied, row_at, row_in}
 use Rattle.bytecode_model.specs.WellFormed as formed
-use Rattle.bytecode_typing.specs.Tests.{Holds}
 use Rattle.bytecode_typing.specs.Typed.{IsQuiet}
-use Rattle.bytecode_typing.specs.Fits.{Fits, IsGoing, FramesFit, IsThrowable, numbers_of}
+use Rattle.bytecode_typing.specs.Fits.{Fits, IsGoing, FramesFit, numbers_of}
 use Rattle.bytecode_typing.specs.Laws.{TypedProgramsKeep, FittingStatesAreWellFormed}
 use Rattle.machine_stands.specs.Bare as bare
 use Rattle.boundary.specs.BareLaws.{top_frame, opcode_of, BareImagesStep}
@@ -28,7 +27,7 @@ use Rattle.boundary.specs.Setting.{limits, bare_setting}
 use Rattle.boundary.proofs.Obeys.{Plain, Obeys, IsCaught, sort_of, applied_obeys, onto_some}
 use Rattle.boundary.proofs.BareRows.{IsSilent}
 use Rattle.boundary.proofs.BareWalk.{bare_at}
-use Rattle.boundary.proofs.Stages.{some_at}
+use Rattle.boundary.proofs.Stages.{some_at, none_raised}
 
 -- ---- effects of which something holds that holds where an instruction is stuck or raises
 
@@ -125,19 +124,10 @@ no_answer (Raise p) answer s t h o = o.0
 -- ---- states of bare images
 
 -- no object is raised, since there is none
-none_thrown : (image : Image) (ks : List ℕ) (p : ℕ) → IsThrowable (bare.program_of image) ks p → ⊥
-none_thrown image ks p h = by_get (slice_get ks p) h
-  where
-    by_get : (o : Option ℕ) → IsSomeAnd (onto o (λ t. slice_get (bare.program_of image).types t)) (λ k. Holds (is_of (bare.program_of image) k (OfClass throwable_class))) → ⊥
-    by_get None h = h
-    by_get (Some t) h = h
-
 pub not_raising : (image : Image) (n size : ℕ) (s : State) (p : ℕ) → s.mode ≡ Raising p → Fits (bare_setting image n size).program (bare_setting image n size).types (limits (bare_setting image n size)) s → ⊥
-not_raising image n size s p mode fits = by_frames s.frames (subst (λ md. FramesFit (bare_setting image n size).program (bare_setting image n size).types (numbers_of s.objects) md s.frames) mode fits.frames)
-  where
-    by_frames : (fs : List Frame) → FramesFit (bare_setting image n size).program (bare_setting image n size).types (numbers_of s.objects) (Raising p) fs → ⊥
-    by_frames [] h = h
-    by_frames (f ∷ fs) h = none_thrown image (numbers_of s.objects) p h.0.2
+not_raising image n size s p mode fits =
+    let g = bare_setting image n size in
+    none_raised image g.program refl g.types (numbers_of s.objects) p s.frames (subst (λ md. FramesFit g.program g.types (numbers_of s.objects) md s.frames) mode fits.frames)
 
 pub method_zero : (image : Image) (k : ℕ) (b : Body) → body_of (bare.program_of image) k ≡ Some b → (k ≡ 0) × (b ≡ bare.body_of image)
 method_zero image zero b h = (refl, cc)

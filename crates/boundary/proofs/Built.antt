@@ -1,28 +1,26 @@
 -- The opcodes that are built.
-use Rattle.std.proofs.Common.{◌≡◌, ℕ, ◌<◌, Bool, true, false, ◌||◌, ◌&&◌, not, List, map, get_or, length, refl, sym, ◌∙◌, ap, subst, arith, ◌⊎◌, inl, inr}
-use Rattle.std.specs.Prelude.{slice_index_or}
+use Rattle.std.proofs.Common.{◌≡◌, ℕ, ◌<◌, Bool, true, false, ◌||◌, ◌&&◌, not, List, map, get_or, refl, sym, ◌∙◌, ap, arith, ◌⊎◌, inl, inr, ⊎_elim}
+use Rattle.std.specs.Prelude.{Ok, Some, None}
 use Rattle.std.specs.List.{range_with_len}
 use Rattle.std.proofs.lemmas.List.FromFn.{get_or-map-range_with_len}
-use Rattle.bytecode_model.specs.declared.Ending.TheVariants.{Running}
 use Rattle.machine_stands.specs.Comes.{ComesTo}
-use Rattle.machine_stands.specs.Simulates.{Simulates, is_bare}
+use Rattle.machine_stands.specs.Simulates.{Simulates}
 use Rattle.value_steps.specs.Family.{moves_values}
 use Rattle.number_steps.specs.Laws.{computes_numbers}
 use Rattle.micro_calls.specs.Family.{calls_by_receiver, calls_or_returns, throws}
 use Rattle.micro_objects.specs.Family.{is_device}
 use Rattle.heap_steps.specs.Family.{is_of_array, is_of_field}
 use Rattle.object_steps.specs.Family.{allocates, is_monitor, tests_types}
+use Rattle.jop_opcodes.specs.declared.instruction.Instr.{Instr}
 use Rattle.jop_opcodes.specs.Bytes.{u1}
-use Rattle.jop_opcodes.specs.Start.{IsStart}
-use Rattle.bytecode_model.specs.Program.{Body, body_of}
-use Rattle.bytecode_model.specs.WellFormed as formed
-use Rattle.bytecode_typing.specs.Laws.{FittingStatesAreWellFormed}
-use Rattle.boundary.specs.BareLaws.{BareOpcodes, BareImagesAreBuilt}
-use Rattle.boundary.specs.Laws.{BareImagesArePrograms}
-use Rattle.boundary.specs.Setting.{limits, bare_setting}
-use Rattle.boundary.proofs.BareStepping.{method_zero}
-use Rattle.boundary.proofs.Stages.{some_at, at_mode}
-use Rattle.boundary.specs.declared.family.TheConstants.{BUILT}
+use Rattle.jop_opcodes.specs.Form.{Form, NotAnOpcode, Fixed, Widened, TableSwitch, LookupSwitch, Wide}
+use Rattle.jop_opcodes.specs.Row as opcodes
+use Rattle.jop_opcodes.specs.Instruction.{decoded}
+use Rattle.jop_opcodes.specs.Reading.{IsOfForm, InstructionsAreOfTheirForm}
+use Rattle.bytecode_model.specs.Program.{Operand}
+use Rattle.bytecode_model.specs.Rows.{Row}
+use Rattle.bytecode_model.specs.Table.{row_of}
+use Rattle.bytecode_model.specs.Supported.{is_supported, RowsAreOfTheirOpcodes}
 use Rattle.boundary.specs.Families.{is_built}
 
 -- tests that agree on each byte
@@ -30,16 +28,6 @@ on_bytes : (f g : ℕ → Bool) → map f (range_with_len 0 256) ≡ map g (rang
 on_bytes f g same op h =
     sym (get_or-map-range_with_len f 0 256 op op false h (omega arith)) ∙ ap (λ (list : List Bool). get_or list op false) same
     ∙ get_or-map-range_with_len g 0 256 op op false h (omega arith)
-
-abbrev listed : ℕ → Bool
-listed op = slice_index_or BUILT op false
-
-table_is : map listed (range_with_len 0 256) ≡ map is_built (range_with_len 0 256)
-unfolding is_built
-table_is = refl
-
-pub listed_is : (op : ℕ) → op < 256 → slice_index_or BUILT op false ≡ is_built op
-listed_is op h = on_bytes listed is_built table_is op h
 
 -- ---- one law for all families
 
@@ -110,27 +98,44 @@ all_simulate laws =
     let tests = either_simulates with_made tests_types made laws.tests in
     either_simulates with_tests is_monitor tests laws.monitors
 
--- ---- bare images
-
-bare_is_built : map (λ op. is_bare op && not (is_built op)) (range_with_len 0 256) ≡ map (λ op. false) (range_with_len 0 256)
-unfolding is_built
-bare_is_built = refl
+-- ---- an instruction that has a row has an opcode of a family
 
 one_and_not : (a b : Bool) → a ≡ true → (a && not b) ≡ false → b ≡ true
 one_and_not true true h g = refl
 one_and_not true false h g = absurd (cc)
 one_and_not false b h g = absurd (cc)
 
-pub images_are_built : BareImagesArePrograms → FittingStatesAreWellFormed → BareOpcodes → BareImagesAreBuilt
-images_are_built programs well opcodes image n size m s grammar stage mode =
-    let g = bare_setting image n size in
-    let st = stage.stands in
-    let here = well g.program g.types (limits g) (programs image n size grammar).typed s stage.fits in
-    let at = at_mode g.program g.places m s st.top st.body Running mode st.at in
-    let frames = subst (λ fs. formed.AreFrames g.program (length s.objects) fs) st.frames here.frames in
-    let frame = some_at (body_of g.program st.top.method) st.body (formed.IsFrame g.program (length s.objects) st.top) st.is_body frames.0 in
-    let code : st.body.code ≡ image.code = ap (λ (b : Body). b.code) (method_zero image st.top.method st.body st.is_body).1 in
-    let start : IsStart image.code st.top.pc = subst (λ c. IsStart c st.top.pc) code frame.start in
-    let opcode : m.opcode ≡ u1 image.code st.top.pc = at.opcode ∙ ap (λ c. u1 c st.top.pc) code in
-    let bare : is_bare m.opcode ≡ true = ap is_bare opcode ∙ opcodes image grammar st.top.pc start in
-    one_and_not (is_bare m.opcode) (is_built m.opcode) bare (on_bytes (λ op. is_bare op && not (is_built op)) (λ op. false) bare_is_built m.opcode (omega (arith, opcode, grammar.bytes st.top.pc)))
+supported_are_built : map (λ op. is_supported op && not (is_built op)) (range_with_len 0 256) ≡ map (λ op. false) (range_with_len 0 256)
+unfolding is_built
+supported_are_built = refl
+
+abbrev is_wide : Form → Bool
+is_wide Wide = true
+is_wide form = false
+
+wide_is_built : map (λ op. is_wide (opcodes.row_of op).form && not (is_built op)) (range_with_len 0 256) ≡ map (λ op. false) (range_with_len 0 256)
+unfolding is_built opcodes.row_of
+wide_is_built = refl
+
+is_supported_at : RowsAreOfTheirOpcodes → (op : ℕ) → op < 256 → (code : List ℕ) (i : Instr) (operand : Operand) (r : Row) → i.op ≡ op → row_of code i operand ≡ Some r → is_supported op ≡ true
+is_supported_at rows op small code i operand r is row = by_test (is_supported op) refl
+  where
+    by_test : (b : Bool) → is_supported op ≡ b → is_supported op ≡ true
+    by_test true e = e
+    by_test false e = let clash : None ≡ Some r = sym ((rows.rows op small).unsupported e code i operand is) ∙ row in absurd (cc)
+
+own_opcode : (form : Form) (op : ℕ) (code : List ℕ) (pc : ℕ) (i : Instr) → IsOfForm form op code pc i → (i.op ≡ op) ⊎ (is_wide form ≡ true)
+own_opcode NotAnOpcode op code pc i h = absurd h
+own_opcode (Fixed o) op code pc i h = inl (ap (λ (j : Instr). j.op) h)
+own_opcode (Widened o w) op code pc i h = inl (ap (λ (j : Instr). j.op) h)
+own_opcode TableSwitch op code pc i h = inl (ap (λ (j : Instr). j.op) h)
+own_opcode LookupSwitch op code pc i h = inl (ap (λ (j : Instr). j.op) h)
+own_opcode Wide op code pc i h = inr refl
+
+pub opcode_is_built : RowsAreOfTheirOpcodes → InstructionsAreOfTheirForm → (code : List ℕ) (pc op : ℕ) (i : Instr) (operand : Operand) (r : Row) → u1 code pc ≡ op → op < 256 → decoded code pc ≡ Ok i → row_of code i operand ≡ Some r
+    → is_built op ≡ true
+opcode_is_built rows forms code pc op i operand r at byte whole row =
+    ⊎_elim
+    (λ own. one_and_not (is_supported op) (is_built op) (is_supported_at rows op byte code i operand r own row) (on_bytes (λ op. is_supported op && not (is_built op)) (λ op. false) supported_are_built op byte))
+    (λ wide. one_and_not (is_wide (opcodes.row_of op).form) (is_built op) wide (on_bytes (λ op. is_wide (opcodes.row_of op).form && not (is_built op)) (λ op. false) wide_is_built op byte))
+    (own_opcode (opcodes.row_of op).form op code pc i (forms code pc op (opcodes.row_of op).form i whole at refl))

@@ -1,11 +1,12 @@
--- From an opcode that is built a boundary comes soon.
-use Rattle.std.proofs.Common.{◌≡◌, ℕ, zero, suc, ◌+◌, ◌-◌, ◌^◌, ◌<◌, ◌≤◌, Bool, true, false, List, [], ◌∷◌, ◌++◌, length, Option, Some, None, Result, Ok, Err, refl, sym, ◌∙◌, ap, subst, arith, append-nil, ◌⊎◌, inl, inr, ⊎_elim}
-use Rattle.std.specs.Prelude.{IfSome, IsSomeAnd, nat_le, nat_lt, if◌then◌else◌}
+-- The next boundary comes soon.
+use Rattle.std.proofs.Common.{◌≡◌, ℕ, zero, suc, ◌+◌, ◌-◌, ◌^◌, ◌<◌, ◌≤◌, Bool, true, false, List, [], ◌∷◌, ◌++◌, length, Option, Some, None, Result, Ok, Err, refl, sym, ◌∙◌, ap, subst, arith, append-nil, length-append, ◌⊎◌, inl, inr, ⊎_elim}
+use Rattle.std.specs.Prelude.{IfSome, IsSomeAnd, nat_le, nat_lt, if◌then◌else◌, slice_get}
+use Rattle.std.specs.List.{flat_map}
 use Rattle.std.proofs.Math.Nat.{mul-le-mul}
 use Rattle.core_words.specs.Packed.{words_for, words_of_bytes, PackedHasWords}
 use Rattle.method_cache.specs.Contents.{is_cached}
 use Rattle.micro_flow.specs.Walk.{IsCost}
-use Rattle.micro_flow.specs.Costs.{CostsAreSmall}
+use Rattle.micro_flow.specs.Costs.{CostsAreSmall, RaiseIsSmall}
 use Rattle.jop_opcodes.specs.declared.instruction.Instr.{Instr}
 use Rattle.jop_opcodes.specs.declared.instruction.DecodeFault.{DecodeFault}
 use Rattle.jop_opcodes.specs.declared.instruction.DecodeFault.TheVariants.{Short}
@@ -19,20 +20,24 @@ use Rattle.jop_core.specs.Cycle.{at_boundary, asks_input, cycle_of, output_of}
 use Rattle.jop_core.specs.Scene.{Scene, begun, run, given, left_over, first_of}
 use Rattle.micro_sketch.specs.StepLaws.{followed_by}
 use Rattle.bytecode_model.specs.declared.Ending.{Ending}
-use Rattle.bytecode_model.specs.declared.Ending.TheVariants.{Running}
+use Rattle.bytecode_model.specs.declared.Ending.TheVariants.{Running, Raising, Ended, Uncaught}
 use Rattle.bytecode_model.specs.Lists.{onto}
 use Rattle.bytecode_model.specs.State.{Frame, State}
-use Rattle.bytecode_model.specs.Program.{Program, Body, body_of, as_instr, instr_at}
+use Rattle.bytecode_model.specs.Program.{Program, Body, Handler, body_of, as_instr, instr_at}
 use Rattle.bytecode_model.specs.Table.{row_of}
 use Rattle.bytecode_model.specs.Effects.{effect}
 use Rattle.bytecode_model.specs.Steps.{step, step_in, row_at, applied}
-use Rattle.image_facts.specs.Says.{IsCode}
+use Rattle.bytecode_typing.specs.Fits.{IsGoing}
+use Rattle.bytecode_typing.specs.Laws.{FittingStatesAreWellFormed}
+use Rattle.image_facts.specs.Says.{IsCode, SaysAll, SaysLinked, handler_words, method_words}
+use Rattle.machine_stands.specs.Fixed.{FixedWordsAreRead}
 use Rattle.machine_stands.specs.StandsFor.{StandsFor}
 use Rattle.machine_stands.specs.Comes.{params, IsFrameCost, IsTopCost, IsStepCost, Found, LooksUp, found_by}
-use Rattle.boundary.specs.Setting.{Setting, limits, IsSetting}
+use Rattle.boundary.specs.Setting.{Setting, limits, IsSetting, Stands}
+use Rattle.boundary.specs.Session.{HasWaits}
 use Rattle.boundary.specs.StageLaws.{StagesAdvance, StagesEndSoon}
 use Rattle.boundary.proofs.Obeys.{onto_some}
-use Rattle.boundary.proofs.Stages.{some_in, code_of, first_given, taken_of}
+use Rattle.boundary.proofs.Stages.{some_in, code_of, linked_at, first_given, taken_of}
 
 -- ---- the cases of a switch are few
 
@@ -186,24 +191,84 @@ reaches_on m new cycles taken [] (inr one) ran boundary =
 reaches_on m new cycles taken (x ∷ xs) (inr one) ran boundary =
     record { more = []; only_end = inl refl; boundary = ap (λ (ys : List (Option ℕ)). at_boundary (run cycles (begun m (x ∷ ys))).state) (append-nil xs) ∙ ap (λ (ys : List (Option ℕ)). at_boundary (run cycles (begun m (ys ++ xs))).state) (sym one) ∙ ap at_boundary (ran xs) ∙ boundary }
 
-pub stages_end_soon : StagesAdvance → CostsAreSmall → PackedHasWords → ((code : List ℕ) (pc : ℕ) → WholeIsWithin code pc) → StagesEndSoon
-stages_end_soon advance costs packed whole m here built answers given =
+-- ---- a step costs little
+
+-- what is proved of costs, and what bounds the pairs and entries of code
+pub record CostLaws : Type 0 where
+  pub opcodes : CostsAreSmall
+  pub raise : RaiseIsSmall
+  pub packed : PackedHasWords
+  pub whole : (code : List ℕ) (pc : ℕ) → WholeIsWithin code pc
+  pub fixed : FixedWordsAreRead
+  pub well : FittingStatesAreWellFormed
+
+pub record SmallStep (g : Setting) (m : machine.State) (s : State) : Type 0 where
+  pub cycles : ℕ
+  pub is : IsStepCost g.program m s cycles
+  pub small : cycles < 2 ^ 61
+
+small_instruction : CostLaws → (g : Setting) (m : machine.State) (s t : State) (answer : Option ℕ) → IsSetting g → Stands g m s → HasWaits m → step g.program (limits g) answer s ≡ Some t → s.mode ≡ Running → SmallStep g m s
+small_instruction laws g m s t answer is stage waits has mode =
+    let st = stage.stands in
+    let code = code_of g m s is st in
+    let instr = has_instr g m s t answer st mode has in
+    let cost = laws.opcodes (params m instr.instr.count 0) (record { r = waits.read; w = waits.write; pairs = count_small st.body.code st.top.pc instr.instr code.short (laws.whole st.body.code st.top.pc) instr.decodes; entries = omega arith }) (u1 st.body.code st.top.pc) in
+    record { cycles = cost.cycles; is = step_cost g m s st instr.instr cost.cycles mode instr.is cost.is; small = cost.small }
+
+-- the entries of an exception table lie in the memory
+handlers_long : (P : Program) (hs : List Handler) → length hs ≤ length (flat_map (handler_words P) hs)
+handlers_long P [] = omega arith
+handlers_long P (h ∷ hs) = omega (arith, handlers_long P hs, length-append (handler_words P h) (flat_map (handler_words P) hs))
+
+few_entries : CostLaws → (g : Setting) (m : machine.State) (s : State) → IsSetting g → (stage : Stands g m s) → g.program.linked ≡ true → length stage.stands.body.handlers < 2 ^ 32
+few_entries laws g m s is stage linked =
+    let P = g.program in
+    let pl = g.places in
+    let st = stage.stands in
+    let b = st.body in
+    let well = laws.well P g.types (limits g) is.typed s stage.fits in
+    let says : SaysLinked P pl = subst (λ l. SaysAll l P pl) linked is.says.all in
+    let (k, is_method, is_body) = onto_some (slice_get P.methods st.top.method) (λ k. k.body) b st.is_body in
+    let said = says.methods st.top.method k b is_method is_body in
+    let words = method_words P pl k b in
+    let hs = flat_map (handler_words P) b.handlers in
+    let long : length words ≡ 4 + (length hs + length (words_of_bytes b.code)) = omega (arith, length-append hs (words_of_bytes b.code)) in
+    let last = laws.fixed P pl g.chip g.memory m s (pl.method st.top.method) words (3 + length b.handlers) st well said.words (omega (arith, long, handlers_long P b.handlers)) in
+    omega (arith, last.0, st.sizes.small)
+
+small_raise : CostLaws → (g : Setting) (m : machine.State) (s : State) (p : ℕ) → IsSetting g → Stands g m s → HasWaits m → s.mode ≡ Raising p → SmallStep g m s
+small_raise laws g m s p is stage waits mode =
+    let P = g.program in
+    let st = stage.stands in
+    let cost = laws.raise (params m 0 (length st.body.handlers)) (record { r = waits.read; w = waits.write; pairs = omega arith; entries = few_entries laws g m s is stage (linked_at g s p mode is stage.fits) }) in
+    record {
+      cycles = cost.cycles;
+      is = subst (λ md. IsTopCost P m md s.frames cost.cycles) (sym mode) (subst (λ fs. IsTopCost P m (Raising p) fs cost.cycles) (sym st.frames)
+          (some_in (body_of P st.top.method) st.body (λ b. IsFrameCost P m (Raising p) st.top b cost.cycles) st.is_body cost.is));
+      small = cost.small;
+    }
+
+small_step : CostLaws → (g : Setting) (m : machine.State) (s t : State) (answer : Option ℕ) → IsSetting g → Stands g m s → HasWaits m → step g.program (limits g) answer s ≡ Some t → (mode : Ending) → s.mode ≡ mode → IsGoing mode → SmallStep g m s
+small_step laws g m s t answer is stage waits has Running e going = small_instruction laws g m s t answer is stage waits has e
+small_step laws g m s t answer is stage waits has (Raising p) e going = small_raise laws g m s p is stage waits e
+small_step laws g m s t answer is stage waits has Ended e going = absurd going
+small_step laws g m s t answer is stage waits has (Uncaught c) e going = absurd going
+
+pub stages_end_soon : StagesAdvance → CostLaws → StagesEndSoon
+stages_end_soon advance laws m here answers given =
     let g = here.setting in
     let s = here.state in
-    let st = here.stands.stands in
     let answer = first_of answers in
-    let next = advance g m s here.is_setting here.stands here.running built answer (first_given answers given) in
+    let next = advance g m s here.is_setting here.stands here.going answer (first_given answers given) in
     let c = next.comes in
-    let code = code_of g m s here.is_setting st in
-    let instr = has_instr g m s next.next answer st here.running next.is_next in
-    let cost = costs (params m instr.instr.count 0) (record { r = here.waits.read; w = here.waits.write; pairs = count_small st.body.code st.top.pc instr.instr code.short (whole st.body.code st.top.pc) instr.decodes; entries = omega arith }) (u1 st.body.code st.top.pc) in
-    let micro = c.cost cost.cycles (step_cost g m s st instr.instr cost.cycles here.running instr.is cost.is) in
-    let stall = stall_small packed g m c.new c.stall (found_by s next.next) here.is_setting here.waits.read c.look_up in
+    let cost = small_step laws g m s next.next answer here.is_setting here.stands here.waits next.is_next s.mode refl here.going in
+    let micro = c.cost cost.cycles cost.is in
+    let stall = stall_small laws.packed g m c.new c.stall (found_by s next.next) here.is_setting here.waits.read c.look_up in
     let positive = c.positive in
     let place : suc (c.cycles - 1) ≡ c.cycles = omega arith in
     record {
       after = c.cycles - 1;
       soon = omega (arith, micro, stall, c.sum, cost.small);
       boundary = ap (λ k. at_boundary (run k (begun m answers)).state) place
-          ∙ boundary_with m answers c.cycles (reaches_on m c.new c.cycles c.answers answers (taken_of g m s answer here.running next) c.ran c.boundary);
+          ∙ boundary_with m answers c.cycles (reaches_on m c.new c.cycles c.answers answers (taken_of g m s answer here.going next) c.ran c.boundary);
     }

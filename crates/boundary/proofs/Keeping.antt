@@ -1,5 +1,5 @@
 -- What a run keeps from one boundary to the next.
-use Rattle.std.proofs.Common.{◌≡◌, ℕ, zero, suc, [], ◌++◌, refl, ◌∙◌, subst, arith}
+use Rattle.std.proofs.Common.{◌≡◌, ℕ, zero, suc, true, false, [], ◌++◌, ◌∙◌, ap, subst, arith}
 use Rattle.jop_core.specs.State as machine
 use Rattle.jop_core.specs.Cycle.{asks_input}
 use Rattle.jop_core.specs.Keeps.{CyclesKeep}
@@ -7,14 +7,14 @@ use Rattle.jop_core.specs.Scene.{Scene, next_scene, given, begun, run}
 use Rattle.jop_device.specs.Told.{Told}
 use Rattle.bytecode_model.specs.declared.Ending.{Ending}
 use Rattle.bytecode_model.specs.declared.Ending.TheVariants.{Running, Raising, Ended, Uncaught}
+use Rattle.bytecode_typing.specs.Fits.{IsGoing}
 use Rattle.machine_stands.specs.StandsFor.{StandsFor}
 use Rattle.boundary.specs.declared.answer.Boundary.{Boundary}
 use Rattle.boundary.specs.declared.answer.Boundary.TheVariants as answers
-use Rattle.boundary.specs.Answers.{answer_of, mode_after}
-use Rattle.boundary.specs.Setting.{Setting, bare_setting}
+use Rattle.boundary.specs.Answers.{answer_of, is_going, mode_after}
+use Rattle.boundary.specs.Setting.{Setting}
 use Rattle.boundary.specs.Session.{Session, HasWaits, IsInStep, KeepsStep, IsAtStep}
 use Rattle.boundary.specs.Advances.{Reaches, StepsTo}
-use Rattle.boundary.specs.Laws.{BareImagesArePrograms}
 
 run_waits : CyclesKeep → (k : ℕ) (c : Scene) → HasWaits c.state → HasWaits (run k c).state
 run_waits keep zero c h = h
@@ -22,37 +22,46 @@ run_waits keep (suc k) c h =
     let kept = (keep (given (asks_input c.state) c.answers) c.state).sizes in
     run_waits keep k (next_scene c) (record { read = omega (arith, kept.read, h.read); write = omega (arith, kept.write, h.write) })
 
--- only a running state is answered so
-running_mode : (mode : Ending) → answer_of mode ≡ answers.Bytecode → mode ≡ Running
-running_mode Running h = refl
-running_mode (Raising p) h = absurd (cc)
-running_mode Ended h = absurd (cc)
-running_mode (Uncaught c) h = absurd (cc)
+-- only a going state is answered by what goes on
+pub going_mode : (mode : Ending) (answer : Boundary) → answer_of mode ≡ answer → is_going answer ≡ true → IsGoing mode
+going_mode Running answer e h = tt
+going_mode (Raising p) answer e h = tt
+going_mode Ended answer e h = let clash : false ≡ true = ap is_going e ∙ h in absurd (cc)
+going_mode (Uncaught c) answer e h = let clash : false ≡ true = ap is_going e ∙ h in absurd (cc)
 
-pub in_step : (n : ℕ) (r : Session) → r.mode ≡ answers.Bytecode → KeepsStep n r r.mode → IsInStep n r
-in_step n r e h = subst (KeepsStep n r) e h
+-- a run that goes on is in step
+pub going_step : (n : ℕ) (r : Session) (mode : Boundary) → is_going mode ≡ true → KeepsStep n r mode → IsInStep n r
+going_step n r answers.Bytecode h kept = kept
+going_step n r answers.Raise h kept = kept
+going_step n r answers.Halted h kept = kept
+going_step n r (answers.Uncaught c) h kept = kept
+going_step n r answers.ReadFault h kept = kept
+going_step n r answers.WriteFault h kept = kept
+going_step n r answers.SeenFault h kept = kept
+going_step n r answers.Stopped h kept = absurd (cc)
 
-pub at_step : BareImagesArePrograms → (n : ℕ) (r : Session) → r.mode ≡ answers.Bytecode → IsInStep n r → IsAtStep r.machine
-at_step programs n r e here = record {
-  setting = bare_setting r.image n here.memory;
-  is_setting = programs r.image n here.memory here.grammar;
+pub at_step : (n : ℕ) (r : Session) → is_going r.mode ≡ true → IsInStep n r → IsAtStep r.machine
+at_step n r e here = record {
+  setting = here.setting;
+  is_setting = here.is_setting;
   state = here.state;
   stands = here.stands;
-  running = running_mode here.state.mode (here.mode ∙ e);
+  going = going_mode here.state.mode r.mode here.mode e;
   waits = here.waits;
 }
 
 module _ (keep : CyclesKeep) (n : ℕ) (r : Session) (here : IsInStep n r) (new : machine.State) (t0 t1 : Told) where
   abbrev g : Setting
-  g = bare_setting r.image n here.memory
+  g = here.setting
 
   reached : (answer : Boundary) → Reaches g here.state r.machine new t0 t1 answer → IsInStep n (record { machine = new; image = r.image; mode = answer })
   reached answer (a, mode) =
       let W : machine.State → Type 0 = λ m. HasWaits m in
       let S : machine.State → Type 0 = λ m. StandsFor g.program g.places g.chip g.memory m a.next in
       record {
-        grammar = here.grammar;
-        memory = here.memory;
+        setting = here.setting;
+        is_setting = here.is_setting;
+        is_of = here.is_of;
         state = a.next;
         stands = record { stands = subst S a.new_is a.comes.stands; fits = a.fits };
         mode = mode;
@@ -69,4 +78,3 @@ module _ (keep : CyclesKeep) (n : ℕ) (r : Session) (here : IsInStep n r) (new 
   keeps_on answers.WriteFault h = tt
   keeps_on answers.SeenFault h = tt
   keeps_on answers.Stopped h = absurd h
-  keeps_on answers.NotBuilt h = absurd h

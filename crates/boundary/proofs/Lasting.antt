@@ -4,13 +4,34 @@ use Rattle.jop_core.specs.State as machine
 use Rattle.jop_core.specs.Cycle.{asks_input}
 use Rattle.jop_core.specs.Keeps.{CyclesKeep}
 use Rattle.jop_core.specs.Scene.{Scene, next_scene, given, begun, run}
+use Rattle.jop_device.specs.Told.{Told}
+use Rattle.bytecode_model.specs.State.{State}
+use Rattle.boundary.specs.declared.answer.Boundary.{Boundary}
+use Rattle.boundary.specs.declared.answer.Boundary.TheVariants as answers
+use Rattle.boundary.specs.Advances.{Advances, PassesTime, StepsTo}
 use Rattle.boundary.specs.Setting.{Setting}
 use Rattle.boundary.specs.Activations.{Stage, Follows, StaysAbove, ActivationsTakeCycles}
 
 module _ (keep : CyclesKeep) where
-  clock_after : (n : ℕ) (c : Scene) → (run n c).state.clock ≡ c.state.clock + n
+  pub clock_after : (n : ℕ) (c : Scene) → (run n c).state.clock ≡ c.state.clock + n
   clock_after zero c = omega arith
   clock_after (suc n) c = omega (arith, clock_after n (next_scene c), (keep (given (asks_input c.state) c.answers) c.state).clock)
+
+  -- a step takes cycles
+  pub clock_rises : (g : Setting) (s : State) (old new : machine.State) (t0 t1 : Told) → Advances g s old new t0 t1 → old.clock < new.clock
+  clock_rises g s old new t0 t1 a =
+      let ends = ap (λ (m : machine.State). m.clock) (a.ran.state []) in
+      omega (arith, ends, clock_after a.comes.cycles (begun old (a.comes.answers ++ [])), a.comes.positive)
+
+  pub passes_time : (g : Setting) (s : State) (old new : machine.State) (t0 t1 : Told) (answer : Boundary) → StepsTo g s old new t0 t1 answer → PassesTime old new answer
+  passes_time g s old new t0 t1 answers.Bytecode h = clock_rises g s old new t0 t1 h.0
+  passes_time g s old new t0 t1 answers.Raise h = clock_rises g s old new t0 t1 h.0
+  passes_time g s old new t0 t1 answers.Halted h = tt
+  passes_time g s old new t0 t1 (answers.Uncaught c) h = tt
+  passes_time g s old new t0 t1 answers.ReadFault h = tt
+  passes_time g s old new t0 t1 answers.WriteFault h = tt
+  passes_time g s old new t0 t1 answers.SeenFault h = tt
+  passes_time g s old new t0 t1 answers.Stopped h = h
 
   step_takes : (g : Setting) (a b : Stage) → Follows g a b → a.machine.clock < b.machine.clock
   step_takes g a b f =

@@ -1,17 +1,19 @@
 -- What a step takes of the input and puts out.
 use Rattle.std.proofs.Common.{◌≡◌, ℕ, Bool, true, false, List, [], ◌∷◌, ◌++◌, length, Option, Some, None, refl, sym, ◌∙◌, ap, subst}
-use Rattle.std.specs.Prelude.{if◌then◌else◌, nat_le}
+use Rattle.std.specs.Prelude.{if◌then◌else◌, nat_le, slice_get}
 use Rattle.bytecode_model.specs.declared.Value.{Value}
 use Rattle.bytecode_model.specs.declared.Value.TheVariants.{Ref}
 use Rattle.bytecode_model.specs.declared.Ending.{Ending}
-use Rattle.bytecode_model.specs.declared.Ending.TheVariants.{Running, Ended, Uncaught}
+use Rattle.bytecode_model.specs.declared.Ending.TheVariants.{Running, Raising, Ended, Uncaught}
 use Rattle.bytecode_model.specs.Lists.{onto, replaced}
+use Rattle.bytecode_model.specs.Types.{Kind}
 use Rattle.bytecode_model.specs.State.{Object, Frame, State}
-use Rattle.bytecode_model.specs.Program.{Program, Limits}
+use Rattle.bytecode_model.specs.Program.{Program, Limits, Handler, body_of, kind_of}
 use Rattle.bytecode_model.specs.Rows.{Row}
 use Rattle.bytecode_model.specs.Sizes.{frames_words}
 use Rattle.bytecode_model.specs.Effects.{Effect, Stuck, Go, Make, WritePart, WriteStatic, Take, Give, Call, Leave, Raise, effect, fault_object, StackOverflowError}
-use Rattle.bytecode_model.specs.Steps.{step, step_in, applied, written, first_frame, called, raising, with_top, resumed, left, row_at}
+use Rattle.bytecode_model.specs.Steps.{step, step_in, applied, written, first_frame, called, raising, with_top, resumed, left, row_at, unwound, handler_for, class_of}
+use Rattle.bytecode_typing.specs.Fits.{IsGoing}
 
 -- a step takes an answer, puts a byte out, or does neither
 pub data Sort : Type 0 where
@@ -95,10 +97,32 @@ applied_obeys P limits answer s f callers (Call m args ops) t h =
 applied_obeys P limits answer s f callers (Leave result) t h = leave_obeys P answer s f result callers t h
 applied_obeys P limits answer s f callers (Raise p) t h = plainly answer s (raising s f callers p) t refl refl tt h
 
--- The sort of a running state's step, whatever the input answers.
+-- ---- raising
+
+silent : (answer : Option ℕ) (s u t : State) → u.answers ≡ s.answers → u.output ≡ s.output → ◌≡◌ {A = Option State} (Some u) (Some t) → Obeys Plain answer s t
+silent answer s u t answers output h = let A : State → Type 0 = λ z. (z.answers ≡ s.answers) × (z.output ≡ s.output) in subst A (some_state u t h) (answers, output)
+
+unwound_obeys : (answer : Option ℕ) (s t : State) (p : ℕ) (k : Kind) (f : Frame) (callers : List Frame) (target : Option ℕ) → unwound s p k f callers target ≡ Some t → Obeys Plain answer s t
+unwound_obeys answer s t p k f callers (Some target) h = silent answer s (with_top s callers (record f { pc = target; operands = Ref p ∷ [] })) t refl refl h
+unwound_obeys answer s t p k f (c ∷ callers) None h = silent answer s (raising s c callers p) t refl refl h
+unwound_obeys answer s t p k f [] None h =
+    let (c, is, gives) = onto_some (class_of k) (λ c. Some (record s { frames = f ∷ []; mode = Uncaught c })) t h in
+    silent answer s (record s { frames = f ∷ []; mode = Uncaught c }) t refl refl gives
+
+raise_obeys : (P : Program) (limits : Limits) (s : State) (answer : Option ℕ) (t : State) (p : ℕ) (fs : List Frame) → step_in P limits answer s fs (Raising p) ≡ Some t → Obeys Plain answer s t
+raise_obeys P limits s answer t p [] h = absurd (cc)
+raise_obeys P limits s answer t p (f ∷ fs) h =
+    let in_kind : List Handler → Object → Kind → Option State = λ hs o k. unwound s p k f fs (handler_for P k f.pc hs) in
+    let in_object : List Handler → Option State = λ hs. onto (slice_get s.objects p) (λ o. onto (kind_of P o) (λ k. in_kind hs o k)) in
+    let (b, is_body, with_body) = onto_some (body_of P f.method) (λ b. in_object b.handlers) t h in
+    let (o, is_object, with_object) = onto_some (slice_get s.objects p) (λ o. onto (kind_of P o) (λ k. in_kind b.handlers o k)) t with_body in
+    let (k, is_kind, goes) = onto_some (kind_of P o) (λ k. in_kind b.handlers o k) t with_object in
+    unwound_obeys answer s t p k f fs (handler_for P k f.pc b.handlers) goes
+
+-- The sort of a going state's step, whatever the input answers.
 pub record StepSort (P : Program) (limits : Limits) (s : State) : Type 0 where
   pub sort : Sort
-  pub obeys : (answer : Option ℕ) (t : State) → step P limits answer s ≡ Some t → Obeys sort answer s t × IsCaught t.mode
+  pub obeys : (answer : Option ℕ) (t : State) → step P limits answer s ≡ Some t → Obeys sort answer s t
 
 -- that of the row of the top frame
 abbrev by_row : (P : Program) (limits : Limits) (s : State) → Frame → Option (ℕ × Row) → Sort
@@ -118,8 +142,17 @@ obeys_in : (P : Program) (limits : Limits) (s : State) (answer : Option ℕ) (t 
 obeys_in P limits s answer t [] h = absurd (cc)
 obeys_in P limits s answer t (f ∷ fs) h = row_obeys P limits s answer t f fs (row_at P f) h
 
-pub step_sort : (P : Program) (limits : Limits) (s : State) → s.mode ≡ Running → StepSort P limits s
-step_sort P limits s mode = record {
-  sort = sort_in P limits s s.frames;
-  obeys = λ answer t h. obeys_in P limits s answer t s.frames (ap (λ (md : Ending). step_in P limits answer s s.frames md) (sym mode) ∙ h);
-}
+pub step_sort : (P : Program) (limits : Limits) (s : State) → IsGoing s.mode → StepSort P limits s
+step_sort P limits s going = by_mode s.mode refl going
+  where
+    by_mode : (mode : Ending) → s.mode ≡ mode → IsGoing mode → StepSort P limits s
+    by_mode Running e h = record {
+      sort = sort_in P limits s s.frames;
+      obeys = λ answer t h. (obeys_in P limits s answer t s.frames (ap (λ (md : Ending). step_in P limits answer s s.frames md) (sym e) ∙ h)).0;
+    }
+    by_mode (Raising p) e h = record {
+      sort = Plain;
+      obeys = λ answer t h. raise_obeys P limits s answer t p s.frames (ap (λ (md : Ending). step_in P limits answer s s.frames md) (sym e) ∙ h);
+    }
+    by_mode Ended e h = absurd h
+    by_mode (Uncaught c) e h = absurd h

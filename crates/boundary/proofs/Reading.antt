@@ -1,6 +1,7 @@
 -- What is read of a machine that stands for a state of a bare image.
-use Rattle.std.proofs.Common.{◌≡◌, ℕ, suc, ◌+◌, ◌-◌, ◌≤◌, false, List, [], ◌∷◌, ◌++◌, length, take, drop, reverse, min, Some, None, refl, sym, ◌∙◌, ap, subst, arith, length-append, length-take, length-drop, ⊎_elim}
-use Rattle.std.specs.Prelude.{sum_by, IsSomeAnd}
+use Rattle.std.proofs.Common.{◌≡◌, ℕ, suc, ◌+◌, ◌-◌, ◌≤◌, true, false, List, [], ◌∷◌, ◌++◌, length, take, drop, reverse, min, Some, None, refl, sym, ◌∙◌, ap, subst, arith, length-append, length-take, length-drop, ⊎_elim}
+use Rattle.std.specs.Prelude.{sum_by, IsSome, IsSomeAnd}
+use Rattle.std.specs.declared.option.Option.{Option}
 use Rattle.std.proofs.lemmas.List.{append-nil, length-reverse}
 use Rattle.std.proofs.lemmas.List.Sums.{sum_by-cons}
 use Rattle.bare_image.specs.Bare.{Image, IsImage}
@@ -18,21 +19,22 @@ use Rattle.bytecode_model.specs.Program.{Program, Body, body_of}
 use Rattle.bytecode_model.specs.Steps.{row_in}
 use Rattle.bytecode_model.specs.WellFormed as formed
 use Rattle.bytecode_typing.specs.Typed.{Typing, Typed, IsQuiet}
-use Rattle.bytecode_typing.specs.Fits.{FramesFit, CallersFit, MayCall, numbers_of}
+use Rattle.bytecode_typing.specs.Fits as typing
+use Rattle.bytecode_typing.specs.Fits.{Fits, FramesFit, CallersFit, MayCall, numbers_of}
 use Rattle.bytecode_typing.specs.Laws.{FittingStatesAreWellFormed}
 use Rattle.image_facts.specs.Places.{Places, object_place}
 use Rattle.machine_stands.specs.Frames.{AreLocals, AreOperands, FrameWords, Saves, AreFrames, stacked, vp_over}
 use Rattle.machine_stands.specs.StandsFor.{AreLeft, IsAtInstruction, stack_words}
-use Rattle.boundary.specs.declared.answer.Boundary.TheVariants as answers
-use Rattle.boundary.specs.Answers.{answer_of, IsGoing}
+use Rattle.boundary.specs.declared.answer.Boundary.{Boundary}
+use Rattle.boundary.specs.Answers.{is_going, IsGoing}
 use Rattle.boundary.specs.BareLaws.{top_frame}
 use Rattle.boundary.specs.Laws.{BareImagesArePrograms}
 use Rattle.boundary.specs.Setting.{limits, Stands, bare_setting}
-use Rattle.boundary.specs.Session.{Session, IsInStep, KeepsStep, EachState}
+use Rattle.boundary.specs.Session.{Session, IsOf, IsInStep, KeepsStep, EachState}
 use Rattle.boundary.specs.StageLaws.{StagesAgree}
 use Rattle.boundary.proofs.BareStepping.{not_raising, method_zero}
-use Rattle.boundary.proofs.Keeping.{in_step, at_step}
-use Rattle.boundary.proofs.Stages.{some_in, some_at, if_at, at_mode}
+use Rattle.boundary.proofs.Keeping.{going_step, at_step}
+use Rattle.boundary.proofs.Stages.{some_in, some_at, if_at, at_mode, goes_alike}
 
 -- ---- how many words values have
 
@@ -159,41 +161,59 @@ is_read programs well image n size m s grammar stage mode =
         let is : frame_words P f ≡ body_words b = ap (λ o. elim o [ None ↦ 0 | Some b ↦ body_words b ]) e in
         omega (arith, is, sum_by-cons (frame_words P) f callers)
 
--- a going run of a bare image runs
-run_going : (n : ℕ) (r : Session) → IsGoing r.mode → KeepsStep n r r.mode → r.mode ≡ answers.Bytecode
-run_going n r going kept = ⊎_elim (λ e. e) (λ e. absurd (raised (subst (KeepsStep n r) e kept) e)) going
-  where
-    raised : IsInStep n r → r.mode ≡ answers.Raise → ⊥
-    raised here e = by_mode here here.state.mode refl (here.mode ∙ e)
-      where
-        by_mode : (here : IsInStep n r) (mode : Ending) → here.state.mode ≡ mode → answer_of here.state.mode ≡ answers.Raise → ⊥
-        by_mode here Running is a = let clash : answers.Bytecode ≡ answers.Raise = sym (ap answer_of is) ∙ a in cc
-        by_mode here (Raising p) is a = not_raising r.image n here.memory here.state p is here.stands.fits
-        by_mode here Ended is a = let clash : answers.Halted ≡ answers.Raise = sym (ap answer_of is) ∙ a in cc
-        by_mode here (Uncaught c) is a = let clash : answers.Uncaught c ≡ answers.Raise = sym (ap answer_of is) ∙ a in cc
+bare_runs : (image : Image) (n size : ℕ) (s : State) (mode : Ending) → s.mode ≡ mode → typing.IsGoing mode → Fits (bare_setting image n size).program (bare_setting image n size).types (limits (bare_setting image n size)) s → s.mode ≡ Running
+bare_runs image n size s Running e going fits = e
+bare_runs image n size s (Raising p) e going fits = absurd (not_raising image n size s p e fits)
+bare_runs image n size s Ended e going fits = absurd going
+bare_runs image n size s (Uncaught c) e going fits = absurd going
 
--- each state for which it stands is read so
-pub each_is_read : BareImagesArePrograms → FittingStatesAreWellFormed → StagesAgree → (n : ℕ) (r : Session) → IsGoing r.mode → KeepsStep n r r.mode → (chip memory : ℕ) (s : State) → Stands (bare_setting r.image chip memory) r.machine s → IsRead r.image r.machine s
-each_is_read programs well agree n r going kept chip memory s stage =
-    let e = run_going n r going kept in
-    let here = in_step n r e kept in
-    let mode = agree r.machine (at_step programs n r e here) (bare_setting r.image chip memory) s (programs r.image chip memory here.grammar) stage in
-    is_read programs well r.image chip memory r.machine s here.grammar stage mode
+pub is_there : (o : Option Image) → IsSome o → (image : Image) × (o ≡ Some image)
+is_there None h = absurd (cc)
+is_there (Some image) h = (image, refl)
+
+pub some_image : (i j : Image) → ◌≡◌ {A = Option Image} (Some i) (Some j) → i ≡ j
+some_image i j h = cc
+
+goes_so : (mode : Boundary) → IsGoing mode → is_going mode ≡ true
+goes_so mode going = ⊎_elim (λ e. ap is_going e) (λ e. ap is_going e) going
+
+-- a run of a bare image, and the state for which it is known to stand
+module _ (programs : BareImagesArePrograms) (well : FittingStatesAreWellFormed) (agree : StagesAgree) (n : ℕ) (r : Session) (going : IsGoing r.mode) (kept : KeepsStep n r r.mode) (image : Image) (is : r.image ≡ Some image) where
+  here : IsInStep n r
+  here = going_step n r r.mode (goes_so r.mode going) kept
+
+  of_image : IsImage image × (here.setting ≡ bare_setting image n here.setting.memory)
+  of_image = subst (λ o. IsOf n o here.setting) is here.is_of
+
+  -- each state for which it stands is read so
+  pub each_is_read : (chip memory : ℕ) (s : State) → Stands (bare_setting image chip memory) r.machine s → IsRead image r.machine s
+  each_is_read chip memory s stage =
+      let at = at_step n r (goes_so r.mode going) here in
+      let alike = agree r.machine at (bare_setting image chip memory) s (programs image chip memory of_image.0) stage in
+      let mode = bare_runs image chip memory s s.mode refl (goes_alike s.mode at.state.mode alike at.going) stage.fits in
+      is_read programs well image chip memory r.machine s of_image.0 stage mode
+
+  -- and there is a state
+  pub some_state : (s : State) × IsRead image r.machine s
+  some_state =
+      let stage = subst (λ g. Stands g r.machine here.state) of_image.1 here.stands in
+      (here.state, each_is_read n here.setting.memory here.state stage)
 
 pub of_top : (image : Image) (m : machine.State) (s : State) (K : Frame → Type 0) → (h : IsRead image m s) → K h.top → IsSomeAnd (top_frame s.frames) K
 of_top image m s K h k = some_in (top_frame s.frames) h.top K (ap top_frame h.frames) k
 
 -- so it is of a run, as it is seen
-pub each_state : BareImagesArePrograms → FittingStatesAreWellFormed → StagesAgree → (n : ℕ) (r now : Session) → r ≡ now → IsGoing now.mode → KeepsStep n r r.mode → EachState now (λ s. IsRead now.image now.machine s)
-each_state programs well agree n r now is going kept =
-    subst (λ z. EachState z (λ s. IsRead z.image z.machine s)) is (λ chip memory s stage. each_is_read programs well agree n r (subst (λ (z : Session). IsGoing z.mode) (sym is) going) kept chip memory s stage)
+abbrev pub EachRead : Session → Type 0
+EachRead r = (image : Image) → r.image ≡ Some image → (chip memory : ℕ) (s : State) → Stands (bare_setting image chip memory) r.machine s → IsRead image r.machine s
+
+pub each_read : BareImagesArePrograms → FittingStatesAreWellFormed → StagesAgree → (n : ℕ) (r now : Session) → r ≡ now → IsGoing now.mode → KeepsStep n r r.mode → EachRead now
+each_read programs well agree n r now is going kept =
+    subst EachRead is (λ image some. each_is_read programs well agree n r (subst (λ (z : Session). IsGoing z.mode) (sym is) going) kept image some)
 
 -- and there is a state
-pub some_state : BareImagesArePrograms → FittingStatesAreWellFormed → StagesAgree → (n : ℕ) (r now : Session) → r ≡ now → IsGoing now.mode → KeepsStep n r r.mode → (s : State) × IsRead r.image r.machine s
-some_state programs well agree n r now is going kept =
-    let going_here = subst (λ (z : Session). IsGoing z.mode) (sym is) going in
-    let here = in_step n r (run_going n r going_here kept) kept in
-    (here.state, each_is_read programs well agree n r going_here kept n here.memory here.state here.stands)
+pub some_read : BareImagesArePrograms → FittingStatesAreWellFormed → StagesAgree → (n : ℕ) (r now : Session) → r ≡ now → IsGoing now.mode → KeepsStep n r r.mode → (image : Image) → now.image ≡ Some image → (s : State) × IsRead image r.machine s
+some_read programs well agree n r now is going kept image some =
+    some_state programs well agree n r (subst (λ (z : Session). IsGoing z.mode) (sym is) going) kept image (ap (λ (z : Session). z.image) is ∙ some)
 
-pub each_top : (r : Session) (K : Frame → Type 0) → EachState r (λ s. IsRead r.image r.machine s) → ((s : State) (h : IsRead r.image r.machine s) → K h.top) → EachState r (λ s. IsSomeAnd (top_frame s.frames) K)
-each_top r K all k = λ chip memory s stage. let h = all chip memory s stage in of_top r.image r.machine s K h (k s h)
+pub each_top : (r : Session) (K : Frame → Type 0) → EachRead r → ((image : Image) (s : State) → r.image ≡ Some image → (h : IsRead image r.machine s) → K h.top) → EachState r (λ s. IsSomeAnd (top_frame s.frames) K)
+each_top r K all k = λ image is chip memory s stage. let h = all image is chip memory s stage in of_top image r.machine s K h (k image s is h)

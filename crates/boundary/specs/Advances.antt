@@ -1,5 +1,5 @@
 -- One step of the machine and of the bytecode together.
-use Rattle.std.specs.Prelude.{◌≡◌, ℕ, List, [], ◌∷◌, ◌++◌, Some, IsSomeAnd}
+use Rattle.std.specs.Prelude.{◌≡◌, ℕ, ◌<◌, List, [], ◌∷◌, ◌++◌, Some, IsSomeAnd}
 use Rattle.std.specs.declared.option.Option.{Option}
 use Rattle.jop_device.specs.Told.{Told}
 use Rattle.jop_core.specs.declared.tick.Tick.TheVariants as ticks
@@ -77,8 +77,14 @@ StepsTo g s old new told told' answers.ReadFault = FailsToRead g s old new told 
 StepsTo g s old new told told' answers.WriteFault = FailsToWrite g s old new told told'
 StepsTo g s old new told told' answers.SeenFault = FailsToShow g s old new told told'
 StepsTo g s old new told told' answers.Stopped = ⊥
-StepsTo g s old new told told' answers.NotBuilt = ⊥
 StepsTo g s old new told told' answer = Reaches g s old new told told' answer
+
+-- A step that goes on takes some cycles, and isn't answered as one that was stopped before.
+abbrev pub PassesTime : (old new : machine.State) → Boundary → Type 0
+PassesTime old new answers.Bytecode = old.clock < new.clock
+PassesTime old new answers.Raise = old.clock < new.clock
+PassesTime old new answers.Stopped = ⊥
+PassesTime old new answer = Unit {0}
 
 -- so it is for each program and state for which the machine stood
 abbrev pub StepsAll : (old new : machine.State) → (told told' : Told) → Boundary → Type 0

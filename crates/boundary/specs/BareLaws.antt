@@ -12,7 +12,6 @@ use Rattle.bytecode_model.specs.Program.{Program, body_of}
 use Rattle.bytecode_model.specs.Steps.{step}
 use Rattle.bytecode_model.specs.WellFormed.{IsAnswer}
 use Rattle.machine_stands.specs.Simulates.{is_bare}
-use Rattle.boundary.specs.Families.{is_built}
 use Rattle.boundary.specs.Setting.{limits, Stands, bare_setting}
 
 -- each of its instructions has one of the opcodes that a bare image may have
@@ -37,7 +36,3 @@ pub record IsBareStep (P : Program) (s t : State) : Type 0 where
 abbrev pub BareImagesStep : Type 0
 BareImagesStep = (image : Image) (chip memory : ℕ) (m : machine.State) (answer : Option ℕ) (s t : State) → let g = bare_setting image chip memory in
     IsImage image → Stands g m s → s.mode ≡ Running → IsAnswer answer → step g.program (limits g) answer s ≡ Some t → IsBareStep g.program s t
-
--- From each instruction of a bare image the machine goes on.
-abbrev pub BareImagesAreBuilt : Type 0
-BareImagesAreBuilt = (image : Image) (chip memory : ℕ) (m : machine.State) (s : State) → IsImage image → Stands (bare_setting image chip memory) m s → s.mode ≡ Running → is_built m.opcode ≡ true

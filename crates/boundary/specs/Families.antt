@@ -1,4 +1,4 @@
--- The opcodes of which it is shown that their microcode does the step of the bytecode.
+-- The opcodes of which it is shown that their microcode does the step of the bytecode: all that programs may have.
 use Rattle.std.specs.Prelude.{ℕ, Bool, ◌||◌}
 use Rattle.value_steps.specs.Family.{moves_values}
 use Rattle.number_steps.specs.Laws.{computes_numbers}

@@ -7,4 +7,6 @@ pub mod Meaning
 pub mod BareLaws
 pub mod StageLaws
 pub mod Laws
+pub mod Linked
 pub mod Activations
+pub mod Runs

@@ -19,7 +19,4 @@ pub enum Boundary {
     SeenFault,
     /// An earlier call answered a fault.
     Stopped,
-    /// The machine is at a raise, or at an opcode, of which it isn't shown yet that its microcode does the step. Nothing
-    /// was done.
-    NotBuilt,
 }

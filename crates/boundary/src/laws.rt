@@ -1,8 +1,9 @@
 ghost use Rattle.machine_stands.specs.Simulates.{Simulates};
 ghost use Rattle.boundary.specs.Families.{is_built};
 ghost use Rattle.boundary.specs.Activations.{ActivationsTakeCycles};
-ghost use Rattle.boundary.specs.BareLaws.{BareOpcodes, BareImagesStep, BareImagesAreBuilt};
+ghost use Rattle.boundary.specs.BareLaws.{BareOpcodes, BareImagesStep};
 ghost use Rattle.boundary.specs.Laws.{BareImagesArePrograms, BareRunsBegin};
+ghost use Rattle.boundary.specs.Linked.{LinkedRunsBegin};
 ghost use Rattle.boundary.specs.StageLaws.{StagesAdvance, StagesAgree, StagesEndSoon};
 
 use micro_flow::laws::{costs_are_small, entries_are_reached_by_dispatch};
@@ -24,7 +25,22 @@ pub fn bare_runs_begin()
     bare_images_are_programs();
 }
 
-/// From each opcode that is built the machine comes to the next state.
+/// A machine that holds a linked program can begin with the words of its image, and at reset over them it stands for the
+/// program's first state.
+pub fn linked_runs_begin()
+    ensures { LinkedRunsBegin }
+{
+    bytecode_typing::the_boot_state_fits();
+    bytecode_typing::fitting_states_are_well_formed();
+    core_words::laws::packed_has_words();
+    core_words::laws::packed_has_bytes();
+    image_facts::words_are_read_and_written();
+    image_facts::words_lie();
+    image_facts::image_words_lie();
+    image_facts::image_words_grow();
+}
+
+/// From each opcode of the families the machine comes to the next state.
 pub fn families_are_simulated()
     ensures { Simulates is_built }
 {
@@ -46,24 +62,28 @@ pub fn bare_images_have_bare_opcodes()
     ensures { BareOpcodes }
 {}
 
-/// From an opcode that is built the machine comes to the next state.
+/// From an instruction, or from the raise routine, the machine comes to the next state.
 pub fn stages_advance()
     ensures { StagesAdvance }
 {
     families_are_simulated();
+    micro_calls::laws::raises_come();
+    machine_stands::rows_are_read();
+    bytecode_model::laws::rows_are_of_their_opcodes();
+    jop_opcodes::laws::instructions_are_read();
     bare_images_have_bare_opcodes();
     bytecode_typing::typed_programs_keep();
     bytecode_typing::fitting_states_are_well_formed();
 }
 
-/// A machine that is about to run an instruction of one program stands for running states alone.
+/// States of programs for which a machine stands go on alike, where one of them does.
 pub fn stages_agree()
     ensures { StagesAgree }
 {
     entries_are_reached_by_dispatch();
 }
 
-/// From an opcode that is built a boundary comes soon.
+/// From an instruction, or from the raise routine, a boundary comes soon.
 pub fn stages_end_soon()
     ensures { StagesEndSoon }
 {
@@ -71,6 +91,8 @@ pub fn stages_end_soon()
     costs_are_small();
     core_words::laws::packed_has_words();
     jop_opcodes::laws::instructions_end_within();
+    machine_stands::fixed_words_are_read();
+    bytecode_typing::fitting_states_are_well_formed();
 }
 
 /// A step of a bare image takes nothing from the input, goes on or ends, and puts something out at `impdep2` alone.
@@ -79,15 +101,6 @@ pub fn bare_images_step()
 {
     bare_images_are_programs();
     bytecode_typing::typed_programs_keep();
-    bytecode_typing::fitting_states_are_well_formed();
-}
-
-/// Each opcode of a bare image is built.
-pub fn bare_images_are_built()
-    ensures { BareImagesAreBuilt }
-{
-    bare_images_are_programs();
-    bare_images_have_bare_opcodes();
     bytecode_typing::fitting_states_are_well_formed();
 }
 

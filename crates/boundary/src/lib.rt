@@ -3,10 +3,11 @@
 #![tactic(auto)]
 
 mod answer;
-mod family;
 /// Laws of the definitions in `specs/`. Each is a function without a body, whose contract says it.
 pub mod laws;
 mod running;
+mod runs;
 
 pub use answer::Boundary;
 pub use running::Running;
+pub use runs::{RunEnd, run};

@@ -1,19 +1,19 @@
 //! A run of the machine.
-ghost use Rattle.std.specs.Prelude.{◌≡◌, ◌<◌, ◌^◌, true, false, length, sum_by, IfOk, IsSomeAnd};
+ghost use Rattle.std.specs.Prelude.{◌≡◌, ◌≢◌, ◌<◌, ◌^◌, true, false, length, sum_by, IfOk, IsSome, IsSomeAnd, Some, None};
 ghost use Rattle.stack_cache.specs.Size.{IsSize};
-ghost use Rattle.jop_core.specs.Reset.{CanStartBare, bare_reset};
+ghost use Rattle.jop_core.specs.Reset.{CanStartBare, bare_reset, linked_reset};
 ghost use Rattle.bytecode_model.specs.Sizes.{value_words};
-ghost use Rattle.boundary.specs.Answers.{answer_at_rest, mode_after, IsGoing};
-ghost use Rattle.boundary.specs.Families.{is_built};
+ghost use Rattle.boundary.specs.Answers.{is_going, mode_after, IsGoing};
 ghost use Rattle.boundary.specs.BareLaws.{top_frame};
 ghost use Rattle.boundary.specs.Setting.{bare_setting};
-ghost use Rattle.boundary.specs.Session.{goes, Begins, IsAtStep, EachState};
-ghost use Rattle.boundary.specs.Advances.{StepsAll};
+ghost use Rattle.boundary.specs.Linked.{AreLinked, BeginsEach};
+ghost use Rattle.boundary.specs.Session.{goes, Begins, IsAtStep, HasEnded, EndsWith, AllGoOnSo, EachState};
+ghost use Rattle.boundary.specs.Advances.{StepsAll, PassesTime};
 
 use crate::answer::Boundary;
-use crate::family::is_built;
 use crate::laws::{
-    bare_images_are_programs, bare_runs_begin, stages_advance, stages_agree, stages_end_soon,
+    bare_images_are_programs, bare_runs_begin, linked_runs_begin, stages_advance, stages_agree,
+    stages_end_soon,
 };
 use bytecode_typing::fitting_states_are_well_formed;
 use jop_base::NoMemory;
@@ -25,12 +25,16 @@ use micro_sketch::step::{Stepped, to_boundary};
 use std::alloc::Global;
 use std::marker::Model;
 
+// The number of the type of the first class. The types of the arrays of numbers come before those of classes.
+const FIRST_CLASS: u32 = 8;
+
 /// A machine that runs a program: at each boundary it stands for a state of the program, until a call on a device
 /// fails. It has `N` on-chip words, of which there are 256, 512 or 1,024.
 #[derive(Drop)]
 pub struct Running<'a, const N: usize> {
     machine: Machine<N>,
-    image: &'a Bare,
+    // Where it runs a bare one.
+    image: Option<&'a Bare>,
     mode: Boundary,
 }
 
@@ -50,20 +54,50 @@ impl<'a, const N: usize> Running<'a, N> {
     pub fn start_bare(alloc: Global, image: &'a Bare, config: Config) -> Result<Self, NoMemory>
         requires size { IsSize N }
         requires room { CanStartBare image.now config }
-        ensures starts { IfOk result (λ r. r ≡ record { machine = bare_reset N image.now config; image = image.now; mode = Boundary.Bytecode }) }
+        ensures starts { IfOk result (λ r. r ≡ record { machine = bare_reset N image.now config; image = Some image.now; mode = Boundary.Bytecode }) }
         ensures begins { IfOk result (λ r. Begins (bare_setting image.now N config.memory) r.machine) }
     {
-        // The law is for the proof.
+        // The laws are for the proof.
+        bare_images_are_programs();
         bare_runs_begin();
         // Its reader says that it is one.
         let _grammar = image.max_locals();
         match Machine::bare(alloc, image, config) {
             Ok(machine) => Ok(Running {
                 machine,
-                image,
+                image: Some(image),
                 mode: Boundary::Bytecode,
             }),
             Err(fault) => Err(fault),
+        }
+    }
+
+    /// A machine at reset over the words of a linked program's image. The only error is that there was no memory.
+    pub fn start(alloc: Global, words: &[u32], config: Config) -> Result<Self, NoMemory>
+        requires program { AreLinked N words.now config }
+        ensures starts { IfOk result (λ r. r ≡ record { machine = linked_reset N words.now config; image = None; mode = Boundary.Bytecode }) }
+        ensures begins { IfOk result (λ r. BeginsEach N words.now config r.machine) }
+    {
+        // The law is for the proof.
+        linked_runs_begin();
+        match Machine::new(alloc, words, config) {
+            Ok(machine) => Ok(Running {
+                machine,
+                image: None,
+                mode: Boundary::Bytecode,
+            }),
+            Err(fault) => Err(fault),
+        }
+    }
+
+    // The bare image that it runs.
+    fn bare(&self) -> &'a Bare
+        requires { IsSome self.now.image }
+        ensures { self.now.image ≡ Some result.now }
+    {
+        match self.image {
+            Some(image) => image,
+            None => unreachable!(),
         }
     }
 
@@ -76,14 +110,23 @@ impl<'a, const N: usize> Running<'a, N> {
 
     /// How the state goes on for which the machine stands, or `Stopped`.
     pub fn mode(&self) -> Boundary
-        ensures { result ≡ self.now.mode }
+        ensures is { result ≡ self.now.mode }
+        ensures all { result ≢ Boundary.Stopped → AllGoOnSo self.now.machine result }
     {
+        // The laws are for the proof.
+        stages_agree();
+        fitting_states_are_well_formed();
+        machine_stands::fixed_words_are_read();
+        image_facts::words_are_read_and_written();
+        image_facts::words_lie();
+        image_facts::image_words_lie();
         self.mode
     }
 
-    /// The number of the method whose frame is on top.
+    /// The number of the method whose frame is on top, in a run of a bare image.
     pub fn method(&self) -> u32
-        requires { IsGoing self.now.mode }
+        requires going { IsGoing self.now.mode }
+        requires bare { IsSome self.now.image }
         ensures { EachState self.now (λ s. IsSomeAnd (top_frame s.frames) (λ f. f.method ≡ result)) }
     {
         // The laws are for the proof.
@@ -94,9 +137,10 @@ impl<'a, const N: usize> Running<'a, N> {
         0
     }
 
-    /// The place of its instruction.
+    /// The place of its instruction, in a run of a bare image.
     pub fn pc(&self) -> u32
-        requires { IsGoing self.now.mode }
+        requires going { IsGoing self.now.mode }
+        requires bare { IsSome self.now.image }
         ensures { EachState self.now (λ s. IsSomeAnd (top_frame s.frames) (λ f. f.pc ≡ result)) }
     {
         // The laws are for the proof.
@@ -106,9 +150,10 @@ impl<'a, const N: usize> Running<'a, N> {
         self.machine.jpc() as u32 - 1
     }
 
-    /// How many frames there are.
+    /// How many frames there are, in a run of a bare image.
     pub fn frames(&self) -> u32
-        requires { IsGoing self.now.mode }
+        requires going { IsGoing self.now.mode }
+        requires bare { IsSome self.now.image }
         ensures { EachState self.now (λ s. length s.frames ≡ result) }
     {
         // The laws are for the proof.
@@ -119,59 +164,55 @@ impl<'a, const N: usize> Running<'a, N> {
         1
     }
 
-    /// How many words the operands of the top frame take.
+    /// How many words the operands of the top frame take, in a run of a bare image.
     pub fn operands(&self) -> u32
-        requires { IsGoing self.now.mode }
+        requires going { IsGoing self.now.mode }
+        requires bare { IsSome self.now.image }
         ensures { EachState self.now (λ s. IsSomeAnd (top_frame s.frames) (λ f. sum_by value_words f.operands ≡ result)) }
     {
         // The laws are for the proof.
         bare_images_are_programs();
         fitting_states_are_well_formed();
         stages_agree();
-        self.machine.sp() - self.machine.vp() - self.image.max_locals() as u32 - 2
+        self.machine.sp() - self.machine.vp() - self.bare().max_locals() as u32 - 2
     }
 
-    /// Goes on to the next boundary. At the end it answers that again, and after a fault `Stopped`; then nothing changes.
+    /// Goes on to the next boundary: by an instruction, or by one frame in which a handler is looked for. At the end it
+    /// answers that again, and after a fault `Stopped`; then nothing changes.
     pub fn bytecode<D: Devices>(&mut self, device: &mut D) -> Boundary
         requires clock { self.old.machine.clock < 2 ^ 63 }
         ensures steps { goes self.old ≡ true → StepsAll self.old.machine self.new.machine (D.told device.old) (D.told device.new) result }
+        ensures time { goes self.old ≡ true → PassesTime self.old.machine self.new.machine result }
         ensures after { goes self.old ≡ true → (self.new.image ≡ self.old.image) × (self.new.mode ≡ mode_after result) }
-        ensures rests { goes self.old ≡ false → (result ≡ answer_at_rest self.old.mode) × (self.new ≡ self.old) × (device.new ≡ device.old) }
+        ensures rests { goes self.old ≡ false → (result ≡ self.old.mode) × (self.new ≡ self.old) × (device.new ≡ device.old) }
         ensures names { D.names device.new ≡ D.names device.old }
     {
-        if let Boundary::Bytecode = self.mode
-            && is_built(self.machine.opcode())
-        {
-            // The laws are for the proof.
-            bare_images_are_programs();
+        if is_going(self.mode) {
+            // The law is for the proof.
             cycles_keep();
-            let answer = run_instruction(&mut self.machine, device);
+            let answer = go_on(&mut self.machine, device);
             follow(&mut self.mode, answer);
             return answer;
         }
-        at_rest(self.mode)
+        self.mode
     }
 }
 
-// What is answered where nothing is done. It is kept out of the way of the runs.
-#[cold]
-#[inline(never)]
-fn at_rest(mode: Boundary) -> Boundary
-    ensures { result ≡ answer_at_rest mode }
+// Whether the machine goes on.
+fn is_going(mode: Boundary) -> bool
+    ensures { result ≡ is_going mode }
 {
     match mode {
-        Boundary::Halted | Boundary::Uncaught(_) | Boundary::Stopped => mode,
-        _ => Boundary::NotBuilt,
+        Boundary::Bytecode | Boundary::Raise => true,
+        _ => false,
     }
 }
 
-// How a run at an instruction goes on after an answer. It writes nothing where it goes on with an instruction.
+// How a run goes on after an answer.
 fn follow(mode: &mut Boundary, answer: Boundary)
-    requires { mode.old ≡ Boundary.Bytecode }
     ensures { mode.new ≡ mode_after answer }
 {
     match answer {
-        Boundary::Bytecode => {}
         Boundary::ReadFault | Boundary::WriteFault | Boundary::SeenFault => {
             *mode = Boundary::Stopped;
         }
@@ -179,10 +220,9 @@ fn follow(mode: &mut Boundary, answer: Boundary)
     }
 }
 
-// Runs the instruction at which a machine stands, up to the next boundary.
-fn run_instruction<const N: usize, D: Devices>(machine: &mut Machine<N>, device: &mut D) -> Boundary
+// Goes on from an instruction or a raise, up to the next boundary.
+fn go_on<const N: usize, D: Devices>(machine: &mut Machine<N>, device: &mut D) -> Boundary
     requires stands { IsAtStep machine.old }
-    requires built { is_built machine.old.opcode ≡ true }
     requires clock { machine.old.clock < 2 ^ 63 }
     ensures steps { StepsAll machine.old machine.new (D.told device.old) (D.told device.new) result }
     ensures names { D.names device.new ≡ D.names device.old }
@@ -196,9 +236,30 @@ fn run_instruction<const N: usize, D: Devices>(machine: &mut Machine<N>, device:
     match to_boundary(machine, device) {
         Stepped::Next => Boundary::Bytecode,
         Stepped::Raise => Boundary::Raise,
-        Stepped::Halted => Boundary::Halted,
+        Stepped::Halted => match class_uncaught(machine) {
+            None => Boundary::Halted,
+            Some(class) => Boundary::Uncaught(class),
+        },
         Stepped::ReadFault => Boundary::ReadFault,
         Stepped::WriteFault => Boundary::WriteFault,
         Stepped::SeenFault => Boundary::SeenFault,
+    }
+}
+
+// Where a machine has halted over an object that wasn't caught, the number of its class. There is none where the program
+// returned.
+fn class_uncaught<const N: usize>(machine: &Machine<N>) -> Option<u32>
+    requires { HasEnded machine.now }
+    ensures { EndsWith machine.now result }
+{
+    // The laws are for the proof.
+    fitting_states_are_well_formed();
+    machine_stands::fixed_words_are_read();
+    image_facts::words_are_read_and_written();
+    image_facts::words_lie();
+    image_facts::image_words_lie();
+    match machine.uncaught() {
+        None => None,
+        Some(number) => Some(number - FIRST_CLASS),
     }
 }

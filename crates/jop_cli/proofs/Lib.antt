@@ -1,6 +1,6 @@
 pub mod Joined
-pub mod Marching
-pub mod FromReset
+pub mod Reset
+pub mod Executing
 pub mod Numbers
 pub mod Commands
 pub mod Grammar

@@ -11,10 +11,10 @@ use Rattle.jop_cli.specs.declared.outcome.Ending.{Ending}
 use Rattle.jop_cli.specs.declared.outcome.Ending.TheVariants.{Ended, Refused, Spent, ReadFault, WriteFault, NoMemory}
 use Rattle.jop_cli.specs.declared.outcome.Outcome.{Outcome}
 use Rattle.jop_cli.specs.declared.outcome.Outcome.TheVariants as outcomes
-use Rattle.bytecode_model.specs.declared.Ending.TheVariants as modes
 use Rattle.jop_cli.specs.Command.{command_of}
 use Rattle.jop_cli.specs.Line.{line_of, write_fault_line}
-use Rattle.jop_cli.specs.Run.{RunsTo, RunsInPart}
+use Rattle.boundary.specs.declared.runs.RunEnd.TheVariants as ends
+use Rattle.jop_cli.specs.Run.{outside, RunsTo, RunsInPart}
 use Rattle.jop_cli.specs.Phase.{is_linked, IsNoImage}
 
 -- what is told of files, out and the watch, and the counts of faults of files and out
@@ -80,15 +80,15 @@ abbrev pub Executed : List (List ℕ) → World → World → Ending → Type 0
 Executed words old new (Refused refusal) = RefusedFor words old new refusal × IsQuiet old new
 Executed words old new (Ended counts) =
     (command : RunCommand) × (image : Image) × RunsImage words command image old new
-    × RunsTo image command.cycles modes.Ended old.out new.out old.watch new.watch counts × (old.out_faults ≤ new.out_faults)
+    × RunsTo image command.cycles ends.Ended (outside old.out old.watch old.out_faults) (outside new.out new.watch new.out_faults) counts × (old.out_faults ≤ new.out_faults)
 Executed words old new (Spent counts) =
     (command : RunCommand) × (image : Image) × RunsImage words command image old new
-    × RunsTo image command.cycles modes.Running old.out new.out old.watch new.watch counts × (command.cycles ≤ counts.clock) × (old.out_faults ≤ new.out_faults)
+    × RunsTo image command.cycles ends.Spent (outside old.out old.watch old.out_faults) (outside new.out new.watch new.out_faults) counts × (command.cycles ≤ counts.clock) × (old.out_faults ≤ new.out_faults)
 Executed words old new ReadFault =
     (command : RunCommand) × Runs words command old new × Rose (old.file_faults command.image) (new.file_faults command.image) × IsQuiet old new
 Executed words old new WriteFault =
     (command : RunCommand) × (image : Image) × RunsImage words command image old new
-    × RunsInPart image command.cycles old.out new.out old.watch new.watch × Rose old.out_faults new.out_faults
+    × RunsInPart image command.cycles (outside old.out old.watch old.out_faults) (outside new.out new.watch new.out_faults) × Rose old.out_faults new.out_faults
 Executed words old new NoMemory = (command : RunCommand) × Runs words command old new × IsQuiet old new
 
 abbrev pub outcome_of : Ending → Outcome

@@ -1,5 +1,5 @@
-pub mod Run
 pub mod Wired
+pub mod Run
 pub mod Command
 pub mod CommandRows
 pub mod Grammar

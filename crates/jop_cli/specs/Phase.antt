@@ -8,8 +8,8 @@ use Rattle.bare_image.specs.Bare.{Image, IsBare}
 use Rattle.jop_cli.specs.declared.outcome.Refusal.TheVariants.{TooBig, BadImage, NotBuilt}
 use Rattle.jop_cli.specs.declared.outcome.Ending.{Ending}
 use Rattle.jop_cli.specs.declared.outcome.Ending.TheVariants.{Ended, Refused, Spent, ReadFault, WriteFault, NoMemory}
-use Rattle.bytecode_model.specs.declared.Ending.TheVariants as modes
-use Rattle.jop_cli.specs.Run.{RunsTo, RunsInPart}
+use Rattle.boundary.specs.declared.runs.RunEnd.TheVariants as ends
+use Rattle.jop_cli.specs.Run.{outside, RunsTo, RunsInPart}
 
 -- why the file of a word wasn't read, what is told of it, and its counts of faults
 abbrev pub LoadFault : ℕ → Option (List ℕ) → ℕ → ℕ → Ending → Type 0
@@ -37,10 +37,10 @@ ImageFault bytes ending = ⊥
 -- how the run of an image ends, what out and the watch then hold, and out's count of faults
 abbrev pub Ran : Image → (limit : ℕ) → (held held' : Option (List ℕ)) → (handed handed' : Option (List Seen)) → (faults faults' : ℕ) → Ending → Type 0
 Ran image limit held held' handed handed' faults faults' (Ended counts) =
-    RunsTo image limit modes.Ended held held' handed handed' counts × (faults ≤ faults')
+    RunsTo image limit ends.Ended (outside held handed faults) (outside held' handed' faults') counts × (faults ≤ faults')
 Ran image limit held held' handed handed' faults faults' (Spent counts) =
-    RunsTo image limit modes.Running held held' handed handed' counts × (limit ≤ counts.clock) × (faults ≤ faults')
+    RunsTo image limit ends.Spent (outside held handed faults) (outside held' handed' faults') counts × (limit ≤ counts.clock) × (faults ≤ faults')
 Ran image limit held held' handed handed' faults faults' WriteFault =
-    RunsInPart image limit held held' handed handed' × Rose faults faults'
+    RunsInPart image limit (outside held handed faults) (outside held' handed' faults') × Rose faults faults'
 Ran image limit held held' handed handed' faults faults' NoMemory = (held' ≡ held) × (handed' ≡ handed) × (faults' ≡ faults)
 Ran image limit held held' handed handed' faults faults' ending = ⊥

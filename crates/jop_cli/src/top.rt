@@ -9,9 +9,10 @@ ghost use Rattle.jop_cli.specs.Answer.{world, Executed, Answered, Said, IsFault,
 
 use crate::lines::{put_line, put_text};
 use crate::outcome::{Counts, Ending, Outcome, Refusal};
-use crate::run::{RunEnd, run};
+use crate::run::run;
 use crate::words::read_words;
-use boundary::Running;
+use boundary::laws::{bare_images_are_programs, bare_images_step};
+use boundary::{RunEnd, Running};
 use jop_core::{Bare, BareFault, Config, Machine, Watch, read_bare};
 use jop_outside::{Files, LONGEST_FILE, ReadAll, Sink, Source, read_all};
 use std::alloc::Global;
@@ -66,6 +67,9 @@ fn run_image<O: Sink, V: Watch>(
         (O.faults out.old) (O.faults out.new) result }
     ensures leaves { LeavesOut (outcome_of result) → (out.new ≡ out.old) × (watch.new ≡ watch.old) }
 {
+    // The laws are for the proof.
+    bare_images_are_programs();
+    bare_images_step();
     let Ok(mut running) = Running::<1024>::start_bare(alloc, bare, Config::default()) else {
         return Ending::NoMemory;
     };
@@ -73,7 +77,7 @@ fn run_image<O: Sink, V: Watch>(
         RunEnd::Ended => Ending::Ended(counts_of(running.machine())),
         RunEnd::Spent => Ending::Spent(counts_of(running.machine())),
         RunEnd::WriteFault => Ending::WriteFault,
-        RunEnd::SeenFault => unreachable!(),
+        RunEnd::Uncaught(_) | RunEnd::ReadFault | RunEnd::SeenFault => unreachable!(),
     }
 }
 

@@ -1,36 +1,42 @@
 use Rattle.std.proofs.Common.{lit<, arith, sym, ap, ◌∙◌, subst}
 use Rattle.boundary.specs.declared.answer.Boundary.{Boundary}
+use Rattle.boundary.specs.Meaning.{image_of}
 use Rattle.boundary.specs.Session.{Session, KeepsStep}
-use Rattle.boundary.specs.Families.{is_built}
-use Rattle.boundary.specs.Setting.{bare_setting}
-use Rattle.boundary.specs.Advances.{StepsAll}
-use Rattle.boundary.proofs.Keeping.{in_step, at_step, keeps_on}
+use Rattle.boundary.specs.Advances.{StepsAll, PassesTime}
+use Rattle.boundary.proofs.Keeping.{going_step, at_step, keeps_on}
+use Rattle.boundary.proofs.Lasting.{passes_time}
 use Rattle.boundary.proofs.running.Running.bytecode.Goals as goal
 
-pub run_instruction-answer-requires : goal.run_instruction-answer-requires
-run_instruction-answer-requires g c =
-    let r : Session = record { machine = c.self.inside.machine; image = c.self.inside.image.now; mode = c.self.inside.mode } in
-    let here = in_step g.row.N r c.in-Bytecode.is c.self.invariant in (
+pub go_on-answer-requires : goal.go_on-answer-requires
+go_on-answer-requires g c =
+    let r : Session = record { machine = c.self.inside.machine; image = image_of c.self.inside.image; mode = c.self.inside.mode } in
+    let going = sym c.is_going.ensures ∙ c.if-is_going.true in
+    let here = going_step g.row.N r r.mode going c.self.invariant in (
       lit< tt,
       (
-        at_step c.bare_images_are_programs.ensures g.row.N r c.in-Bytecode.is here,
-        (
-          ap is_built (sym c.opcode.ensures) ∙ sym c.is_built.ensures ∙ c.if-is_built.true,
-          omega (arith, c.requires.clock, ap (λ (r : Session). r.machine.clock) c.self.view_is),
-        ),
+        at_step g.row.N r going here,
+        omega (arith, c.requires.clock, ap (λ (r : Session). r.machine.clock) c.self.view_is),
       ),
     )
 
 pub invariant_of-self : goal.invariant_of-self
 invariant_of-self g c =
-    let r : Session = record { machine = c.self.inside.machine; image = c.self.inside.image.now; mode = c.self.inside.mode } in
-    let here = in_step g.row.N r c.in-Bytecode.is c.self.invariant in
-    let steps = c.run_instruction-answer.ensures.steps (bare_setting r.image g.row.N here.memory) here.state (c.bare_images_are_programs.ensures r.image g.row.N here.memory here.grammar) here.stands in
-    let kept = keeps_on c.cycles_keep.ensures g.row.N r here c.run_instruction-answer.new.machine (g.D.Devices.told c.args.device.now) (g.D.Devices.told c.run_instruction-answer.new.device) c.run_instruction-answer.result steps in
-    let K : Boundary → Type 0 = λ mode. KeepsStep g.row.N (record { machine = c.run_instruction-answer.new.machine; image = r.image; mode = mode }) mode in
+    let r : Session = record { machine = c.self.inside.machine; image = image_of c.self.inside.image; mode = c.self.inside.mode } in
+    let here = going_step g.row.N r r.mode (sym c.is_going.ensures ∙ c.if-is_going.true) c.self.invariant in
+    let steps = c.go_on-answer.ensures.steps here.setting here.state here.is_setting here.stands in
+    let kept = keeps_on c.cycles_keep.ensures g.row.N r here c.go_on-answer.new.machine (g.D.Devices.told c.args.device.now) (g.D.Devices.told c.go_on-answer.new.device) c.go_on-answer.result steps in
+    let K : Boundary → Type 0 = λ mode. KeepsStep g.row.N (record { machine = c.go_on-answer.new.machine; image = r.image; mode = mode }) mode in
     subst K (sym c.follow.ensures) kept
 
-pub returns-clause-steps : goal.returns-clause-steps
-returns-clause-steps g c = λ going.
-    let S : Session → Type 0 = λ r. StepsAll r.machine c.run_instruction-answer.new.machine (g.D.Devices.told c.args.device.now) (g.D.Devices.told c.run_instruction-answer.new.device) c.run_instruction-answer.result in
-    subst S c.self.view_is c.run_instruction-answer.ensures.steps
+pub returns-then-is_going-clause-steps : goal.returns-then-is_going-clause-steps
+returns-then-is_going-clause-steps g c = λ going.
+    let S : Session → Type 0 = λ r. StepsAll r.machine c.go_on-answer.new.machine (g.D.Devices.told c.args.device.now) (g.D.Devices.told c.go_on-answer.new.device) c.go_on-answer.result in
+    subst S c.self.view_is c.go_on-answer.ensures.steps
+
+pub returns-then-is_going-clause-time : goal.returns-then-is_going-clause-time
+returns-then-is_going-clause-time g c = λ going.
+    let r : Session = record { machine = c.self.inside.machine; image = image_of c.self.inside.image; mode = c.self.inside.mode } in
+    let here = going_step g.row.N r r.mode (sym c.is_going.ensures ∙ c.if-is_going.true) c.self.invariant in
+    let steps = c.go_on-answer.ensures.steps here.setting here.state here.is_setting here.stands in
+    let T : Session → Type 0 = λ r. PassesTime r.machine c.go_on-answer.new.machine c.go_on-answer.result in
+    subst T c.self.view_is (passes_time c.cycles_keep.ensures here.setting here.state r.machine c.go_on-answer.new.machine (g.D.Devices.told c.args.device.now) (g.D.Devices.told c.go_on-answer.new.device) c.go_on-answer.result steps)

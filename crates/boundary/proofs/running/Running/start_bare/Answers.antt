@@ -6,7 +6,7 @@ pub invariant_of-result : goal.invariant_of-result
 invariant_of-result g c =
     let image = c.args.image.now in
     let begins = c.bare_runs_begin.ensures g.row.N image c.args.config c.requires.size c.max_locals-grammar.ensures.image c.requires.room in
-    step_begins g.row.N image c.args.config c.in-Ok.machine c.max_locals-grammar.ensures.image c.in-Ok.ensures (begins_at (bare_setting image g.row.N c.args.config.memory) _ c.in-Ok.machine c.in-Ok.ensures begins)
+    step_begins c.bare_images_are_programs.ensures g.row.N image c.args.config c.in-Ok.machine c.max_locals-grammar.ensures.image c.in-Ok.ensures (begins_at (bare_setting image g.row.N c.args.config.memory) _ c.in-Ok.machine c.in-Ok.ensures begins)
 
 pub returns-in-Ok-clause-begins : goal.returns-in-Ok-clause-begins
 returns-in-Ok-clause-begins g c =
