@@ -1,0 +1,7 @@
+//! Laws of the definitions in `specs/`. The functions do nothing; a caller whose proof needs a law calls its function.
+ghost use Rattle.verifier_types.specs.Laws.{TakingLaw};
+
+/// The rules go on with what is taken off the stack, and where it is not there the rule on the stack fails.
+pub fn what_is_taken_is_found()
+    ensures { TakingLaw }
+{}
