@@ -1,0 +1,5 @@
+pub mod LabelLemmas
+pub mod NameLemmas
+pub mod LineLemmas
+pub mod SoFarLemmas
+pub mod ReadLemmas
