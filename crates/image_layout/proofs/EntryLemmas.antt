@@ -1,0 +1,226 @@
+-- The words of pool entries.
+use Rattle.std.proofs.Common.{◌≡◌, ℕ, suc, ◌+◌, ◌*◌, ◌^◌, ◌<◌, Bool, true, false, not, eqb, List, [], ◌∷◌, ◌++◌, Option, Some, None, Bor, Result, Ok, Err, map, take, length, get_or, append_assoc, append-nil, refl, sym, ap, ap₂, ◌∙◌, subst, arith}
+use Rattle.std.specs.Prelude.{slice_get, unwrap_or, if◌then◌else◌}
+use Rattle.std.specs.Option.{option_map, option_map_or, option_copied}
+use Rattle.std.specs.List.{filter, filter_map, cons_option, find, flat_map, range_with_len}
+use Rattle.std.proofs.lemmas.List.{length-map, map-append}
+use Rattle.std.proofs.lemmas.List.FromFn.{length-map-range_with_len, get_or-map-range_with_len}
+use Rattle.std.proofs.lemmas.List.Elements.{filter_map-append}
+use Rattle.class_pool.specs.declared.entry.Entry.{Entry}
+use Rattle.std.proofs.lemmas.Grind.{flat_map-append}
+use Rattle.std.proofs.lemmas.Bool.{false≢true, cond-true, cond-false, and_parts, eqb-true}
+use Rattle.std.proofs.lemmas.Option.{slice_get_within, slice_get-get_or}
+use Rattle.list_words.specs.Lists.{onto}
+use Rattle.list_words.specs.Lemmas.{none≢some, some_same, onto_some, index_found}
+use Rattle.class_lookup.specs.Parts.{Signature, same_text, name_of, class_text}
+use Rattle.class_lookup.specs.Hierarchy.{find_class}
+use Rattle.class_lookup.specs.Lookup.{Place, same_place, find_method}
+use Rattle.bytecode_model.specs.Program.{Method}
+use Rattle.bytecode_model.specs.Types.{OfReferences}
+use Rattle.image_facts.specs.Says.{argument_words}
+use Rattle.program_tables.specs.declared.kinds.Base.{Base}
+use Rattle.program_tables.specs.Kinds.{arrays_of}
+use Rattle.program_tables.specs.Laws.{MethodsStandByNumber, MembersAreThere}
+use Rattle.program_tables.specs.Numbers.{methods_by_number, method_number}
+use Rattle.program_tables.specs.Resolved.{method_in, resolved_method, resolved_methods}
+use Rattle.program_tables.specs.Tables.{base_kind}
+use Rattle.class_pool.specs.Grammar.{entry_at}
+use Rattle.class_pool.specs.declared.class.Member.{Member}
+use Rattle.class_pool.specs.declared.class.ClassFile.{ClassFile}
+use Rattle.jop_opcodes.specs.declared.instruction.Instr.{Instr}
+use Rattle.program_tables.specs.Instructions.{Placed, placed_at, instructions_of, signature_in}
+use Rattle.bytecode_model.specs.Program.{as_instr}
+use Rattle.program_tables.specs.Entries.{found_from, method_found}
+use Rattle.program_tables.specs.Operands.{operand_in, class_named, method_named}
+use Rattle.image_words.specs.Layout.{outline_of}
+use Rattle.image_words.specs.Pools.{instructions_in, naming, is_fixed_call, numbered_place, operand_place, taken_place, method_word, interface_word, no_words, words_of_entry, entry_words}
+use Rattle.image_words.specs.Slots.{interface_number, slot_of}
+use Rattle.image_layout.specs.declared.uses.Use.{Use}
+use Rattle.image_layout.specs.Uses.{instr_of, is_fixed, names_index, use_of}
+use Rattle.image_layout.proofs.ListLemmas.{take_some}
+use Rattle.image_layout.proofs.SizeLemmas.{stands}
+
+-- ---- mapped lists
+
+filter_case : {A B : Type 0} (t : B → Bool) (g : A → B) (x : A) (xs : List A) (b : Bool) → filter t (map g xs) ≡ map g (filter (λ x. t (g x)) xs)
+    → (if b then g x ∷ filter t (map g xs) else filter t (map g xs)) ≡ map g (if b then x ∷ filter (λ x. t (g x)) xs else filter (λ x. t (g x)) xs)
+filter_case t g x xs true h = ap (λ ys. g x ∷ ys) h
+filter_case t g x xs false h = h
+
+filter_mapped : {A B : Type 0} (t : B → Bool) (g : A → B) (xs : List A) → filter t (map g xs) ≡ map g (filter (λ x. t (g x)) xs)
+filter_mapped t g [] = refl
+filter_mapped t g (x ∷ xs) = filter_case t g x xs (t (g x)) (filter_mapped t g xs)
+
+find_case : {A B : Type 0} (t : B → Bool) (g : A → B) (x : A) (xs : List A) (b : Bool) → find t (map g xs) ≡ option_map g (find (λ x. t (g x)) xs)
+    → (if b then Some (g x) else find t (map g xs)) ≡ option_map g (if b then Some x else find (λ x. t (g x)) xs)
+find_case t g x xs true h = refl
+find_case t g x xs false h = h
+
+find_mapped : {A B : Type 0} (t : B → Bool) (g : A → B) (xs : List A) → find t (map g xs) ≡ option_map g (find (λ x. t (g x)) xs)
+find_mapped t g [] = refl
+find_mapped t g (x ∷ xs) = find_case t g x xs (t (g x)) (find_mapped t g xs)
+
+-- ---- how an entry is used
+
+uses_are : (k : ClassFile) (index : ℕ) → filter (names_index k index) (map instr_of (instructions_in k)) ≡ map instr_of (naming k index)
+unfolding naming
+uses_are k index = filter_mapped (names_index k index) instr_of (instructions_in k)
+
+pub use_named : (cs : List ClassFile) (c : ℕ) (k : ClassFile) (index : ℕ) (used : Use) → used ≡ use_of cs c k (map instr_of (instructions_in k)) index → used.named ≡ not (eqb (length (naming k index)) 0)
+use_named cs c k index used h =
+    ap (λ (u : Use). u.named) h ∙ ap (λ (n : ℕ). not (eqb n 0)) (ap length (uses_are k index) ∙ length-map (naming k index) instr_of)
+
+taken_case : (place : Instr → ℕ) (o : Option Placed) → unwrap_or (option_map place (option_map instr_of o)) 0 ≡ option_map_or (λ p. place p.instr) o 0
+taken_case place None = refl
+taken_case place (Some p) = refl
+
+pub use_taken : (cs : List ClassFile) (c : ℕ) (k : ClassFile) (index : ℕ) (used : Use) → used ≡ use_of cs c k (map instr_of (instructions_in k)) index → unwrap_or used.taken 0 ≡ taken_place cs (outline_of cs) c k index
+use_taken cs c k index used h =
+    let place : Instr → ℕ = λ x. operand_place (outline_of cs) (operand_in cs c k x) in
+    ap (λ (u : Use). unwrap_or u.taken 0) h
+    ∙ (ap (λ xs. unwrap_or (option_map place (find is_fixed xs)) 0) (uses_are k index)
+    ∙ (ap (λ o. unwrap_or (option_map place o) 0) (find_mapped is_fixed instr_of (naming k index)) ∙ taken_case place (find is_fixed_call (naming k index))))
+
+is_false : (b t : Bool) → b ≡ not t → b ≡ true → t ≡ false
+is_false b true h e = absurd (false≢true (sym h ∙ e))
+is_false b false h e = refl
+
+is_true : (b t : Bool) → b ≡ not t → b ≡ false → t ≡ true
+is_true b true h e = refl
+is_true b false h e = absurd (false≢true (sym e ∙ h))
+
+pub entry_used : (cs : List ClassFile) (c : ℕ) (k : ClassFile) (index : ℕ) (b : Bool) (words : List ℕ) → b ≡ not (eqb (length (naming k index)) 0) → b ≡ true
+    → words ≡ words_of_entry cs (outline_of cs) c k index (entry_at k.pool index) → words ≡ entry_words cs (outline_of cs) c k index
+entry_used cs c k index b words h t e =
+    let none = eqb (length (naming k index)) 0 in
+    e ∙ sym (cond-false none no_words (words_of_entry cs (outline_of cs) c k index (entry_at k.pool index)) (is_false b none h t))
+
+pub entry_unused : (cs : List ClassFile) (c : ℕ) (k : ClassFile) (index : ℕ) (b : Bool) → b ≡ not (eqb (length (naming k index)) 0) → b ≡ false → no_words ≡ entry_words cs (outline_of cs) c k index
+entry_unused cs c k index b h t =
+    let none = eqb (length (naming k index)) 0 in
+    sym (cond-true none no_words (words_of_entry cs (outline_of cs) c k index (entry_at k.pool index)) (is_true b none h t))
+
+-- no instruction names the index 0
+pub first_words : (cs : List ClassFile) (c : ℕ) (k : ClassFile) → no_words ≡ entry_words cs (outline_of cs) c k 0
+first_words cs c k = sym (same_case (eqb (length (naming k 0)) 0))
+  where
+    same_case : (b : Bool) → (if b then no_words else no_words) ≡ no_words
+    same_case true = refl
+    same_case false = refl
+
+-- ---- instructions
+
+pub instructions_more : (code : List ℕ) (pcs : List ℕ) (i pc : ℕ) (o : Option Placed) (before old new : List Instr) → slice_get pcs i ≡ Some pc → placed_at code pc ≡ o → old ≡ before ++ map instr_of (filter_map (placed_at code) (take i pcs))
+    → new ≡ old ++ map instr_of (cons_option o []) → new ≡ before ++ map instr_of (filter_map (placed_at code) (take (i + 1) pcs))
+instructions_more code pcs i pc o before old new at is h e =
+    let done = filter_map (placed_at code) (take i pcs) in
+    e
+    ∙ (ap₂ (λ (xs : List Instr) (o : Option Placed). xs ++ map instr_of (cons_option o [])) h (sym is)
+    ∙ (append_assoc before (map instr_of done) (map instr_of (cons_option (placed_at code pc) []))
+    ∙ ap (λ (xs : List Instr). before ++ xs) (sym (map-append instr_of done (cons_option (placed_at code pc) []))
+    ∙ ap (map instr_of) (sym (ap (filter_map (placed_at code)) (take_some pcs i pc at) ∙ filter_map-append (placed_at code) (take i pcs) (pc ∷ []))))))
+
+pub methods_more : (ms : List Member) (i : ℕ) (m : Member) (old new : List Instr) → slice_get ms i ≡ Some m → old ≡ map instr_of (flat_map instructions_of (take i ms)) → new ≡ old ++ map instr_of (instructions_of m)
+    → new ≡ map instr_of (flat_map instructions_of (take (i + 1) ms))
+methods_more ms i m old new at h e =
+    let done = flat_map instructions_of (take i ms) in
+    e
+    ∙ (ap (λ (xs : List Instr). xs ++ map instr_of (instructions_of m)) h
+    ∙ (sym (map-append instr_of done (instructions_of m))
+    ∙ ap (map instr_of) (sym (ap (flat_map instructions_of) (take_some ms i m at) ∙ (flat_map-append instructions_of (take i ms) (m ∷ []) ∙ ap (λ ys. done ++ ys) (append-nil (instructions_of m)))))))
+
+pub no_instr : {E : Type 0} (r : Result Instr E) → ((x : Instr) → r ≡ Ok x → ⊥) → as_instr r ≡ None
+no_instr (Ok x) h = absurd (h x refl)
+no_instr (Err e) h = refl
+
+-- ---- classes and methods
+
+pub array_of : (cs : List ClassFile) (n d : ℕ) (b : Base) → n ≡ d + 1 → numbered_place cs (outline_of cs) (Some (arrays_of n (base_kind b))) ≡ numbered_place cs (outline_of cs) (Some (OfReferences (arrays_of d (base_kind b))))
+array_of cs n d b h = let next : n ≡ suc d = omega (arith, h) in ap (λ k. numbered_place cs (outline_of cs) (Some (arrays_of k (base_kind b)))) next
+
+pub record HasNumber (cs : List ClassFile) (m : Place) (n : ℕ) : Type 0 where
+  pub method : Method
+  pub below : n < length (methods_by_number cs)
+  pub numbered : slice_get (resolved_methods cs) n ≡ Some method
+  pub resolved : resolved_method cs m ≡ Some method
+
+pub has_number : MethodsStandByNumber → MembersAreThere → (cs : List ClassFile) (m : Place) (n : ℕ) → method_number cs m ≡ Some n → HasNumber cs m n
+has_number law there cs m n h =
+    let f = index_found (same_place m) (methods_by_number cs) n h in
+    let s = stands law there cs n f.0 f.1 in
+    let parts = and_parts (eqb m.0 f.0.0) (eqb m.1 f.0.1) f.2 in
+    let place : ℕ → ℕ → Place = λ c i. (c, i) in
+    let same : m ≡ f.0 = ap₂ place (eqb-true m.0 f.0.0 parts.0) (eqb-true m.1 f.0.1 parts.1) in
+    record {
+      method = method_in cs f.0.0 s.class s.member;
+      below = slice_get_within (methods_by_number cs) n f.0 f.1;
+      numbered = s.method;
+      resolved = ap (resolved_method cs) same ∙ (sym (law cs n ∙ ap (λ o. onto o (resolved_method cs)) f.1) ∙ s.method);
+    }
+
+pub called : (cs : List ClassFile) (m : Place) (n words word number : ℕ) → HasNumber cs m n → ((k : Method) → slice_get (resolved_methods cs) n ≡ Some k → words ≡ argument_words k) → word ≡ words * 2 ^ 24 + number
+    → word ≡ option_map_or argument_words (resolved_method cs m) 0 * 2 ^ 24 + number
+called cs m n words word number h a e =
+    e ∙ ap (λ (w : ℕ). w * 2 ^ 24 + number) (a h.method h.numbered ∙ sym (ap (λ o. option_map_or argument_words o 0) h.resolved))
+
+pub class_below : (cs ks : List ClassFile) (text : List ℕ) (n : ℕ) → Some n ≡ find_class ks text → ks ≡ cs → n < length cs
+class_below cs ks text n h same =
+    let f = index_found (λ c. same_text (name_of c) text) ks n (sym h) in
+    subst (λ (xs : List ClassFile). n < length xs) same (slice_get_within ks n f.0 f.1)
+
+pub no_copy : {T : Type 0} (r : Option (Bor T)) → ((x : Bor T) → r ≡ Some x → ⊥) → option_copied r ≡ None
+no_copy None h = refl
+no_copy (Some x) h = absurd (h x refl)
+
+pub interface_called : (cs : List ClassFile) (m : Option Place) (p : Place) (word number : ℕ) → m ≡ Some p → word ≡ option_map_or argument_words (resolved_method cs p) 0 * 2 ^ 24 + number → number ≡ unwrap_or (interface_number cs p) 0 → word ≡ interface_word cs m
+interface_called cs m p word number hm e hn = e ∙ (ap (λ (x : ℕ). option_map_or argument_words (resolved_method cs p) 0 * 2 ^ 24 + x) hn ∙ sym (ap (interface_word cs) hm))
+
+-- ---- entries one after another
+
+pub entry_there : (entries : List Entry) (place : ℕ) (e : Entry) → place < length entries → e ≡ get_or entries place e → entry_at entries (place + 1) ≡ Some e
+entry_there entries place e lt h =
+    let next : place + 1 ≡ suc place = omega arith in
+    ap (entry_at entries) next ∙ (slice_get-get_or entries place e lt ∙ ap Some (sym h))
+
+pub use_read : (cs : List ClassFile) (c : ℕ) (k : ClassFile) (xs : List Instr) (uses : List Use) (many i : ℕ) (d : Use) → uses ≡ map (use_of cs c k xs) (range_with_len 0 many) → i < many → get_or uses i d ≡ use_of cs c k xs i
+use_read cs c k xs uses many i d h lt = ap (λ us. get_or us i d) h ∙ get_or-map-range_with_len (use_of cs c k xs) 0 many i i d lt (omega arith)
+
+pub uses_long : (cs : List ClassFile) (c : ℕ) (k : ClassFile) (xs : List Instr) (uses : List Use) (many : ℕ) → uses ≡ map (use_of cs c k xs) (range_with_len 0 many) → length uses ≡ many
+uses_long cs c k xs uses many h = ap length h ∙ length-map-range_with_len (use_of cs c k xs) 0 many
+
+-- the method that an entry names, and the class through which it does
+pub found_called : (cs : List ClassFile) (k : ClassFile) (owner member n : ℕ) (p : Place) → method_found cs k owner member ≡ Some (n, p) → (class_named cs k owner ≡ Some n) × (onto (signature_in k.pool member) (method_named cs k owner) ≡ Some p)
+found_called cs k owner member n p h =
+    let pair : ℕ → Place → ℕ × Place = λ x y. (x, y) in
+    let s = onto_some (signature_in k.pool member) (λ s. found_from (λ n. find_method cs n s) cs k owner) (n, p) h in
+    let c = onto_some (class_named cs k owner) (λ n. onto (find_method cs n s.0) (λ p. Some (pair n p))) (n, p) s.2 in
+    let m = onto_some (find_method cs c.0 s.0) (λ p. Some (pair c.0 p)) (n, p) c.2 in
+    let same = some_same (pair c.0 m.0) (n, p) m.2 in
+    let number = ap (λ (q : ℕ × Place). q.0) same in
+    let place = ap (λ (q : ℕ × Place). q.1) same in (
+      c.1 ∙ ap Some number,
+      ap (λ o. onto o (method_named cs k owner)) s.1 ∙ (ap (λ o. onto o (λ n. find_method cs n s.0)) c.1 ∙ (m.1 ∙ ap Some place)),
+    )
+
+pub found_below : (cs : List ClassFile) (k : ClassFile) (owner member n : ℕ) (p : Place) → method_found cs k owner member ≡ Some (n, p) → n < length cs
+found_below cs k owner member n p h = class_below cs cs (class_text k.pool owner) n (sym (found_called cs k owner member n p h).0) refl
+
+found_case : (o : Option Place) (n : ℕ) → onto o (λ (p : Place). let q : ℕ × Place = (n, p) in Some q) ≡ None → o ≡ None
+found_case None n h = refl
+found_case (Some p) n h = absurd (none≢some (let q : ℕ × Place = (n, p) in q) (sym h))
+
+class_case : (o : Option ℕ) (find : ℕ → Option Place) → onto o (λ n. onto (find n) (λ (p : Place). let q : ℕ × Place = (n, p) in Some q)) ≡ None → onto o find ≡ None
+class_case None find h = refl
+class_case (Some n) find h = found_case (find n) n h
+
+signature_case : (cs : List ClassFile) (k : ClassFile) (owner : ℕ) (o : Option Signature) → onto o (λ s. found_from (λ n. find_method cs n s) cs k owner) ≡ None → onto o (method_named cs k owner) ≡ None
+signature_case cs k owner None h = refl
+signature_case cs k owner (Some s) h = class_case (class_named cs k owner) (λ n. find_method cs n s) h
+
+pub found_none : (cs : List ClassFile) (k : ClassFile) (owner member : ℕ) → method_found cs k owner member ≡ None → onto (signature_in k.pool member) (method_named cs k owner) ≡ None
+found_none cs k owner member h = signature_case cs k owner (signature_in k.pool member) h
+
+pub method_called : (cs : List ClassFile) (named : Option ℕ) (m : Option Place) (n : ℕ) (p : Place) (word slot : ℕ) → named ≡ Some n → m ≡ Some p → word ≡ option_map_or argument_words (resolved_method cs p) 0 * 2 ^ 24 + slot → slot ≡ unwrap_or (slot_of cs n p) 0
+    → word ≡ method_word cs named m
+method_called cs named m n p word slot hn hm e hs =
+    e ∙ (ap (λ (x : ℕ). option_map_or argument_words (resolved_method cs p) 0 * 2 ^ 24 + x) hs ∙ sym (ap₂ (λ (a : Option ℕ) (b : Option Place). method_word cs a b) hn hm))

@@ -1,0 +1,20 @@
+use Rattle.std.proofs.Common.{◌∙◌}
+use Rattle.image_words.specs.Layout.{pool_words, method_size, pools_place, methods_place}
+use Rattle.image_words.specs.Regions as regions
+use Rattle.program_tables.specs.Resolved.{resolved}
+use Rattle.image_layout.proofs.LayoutLemmas.{places_of_run, fields_same, strings_same}
+use Rattle.image_layout.proofs.layout.lay_out.Goals as goal
+
+pub returns-clause-made : goal.returns-clause-made
+unfolding regions.places_of
+returns-clause-made c =
+    let cs = c.args.program.now in
+    let o = c.in_ok-outline.ensures in
+    record {
+      words = c.in_ok-words.ensures;
+      methods = places_of_run method_size (resolved cs).methods (methods_place cs) c.in_ok-outline.outline.methods o.methods;
+      types = c.in_ok-types.ensures;
+      pools = places_of_run pool_words cs (pools_place cs) c.in_ok-outline.outline.pools o.pools;
+      fields = c.in_ok-fields.ensures ∙ fields_same cs;
+      strings = c.in_ok-strings.ensures ∙ strings_same c.packed_has_words.ensures cs;
+    }

@@ -1,0 +1,23 @@
+use Rattle.std.proofs.Common.{◌≡◌, ℕ, List, length, ◌∙◌, subst, arith}
+use Rattle.image_layout.specs.Sizes.{IsRun}
+use Rattle.image_layout.proofs.ListLemmas.{all_none, all_more}
+use Rattle.image_layout.proofs.SizeLemmas.{HasFields}
+use Rattle.image_layout.proofs.sizes.instances_of.Goals as goal
+
+pub loop-class-init : goal.loop-class-init
+loop-class-init c = all_none (HasFields c.args.program.now) c.new-runs.result.items c.new-runs.ensures.items
+
+pub loop-class-preserved : goal.loop-class-preserved
+loop-class-preserved c =
+    let run = c.in_ok-run_from.field-0 in
+    let sized = c.deref.ensures.value ∙ c.in_ok-sizes.ensures in
+    all_more (HasFields c.args.program.now) c.loop-class.class c.loop-class.runs.items c.push.new.self.items run c.loop-class.invariant c.in_ok-push.ensures.items
+    (subst (λ (sizes : List ℕ). IsRun 1 sizes run) sized c.in_ok-run_from.ensures)
+
+pub returns : goal.returns
+returns c =
+    let test = c.loop-class-test.false in
+    let end = c.loop-class.auto.class-end in
+    let count = c.class_count-class-end.ensures in
+    let all : c.loop-class.class ≡ length c.args.program.now = omega (arith, test, end, count) in
+    record { count = c.loop-class.invariant.count ∙ all; each = c.loop-class.invariant.each }

@@ -1,0 +1,4 @@
+pub mod Sizes
+pub mod Outline
+pub mod Layout
+pub mod Uses

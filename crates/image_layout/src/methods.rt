@@ -1,0 +1,140 @@
+//! The records of methods with code (JVM Specification SE 8, 4.7.3).
+ghost use Rattle.std.specs.Prelude.{◌≡◌, ◌++◌, ◌+◌, ◌*◌, ◌^◌, ◌<◌, length, map, sum_by, Some, IfOk, OnOk, slice_get};
+ghost use Rattle.std.specs.List.{flat_map};
+ghost use Rattle.bytecode_model.specs.Program.{Method};
+ghost use Rattle.class_pool.specs.declared.class.ClassFile.{ClassFile};
+ghost use Rattle.image_facts.specs.Says.{argument_words, handler_words};
+ghost use Rattle.image_facts.specs.Words.{declared_words};
+ghost use Rattle.program_tables.specs.Meanings.{declared_seen};
+ghost use Rattle.program_tables.specs.Numbers.{methods_by_number};
+ghost use Rattle.program_tables.specs.Resolved.{handler_of, resolved};
+ghost use Rattle.image_words.specs.Layout.{outline_of};
+ghost use Rattle.image_words.specs.Regions.{method_image, methods_region};
+ghost use Rattle.image_layout.specs.Outline.{IsOutline};
+
+use crate::outline::Outline;
+use crate::packing::add_bytes;
+use crate::sizes::declared_words;
+use crate::sums::{add, count, times};
+use crate::types::counted_type;
+use jop_base::NoMemory;
+use program_tables::Declared;
+use program_tables::laws::{members_are_there, methods_stand_by_number};
+use resolved_program::Program;
+
+/// What stands in the upper half of a word counts so many times.
+const UPPER: u32 = 65536;
+
+/// A word of two halves.
+fn halves(upper: u16, lower: u16) -> u32
+    ensures { result ≡ upper * 2 ^ 16 + lower }
+{
+    u32::from(upper) * UPPER + u32::from(lower)
+}
+
+/// The words of values of these types, one after another.
+fn words_of_types(types: &[Declared]) -> Result<u32, NoMemory>
+    ensures { IfOk result (λ words. words ≡ sum_by declared_words (map declared_seen types.now)) }
+{
+    let mut words = 0;
+    for declared in types {
+        words = add(words, declared_words(*declared))?;
+    }
+    Ok(words)
+}
+
+/// The words that a method takes as arguments, the receiver among them.
+pub(crate) fn argument_words(program: &Program, method: u32) -> Result<u32, NoMemory>
+    requires { method < length (methods_by_number program.now) }
+    ensures { IfOk result (λ words. (k : Method) → slice_get (resolved program.now).methods method ≡ Some k → words ≡ argument_words k) }
+{
+    let shape = program.shape(method);
+    let words = words_of_types(shape.parameters.as_slice())?;
+    if shape.has_this {
+        let all = add(words, 1)?;
+        Ok(all)
+    } else {
+        Ok(words)
+    }
+}
+
+/// An entry of the exception table of a method of the class.
+fn add_handler(
+    words: &mut Vec<u32>,
+    program: &Program,
+    class: u32,
+    entry: (u16, u16, u16, u16),
+) -> Result<(), NoMemory>
+    requires { class < length program.now }
+    ensures { OnOk result ((k : ClassFile) → slice_get program.now class ≡ Some k
+        → words.new.items ≡ words.old.items ++ handler_words (resolved program.now) (handler_of program.now k entry)) }
+{
+    let handler = program.handler(class, entry);
+    let range = halves(handler.start, handler.end);
+    let caught = counted_type(program, handler.caught)?;
+    words.extend_from_slice(&[range, u32::from(handler.target), caught])?;
+    Ok(())
+}
+
+/// The exception table of a method of the class.
+fn add_handlers(
+    words: &mut Vec<u32>,
+    program: &Program,
+    class: u32,
+    entries: &[(u16, u16, u16, u16)],
+) -> Result<(), NoMemory>
+    requires { class < length program.now }
+    ensures { OnOk result ((k : ClassFile) → slice_get program.now class ≡ Some k
+        → words.new.items ≡ words.old.items ++ flat_map (handler_words (resolved program.now)) (map (handler_of program.now k) entries.now)) }
+{
+    for entry in entries {
+        add_handler(words, program, class, *entry)?;
+    }
+    Ok(())
+}
+
+/// The record of a method; it has none without code.
+fn add_method(
+    words: &mut Vec<u32>,
+    program: &Program,
+    outline: &Outline,
+    method: u32,
+) -> Result<(), NoMemory>
+    requires outline { IsOutline program.now outline.now }
+    requires method { method < length (methods_by_number program.now) }
+    ensures { OnOk result ((k : Method) → slice_get (resolved program.now).methods method ≡ Some k → words.new.items ≡ words.old.items ++ method_image program.now (outline_of program.now) k) }
+{
+    methods_stand_by_number();
+    members_are_there();
+    let owner = program.method(method).class;
+    let Some(code) = program.code(method) else {
+        return Ok(());
+    };
+    let bytes = code.code.as_slice();
+    let entries = code.handlers.as_slice();
+    let limits = halves(code.max_locals, code.max_stack);
+    let arguments = times(argument_words(program, method)?, UPPER)?;
+    let sizes = add(arguments, count(bytes.len().div_ceil(4))?)?;
+    let pool = outline.pool_place(owner);
+    words.extend_from_slice(&[limits, sizes, pool, count(entries.len())?])?;
+    add_handlers(words, program, owner, entries)?;
+    add_bytes(words, bytes)?;
+    Ok(())
+}
+
+/// The methods with code.
+pub(crate) fn add_methods(
+    words: &mut Vec<u32>,
+    program: &Program,
+    outline: &Outline,
+) -> Result<(), NoMemory>
+    requires { IsOutline program.now outline.now }
+    ensures { OnOk result (words.new.items ≡ words.old.items ++ methods_region program.now (outline_of program.now)) }
+{
+    methods_stand_by_number();
+    members_are_there();
+    for method in 0..program.method_count() {
+        add_method(words, program, outline, method)?;
+    }
+    Ok(())
+}

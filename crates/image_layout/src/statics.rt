@@ -1,0 +1,125 @@
+//! The static fields with their first values (JVM Specification SE 8, 4.7.2 and 5.5).
+ghost use Rattle.std.specs.Prelude.{◌≡◌, ◌++◌, ℕ, is_some, IfOk, OnOk};
+ghost use Rattle.std.specs.Option.{option_to_list};
+ghost use Rattle.std.specs.List.{flat_map};
+ghost use Rattle.bytecode_model.specs.Types.{default};
+ghost use Rattle.image_facts.specs.Words.{words_of};
+ghost use Rattle.program_tables.specs.Resolved.{constant_of, constant_at, first_value};
+ghost use Rattle.image_words.specs.Layout.{outline_of};
+ghost use Rattle.image_words.specs.Regions.{first_place, statics_region};
+ghost use Rattle.image_layout.specs.Outline.{IsOutline};
+ghost use Rattle.program_tables.specs.Meanings.{declared_seen};
+
+use crate::outline::Outline;
+use class_lookup::Place;
+use class_lookup::parts::text_at;
+use class_pool::{Entry, Pool};
+use jop_base::NoMemory;
+use program_tables::{Declared, entry_of, field_at};
+use resolved_program::Program;
+
+/// The words of a constant, put behind others; whether the entry is one.
+fn add_constant(
+    words: &mut Vec<u32>,
+    program: &Program,
+    outline: &Outline,
+    pool: &Pool,
+    entry: &Entry,
+) -> Result<bool, NoMemory>
+    requires { IsOutline program.now outline.now }
+    ensures words { OnOk result (words.new.items ≡ words.old.items ++ flat_map (words_of (first_place program.now (outline_of program.now))) (option_to_list (constant_of program.now pool.now entry.now))) }
+    ensures is { IfOk result (λ is. is ≡ is_some (constant_of program.now pool.now entry.now)) }
+{
+    match entry {
+        Entry::Integer(n) => {
+            words.push(*n)?;
+            Ok(true)
+        }
+        Entry::Long(n) => {
+            words.extend_from_slice(&[(*n >> 32) as u32, (*n & 0xffff_ffff) as u32])?;
+            Ok(true)
+        }
+        Entry::Text(units) => match program.strings().number(text_at(pool, *units)) {
+            // The objects of errors come first, and each string has its array before it.
+            Some(string) => {
+                words.push(outline.object_place(9 + 2 * string + 1))?;
+                Ok(true)
+            }
+            None => Ok(false),
+        },
+        _ => Ok(false),
+    }
+}
+
+/// The words of the constant of a field, put behind others; whether it has one.
+fn add_constant_of(
+    words: &mut Vec<u32>,
+    program: &Program,
+    outline: &Outline,
+    place: Place,
+) -> Result<bool, NoMemory>
+    requires { IsOutline program.now outline.now }
+    ensures words { OnOk result (words.new.items ≡ words.old.items ++ flat_map (words_of (first_place program.now (outline_of program.now))) (option_to_list (constant_at program.now place))) }
+    ensures is { IfOk result (λ is. is ≡ is_some (constant_at program.now place)) }
+{
+    let Some(field) = field_at(program.hierarchy().classes(), place) else {
+        return Ok(false);
+    };
+    let Some(index) = field.constant_value() else {
+        return Ok(false);
+    };
+    if place.class >= program.class_count() {
+        return Ok(false);
+    }
+    let pool = &program.class(place.class).pool;
+    match entry_of(pool, u32::from(index)) {
+        Some(entry) => add_constant(words, program, outline, pool, entry),
+        None => Ok(false),
+    }
+}
+
+/// The words of the default value of a type.
+fn add_default(words: &mut Vec<u32>, declared: Declared) -> Result<(), NoMemory>
+    ensures { OnOk result ((place : ℕ → ℕ) → words.new.items ≡ words.old.items ++ words_of place (default (declared_seen declared))) }
+{
+    words.push(0)?;
+    if let Declared::Long = declared {
+        words.push(0)?;
+    }
+    Ok(())
+}
+
+/// The first value of a static field: its constant, or else its type's default.
+fn add_first_value(
+    words: &mut Vec<u32>,
+    program: &Program,
+    outline: &Outline,
+    place: Place,
+) -> Result<(), NoMemory>
+    requires { IsOutline program.now outline.now }
+    ensures { OnOk result (words.new.items ≡ words.old.items ++ flat_map (words_of (first_place program.now (outline_of program.now))) (option_to_list (first_value program.now place))) }
+{
+    let Some(declared) = program.field_type(place) else {
+        return Ok(());
+    };
+    if !add_constant_of(words, program, outline, place)? {
+        add_default(words, declared)?;
+    }
+    Ok(())
+}
+
+/// The static fields.
+pub(crate) fn add_statics(
+    words: &mut Vec<u32>,
+    program: &Program,
+    outline: &Outline,
+) -> Result<(), NoMemory>
+    requires { IsOutline program.now outline.now }
+    ensures { OnOk result (words.new.items ≡ words.old.items ++ statics_region program.now (outline_of program.now)) }
+{
+    for index in 0..program.static_count() {
+        let place = program.static_field(index);
+        add_first_value(words, program, outline, place)?;
+    }
+    Ok(())
+}
