@@ -11,12 +11,12 @@ use Rattle.class_rules.specs.Grammar.{IsClass}
 use Rattle.class_making.specs.declared.item.Item.{Item}
 use Rattle.class_making.specs.declared.item.Item.TheVariants.{Class}
 use Rattle.class_making.specs.declared.plan.ClassPlan.{ClassPlan}
-use Rattle.class_making.specs.Making.{pool_of}
+use Rattle.class_making.specs.Making.{expanded, pool_of}
 use Rattle.class_making.specs.Plans.{field_mentions, method_mentions, plan_mentions, items_of, field_in, method_in, class_index, superclass_index, class_of}
 use Rattle.class_making.specs.Right.{Signature, field_signature, method_signature, IsRightPlan}
-use Rattle.class_making.specs.Laws.{class_text, member_signature, SaysPlan, HasBytes}
+use Rattle.class_making.specs.Laws.{class_text, member_signature, SaysPlan, HasBytes, HasEntry, PlansHaveEntries}
 use Rattle.class_making.proofs.ListLemmas.{all_left, all_right, all_flat, all_from_map, all_then}
-use Rattle.class_making.proofs.PoolLemmas.{entry_found}
+use Rattle.class_making.proofs.PoolLemmas.{Has, entry_found}
 use Rattle.class_making.proofs.PoolLaws.{Names, IsWhole, mentioned, whole, is_pool}
 use Rattle.class_making.proofs.InsideLaws.{is_inside, have_bytes}
 use Rattle.class_making.proofs.RuleLaws.{IsNamed, Says, pair_same, said, field_says, method_says, follows_rules}
@@ -91,3 +91,12 @@ says_plan p room =
       fields = members_said items (field_in items) field_signature p.fields (all_then (λ f. AllByRecursion (Names items) (field_mentions f)) (λ f. Says items (field_in items f) (field_signature f)) (field_says items room) p.fields h.fields);
       methods = members_said items (method_in items) method_signature p.methods (all_then (λ m. AllByRecursion (Names items) (method_mentions m)) (λ m. Says items (method_in items m) (method_signature m)) (method_says items room) p.methods h.methods);
     }
+
+-- ---- its pool
+
+pub have_entries : PlansHaveEntries
+unfolding class_of
+have_entries p room =
+    all_then (Names (items_of p)) (λ m. AllByRecursion (HasEntry p) (expanded m))
+    (λ m h. all_then (Has (items_of p)) (HasEntry p) (λ x has. entry_found (items_of p) x room has) (expanded m) h)
+    (plan_mentions p) (mentioned p)

@@ -1,5 +1,5 @@
 -- What the laws of made classes say.
-use Rattle.std.specs.Prelude.{◌≡◌, ℕ, ◌*◌, ◌<◌, ◌≤◌, ◌^◌, List, [], map, length, IfSome, unwrap_or}
+use Rattle.std.specs.Prelude.{◌≡◌, ℕ, ◌*◌, ◌<◌, ◌≤◌, ◌^◌, List, [], map, length, IfSome, Some, unwrap_or}
 use Rattle.std.specs.Option.{option_map_or}
 use Rattle.std.specs.List.{AllByRecursion}
 use Rattle.class_pool.specs.declared.entry.Entry.{Entry}
@@ -10,7 +10,9 @@ use Rattle.class_pool.specs.Grammar.{entry_at, class_name_of}
 use Rattle.class_pool.specs.Found.{code_of}
 use Rattle.class_rules.specs.Rules.{text_at}
 use Rattle.class_rules.specs.Grammar.{IsClass}
+use Rattle.class_making.specs.declared.item.Item.{Item}
 use Rattle.class_making.specs.declared.plan.ClassPlan.{ClassPlan}
+use Rattle.class_making.specs.Making.{expanded, index_of, entry_of}
 use Rattle.class_making.specs.Plans.{plan_mentions, items_of, class_of}
 use Rattle.class_making.specs.Right.{Signature, field_signature, method_signature, IsRightPlan}
 
@@ -53,3 +55,13 @@ PlansHaveBytes = (p : ClassPlan) → IsRightPlan p → HasBytes (class_of p)
 -- an item names five others at most, so a plan of few mentions has room
 abbrev pub ItemsAreFew : Type 0
 ItemsAreFew = (p : ClassPlan) → length (items_of p) ≤ 6 * length (plan_mentions p)
+
+-- ---- the pool
+
+-- at the item's index stands its entry
+abbrev pub HasEntry : ClassPlan → Item → Type 0
+HasEntry p x = entry_at (class_of p).pool (index_of (items_of p) x) ≡ Some (entry_of (items_of p) x)
+
+-- all that a plan mentions, and all that this names
+abbrev pub PlansHaveEntries : Type 0
+PlansHaveEntries = (p : ClassPlan) → length (items_of p) ≤ 65534 → AllByRecursion (λ m. AllByRecursion (HasEntry p) (expanded m)) (plan_mentions p)

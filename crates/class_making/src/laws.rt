@@ -1,5 +1,5 @@
 //! Laws of made class files.
-ghost use Rattle.class_making.specs.Laws.{PlansAreClasses, ClassesSayPlans, PlansHaveBytes, ItemsAreFew};
+ghost use Rattle.class_making.specs.Laws.{PlansAreClasses, ClassesSayPlans, PlansHaveBytes, PlansHaveEntries, ItemsAreFew};
 
 /// A plan that says what a class file may say makes a class file.
 pub fn plans_are_classes()
@@ -19,4 +19,9 @@ pub fn plans_have_bytes()
 /// A plan has at most six items for each of its mentions.
 pub fn items_are_few()
     ensures { ItemsAreFew }
+{}
+
+/// What a plan mentions, and what this names, has its entry in the pool of the plan's class file.
+pub fn plans_have_entries()
+    ensures { PlansHaveEntries }
 {}

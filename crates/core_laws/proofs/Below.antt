@@ -32,7 +32,7 @@ object_is_uppermost others none = object_bears_no_name others ∙ not_found (λ 
 nothing_above_object : (others : List ClassFile) → find_class others [] ≡ None → direct_supertypes (core ++ others) 0 ≡ []
 nothing_above_object others none = ap₂ (λ (xs : List ℕ) (o : Option ℕ). xs ++ option_to_list o) (object_has_no_interface others) (object_is_uppermost others none)
 
-core_there : (k : ℕ) → k < 23 → (x : ClassFile) × (slice_get core k ≡ Some x)
+pub core_there : (k : ℕ) → k < 23 → (x : ClassFile) × (slice_get core k ≡ Some x)
 core_there k lt = let long = core_long in there core k (omega arith)
 
 pub above_is_before : (others : List ClassFile) → find_class others [] ≡ None → (k : ℕ) → k < 23 → AllByRecursion (λ d. d < k) (direct_supertypes (core ++ others) k)
@@ -43,11 +43,11 @@ above_is_before others none (suc k) lt =
     (or_right (suc k == 0) (list_all (λ d. nat_lt d (suc k)) (direct_supertypes (core ++ others) (suc k)))
     (numbered_at (λ (e : ℕ × ClassFile). e.0 == 0 || list_all (λ d. nat_lt d e.0) (direct_supertypes (core ++ others) e.0)) core (suc k) x.0 (supertypes_stand_before others) x.1) (eqb-suc-zero k))
 
-supertypes_below : (others : List ClassFile) → find_class others [] ≡ None → (k : ℕ) → k < 23 → AllByRecursion (λ d. d < suc k) (supertypes (core ++ others) k)
+pub supertypes_below : (others : List ClassFile) → find_class others [] ≡ None → (k : ℕ) → k < 23 → AllByRecursion (λ d. d < suc k) (supertypes (core ++ others) k)
 unfolding supertypes
 supertypes_below others none k lt = reached_below (direct_supertypes (core ++ others)) 23 (above_is_before others none) (length (core ++ others)) k lt
 
-superclasses_below : (others : List ClassFile) → find_class others [] ≡ None → (k : ℕ) → k < 23 → AllByRecursion (λ d. d < suc k) (superclasses (core ++ others) k)
+pub superclasses_below : (others : List ClassFile) → find_class others [] ≡ None → (k : ℕ) → k < 23 → AllByRecursion (λ d. d < suc k) (superclasses (core ++ others) k)
 unfolding superclasses
 superclasses_below others none k lt =
     reached_below (λ c. option_to_list (superclass (core ++ others) c)) 23
@@ -80,7 +80,7 @@ split_all p q (m ∷ ms) h =
     let r = split_all p q ms (and_right (a && b) (list_all (λ x. not (p x) && not (q x)) ms) h) in
     (ap₂ (λ (x y : Bool). x && y) (and_left a b one) r.0, ap₂ (λ (x y : Bool). x && y) (and_right a b one) r.1)
 
-split_core : (ks : List ClassFile) → list_all (λ (k : ClassFile). list_all (λ m. not (is_final m) && not (is_abstract m)) k.methods) ks ≡ true
+pub split_core : (ks : List ClassFile) → list_all (λ (k : ClassFile). list_all (λ m. not (is_final m) && not (is_abstract m)) k.methods) ks ≡ true
     → (list_all (λ (k : ClassFile). list_all (λ m. not (is_final m)) k.methods) ks ≡ true) × (list_all (λ (k : ClassFile). list_all (λ m. not (is_abstract m)) k.methods) ks ≡ true)
 split_core [] h = (refl, refl)
 split_core (k ∷ ks) h =
@@ -92,7 +92,7 @@ split_core (k ∷ ks) h =
 
 -- no method of them is final
 
-declared_case : (d : ℕ) (f : Place → Bool) (o : Option ℕ) (rest : List Place) → ((i : ℕ) → f (d, i) ≡ false) → list_any f rest ≡ false
+pub declared_case : (d : ℕ) (f : Place → Bool) (o : Option ℕ) (rest : List Place) → ((i : ℕ) → f (d, i) ≡ false) → list_any f rest ≡ false
     → list_any f (cons_option (option_map (λ (i : ℕ). (d, i)) o) rest) ≡ false
 declared_case d f None rest h r = r
 declared_case d f (Some i) rest h r = ap (λ (b : Bool). b || list_any f rest) (h i) ∙ r
@@ -115,7 +115,7 @@ final_case others none c i lt (Some s) =
     (λ d j less. ap (λ (b : Bool). b && overrides (core ++ others) (c, i) (d, j)) (plain_at is_final others d j (split_core core members_are_plain).0 less))
     (superclasses (core ++ others) c) (all_along (λ d. d < suc c) (λ d. d < 23) (λ d l. omega arith) (superclasses (core ++ others) c) (superclasses_below others none c lt))
 
-none_of_any : {X : Type 0} (t : X → Bool) → ((x : X) → t x ≡ false) → (xs : List X) → list_any t xs ≡ false
+pub none_of_any : {X : Type 0} (t : X → Bool) → ((x : X) → t x ≡ false) → (xs : List X) → list_any t xs ≡ false
 none_of_any t f [] = refl
 none_of_any t f (x ∷ xs) = ap (λ (b : Bool). b || list_any t xs) (f x) ∙ none_of_any t f xs
 
@@ -127,7 +127,7 @@ overrides_nothing others none c lt =
 
 -- none is abstract
 
-none_left_open : (others : List ClassFile) (d : ℕ) → d < 23 → abstract_methods_in (core ++ others) d ≡ []
+pub none_left_open : (others : List ClassFile) (d : ℕ) → d < 23 → abstract_methods_in (core ++ others) d ≡ []
 none_left_open others d lt =
     left_of d (option_map_or (λ (k : ClassFile). range_with_len 0 (length k.methods)) (slice_get (core ++ others) d) []) (slice_get (core ++ others) d) refl
   where
@@ -143,7 +143,7 @@ none_left_open others d lt =
     left_of n xs None at = refl
     left_of n xs (Some k) at = none_at (range_with_len 0 (length k.methods))
 
-or_true : (b : Bool) → (b || true) ≡ true
+pub or_true : (b : Bool) → (b || true) ≡ true
 or_true true = refl
 or_true false = refl
 
@@ -156,7 +156,7 @@ implements_each others none c lt =
 
 -- ---- their places
 
-well_placed : (a b c d e f : Bool) → a ≡ false → b ≡ false → c ≡ false → d ≡ false → e ≡ false → f ≡ false → IsTrue (not (a || b || c || d || e || f))
+pub well_placed : (a b c d e f : Bool) → a ≡ false → b ≡ false → c ≡ false → d ≡ false → e ≡ false → f ≡ false → IsTrue (not (a || b || c || d || e || f))
 well_placed a b c d e f h i j k l m = rw (h, i, j, k, l, m) refl
 
 object_stands : (others : List ClassFile) → find_class others [] ≡ None → IsTrue (not (is_badly_placed (core ++ others) 0))
@@ -201,7 +201,7 @@ core_links others none c k at =
       );
     }
 
-empty_of : {X : Type 0} (xs : List X) → nat_eq (length xs) 0 ≡ true → xs ≡ []
+pub empty_of : {X : Type 0} (xs : List X) → nat_eq (length xs) 0 ≡ true → xs ≡ []
 empty_of [] h = refl
 empty_of (x ∷ xs) h = absurd (let e : suc (length xs) ≡ 0 = eqb-true (suc (length xs)) 0 h in omega arith)
 

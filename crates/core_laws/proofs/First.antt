@@ -127,7 +127,7 @@ one_field others none =
 
 -- ---- the last class
 
-at_end : (xs : List ClassFile) (x : ClassFile) → slice_get (xs ++ x ∷ []) (length xs) ≡ Some x
+pub at_end : (xs : List ClassFile) (x : ClassFile) → slice_get (xs ++ x ∷ []) (length xs) ≡ Some x
 at_end [] x = refl
 at_end (y ∷ xs) x = at_end xs x
 

@@ -3,3 +3,8 @@ pub mod Tests
 pub mod Core
 pub mod Below
 pub mod First
+pub mod BootWalk
+pub mod BootNames
+pub mod BootSupport
+pub mod BootCore
+pub mod BootLinks
