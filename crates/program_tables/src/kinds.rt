@@ -63,7 +63,7 @@ pub(crate) fn kind_of_type(classes: &Classes, of: &FieldType) -> Option<ObjectKi
 }
 
 /// What an object of a type is that a Class entry names by this text.
-fn kind_named(
+pub fn kind_named(
     alloc: Global,
     classes: &Classes,
     text: &[u16],

@@ -16,7 +16,7 @@ mod shapes;
 mod strings;
 mod types;
 
-pub use kinds::{Base, ObjectKind, kind_of_entry};
+pub use kinds::{Base, ObjectKind, kind_named, kind_of_entry};
 pub use meanings::{
     Meaning, class_meaning, constant_operand, entry_of, field_at, is_static_field, kind_in,
     meaning_at, method_at, plain,
