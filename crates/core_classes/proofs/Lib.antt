@@ -3,3 +3,13 @@ pub mod RightLemmas
 pub mod CoreLaws
 pub mod BootLaws
 pub mod SaysLaws
+pub mod Lists
+pub mod Tests
+pub mod Core
+pub mod Below
+pub mod First
+pub mod BootWalk
+pub mod BootNames
+pub mod BootSupport
+pub mod BootCore
+pub mod BootLinks

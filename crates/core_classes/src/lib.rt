@@ -3,6 +3,7 @@
 
 mod boot;
 pub mod laws;
+pub mod linkage;
 mod table;
 
 pub use boot::boot_class;

@@ -16,7 +16,7 @@ use Rattle.jop_opcodes.specs.Start.{starts_of}
 use Rattle.program_tables.specs.Instructions.{instructions_in}
 use Rattle.program_tables.specs.Placed.{duplicate_of}
 use Rattle.program_tables.specs.Unsupported.{unsupported_in}
-use Rattle.core_laws.proofs.Tests.{has_good_supertypes, has_good_members, stands_badly}
+use Rattle.core_classes.proofs.Tests.{has_good_supertypes, has_good_members, stands_badly}
 
 pub names_are_free : (others : List ClassFile) → list_all (λ e. is_none (duplicate_of (core ++ others) e.0) && has_good_supertypes (core ++ others) e.0 e.1) (enumerate_from 0 core) ≡ true
 unfolding empty_init object_plan interface_plan length_method char_at_method string_plan plain_init keeping_init get_message_method throwable_plan handing_init error_plan error_plans read_method write_method io_plan first_plans core_plans core items_of class_of superclasses with_superinterfaces supertypes find_field find_method select special primitive_in split_in class_in element_in type_from types_in field_in result_in method_in row_of decoded starts_of instructions_in unsupported_in

@@ -1,5 +1,5 @@
-use Rattle.core_laws.proofs.BootLinks as lemmas
-use Rattle.core_laws.proofs.laws.boot_is_linkable.Goals as goal
+use Rattle.core_classes.proofs.BootLinks as lemmas
+use Rattle.core_classes.proofs.linkage.boot_is_linkable.Goals as goal
 
 pub returns : goal.returns
 returns c = lemmas.boot_is_linkable c.items_are_few.ensures c.plans_have_entries.ensures c.boot_says_plan.ensures

@@ -19,10 +19,10 @@ use Rattle.class_lookup.specs.Selection.{is_method_with, upwards, overrides, sig
 use Rattle.program_tables.specs.Placed.{duplicate_of, lacks_superclass, has_bad_superclass, has_bad_superinterface, is_bad_interface, overrides_final, has_overridden_final, is_badly_placed, supertype_entries, may_have_subclasses}
 use Rattle.program_tables.specs.Unresolved.{unless, why, why_class, FieldDescriptor, mentions_in_method, abstract_methods_in, is_implemented, implements_all}
 use Rattle.program_tables.specs.Unsupported.{unsupported_in}
-use Rattle.core_laws.specs.Laws.{CoreIsLinkable, CoreIsSupported}
-use Rattle.core_laws.proofs.Lists.{and_left, and_right, or_right, no_left, no_right, not_not, true_at, numbered_at, there, in_front, not_found, all_front, all_along, below_all, none_passes, nothing_of_all, not_among, reached_below}
-use Rattle.core_laws.proofs.Tests.{none_of, all_none, has_good_supertypes, has_good_members, stands_badly}
-use Rattle.core_laws.proofs.Core.{names_are_free, stand_well, members_are_good, supertypes_stand_before, core_long, nameless_core, object_bears_no_name, object_has_no_interface, object_is_no_interface, members_are_plain, all_are_supported}
+use Rattle.core_classes.specs.Linkage.{CoreIsLinkable, CoreIsSupported}
+use Rattle.core_classes.proofs.Lists.{and_left, and_right, or_right, no_left, no_right, not_not, true_at, numbered_at, there, in_front, not_found, all_front, all_along, below_all, none_passes, nothing_of_all, not_among, reached_below}
+use Rattle.core_classes.proofs.Tests.{none_of, all_none, has_good_supertypes, has_good_members, stands_badly}
+use Rattle.core_classes.proofs.Core.{names_are_free, stand_well, members_are_good, supertypes_stand_before, core_long, nameless_core, object_bears_no_name, object_has_no_interface, object_is_no_interface, members_are_plain, all_are_supported}
 
 -- ---- the hierarchy
 

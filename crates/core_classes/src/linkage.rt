@@ -1,9 +1,10 @@
 //! The core classes in a program (JVM Specification SE 8, chapter 5). The functions do nothing; a caller whose proof needs a law
 //! calls its function.
-ghost use Rattle.core_laws.specs.Laws.{CoreIsLinkable, CoreStandsFirst, CoreIsSupported, BootIsSupported, BootIsLinkable, BootIsOnNoCycle};
+ghost use Rattle.core_classes.specs.Linkage.{CoreIsLinkable, CoreStandsFirst, CoreIsSupported, BootIsSupported, BootIsLinkable, BootIsOnNoCycle};
 
 use class_making::laws::{items_are_few, plans_have_entries};
-use core_classes::laws::boot_says_plan;
+
+use crate::laws::boot_says_plan;
 
 /// What the core classes name is resolved, and their places in the hierarchy are right, whichever classes stand behind them, if
 /// each of these has a name.

@@ -25,9 +25,9 @@ use Rattle.program_tables.specs.Numbers.{own_instance_fields, instance_fields}
 use Rattle.program_tables.specs.Instructions.{instructions_in}
 use Rattle.program_tables.specs.Resolved.{declared_fields}
 use Rattle.program_tables.specs.Unsupported.{unsupported_in}
-use Rattle.core_laws.specs.Laws.{CoreStandsFirst}
-use Rattle.core_laws.proofs.Core.{core_long, object_has_no_interface}
-use Rattle.core_laws.proofs.Below.{object_is_uppermost}
+use Rattle.core_classes.specs.Linkage.{CoreStandsFirst}
+use Rattle.core_classes.proofs.Core.{core_long, object_has_no_interface}
+use Rattle.core_classes.proofs.Below.{object_is_uppermost}
 
 pub core_is_named : (others : List ClassFile) → take (length core_names) (map name_of (core ++ others)) ≡ core_names
 unfolding empty_init object_plan interface_plan length_method char_at_method string_plan plain_init keeping_init get_message_method throwable_plan handing_init error_plan error_plans read_method write_method io_plan first_plans core_plans core items_of class_of superclasses with_superinterfaces supertypes find_field find_method select special primitive_in split_in class_in element_in type_from types_in field_in result_in method_in row_of decoded starts_of instructions_in unsupported_in

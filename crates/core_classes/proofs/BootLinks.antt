@@ -36,15 +36,15 @@ use Rattle.program_tables.specs.Placed.{duplicate_by, duplicate_of, lacks_superc
 use Rattle.class_lookup.specs.Access.{is_accessible_class, is_accessible_member}
 use Rattle.program_tables.specs.Unresolved.{unless, is_there, are_there, is_free, may_name_entry, may_use_method, is_right_method, why_class, why_named, why_method, why_method_named, why_method_found, why, Mention, AtInstruction, abstract_methods_in, is_implemented, implements_all}
 use Rattle.program_tables.specs.Resolving.{IsLinkable}
-use Rattle.core_laws.specs.Laws.{DeclaresStatic, initializer, main_signature, BootIsLinkable, BootIsOnNoCycle}
-use Rattle.core_laws.proofs.Lists.{all_join, all_along, all_front, nothing_of_all, not_among, not_found, reached_below}
-use Rattle.core_laws.proofs.Core.{core_long, members_are_plain}
-use Rattle.core_laws.proofs.Below.{above_is_before, supertypes_below, plain_at, split_core, none_left_open, none_of_any, declared_case, well_placed, or_true}
-use Rattle.core_laws.proofs.First.{at_end}
-use Rattle.core_laws.proofs.BootCore.{object_is_first, object_may_be_extended, strings_are_there, taken_by_main, taken_by_nothing}
-use Rattle.core_laws.proofs.BootWalk.{call_item, main_item, index_instr}
-use Rattle.core_laws.proofs.BootNames.{Stands, class_said}
-use Rattle.core_laws.proofs.BootSupport.{boot_member, boot_file, boot_is, SaysBoot, says_boot, call_named, main_named, array_named, of_code}
+use Rattle.core_classes.specs.Linkage.{DeclaresStatic, initializer, main_signature, BootIsLinkable, BootIsOnNoCycle}
+use Rattle.core_classes.proofs.Lists.{all_join, all_along, all_front, nothing_of_all, not_among, not_found, reached_below}
+use Rattle.core_classes.proofs.Core.{core_long, members_are_plain}
+use Rattle.core_classes.proofs.Below.{above_is_before, supertypes_below, plain_at, split_core, none_left_open, none_of_any, declared_case, well_placed, or_true}
+use Rattle.core_classes.proofs.First.{at_end}
+use Rattle.core_classes.proofs.BootCore.{object_is_first, object_may_be_extended, strings_are_there, taken_by_main, taken_by_nothing}
+use Rattle.core_classes.proofs.BootWalk.{call_item, main_item, index_instr}
+use Rattle.core_classes.proofs.BootNames.{Stands, class_said}
+use Rattle.core_classes.proofs.BootSupport.{boot_member, boot_file, boot_is, SaysBoot, says_boot, call_named, main_named, array_named, of_code}
 
 -- ---- upwards
 

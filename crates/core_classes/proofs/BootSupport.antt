@@ -24,10 +24,10 @@ use Rattle.program_tables.specs.Core.{boot_name}
 use Rattle.program_tables.specs.Instructions as named
 use Rattle.program_tables.specs.Instructions.{Placed, Named, named_in, instructions_of}
 use Rattle.program_tables.specs.Unsupported.{items_of_types, types_in_method, items_of_named, items_at_instruction, items_at_method, sited, unsupported_in}
-use Rattle.core_laws.specs.Laws.{BootIsSupported}
-use Rattle.core_laws.proofs.Lists.{all_along, nothing_of_all}
-use Rattle.core_laws.proofs.BootWalk.{call_item, main_item, index_instr, HoldsOfMain, walk}
-use Rattle.core_laws.proofs.BootNames.{index_fits, boot_room, AreMentioned, boot_mentions, Stands, names_method, names_class}
+use Rattle.core_classes.specs.Linkage.{BootIsSupported}
+use Rattle.core_classes.proofs.Lists.{all_along, nothing_of_all}
+use Rattle.core_classes.proofs.BootWalk.{call_item, main_item, index_instr, HoldsOfMain, walk}
+use Rattle.core_classes.proofs.BootNames.{index_fits, boot_room, AreMentioned, boot_mentions, Stands, names_method, names_class}
 
 -- ---- the class file
 

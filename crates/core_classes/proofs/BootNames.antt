@@ -17,7 +17,7 @@ use Rattle.class_lookup.specs.Parts.{text_at, class_text}
 use Rattle.list_words.specs.Lists.{onto}
 use Rattle.program_tables.specs.Instructions as named
 use Rattle.program_tables.specs.Instructions.{Named, named_by}
-use Rattle.core_laws.proofs.BootWalk.{call_item, main_item}
+use Rattle.core_classes.proofs.BootWalk.{call_item, main_item}
 
 -- ---- room
 

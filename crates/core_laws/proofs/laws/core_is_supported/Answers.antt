@@ -1,5 +1,0 @@
-use Rattle.core_laws.proofs.Below as lemmas
-use Rattle.core_laws.proofs.laws.core_is_supported.Goals as goal
-
-pub returns : goal.returns
-returns c = lemmas.core_is_supported
