@@ -1,0 +1,57 @@
+//! Commands.
+
+/// What a machine has and how long it runs.
+#[derive(Clone, Copy)]
+pub struct Settings {
+    /// The run is stopped at the first boundary whose clock is at least this.
+    pub cycles: u64,
+    /// The words of the stack cache: 256, 512 or 1024.
+    pub stack: u32,
+    /// The words of main memory.
+    pub memory: u32,
+    /// The blocks of the method cache.
+    pub blocks: u32,
+    /// The words of a block.
+    pub block_words: u32,
+    /// The cycles that a read waits.
+    pub read: u32,
+    /// The cycles that a write waits.
+    pub write: u32,
+}
+
+/// A command; a name and a file are meant by the number of their word.
+#[derive(Clone, Copy)]
+pub enum Command {
+    /// The class files are the words from `first` on.
+    Link {
+        main: u32,
+        first: u32,
+    },
+    Run {
+        settings: Settings,
+        image: u32,
+    },
+    Trace {
+        settings: Settings,
+        micro: bool,
+        image: u32,
+    },
+    Bound {
+        settings: Settings,
+        method: u32,
+        image: u32,
+        bounds: u32,
+    },
+    Check {
+        settings: Settings,
+        image: u32,
+        bounds: u32,
+        certificate: u32,
+    },
+    Asm {
+        text: u32,
+    },
+    Work {
+        count: u32,
+    },
+}
