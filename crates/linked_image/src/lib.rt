@@ -1,0 +1,20 @@
+//! The files of linked images: what such a file holds, and how it is read and written. Their grammar stands in
+//! `specs/Linked.antt`.
+#![tactic(auto)]
+
+mod image;
+mod laws;
+mod reading;
+mod writing;
+
+pub use image::LinkedImage;
+pub use jop_base::FormatFault as LinkedFault;
+pub use laws::one_image;
+pub use reading::read_linked;
+pub use writing::write_linked;
+
+#[cfg(test)]
+mod tests;
+
+/// The mark of linked images and the version of their files.
+const MARK: &[u8] = b"JOPI\0\x01";
