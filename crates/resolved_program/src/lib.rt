@@ -7,6 +7,7 @@ mod instances;
 mod instructions;
 mod names;
 mod program;
+mod tables;
 mod types;
 
 pub use program::Program;

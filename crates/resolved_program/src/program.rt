@@ -16,9 +16,9 @@ ghost use Rattle.program_tables.specs.Entries.{meaning_at, meaning_seen};
 ghost use Rattle.resolved_program.specs.Resolved.{AreResolved};
 ghost use Rattle.resolved_program.specs.Types.{name_among};
 
-use crate::entries::{Tables, all_meanings};
-use crate::instances::{Instances, instances_of};
+use crate::instances::Instances;
 use crate::names::member_text;
+use crate::tables::{entry_tables, member_tables};
 use crate::types::{TypeName, name_at};
 use class_hierarchy::{Hierarchy, Place};
 use class_lookup::{ClassFile, Classes};
@@ -28,8 +28,7 @@ use items::Items;
 use jop_base::NoMemory;
 use program_tables::laws::components_are_types;
 use program_tables::{
-    Declared, Meaning, Members, Mentioned, MethodShape, Strings, Types, field_type_at,
-    field_types_of, meaning_at, members_of, mentioned_by, shapes_of,
+    Declared, Meaning, Members, Mentioned, MethodShape, Strings, Types, field_type_at, meaning_at,
 };
 use std::alloc::Global;
 use std::marker::Model;
@@ -110,27 +109,16 @@ impl Program {
         ensures { IfOk result (λ made. made ≡ classes) }
     {
         have_bounds(&classes);
-        let listed = classes.classes();
-        let members = members_of(alloc, listed)?;
-        let mentioned = mentioned_by(alloc, listed)?;
-        let instances = instances_of(alloc, &classes)?;
-        let shapes = shapes_of(alloc, listed, &members.methods)?;
-        let held = field_types_of(alloc, listed)?;
-        let tables = Tables {
-            classes: &classes,
-            members: &members,
-            strings: &mentioned.strings,
-            instances: &instances,
-        };
-        let entries = all_meanings(alloc, &tables)?;
+        let by_number = member_tables(alloc, classes.classes())?;
+        let by_entry = entry_tables(alloc, &classes, &by_number.members)?;
         Ok(Program {
             classes,
-            members,
-            mentioned,
-            instances,
-            entries,
-            shapes,
-            held,
+            members: by_number.members,
+            mentioned: by_entry.mentioned,
+            instances: by_entry.instances,
+            entries: by_entry.entries,
+            shapes: by_number.shapes,
+            held: by_number.held,
         })
     }
 

@@ -1,7 +1,7 @@
 use Rattle.std.proofs.Common.{sym, subst}
 use Rattle.std.specs.List.{AllByRecursion}
 use Rattle.program_tables.specs.Tables.{HasBounds}
-use Rattle.resolved_program.proofs.program.Program.from_hierarchy.Goals as goal
+use Rattle.resolved_program.proofs.tables.entry_tables.Goals as goal
 
 pub mentioned_by-requires : goal.mentioned_by-requires
-mentioned_by-requires c = subst (AllByRecursion HasBounds) (sym c.classes-listed.ensures) c.have_bounds.ensures
+mentioned_by-requires c = subst (AllByRecursion HasBounds) (sym c.classes.ensures) c.requires.bounds
