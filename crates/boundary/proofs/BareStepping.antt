@@ -21,7 +21,8 @@ use Rattle.bytecode_typing.specs.Typed.{IsQuiet}
 use Rattle.bytecode_typing.specs.Fits.{Fits, IsGoing, FramesFit, numbers_of}
 use Rattle.bytecode_typing.specs.Laws.{TypedProgramsKeep, FittingStatesAreWellFormed}
 use Rattle.machine_stands.specs.Bare as bare
-use Rattle.boundary.specs.BareLaws.{top_frame, opcode_of, BareImagesStep}
+use Rattle.machine_frames.specs.Shows.{top_frame}
+use Rattle.boundary.specs.BareLaws.{opcode_of, BareImagesStep}
 use Rattle.boundary.specs.Laws.{BareImagesArePrograms}
 use Rattle.boundary.specs.Setting.{limits, bare_setting}
 use Rattle.boundary.proofs.Obeys.{Plain, Obeys, IsCaught, sort_of, applied_obeys, onto_some}

@@ -54,14 +54,15 @@ module _ (keep : CyclesKeep) (n : ℕ) (r : Session) (here : IsInStep n r) (new 
   abbrev g : Setting
   g = here.setting
 
-  reached : (answer : Boundary) → Reaches g here.state r.machine new t0 t1 answer → IsInStep n (record { machine = new; image = r.image; mode = answer })
+  reached : (answer : Boundary) → Reaches g here.state r.machine new t0 t1 answer → IsInStep n (record { machine = new; methods = r.methods; mode = answer })
   reached answer (a, mode) =
       let W : machine.State → Type 0 = λ m. HasWaits m in
       let S : machine.State → Type 0 = λ m. StandsFor g.program g.places g.chip g.memory m a.next in
       record {
         setting = here.setting;
         is_setting = here.is_setting;
-        is_of = here.is_of;
+        chip = here.chip;
+        methods = here.methods;
         state = a.next;
         stands = record { stands = subst S a.new_is a.comes.stands; fits = a.fits };
         mode = mode;
@@ -69,7 +70,7 @@ module _ (keep : CyclesKeep) (n : ℕ) (r : Session) (here : IsInStep n r) (new 
       }
 
   -- after a fault nothing is kept
-  pub keeps_on : (answer : Boundary) → StepsTo g here.state r.machine new t0 t1 answer → KeepsStep n (record { machine = new; image = r.image; mode = mode_after answer }) (mode_after answer)
+  pub keeps_on : (answer : Boundary) → StepsTo g here.state r.machine new t0 t1 answer → KeepsStep n (record { machine = new; methods = r.methods; mode = mode_after answer }) (mode_after answer)
   keeps_on answers.Bytecode h = reached answers.Bytecode h
   keeps_on answers.Raise h = reached answers.Raise h
   keeps_on answers.Halted h = reached answers.Halted h

@@ -13,11 +13,14 @@ use Rattle.bytecode_model.specs.Program.{Program}
 use Rattle.bytecode_model.specs.Steps.{boot_state, first_frame}
 use Rattle.boundary.specs.declared.answer.Boundary.TheVariants as answers
 use Rattle.boundary.specs.Answers.{answer_of}
-use Rattle.image_facts.specs.Places.{image_of}
+use Rattle.image_facts.specs.Places.{image_of, bare_places}
+use Rattle.machine_stands.specs.Bare.{program_of}
+use Rattle.coded_methods.specs.declared.method.CodedMethod.{CodedMethod}
+use Rattle.coded_methods.specs.Methods.{AreMethods}
 use Rattle.boundary.specs.Laws.{BareImagesArePrograms}
 use Rattle.boundary.specs.Linked.{AreLinked, BeginsEach, LinkedRunsBegin}
 use Rattle.boundary.specs.Setting.{Setting, IsSetting, bare_setting}
-use Rattle.boundary.specs.Session.{HasWaits, IsOf, IsInStep, Begins}
+use Rattle.boundary.specs.Session.{HasWaits, IsInStep, Begins}
 use Rattle.boundary.proofs.Obeys.{onto_some}
 
 pub boot_runs : (P : Program) (s : State) → boot_state P ≡ Some s → s.mode ≡ Running
@@ -33,38 +36,42 @@ pub begins_at : (g : Setting) (reset m : machine.State) → m ≡ reset → Begi
 begins_at g reset m is h = subst (Begins g) (sym is) h
 
 -- a run that begins is in step
-begun_step : (n : ℕ) (image : Option Image) (g : Setting) (m : machine.State) → IsSetting g → IsOf n image g → Begins g m → HasWaits m → IsInStep n (record { machine = m; image = image; mode = answers.Bytecode })
-begun_step n image g m is of begins waits = record {
+begun_step : (methods : List CodedMethod) (g : Setting) (m : machine.State) → IsSetting g → AreMethods g.program g.places methods → Begins g m → HasWaits m
+    → IsInStep g.chip (record { machine = m; methods = methods; mode = answers.Bytecode })
+begun_step methods g m is are begins waits = record {
   setting = g;
   is_setting = is;
-  is_of = of;
+  chip = refl;
+  methods = are;
   state = begins.boot;
   stands = begins.stands;
   mode = ap answer_of (boot_runs g.program begins.boot begins.is_boot);
   waits = waits;
 }
 
-pub step_begins : BareImagesArePrograms → (n : ℕ) (image : Image) (config : Config) (m : machine.State) → IsImage image → m ≡ bare_reset n image config → Begins (bare_setting image n config.memory) m
-    → IsInStep n (record { machine = m; image = Some image; mode = answers.Bytecode })
-step_begins programs n image config m grammar is begins =
+pub step_begins : BareImagesArePrograms → (n : ℕ) (image : Image) (config : Config) (methods : List CodedMethod) (m : machine.State) → IsImage image → AreMethods (program_of image) bare_places methods
+    → m ≡ bare_reset n image config → Begins (bare_setting image n config.memory) m → IsInStep n (record { machine = m; methods = methods; mode = answers.Bytecode })
+step_begins programs n image config methods m grammar are is begins =
     let W : machine.State → Type 0 = λ z. HasWaits z in
-    begun_step n (Some image) (bare_setting image n config.memory) m (programs image n config.memory grammar) (grammar, refl) begins (subst W (sym is) (record { read = config.most_read; write = config.most_write }))
+    begun_step methods (bare_setting image n config.memory) m (programs image n config.memory grammar) are begins (subst W (sym is) (record { read = config.most_read; write = config.most_write }))
 
 -- ---- linked programs
 
-pub size_of : (n : ℕ) (words : List ℕ) (config : Config) → AreLinked n words config → IsSize n
-size_of n words config linked = subst IsSize linked.chip linked.held.size
+pub size_of : (n : ℕ) (words : List ℕ) (methods : List CodedMethod) (config : Config) → AreLinked n words methods config → IsSize n
+size_of n words methods config linked = subst IsSize linked.chip linked.held.size
 
-pub can_start : LinkedRunsBegin → (n : ℕ) (words : List ℕ) (config : Config) → AreLinked n words config → CanStart words config
-can_start begin n words config linked = subst (λ ws. CanStart ws config) (sym linked.words_are) (begin linked.setting config linked.held).0
+pub can_start : LinkedRunsBegin → (n : ℕ) (words : List ℕ) (methods : List CodedMethod) (config : Config) → AreLinked n words methods config → CanStart words config
+can_start begin n words methods config linked = subst (λ ws. CanStart ws config) (sym linked.words_are) (begin linked.setting config linked.held).0
 
 pub linked_begins : LinkedRunsBegin → (n : ℕ) (words : List ℕ) (config : Config) (m : machine.State) → m ≡ linked_reset n words config → BeginsEach n words config m
 linked_begins begin n words config m is g held chip words_are =
     let M : ℕ → List ℕ → Type 0 = λ k ws. Begins g (linked_reset k ws config) in
     subst (λ (z : machine.State). Begins g z) (sym is) (subst (λ (ws : List ℕ). M n ws) (sym words_are) (subst (λ (k : ℕ). M k (image_of g.program g.places)) chip (begin g config held).1))
 
-pub linked_step : LinkedRunsBegin → (n : ℕ) (words : List ℕ) (config : Config) (m : machine.State) → AreLinked n words config → m ≡ linked_reset n words config → IsInStep n (record { machine = m; image = None; mode = answers.Bytecode })
-linked_step begin n words config m linked is =
+pub linked_step : LinkedRunsBegin → (n : ℕ) (words : List ℕ) (methods : List CodedMethod) (config : Config) (m : machine.State) → AreLinked n words methods config → m ≡ linked_reset n words config
+    → IsInStep n (record { machine = m; methods = methods; mode = answers.Bytecode })
+linked_step begin n words methods config m linked is =
     let W : machine.State → Type 0 = λ z. HasWaits z in
-    begun_step n None linked.setting m linked.held.is_setting linked.held.linked (linked_begins begin n words config m is linked.setting linked.held linked.chip linked.words_are)
-    (subst W (sym is) (record { read = config.most_read; write = config.most_write }))
+    let step = begun_step methods linked.setting m linked.held.is_setting linked.methods_are (linked_begins begin n words config m is linked.setting linked.held linked.chip linked.words_are)
+    (subst W (sym is) (record { read = config.most_read; write = config.most_write })) in
+    subst (λ k. IsInStep k (record { machine = m; methods = methods; mode = answers.Bytecode })) linked.chip step

@@ -1,5 +1,5 @@
 -- What is proved of the code of bare images.
-use Rattle.std.specs.Prelude.{◌≡◌, ◌⊎◌, ℕ, true, List, [], ◌∷◌, Some, None}
+use Rattle.std.specs.Prelude.{◌≡◌, ◌⊎◌, ℕ, true, Some}
 use Rattle.std.specs.declared.option.Option.{Option}
 use Rattle.jop_opcodes.specs.Bytes.{u1}
 use Rattle.jop_opcodes.specs.Start.{IsStart}
@@ -12,15 +12,12 @@ use Rattle.bytecode_model.specs.Program.{Program, body_of}
 use Rattle.bytecode_model.specs.Steps.{step}
 use Rattle.bytecode_model.specs.WellFormed.{IsAnswer}
 use Rattle.machine_stands.specs.Simulates.{is_bare}
+use Rattle.machine_frames.specs.Shows.{top_frame}
 use Rattle.boundary.specs.Setting.{limits, Stands, bare_setting}
 
 -- each of its instructions has one of the opcodes that a bare image may have
 abbrev pub BareOpcodes : Type 0
 BareOpcodes = (image : Image) → IsImage image → (pc : ℕ) → IsStart image.code pc → is_bare (u1 image.code pc) ≡ true
-
-abbrev pub top_frame : List Frame → Option Frame
-top_frame [] = None
-top_frame (f ∷ fs) = Some f
 
 -- the opcode of the instruction at which a state stands
 abbrev pub opcode_of : Program → State → Option ℕ

@@ -9,6 +9,8 @@ use Rattle.jop_core.specs.Reset.{CanStart, linked_reset}
 use Rattle.bytecode_model.specs.Sizes.{body_words}
 use Rattle.bytecode_model.specs.Program.{body_of}
 use Rattle.image_facts.specs.Places.{image_of, image_words}
+use Rattle.coded_methods.specs.declared.method.CodedMethod.{CodedMethod}
+use Rattle.coded_methods.specs.Methods.{AreMethods}
 use Rattle.boundary.specs.Setting.{Setting, IsSetting}
 use Rattle.boundary.specs.Session.{Begins}
 
@@ -22,12 +24,13 @@ pub record IsHeld (g : Setting) (config : Config) : Type 0 where
   pub methods : (k : ℕ) → IfSome (body_of g.program k) (λ b. IsTrue (can_load (words_for (length b.code)) (empty config.blocks config.block_words)))
   pub boot : IfSome (body_of g.program g.program.boot) (λ b. body_words b ≤ g.chip - 80)
 
--- The words are those of the image of a program that a machine with n on-chip words holds.
-pub record AreLinked (n : ℕ) (words : List ℕ) (config : Config) : Type 0 where
+-- The words are those of the image of a program that a machine with n on-chip words holds, and these are its methods with code.
+pub record AreLinked (n : ℕ) (words : List ℕ) (methods : List CodedMethod) (config : Config) : Type 0 where
   pub setting : Setting
   pub held : IsHeld setting config
   pub chip : setting.chip ≡ n
   pub words_are : words ≡ image_of setting.program setting.places
+  pub methods_are : AreMethods setting.program setting.places methods
 
 -- so it begins with each such program
 abbrev pub BeginsEach : (n : ℕ) → (words : List ℕ) → Config → machine.State → Type 0

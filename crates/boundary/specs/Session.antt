@@ -1,28 +1,31 @@
 -- What a run of the machine is seen as.
-use Rattle.std.specs.Prelude.{◌≡◌, ◌≢◌, ℕ, ◌≤◌, Bool, true, Some, None}
+use Rattle.std.specs.Prelude.{◌≡◌, ◌≢◌, ℕ, ◌≤◌, Bool, List, Some, IsSomeAnd}
 use Rattle.std.specs.declared.option.Option.{Option}
-use Rattle.bare_image.specs.Bare.{Image, IsImage}
 use Rattle.memory_timing.specs.declared.TheConstants.{MAX_WAIT}
 use Rattle.jop_core.specs.declared.halt.Halt.TheVariants as halts
 use Rattle.jop_core.specs.State as machine
-use Rattle.bytecode_model.specs.State.{State}
+use Rattle.bytecode_model.specs.State.{Frame, State}
 use Rattle.bytecode_model.specs.Steps.{boot_state}
 use Rattle.bytecode_typing.specs.Fits.{IsGoing}
 use Rattle.boundary.specs.declared.answer.Boundary.{Boundary}
 use Rattle.boundary.specs.declared.answer.Boundary.TheVariants as answers
 use Rattle.boundary.specs.Answers.{answer_of, answer_at_end, is_going}
-use Rattle.boundary.specs.Setting.{Setting, IsSetting, Stands, bare_setting}
+use Rattle.coded_methods.specs.declared.method.CodedMethod.{CodedMethod}
+use Rattle.coded_methods.specs.Methods.{AreMethods}
+use Rattle.machine_frames.specs.Shows.{top_frame}
+use Rattle.boundary.specs.Setting.{Setting, IsSetting, Stands}
 
--- the machine, the image that it runs where that is a bare one, and how the state goes on for which it stands, or that the run has stopped
+-- The machine, the methods with code of the program that it runs, and how the state goes on for which it stands, or that the run has stopped.
 pub record Session : Type 0 where
   pub machine : machine.State
-  pub image : Option Image
+  pub methods : List CodedMethod
   pub mode : Boundary
 
--- a setting of what a machine with n on-chip words runs
-abbrev pub IsOf : (n : ℕ) → Option Image → Setting → Type 0
-IsOf n (Some image) g = IsImage image × (g ≡ bare_setting image n g.memory)
-IsOf n None g = g.program.linked ≡ true
+-- the machine stands for the state of a program whose methods with code are these
+pub record IsStateOf (g : Setting) (methods : List CodedMethod) (m : machine.State) (s : State) : Type 0 where
+  pub is_setting : IsSetting g
+  pub methods_are : AreMethods g.program g.places methods
+  pub stands : Stands g m s
 
 -- the waits of the machine's memory are permitted ones
 pub record HasWaits (m : machine.State) : Type 0 where
@@ -33,7 +36,8 @@ pub record HasWaits (m : machine.State) : Type 0 where
 pub record IsInStep (n : ℕ) (r : Session) : Type 0 where
   pub setting : Setting
   pub is_setting : IsSetting setting
-  pub is_of : IsOf n r.image setting
+  pub chip : setting.chip ≡ n
+  pub methods : AreMethods setting.program setting.places r.methods
   pub state : State
   pub stands : Stands setting r.machine state
   pub mode : answer_of state.mode ≡ r.mode
@@ -79,6 +83,10 @@ pub record Begins (g : Setting) (m : machine.State) : Type 0 where
   pub is_boot : boot_state g.program ≡ Some boot
   pub stands : Stands g m boot
 
--- so it is of each state of the bare image's program for which the machine stands
+-- so it is of each state for which it stands of a program with these methods
 abbrev pub EachState : Session → (State → Type 0) → Type 0
-EachState r K = (image : Image) → r.image ≡ Some image → (chip memory : ℕ) (s : State) → Stands (bare_setting image chip memory) r.machine s → K s
+EachState r K = (g : Setting) (s : State) → IsStateOf g r.methods r.machine s → K s
+
+-- and of its top frame
+abbrev pub EachTop : Session → (Frame → Type 0) → Type 0
+EachTop r K = EachState r (λ s. IsSomeAnd (top_frame s.frames) K)

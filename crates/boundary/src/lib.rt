@@ -5,9 +5,11 @@
 mod answer;
 /// Laws of the definitions in `specs/`. Each is a function without a body, whose contract says it.
 pub mod laws;
+mod methods;
 mod running;
 mod runs;
 
 pub use answer::Boundary;
+pub use coded_methods::CodedMethod;
 pub use running::Running;
 pub use runs::{RunEnd, run};

@@ -1,21 +1,24 @@
 //! A run of the machine.
-ghost use Rattle.std.specs.Prelude.{◌≡◌, ◌≢◌, ◌<◌, ◌^◌, true, false, length, sum_by, IfOk, IsSome, IsSomeAnd, Some, None};
+ghost use Rattle.std.specs.Prelude.{◌≡◌, ◌≢◌, ◌<◌, ◌^◌, true, false, IfOk};
 ghost use Rattle.stack_cache.specs.Size.{IsSize};
 ghost use Rattle.jop_core.specs.Reset.{CanStartBare, bare_reset, linked_reset};
-ghost use Rattle.bytecode_model.specs.Sizes.{value_words};
-ghost use Rattle.boundary.specs.Answers.{is_going, mode_after, IsGoing};
-ghost use Rattle.boundary.specs.BareLaws.{top_frame};
+ghost use Rattle.coded_methods.specs.Methods.{AreMethods};
+ghost use Rattle.boundary.specs.Answers.{is_going, mode_after};
 ghost use Rattle.boundary.specs.Setting.{bare_setting};
 ghost use Rattle.boundary.specs.Linked.{AreLinked, BeginsEach};
-ghost use Rattle.boundary.specs.Session.{goes, Begins, IsAtStep, HasEnded, EndsWith, AllGoOnSo, EachState};
+ghost use Rattle.boundary.specs.Session.{goes, Begins, IsAtStep, HasEnded, EndsWith, AllGoOnSo};
 ghost use Rattle.boundary.specs.Advances.{StepsAll, PassesTime};
+
+mod readers;
 
 use crate::answer::Boundary;
 use crate::laws::{
     bare_images_are_programs, bare_runs_begin, linked_runs_begin, stages_advance, stages_agree,
     stages_end_soon,
 };
+use crate::methods::Methods;
 use bytecode_typing::fitting_states_are_well_formed;
+use coded_methods::CodedMethod;
 use jop_base::NoMemory;
 use jop_core::laws::cycles_keep;
 use jop_core::{Bare, Config, Devices, Machine};
@@ -33,8 +36,8 @@ const FIRST_CLASS: u32 = 8;
 #[derive(Drop)]
 pub struct Running<'a, const N: usize> {
     machine: Machine<N>,
-    // Where it runs a bare one.
-    image: Option<&'a Bare>,
+    // Of the program that it runs.
+    methods: Methods<'a>,
     mode: Boundary,
 }
 
@@ -54,28 +57,35 @@ impl<'a, const N: usize> Running<'a, N> {
     pub fn start_bare(alloc: Global, image: &'a Bare, config: Config) -> Result<Self, NoMemory>
         requires size { IsSize N }
         requires room { CanStartBare image.now config }
-        ensures starts { IfOk result (λ r. r ≡ record { machine = bare_reset N image.now config; image = Some image.now; mode = Boundary.Bytecode }) }
+        ensures machine { IfOk result (λ r. r.machine ≡ bare_reset N image.now config) }
+        ensures mode { IfOk result (λ r. r.mode ≡ Boundary.Bytecode) }
+        ensures methods { let g = bare_setting image.now N config.memory in IfOk result (λ r. AreMethods g.program g.places r.methods) }
         ensures begins { IfOk result (λ r. Begins (bare_setting image.now N config.memory) r.machine) }
     {
         // The laws are for the proof.
         bare_images_are_programs();
         bare_runs_begin();
-        // Its reader says that it is one.
-        let _grammar = image.max_locals();
+        let methods = Methods::of_bare(image);
         match Machine::bare(alloc, image, config) {
             Ok(machine) => Ok(Running {
                 machine,
-                image: Some(image),
+                methods,
                 mode: Boundary::Bytecode,
             }),
             Err(fault) => Err(fault),
         }
     }
 
-    /// A machine at reset over the words of a linked program's image. The only error is that there was no memory.
-    pub fn start(alloc: Global, words: &[u32], config: Config) -> Result<Self, NoMemory>
-        requires program { AreLinked N words.now config }
-        ensures starts { IfOk result (λ r. r ≡ record { machine = linked_reset N words.now config; image = None; mode = Boundary.Bytecode }) }
+    /// A machine at reset over the words of a linked program's image, whose methods with code are these, by number. The
+    /// only error is that there was no memory.
+    pub fn start(
+        alloc: Global,
+        words: &[u32],
+        methods: &'a [CodedMethod<'a>],
+        config: Config,
+    ) -> Result<Self, NoMemory>
+        requires program { AreLinked N words.now methods.now config }
+        ensures starts { IfOk result (λ r. r ≡ record { machine = linked_reset N words.now config; methods = methods.now; mode = Boundary.Bytecode }) }
         ensures begins { IfOk result (λ r. BeginsEach N words.now config r.machine) }
     {
         // The law is for the proof.
@@ -83,21 +93,10 @@ impl<'a, const N: usize> Running<'a, N> {
         match Machine::new(alloc, words, config) {
             Ok(machine) => Ok(Running {
                 machine,
-                image: None,
+                methods: Methods::All(methods),
                 mode: Boundary::Bytecode,
             }),
             Err(fault) => Err(fault),
-        }
-    }
-
-    // The bare image that it runs.
-    fn bare(&self) -> &'a Bare
-        requires { IsSome self.now.image }
-        ensures { self.now.image ≡ Some result.now }
-    {
-        match self.image {
-            Some(image) => image,
-            None => unreachable!(),
         }
     }
 
@@ -123,67 +122,13 @@ impl<'a, const N: usize> Running<'a, N> {
         self.mode
     }
 
-    /// The number of the method whose frame is on top, in a run of a bare image.
-    pub fn method(&self) -> u32
-        requires going { IsGoing self.now.mode }
-        requires bare { IsSome self.now.image }
-        ensures { EachState self.now (λ s. IsSomeAnd (top_frame s.frames) (λ f. f.method ≡ result)) }
-    {
-        // The laws are for the proof.
-        bare_images_are_programs();
-        fitting_states_are_well_formed();
-        stages_agree();
-        let _mode = self.mode;
-        0
-    }
-
-    /// The place of its instruction, in a run of a bare image.
-    pub fn pc(&self) -> u32
-        requires going { IsGoing self.now.mode }
-        requires bare { IsSome self.now.image }
-        ensures { EachState self.now (λ s. IsSomeAnd (top_frame s.frames) (λ f. f.pc ≡ result)) }
-    {
-        // The laws are for the proof.
-        bare_images_are_programs();
-        fitting_states_are_well_formed();
-        stages_agree();
-        self.machine.jpc() as u32 - 1
-    }
-
-    /// How many frames there are, in a run of a bare image.
-    pub fn frames(&self) -> u32
-        requires going { IsGoing self.now.mode }
-        requires bare { IsSome self.now.image }
-        ensures { EachState self.now (λ s. length s.frames ≡ result) }
-    {
-        // The laws are for the proof.
-        bare_images_are_programs();
-        fitting_states_are_well_formed();
-        stages_agree();
-        let _mode = self.mode;
-        1
-    }
-
-    /// How many words the operands of the top frame take, in a run of a bare image.
-    pub fn operands(&self) -> u32
-        requires going { IsGoing self.now.mode }
-        requires bare { IsSome self.now.image }
-        ensures { EachState self.now (λ s. IsSomeAnd (top_frame s.frames) (λ f. sum_by value_words f.operands ≡ result)) }
-    {
-        // The laws are for the proof.
-        bare_images_are_programs();
-        fitting_states_are_well_formed();
-        stages_agree();
-        self.machine.sp() - self.machine.vp() - self.bare().max_locals() as u32 - 2
-    }
-
     /// Goes on to the next boundary: by an instruction, or by one frame in which a handler is looked for. At the end it
     /// answers that again, and after a fault `Stopped`; then nothing changes.
     pub fn bytecode<D: Devices>(&mut self, device: &mut D) -> Boundary
         requires clock { self.old.machine.clock < 2 ^ 63 }
         ensures steps { goes self.old ≡ true → StepsAll self.old.machine self.new.machine (D.told device.old) (D.told device.new) result }
         ensures time { goes self.old ≡ true → PassesTime self.old.machine self.new.machine result }
-        ensures after { goes self.old ≡ true → (self.new.image ≡ self.old.image) × (self.new.mode ≡ mode_after result) }
+        ensures after { goes self.old ≡ true → (self.new.methods ≡ self.old.methods) × (self.new.mode ≡ mode_after result) }
         ensures rests { goes self.old ≡ false → (result ≡ self.old.mode) × (self.new ≡ self.old) × (device.new ≡ device.old) }
         ensures names { D.names device.new ≡ D.names device.old }
     {

@@ -36,7 +36,7 @@ pub fn run<const N: usize, D: Devices>(
     requires unbroken { IsUnbroken running.old.mode }
     requires few { limit < 2 ^ 63 }
     ensures runs { RunsAll limit running.old.machine running.new.machine (D.told device.old) (D.told device.new) result }
-    ensures image { running.new.image ≡ running.old.image }
+    ensures methods { running.new.methods ≡ running.old.methods }
     ensures names { D.names device.new ≡ D.names device.old }
 {
     // The laws are for the proof.
@@ -60,7 +60,7 @@ fn go_to_end<const N: usize, D: Devices>(
     requires going { IsGoing running.old.mode }
     requires few { limit < 2 ^ 63 }
     ensures runs { RunsAll limit running.old.machine running.new.machine (D.told device.old) (D.told device.new) result }
-    ensures image { running.new.image ≡ running.old.image }
+    ensures methods { running.new.methods ≡ running.old.methods }
     ensures names { D.names device.new ≡ D.names device.old }
 {
     // The laws are for the proof.

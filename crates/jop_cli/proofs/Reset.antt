@@ -46,11 +46,8 @@ fits_cache image config setting grammar =
     ∙ ap (λ w. can_load (words_for (length image.code)) (empty 16 w)) setting.block_words
     ∙ rw (lt-ltb 0 (words_for (length image.code)) words, le-leb (div_ceil (words_for (length image.code)) 64) 16 few) refl
 
-abbrev pub begun_with : Image → Config → Session
-begun_with image config = record { machine = bare_reset 1024 image config; image = Some image; mode = answers.Bytecode }
-
-pub unbroken_at : (r : Session) (image : Image) (config : Config) → r ≡ begun_with image config → IsUnbroken r.mode
-unbroken_at r image config is = subst IsUnbroken (sym (ap (λ (r : Session). r.mode) is)) tt
+pub unbroken_at : (r : Session) → r.mode ≡ answers.Bytecode → IsUnbroken r.mode
+unbroken_at r is = subst IsUnbroken (sym is) tt
 
 -- ---- the states of a bare image's run
 

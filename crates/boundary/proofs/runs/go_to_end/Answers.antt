@@ -11,7 +11,7 @@ loop-running-init g c =
     let mode = c.args.running.now.mode in
     record {
       names = refl;
-      image = refl;
+      methods = refl;
       mode = goes_so mode c.requires.going;
       far = λ h s is st.
           far_none c.runs_add_up.ensures c.cycles_keep.ensures h c.args.limit (record { machine = c.args.running.now.machine; state = s }) (g.D.Devices.told c.args.device.now) st
@@ -24,7 +24,7 @@ loop-running-preserved g c =
     let after = c.bytecode.ensures.after inv.mode in
     record {
       names = c.bytecode.ensures.names ∙ inv.names;
-      image = after.0 ∙ inv.image;
+      methods = after.0 ∙ inv.methods;
       mode = ap is_going after.1 ∙ mode_goes c.bytecode.result c.in-Bytecode.is;
       far = λ h s is st.
           far_on c.runs_add_up.ensures c.cycles_keep.ensures h c.args.limit (record { machine = c.args.running.now.machine; state = s }) c.loop-running.running.machine c.bytecode.new.self.machine (g.D.Devices.told c.args.device.now) (g.D.Devices.told c.loop-running.device) (g.D.Devices.told c.bytecode.new.device) (c.loop-running.invariant.far h s is st)

@@ -8,7 +8,7 @@ use Rattle.boundary.proofs.runs.go_to_end.Given as goal
 abbrev pub invariant-loop-running : goal.invariant-loop-running
 invariant-loop-running g l = record {
   names : g.D.Devices.names l.device ≡ g.D.Devices.names l.fn.device;
-  image : l.running.image ≡ l.fn.running.image;
+  methods : l.running.methods ≡ l.fn.running.methods;
   mode : is_going l.running.mode ≡ true;
   far : (h : Setting) (s : State) → IsSetting h → Stands h l.fn.running.machine s → Far h l.limit (record { machine = l.fn.running.machine; state = s }) l.running.machine (g.D.Devices.told l.fn.device) (g.D.Devices.told l.device);
 }

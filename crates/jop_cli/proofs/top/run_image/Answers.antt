@@ -1,6 +1,5 @@
-use Rattle.std.proofs.Common.{arith, ap, refl, inr}
+use Rattle.std.proofs.Common.{arith, refl, inr}
 use Rattle.boundary.specs.declared.runs.RunEnd.TheVariants as ends
-use Rattle.boundary.specs.Session.{Session}
 use Rattle.jop_cli.proofs.Reset.{fits_cache, unbroken_at, runs_to, runs_in_part, writes_rise, writes_rose, no_other, counts_are}
 use Rattle.jop_cli.proofs.top.run_image.Goals as goal
 
@@ -8,7 +7,7 @@ pub start_bare-requires : goal.start_bare-requires
 start_bare-requires g c = (omega arith, (inr (inr refl), fits_cache c.args.bare.now c.default.result c.default.ensures c.requires.grammar))
 
 pub run-requires : goal.run-requires
-run-requires g c = (omega arith, (unbroken_at c.in-Ok.running c.args.bare.now c.default.result c.in-Ok.ensures.starts, c.requires.few))
+run-requires g c = (omega arith, (unbroken_at c.in-Ok.running c.in-Ok.ensures.mode, c.requires.few))
 
 pub returns-in-Ended-clause-ran : goal.returns-in-Ended-clause-ran
 returns-in-Ended-clause-ran g c =
@@ -16,7 +15,7 @@ returns-in-Ended-clause-ran g c =
     let runs = runs_to c.bare_images_are_programs.ensures c.args.bare.now c.default.result c.in-Ok.running.machine c.run.new.running.machine c.args.limit
     (record { held = g.O.Sink.held c.args.out.now; handed = g.V.Watch.held c.args.watch.now; faults = g.O.Sink.faults c.args.out.now })
     (record { held = g.O.Sink.held c.run.new.out; handed = g.V.Watch.held c.run.new.watch; faults = g.O.Sink.faults c.run.new.out }) ends.Ended c.counts_of.result
-    (record { setting = c.default.ensures; grammar = c.requires.grammar; is = ap (λ (r : Session). r.machine) c.in-Ok.ensures.starts; begins = c.in-Ok.ensures.begins }) c.in-Ended.ensures counted in (
+    (record { setting = c.default.ensures; grammar = c.requires.grammar; is = c.in-Ok.ensures.machine; begins = c.in-Ok.ensures.begins }) c.in-Ended.ensures counted in (
       runs,
       writes_rise _ _ _ _ _ _ _ runs.runs,
     )
@@ -27,7 +26,7 @@ returns-in-Spent-clause-ran g c =
     let runs = runs_to c.bare_images_are_programs.ensures c.args.bare.now c.default.result c.in-Ok.running.machine c.run.new.running.machine c.args.limit
     (record { held = g.O.Sink.held c.args.out.now; handed = g.V.Watch.held c.args.watch.now; faults = g.O.Sink.faults c.args.out.now })
     (record { held = g.O.Sink.held c.run.new.out; handed = g.V.Watch.held c.run.new.watch; faults = g.O.Sink.faults c.run.new.out }) ends.Spent c.counts_of-in-Spent.result
-    (record { setting = c.default.ensures; grammar = c.requires.grammar; is = ap (λ (r : Session). r.machine) c.in-Ok.ensures.starts; begins = c.in-Ok.ensures.begins }) c.in-Spent.ensures counted in (
+    (record { setting = c.default.ensures; grammar = c.requires.grammar; is = c.in-Ok.ensures.machine; begins = c.in-Ok.ensures.begins }) c.in-Spent.ensures counted in (
       runs,
       omega (arith, runs.runs.1, counted.clock),
       writes_rise _ _ _ _ _ _ _ runs.runs.0,
@@ -38,7 +37,7 @@ returns-in-WriteFault-clause-ran g c =
     let runs = runs_in_part c.bare_images_are_programs.ensures c.bare_images_step.ensures c.args.bare.now c.default.result c.in-Ok.running.machine c.run.new.running.machine c.args.limit
     (record { held = g.O.Sink.held c.args.out.now; handed = g.V.Watch.held c.args.watch.now; faults = g.O.Sink.faults c.args.out.now })
     (record { held = g.O.Sink.held c.run.new.out; handed = g.V.Watch.held c.run.new.watch; faults = g.O.Sink.faults c.run.new.out })
-    (record { setting = c.default.ensures; grammar = c.requires.grammar; is = ap (λ (r : Session). r.machine) c.in-Ok.ensures.starts; begins = c.in-Ok.ensures.begins }) c.in-WriteFault.ensures in (
+    (record { setting = c.default.ensures; grammar = c.requires.grammar; is = c.in-Ok.ensures.machine; begins = c.in-Ok.ensures.begins }) c.in-WriteFault.ensures in (
       runs,
       writes_rose _ _ _ _ _ _ runs.runs,
     )
@@ -47,4 +46,4 @@ pub unreachable-requires : goal.unreachable-requires
 unreachable-requires g c = no_other c.bare_images_are_programs.ensures c.bare_images_step.ensures c.args.bare.now c.default.result c.in-Ok.running.machine c.run.new.running.machine c.args.limit
     (record { held = g.O.Sink.held c.args.out.now; handed = g.V.Watch.held c.args.watch.now; faults = g.O.Sink.faults c.args.out.now })
     (record { held = g.O.Sink.held c.run.new.out; handed = g.V.Watch.held c.run.new.watch; faults = g.O.Sink.faults c.run.new.out }) c.run.result
-    (record { setting = c.default.ensures; grammar = c.requires.grammar; is = ap (λ (r : Session). r.machine) c.in-Ok.ensures.starts; begins = c.in-Ok.ensures.begins }) c.run.ensures c.in-Uncaught.is
+    (record { setting = c.default.ensures; grammar = c.requires.grammar; is = c.in-Ok.ensures.machine; begins = c.in-Ok.ensures.begins }) c.run.ensures c.in-Uncaught.is

@@ -1,11 +1,18 @@
-use Rattle.std.proofs.Common.{◌≡◌}
-use Rattle.bytecode_model.specs.State.{Frame}
-use Rattle.boundary.specs.Meaning.{image_of}
+use Rattle.std.proofs.Common.{lit<, ◌≡◌}
+use Rattle.std.specs.Prelude.{IsSomeAnd}
+use Rattle.bytecode_model.specs.State.{Frame, State}
+use Rattle.machine_frames.specs.Shows.{top_frame}
+use Rattle.boundary.specs.Meaning.{methods_of}
 use Rattle.boundary.specs.Session.{Session}
-use Rattle.boundary.proofs.Reading.{each_read, each_top}
+use Rattle.boundary.proofs.Reading.{is_shown, each_state}
 use Rattle.boundary.proofs.running.Running.method.Goals as goal
+
+pub top_method-requires : goal.top_method-requires
+top_method-requires g c =
+    let r : Session = record { machine = c.self.inside.machine; methods = methods_of c.self.inside.methods; mode = c.self.inside.mode } in
+    (lit< tt, is_shown c.fitting_states_are_well_formed.ensures c.stages_agree.ensures g.row.N r c.args.self.now c.self.view_is c.requires c.self.invariant c.as_slice.result.now c.as_slice.ensures)
 
 pub returns : goal.returns
 returns g c =
-    let r : Session = record { machine = c.self.inside.machine; image = image_of c.self.inside.image; mode = c.self.inside.mode } in
-    each_top c.args.self.now (λ (f : Frame). f.method ≡ 0) (each_read c.bare_images_are_programs.ensures c.fitting_states_are_well_formed.ensures c.stages_agree.ensures g.row.N r c.args.self.now c.self.view_is c.requires.going c.self.invariant) (λ image s is h. h.method)
+    let r : Session = record { machine = c.self.inside.machine; methods = methods_of c.self.inside.methods; mode = c.self.inside.mode } in
+    each_state c.fitting_states_are_well_formed.ensures c.stages_agree.ensures g.row.N r c.args.self.now c.self.view_is c.requires c.self.invariant c.as_slice.result.now c.as_slice.ensures (λ (s : State). IsSomeAnd (top_frame s.frames) (λ (f : Frame). f.method ≡ c.top_method.result)) c.top_method.ensures

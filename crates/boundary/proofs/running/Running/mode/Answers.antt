@@ -1,11 +1,11 @@
-use Rattle.boundary.specs.Meaning.{image_of}
+use Rattle.boundary.specs.Meaning.{methods_of}
 use Rattle.boundary.specs.Session.{Session}
 use Rattle.boundary.proofs.Modes.{all_go_on_so}
 use Rattle.boundary.proofs.running.Running.mode.Goals as goal
 
 pub returns-clause-all : goal.returns-clause-all
 returns-clause-all g c = λ going.
-    let r : Session = record { machine = c.self.inside.machine; image = image_of c.self.inside.image; mode = c.self.inside.mode } in
+    let r : Session = record { machine = c.self.inside.machine; methods = methods_of c.self.inside.methods; mode = c.self.inside.mode } in
     all_go_on_so c.stages_agree.ensures
     (record {
       well = c.fitting_states_are_well_formed.ensures;

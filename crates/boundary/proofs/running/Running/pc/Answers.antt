@@ -1,18 +1,26 @@
-use Rattle.std.proofs.Common.{◌≡◌, ◌-◌, arith, ap}
+use Rattle.std.proofs.Common.{lit<, ◌≡◌}
 use Rattle.bytecode_model.specs.State.{Frame}
-use Rattle.boundary.specs.Meaning.{image_of}
+use Rattle.boundary.specs.Meaning.{methods_of}
 use Rattle.boundary.specs.Session.{Session}
-use Rattle.boundary.proofs.Reading.{is_there, each_read, some_read, each_top}
+use Rattle.boundary.proofs.Reading.{running_state, each_running, raising_state, each_raising}
 use Rattle.boundary.proofs.running.Running.pc.Goals as goal
 
-pub overflow_sub-result : goal.overflow_sub-result
-overflow_sub-result g c =
-    let r : Session = record { machine = c.self.inside.machine; image = image_of c.self.inside.image; mode = c.self.inside.mode } in
-    let (image, is) = is_there c.args.self.now.image c.requires.bare in
-    let (s, h) = some_read c.bare_images_are_programs.ensures c.fitting_states_are_well_formed.ensures c.stages_agree.ensures g.row.N r c.args.self.now c.self.view_is c.requires.going c.self.invariant image is in
-    omega (arith, h.pc, c.jpc.ensures)
+pub raising_pc-requires : goal.raising_pc-requires
+raising_pc-requires g c =
+    let r : Session = record { machine = c.self.inside.machine; methods = methods_of c.self.inside.methods; mode = c.self.inside.mode } in
+    (lit< tt, raising_state c.fitting_states_are_well_formed.ensures c.stages_agree.ensures g.row.N r c.args.self.now c.self.view_is c.requires c.self.invariant c.as_slice.result.now c.as_slice.ensures c.in-Raise.is)
 
-pub returns : goal.returns
-returns g c =
-    let r : Session = record { machine = c.self.inside.machine; image = image_of c.self.inside.image; mode = c.self.inside.mode } in
-    each_top c.args.self.now (λ (f : Frame). f.pc ≡ c.jpc.result - 1) (each_read c.bare_images_are_programs.ensures c.fitting_states_are_well_formed.ensures c.stages_agree.ensures g.row.N r c.args.self.now c.self.view_is c.requires.going c.self.invariant) (λ image s is h. omega (arith, h.pc, c.jpc.ensures, ap (λ (r : Session). r.machine.jpc) c.self.view_is))
+pub running_pc-requires : goal.running_pc-requires
+running_pc-requires g c =
+    let r : Session = record { machine = c.self.inside.machine; methods = methods_of c.self.inside.methods; mode = c.self.inside.mode } in
+    (lit< tt, running_state c.fitting_states_are_well_formed.ensures c.stages_agree.ensures g.row.N r c.args.self.now c.self.view_is c.requires c.self.invariant c.as_slice-in_default.result.now c.as_slice-in_default.ensures c.in_default.not-Raise)
+
+pub returns-in-Raise : goal.returns-in-Raise
+returns-in-Raise g c =
+    let r : Session = record { machine = c.self.inside.machine; methods = methods_of c.self.inside.methods; mode = c.self.inside.mode } in
+    each_raising c.fitting_states_are_well_formed.ensures c.stages_agree.ensures g.row.N r c.args.self.now c.self.view_is c.requires c.self.invariant c.as_slice.result.now c.as_slice.ensures c.in-Raise.is (λ (f : Frame). f.pc ≡ c.raising_pc.result) c.raising_pc.ensures
+
+pub returns-in_default : goal.returns-in_default
+returns-in_default g c =
+    let r : Session = record { machine = c.self.inside.machine; methods = methods_of c.self.inside.methods; mode = c.self.inside.mode } in
+    each_running c.fitting_states_are_well_formed.ensures c.stages_agree.ensures g.row.N r c.args.self.now c.self.view_is c.requires c.self.invariant c.as_slice-in_default.result.now c.as_slice-in_default.ensures c.in_default.not-Raise (λ (f : Frame). f.pc ≡ c.running_pc.result) c.running_pc.ensures

@@ -1,0 +1,66 @@
+//! What is read of the state for which a run's machine stands: its top frame, and how many frames there are.
+ghost use Rattle.std.specs.Prelude.{◌≡◌, length, sum_by};
+ghost use Rattle.bytecode_model.specs.Sizes.{value_words};
+ghost use Rattle.boundary.specs.Answers.{IsGoing};
+ghost use Rattle.boundary.specs.Session.{EachState, EachTop};
+
+use crate::answer::Boundary;
+use crate::laws::stages_agree;
+use crate::running::Running;
+use bytecode_typing::fitting_states_are_well_formed;
+use machine_frames::{frame_count, operand_words, raising_pc, running_pc, top_method};
+
+impl<'a, const N: usize> Running<'a, N> {
+    /// The number of the method whose frame is on top.
+    pub fn method(&self) -> u32
+        requires { IsGoing self.now.mode }
+        ensures { EachTop self.now (λ f. f.method ≡ result) }
+    {
+        // The laws are for the proof.
+        fitting_states_are_well_formed();
+        stages_agree();
+        let _mode = self.mode;
+        top_method(&self.machine, self.methods.as_slice())
+    }
+
+    /// The place of its instruction.
+    pub fn pc(&self) -> u32
+        requires { IsGoing self.now.mode }
+        ensures { EachTop self.now (λ f. f.pc ≡ result) }
+    {
+        // The laws are for the proof.
+        fitting_states_are_well_formed();
+        stages_agree();
+        match self.mode {
+            Boundary::Raise => raising_pc(&self.machine, self.methods.as_slice()),
+            _ => running_pc(&self.machine, self.methods.as_slice()),
+        }
+    }
+
+    /// How many frames there are.
+    pub fn frames(&self) -> u32
+        requires { IsGoing self.now.mode }
+        ensures { EachState self.now (λ s. length s.frames ≡ result) }
+    {
+        // The laws are for the proof.
+        fitting_states_are_well_formed();
+        stages_agree();
+        let _mode = self.mode;
+        frame_count(&self.machine, self.methods.as_slice())
+    }
+
+    /// How many words the operands of the top frame take.
+    pub fn operands(&self) -> u32
+        requires { IsGoing self.now.mode }
+        ensures { EachTop self.now (λ f. sum_by value_words f.operands ≡ result) }
+    {
+        // The laws are for the proof.
+        fitting_states_are_well_formed();
+        stages_agree();
+        match self.mode {
+            // They are gone while an object is raised.
+            Boundary::Raise => 0,
+            _ => operand_words(&self.machine, self.methods.as_slice()),
+        }
+    }
+}

@@ -1,0 +1,26 @@
+-- Methods by the place of their record.
+use Rattle.std.proofs.Common.{◌≡◌, ℕ, List, length, Option, Some, sym, ◌∙◌, ap}
+use Rattle.std.specs.Prelude.{slice_get, IsSomeAnd}
+use Rattle.coded_methods.specs.declared.method.CodedMethod.{CodedMethod}
+use Rattle.coded_methods.specs.Methods.{IsMethod, AreMethods}
+use Rattle.bytecode_model.specs.Program.{Program, Body, body_of}
+use Rattle.image_facts.specs.Places.{Places}
+use Rattle.machine_frames.specs.Methods.{IsThere, IsMethodAt}
+use Rattle.machine_frames.proofs.Options.{some_is, some_in, if_at}
+
+module _ (P : Program) (pl : Places) (methods : List CodedMethod) (are : AreMethods P pl methods) (m : ℕ) (b : Body) (is : body_of P m ≡ Some b) where
+  pub known_at : (e : CodedMethod) × (slice_get methods m ≡ Some e) × IsMethod (pl.method m) b e
+  known_at = some_is (slice_get methods m) (IsMethod (pl.method m) b) (if_at (body_of P m) b (λ b. IsSomeAnd (slice_get methods m) (IsMethod (pl.method m) b)) is (are.known m))
+
+  pub lies : (place : ℕ) → place ≡ pl.method m → IsSomeAnd (slice_get methods m) (λ e. e.place ≡ place)
+  lies place at = let (e, got, known) = known_at in some_in (slice_get methods m) e (λ e. e.place ≡ place) got (known.place_is ∙ sym at)
+
+  pub there : (place : ℕ) → place ≡ pl.method m → IsThere methods place
+  there place at = record { rising = are.rising; few = are.few; number = m; lies = lies place at }
+
+  -- what is known of it
+  pub of_method : (place : ℕ) → place ≡ pl.method m → (x : CodedMethod) → IsMethodAt methods place x → (x.max_locals ≡ b.max_locals) × (x.code.now ≡ b.code)
+  of_method place at x is =
+      let (e, got, known) = known_at in
+      let same : x ≡ e = is m e got (known.place_is ∙ sym at) in
+      (ap (λ (y : CodedMethod). y.max_locals) same ∙ known.max_locals, ap (λ (y : CodedMethod). y.code.now) same ∙ known.code)

@@ -1,0 +1,6 @@
+mod Options
+mod Stack
+mod Counts
+mod Known
+mod Standing
+mod Walking
