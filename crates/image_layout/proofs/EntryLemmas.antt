@@ -1,6 +1,6 @@
 -- The words of pool entries.
 use Rattle.std.proofs.Common.{◌≡◌, ℕ, suc, ◌+◌, ◌*◌, ◌^◌, ◌<◌, Bool, true, false, not, eqb, List, [], ◌∷◌, ◌++◌, Option, Some, None, Bor, Result, Ok, Err, map, take, length, get_or, append_assoc, append-nil, refl, sym, ap, ap₂, ◌∙◌, subst, arith}
-use Rattle.std.specs.Prelude.{slice_get, unwrap_or, if◌then◌else◌}
+use Rattle.std.specs.Prelude.{IsTrue, is_some, slice_get, unwrap_or, if◌then◌else◌}
 use Rattle.std.specs.Option.{option_map, option_map_or, option_copied}
 use Rattle.std.specs.List.{filter, filter_map, cons_option, find, flat_map, range_with_len}
 use Rattle.std.proofs.lemmas.List.{length-map, map-append}
@@ -14,7 +14,9 @@ use Rattle.list_words.specs.Lists.{onto}
 use Rattle.list_words.specs.Lemmas.{none≢some, some_same, onto_some, index_found}
 use Rattle.class_lookup.specs.Parts.{Signature, same_text, name_of, class_text}
 use Rattle.class_lookup.specs.Hierarchy.{find_class}
-use Rattle.class_lookup.specs.Lookup.{Place, same_place, find_method}
+use Rattle.class_lookup.specs.Hierarchy.{IsAcyclic}
+use Rattle.class_lookup.specs.Laws.{FoundMethods}
+use Rattle.class_lookup.specs.Lookup.{Place, method_at, same_place, find_method}
 use Rattle.bytecode_model.specs.Program.{Method}
 use Rattle.bytecode_model.specs.Types.{OfReferences}
 use Rattle.image_facts.specs.Says.{argument_words}
@@ -37,7 +39,8 @@ use Rattle.image_words.specs.Pools.{instructions_in, naming, is_fixed_call, numb
 use Rattle.image_words.specs.Slots.{interface_number, slot_of}
 use Rattle.image_layout.specs.declared.uses.Use.{Use}
 use Rattle.image_layout.specs.Uses.{instr_of, is_fixed, names_index, use_of}
-use Rattle.image_layout.proofs.ListLemmas.{take_some}
+use Rattle.word_lists.proofs.ListLemmas.{take_some}
+use Rattle.program_laws.proofs.Numbering.{number_of}
 use Rattle.image_layout.proofs.SizeLemmas.{stands}
 
 -- ---- mapped lists
@@ -157,6 +160,25 @@ has_number law there cs m n h =
       numbered = s.method;
       resolved = ap (resolved_method cs) same ∙ (sym (law cs n ∙ ap (λ o. onto o (resolved_method cs)) f.1) ∙ s.method);
     }
+
+stands_at : (cs : List ClassFile) (m : Place) (o : Option ClassFile) → slice_get cs m.0 ≡ o → IsTrue (is_some (onto o (λ k. slice_get k.methods m.1))) → (n : ℕ) × (method_number cs m ≡ Some n)
+stands_at cs m None e h = absurd (false≢true h)
+stands_at cs m (Some k) e h = member_at (slice_get k.methods m.1) refl h
+  where
+    member_at : (o : Option Member) → slice_get k.methods m.1 ≡ o → IsTrue (is_some o) → (n : ℕ) × (method_number cs m ≡ Some n)
+    member_at None e2 h = absurd (false≢true h)
+    member_at (Some member) e2 h = let n = number_of cs m k member e e2 in (n.0, n.1)
+
+-- a method that is there has a number
+pub there_numbered : (cs : List ClassFile) (m : Place) → IsTrue (is_some (method_at cs m)) → (n : ℕ) × (method_number cs m ≡ Some n)
+there_numbered cs m h = stands_at cs m (slice_get cs m.0) refl h
+
+-- what is found is there
+pub found_there : FoundMethods → (cs : List ClassFile) → IsAcyclic cs → (c : ℕ) (s : Signature) (m : Place) → Some m ≡ find_method cs c s → IsTrue (is_some (method_at cs m))
+found_there law cs acyclic c s m h =
+    let f = law cs acyclic c s m (sym h) in
+    let at : method_at cs m ≡ Some f.member = ap (λ o. onto o (λ k. slice_get k.methods m.1)) f.class ∙ f.there in
+    ap is_some at
 
 pub called : (cs : List ClassFile) (m : Place) (n words word number : ℕ) → HasNumber cs m n → ((k : Method) → slice_get (resolved_methods cs) n ≡ Some k → words ≡ argument_words k) → word ≡ words * 2 ^ 24 + number
     → word ≡ option_map_or argument_words (resolved_method cs m) 0 * 2 ^ 24 + number

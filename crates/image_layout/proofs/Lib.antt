@@ -1,12 +1,6 @@
-pub mod ListLemmas
 pub mod SizeLemmas
-pub mod ObjectLemmas
-pub mod PlaceLemmas
+pub mod HeaderLemmas
 pub mod PoolLemmas
-pub mod PackLemmas
-pub mod BaseLemmas
-pub mod BitLemmas
-pub mod StartLemmas
 pub mod MethodLemmas
 pub mod UseLemmas
 pub mod EntryLemmas

@@ -1,9 +1,27 @@
--- How many methods have code, and the first limit that is passed.
-use Rattle.std.proofs.Common.{◌≡◌, ℕ, ◌+◌, Bool, true, false, not, List, [], ◌∷◌, ◌++◌, Option, Some, None, take, length, length-append, append-nil, refl, sym, ap, ap₂, ◌∙◌, arith}
-use Rattle.std.specs.Prelude.{slice_get, if◌then◌else◌}
+-- How many words there are, how many methods have code, and the first limit that is passed.
+use Rattle.std.proofs.Common.{◌≡◌, ℕ, ◌+◌, Bool, true, false, not, List, [], ◌∷◌, ◌++◌, Option, Some, None, map, take, length, length-append, append-nil, refl, sym, ap, ap₂, ◌∙◌, arith}
+use Rattle.std.specs.Prelude.{slice_get, sum_by, if◌then◌else◌}
 use Rattle.std.specs.List.{filter}
 use Rattle.std.proofs.lemmas.List.Elements.{filter-append}
 use Rattle.class_pool.specs.declared.class.ClassFile.{ClassFile}
+use Rattle.core_words.specs.Packed.{PackedHasWords}
+use Rattle.bytecode_model.specs.declared.Value.{Value}
+use Rattle.bytecode_model.specs.declared.Value.TheVariants.{Int, Long, Ref, Null, Unset}
+use Rattle.bytecode_model.specs.Types.{IntType, LongType, Declared, Numeric, Reference, is_long, default}
+use Rattle.bytecode_model.specs.Program.{Program}
+use Rattle.bytecode_model.specs.Sizes.{object_words}
+use Rattle.bytecode_model.specs.WellFormed.{AreAlike}
+use Rattle.bytecode_typing.specs.Tests.{AllTwo}
+use Rattle.bytecode_typing.specs.Fits.{HasDeclared, numbers_of}
+use Rattle.image_facts.specs.Laws.{WordsEnd}
+use Rattle.image_facts.specs.Places.{objects_place, image_words}
+use Rattle.program_tables.specs.Resolved.{resolved}
+use Rattle.program_tables.specs.Resolving.{IsResolved}
+use Rattle.program_laws.specs.Laws.{ProgramLaw}
+use Rattle.image_words.specs.Laws.{ImageWordsLie}
+use Rattle.image_words.specs.Layout.{outline_of}
+use Rattle.image_words.specs.Regions as regions
+use Rattle.image_words.proofs.Image.{object_same}
 use Rattle.list_words.specs.Lists.{first_some}
 use Rattle.list_words.specs.Lemmas.{none≢some}
 use Rattle.class_lookup.specs.Lookup.{Place}
@@ -11,10 +29,37 @@ use Rattle.program_tables.specs.Numbers.{places_of, is_coded, methods_by_number,
 use Rattle.image_words.specs.Slots.{interface_methods}
 use Rattle.image_words.specs.Regions.{image_words_of}
 use Rattle.image_words.specs.Limits.{coded_methods, most_types, most_interface_methods, most_methods, most_words}
-use Rattle.image_layout.specs.declared.fault.Counted.{Counted}
-use Rattle.image_layout.specs.declared.fault.Counted.TheVariants.{Types, InterfaceMethods, Methods, Words}
-use Rattle.image_layout.specs.Layout.{passed, counts_passed, first_passed}
-use Rattle.image_layout.proofs.ListLemmas.{take_whole, take_some}
+use Rattle.word_lists.specs.declared.fault.Counted.{Counted}
+use Rattle.word_lists.specs.declared.fault.Counted.TheVariants.{Types, InterfaceMethods, Methods, Words}
+use Rattle.image_layout.specs.Layout.{counts_passed, first_passed}
+use Rattle.word_lists.specs.Passed.{passed}
+use Rattle.word_lists.proofs.ListLemmas.{take_whole, take_some}
+
+-- ---- all words
+
+one_alike : (P : Program) (ks : List ℕ) (d : Declared) (v : Value) → HasDeclared P ks d v → (is_long v ≡ is_long (default d)) × (v ≡ Unset → ⊥)
+one_alike P ks (Numeric IntType) (Int i) h = (refl, λ e. cc)
+one_alike P ks (Numeric LongType) (Long i) h = (refl, λ e. cc)
+one_alike P ks (Reference l) Null h = (refl, λ e. cc)
+one_alike P ks (Reference l) (Ref p) h = (refl, λ e. cc)
+one_alike P ks d v h = absurd h
+
+all_alike : (P : Program) (ks : List ℕ) (ds : List Declared) (vs : List Value) → AllTwo (HasDeclared P ks) ds vs → AreAlike vs (map default ds)
+all_alike P ks [] [] h = tt
+all_alike P ks [] (v ∷ vs) h = absurd h
+all_alike P ks (d ∷ ds) [] h = absurd h
+all_alike P ks (d ∷ ds) (v ∷ vs) h = let one = one_alike P ks d v h.0 in (one.0, one.1, all_alike P ks ds vs h.1)
+
+pub words_counted : PackedHasWords → WordsEnd → ImageWordsLie → ProgramLaw → (cs : List ClassFile) → IsResolved cs → length (image_words_of cs) ≡ image_words (resolved cs) (outline_of cs)
+words_counted packed end lie lawful cs r =
+    let P = resolved cs in
+    let objects = P.first_objects in
+    let all = take_whole objects (length objects) refl in
+    let alike = all_alike P (numbers_of objects) P.statics P.first_statics (lawful cs r).first_statics in
+    ap length (lie cs)
+    ∙ (end P (regions.places_of cs) P.first_statics objects alike
+    ∙ (ap (λ os. objects_place P (regions.places_of cs) + sum_by (object_words P) os) (sym all)
+    ∙ (sym (object_same packed cs (length objects)) ∙ ap (λ os. objects_place P (outline_of cs) + sum_by (object_words P) os) all)))
 
 -- ---- methods with code
 

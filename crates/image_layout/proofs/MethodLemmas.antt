@@ -27,7 +27,7 @@ use Rattle.program_tables.specs.Numbers.{methods_by_number}
 use Rattle.program_tables.specs.Resolved.{handler_of, body_in, method_in, resolved_method, resolved_methods, resolved}
 use Rattle.image_words.specs.Layout.{pool_place, outline_of}
 use Rattle.image_words.specs.Regions.{method_image}
-use Rattle.image_layout.proofs.ListLemmas.{take_past}
+use Rattle.word_lists.proofs.ListLemmas.{take_past}
 use Rattle.image_layout.proofs.SizeLemmas.{Stands, stands}
 
 pub methods_taken : MethodsStandByNumber → (cs : List ClassFile) (n : ℕ) → length (methods_by_number cs) ≤ n → take n (resolved_methods cs) ≡ resolved_methods cs

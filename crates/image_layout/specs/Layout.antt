@@ -1,5 +1,5 @@
 -- The image that is laid out, and the first limit that a program passes.
-use Rattle.std.specs.Prelude.{◌≡◌, ℕ, nat_le, if◌then◌else◌, List, [], ◌∷◌, length, map, Option, Some, None}
+use Rattle.std.specs.Prelude.{◌≡◌, List, [], ◌∷◌, length, map, Option}
 use Rattle.std.specs.List.{range_with_len}
 use Rattle.class_pool.specs.declared.class.ClassFile.{ClassFile}
 use Rattle.list_words.specs.Lists.{first_some}
@@ -11,17 +11,9 @@ use Rattle.image_words.specs.Layout.{classes_of}
 use Rattle.image_words.specs.Pools.{static_word}
 use Rattle.image_words.specs.Regions.{first_place, image_words_of, places_of}
 use Rattle.image_words.specs.Limits.{coded_methods, most_types, most_interface_methods, most_methods, most_words}
-use Rattle.image_layout.specs.declared.fault.Counted.{Counted}
-use Rattle.image_layout.specs.declared.fault.Counted.TheVariants.{Types, InterfaceMethods, Methods, Words}
-
--- the words, and the places of the methods, types, pools, fields and strings by their numbers; an instance field has none
-pub record Laid : Type 0 where
-  pub words : List ℕ
-  pub methods : List ℕ
-  pub types : List ℕ
-  pub pools : List ℕ
-  pub fields : List ℕ
-  pub strings : List ℕ
+use Rattle.word_lists.specs.Laid.{Laid}
+use Rattle.word_lists.specs.Passed.{Passed, passed}
+use Rattle.word_lists.specs.declared.fault.Counted.TheVariants.{Types, InterfaceMethods, Methods, Words}
 
 pub record IsLaidOut (cs : List ClassFile) (made : Laid) : Type 0 where
   pub words : made.words ≡ image_words_of cs
@@ -30,13 +22,6 @@ pub record IsLaidOut (cs : List ClassFile) (made : Laid) : Type 0 where
   pub pools : made.pools ≡ map (places_of cs).pool (classes_of cs)
   pub fields : made.fields ≡ map (static_word cs (places_of cs)) (fields_by_number cs)
   pub strings : made.strings ≡ map (λ n. first_place cs (places_of cs) (string_object n)) (range_with_len 0 (length (strings_of cs)))
-
--- a count with its limit
-abbrev pub Passed : Type 0
-Passed = Counted × ℕ × ℕ
-
-abbrev pub passed : Counted → (count limit : ℕ) → Option Passed
-passed what count limit = if nat_le count limit then None else Some (what, count, limit)
 
 -- the first of the limits on what is counted before the words
 abbrev pub counts_passed : List ClassFile → Option Passed

@@ -1,4 +1,2 @@
-pub mod Sizes
-pub mod Outline
 pub mod Layout
 pub mod Uses

@@ -1,8 +1,9 @@
 //! The two words of each entry of a class's pool (JVM Specification SE 8, 4.4).
-ghost use Rattle.std.specs.Prelude.{◌≡◌, ◌++◌, ◌<◌, ◌+◌, ◌*◌, ◌^◌, length, map, Some, IfOk, OnOk, option_map, unwrap_or, slice_get};
+ghost use Rattle.std.specs.Prelude.{◌≡◌, ◌++◌, ◌<◌, ◌+◌, ◌*◌, ◌^◌, length, map, is_some, Some, IfOk, IfSome, IsTrue, OnOk, option_map, unwrap_or, slice_get};
 ghost use Rattle.std.specs.Option.{option_map_or};
 ghost use Rattle.class_pool.specs.declared.class.ClassFile.{ClassFile};
 ghost use Rattle.class_pool.specs.Grammar.{entry_at};
+ghost use Rattle.class_lookup.specs.Lookup.{method_at};
 ghost use Rattle.image_facts.specs.Says.{bit_of, argument_words};
 ghost use Rattle.image_facts.specs.Words.{is_long_type};
 ghost use Rattle.list_words.specs.Lists.{onto};
@@ -15,23 +16,23 @@ ghost use Rattle.image_words.specs.Layout.{outline_of};
 ghost use Rattle.image_words.specs.Pools.{no_words, string_words, class_words, static_word, instance_word, field_words, method_word, interface_word, taken_place, words_of_entry, entry_words, pool_image, instructions_in};
 ghost use Rattle.image_words.specs.Regions.{pools_region};
 ghost use Rattle.image_words.specs.Slots.{slot_of};
-ghost use Rattle.image_layout.specs.Outline.{IsOutline};
+ghost use Rattle.image_words.specs.Outline.{IsOutline};
 ghost use Rattle.image_layout.specs.Uses.{instr_of, use_of};
 
 use crate::methods::argument_words;
-use crate::outline::Outline;
-use crate::sums::{add, count, times};
 use crate::uses::{Use, uses_of};
 use class_hierarchy::Hierarchy;
 use class_lookup::Place;
+use class_lookup::laws::members_are_found_above;
 use class_lookup::parts::{class_text, text_at};
 use class_pool::{ClassFile, Entry, Pool};
-use image_words::{index_of_place, slot_of};
+use image_words::{Outline, index_of_place, slot_of};
 use jop_base::NoMemory;
 use program_tables::laws::{members_are_there, methods_stand_by_number};
 use program_tables::{Declared, ObjectKind, is_static_field};
 use resolved_program::Program;
 use std::alloc::Global;
+use word_lists::{add, count, times};
 
 /// The words of the arguments stand above a number of 24 bits.
 const ARGUMENTS: u32 = 1 << 24;
@@ -68,8 +69,8 @@ fn class_words(
         dimensions: of.dimensions + 1,
         base: of.base,
     };
-    let place = outline.kind_place(program, kind)?;
-    let array = outline.kind_place(program, Some(array))?;
+    let place = outline.kind_place(program.kinds(), kind)?;
+    let array = outline.kind_place(program.kinds(), Some(array))?;
     Ok([place, array])
 }
 
@@ -120,14 +121,12 @@ fn field_words(program: &Program, outline: &Outline, field: Place) -> [u32; 2]
 
 /// The words of the arguments of a method above a number.
 fn call_word(program: &Program, method: Place, number: usize) -> Result<u32, NoMemory>
+    requires { IsTrue (is_some (method_at program.now method)) }
     ensures { IfOk result (λ word. word ≡ option_map_or argument_words (resolved_method program.now method) 0 * 2 ^ 24 + number) }
 {
     methods_stand_by_number();
     members_are_there();
-    // Each method of a class has a number.
-    let Some(of) = program.method_number(method) else {
-        return Err(NoMemory);
-    };
+    let of = program.method_number(method).unwrap();
     let arguments = times(argument_words(program, of)?, ARGUMENTS)?;
     let word = add(arguments, count(number)?)?;
     Ok(word)
@@ -145,8 +144,11 @@ fn slot_number(program: &Program, outline: &Outline, named: u32, method: Place) 
 
 /// The class through which an entry names a method, and the method that is found from it.
 fn method_found(classes: &Hierarchy, pool: &Pool, owner: u16, member: u16) -> Option<(u32, Place)>
-    ensures { (k : ClassFile) → k.pool ≡ pool.now → result ≡ method_found classes.now k owner member }
+    ensures found { (k : ClassFile) → k.pool ≡ pool.now → result ≡ method_found classes.now k owner member }
+    ensures there { IfSome result (λ found. IsTrue (is_some (method_at classes.now found.1))) }
 {
+    members_are_found_above();
+    classes.is_without_cycle();
     let (name, descriptor) = pool.name_and_type(member)?;
     let named = classes.classes().find_class(class_text(pool, owner))?;
     let place = classes.find_method(named, text_at(pool, name), text_at(pool, descriptor))?;

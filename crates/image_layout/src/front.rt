@@ -6,10 +6,10 @@ ghost use Rattle.image_facts.specs.Places.{pool_of};
 ghost use Rattle.program_tables.specs.Resolved.{boot_of, resolved};
 ghost use Rattle.image_words.specs.Layout.{type_place, outline_of};
 ghost use Rattle.image_words.specs.Regions.{first_place, header_region, lists_region};
-ghost use Rattle.image_layout.specs.Outline.{IsOutline};
+ghost use Rattle.image_words.specs.Outline.{IsOutline};
 
-use crate::outline::Outline;
 use class_lookup::Place;
+use image_words::Outline;
 use jop_base::NoMemory;
 use program_tables::laws::{members_are_there, methods_stand_by_number};
 use resolved_program::Program;

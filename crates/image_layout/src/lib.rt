@@ -2,21 +2,15 @@
 #![tactic(auto)]
 
 mod entries;
-mod fault;
 mod front;
 mod layout;
 mod limits;
 mod methods;
-mod objects;
 mod outline;
-mod packing;
 mod sizes;
-mod start;
 mod statics;
-mod sums;
 mod tables;
-mod types;
 mod uses;
 
-pub use fault::{Counted, LayFault};
-pub use layout::{Layout, lay_out};
+pub use layout::lay_out;
+pub use word_lists::{Counted, LayFault, Layout};

@@ -10,27 +10,17 @@ ghost use Rattle.program_tables.specs.Numbers.{methods_by_number};
 ghost use Rattle.program_tables.specs.Resolved.{handler_of, resolved};
 ghost use Rattle.image_words.specs.Layout.{outline_of};
 ghost use Rattle.image_words.specs.Regions.{method_image, methods_region};
-ghost use Rattle.image_layout.specs.Outline.{IsOutline};
+ghost use Rattle.image_words.specs.Outline.{IsOutline};
 
-use crate::outline::Outline;
-use crate::packing::add_bytes;
-use crate::sizes::declared_words;
-use crate::sums::{add, count, times};
-use crate::types::counted_type;
+use image_words::{Outline, counted_type, declared_words};
 use jop_base::NoMemory;
 use program_tables::Declared;
 use program_tables::laws::{members_are_there, methods_stand_by_number};
 use resolved_program::Program;
+use word_lists::{add, add_bytes, count, halves, times};
 
 /// What stands in the upper half of a word counts so many times.
 const UPPER: u32 = 65536;
-
-/// A word of two halves.
-fn halves(upper: u16, lower: u16) -> u32
-    ensures { result ≡ upper * 2 ^ 16 + lower }
-{
-    u32::from(upper) * UPPER + u32::from(lower)
-}
 
 /// The words of values of these types, one after another.
 fn words_of_types(types: &[Declared]) -> Result<u32, NoMemory>
@@ -71,7 +61,7 @@ fn add_handler(
 {
     let handler = program.handler(class, entry);
     let range = halves(handler.start, handler.end);
-    let caught = counted_type(program, handler.caught)?;
+    let caught = counted_type(program.kinds(), handler.caught)?;
     words.extend_from_slice(&[range, u32::from(handler.target), caught])?;
     Ok(())
 }

@@ -7,13 +7,13 @@ ghost use Rattle.image_facts.specs.Words.{words_of};
 ghost use Rattle.program_tables.specs.Resolved.{constant_of, constant_at, first_value};
 ghost use Rattle.image_words.specs.Layout.{outline_of};
 ghost use Rattle.image_words.specs.Regions.{first_place, statics_region};
-ghost use Rattle.image_layout.specs.Outline.{IsOutline};
+ghost use Rattle.image_words.specs.Outline.{IsOutline};
 ghost use Rattle.program_tables.specs.Meanings.{declared_seen};
 
-use crate::outline::Outline;
 use class_lookup::Place;
 use class_lookup::parts::text_at;
 use class_pool::{Entry, Pool};
+use image_words::Outline;
 use jop_base::NoMemory;
 use program_tables::{Declared, entry_of, field_at};
 use resolved_program::Program;

@@ -4,14 +4,14 @@ ghost use Rattle.program_tables.specs.Numbers.{is_coded};
 ghost use Rattle.image_words.specs.Layout.{outline_of};
 ghost use Rattle.image_words.specs.Slots.{interface_methods};
 ghost use Rattle.image_words.specs.Regions.{code_place, selected_place, implemented_place, table_image, tables_region, interface_image, interfaces_region};
-ghost use Rattle.image_layout.specs.Outline.{IsOutline};
+ghost use Rattle.image_words.specs.Outline.{IsOutline};
 
-use crate::outline::Outline;
 use class_lookup::{Classes, Place};
-use image_words::is_interface;
+use image_words::{Outline, is_interface};
 use jop_base::NoMemory;
 use program_tables::method_at;
 use resolved_program::Program;
+use word_lists::add_zeros;
 
 /// Whether the method has code.
 pub(crate) fn is_coded(classes: &Classes, place: Place) -> bool
@@ -150,16 +150,6 @@ fn add_interface_table(
     }
     let methods = outline.interface_methods.as_slice();
     add_implemented(words, program, outline, class, methods)
-}
-
-/// So many zeros.
-pub(crate) fn add_zeros(words: &mut Vec<u32>, many: usize) -> Result<(), NoMemory>
-    ensures { OnOk result (words.new.items ≡ words.old.items ++ replicate many 0) }
-{
-    for _index in 0..many {
-        words.push(0)?;
-    }
-    Ok(())
 }
 
 /// The tables of interface methods, that of zeros first.

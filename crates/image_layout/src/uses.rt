@@ -6,11 +6,11 @@ ghost use Rattle.jop_opcodes.specs.declared.instruction.Instr.{Instr};
 ghost use Rattle.program_tables.specs.Instructions as definitions;
 ghost use Rattle.program_tables.specs.Tables.{HasBounds};
 ghost use Rattle.image_words.specs.Pools.{instructions_in};
-ghost use Rattle.image_layout.specs.Outline.{IsOutline};
+ghost use Rattle.image_words.specs.Outline.{IsOutline};
 ghost use Rattle.image_layout.specs.Uses.{instr_of, use_of, again, fixed_place};
 
-use crate::outline::Outline;
 use class_pool::ClassFile;
+use image_words::Outline;
 use jop_base::NoMemory;
 use jop_opcodes::laws::starts_follow_one_another;
 use jop_opcodes::{Instr, decode, starts};

@@ -8,3 +8,9 @@ pub mod ListLemmas
 pub mod MemberLemmas
 pub mod TableLemmas
 pub mod FillLemmas
+pub mod FieldLemmas
+pub mod PlaceLemmas
+pub mod BaseLemmas
+pub mod BitLemmas
+pub mod ObjectLemmas
+pub mod StartLemmas

@@ -6,3 +6,4 @@ pub mod Limits
 pub mod Laws
 pub mod Example
 pub mod Tables
+pub mod Outline

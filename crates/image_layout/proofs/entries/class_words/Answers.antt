@@ -12,5 +12,5 @@ returns c =
     let cs = c.args.program.now in
     let of = c.in-Some.of in
     let pair : ℕ → ℕ → List ℕ = λ a b. a ∷ b ∷ [] in
-    ap₂ pair c.in_ok-place.ensures (c.in_ok-array.ensures ∙ array_of cs (of.dimensions + 1) of.dimensions of.base refl)
+    ap₂ pair (c.in_ok-place.ensures cs c.requires c.kinds.ensures) (c.in_ok-array.ensures cs c.requires c.kinds-2.ensures ∙ array_of cs (of.dimensions + 1) of.dimensions of.base refl)
     ∙ ap (λ (k : Option ObjectKind). class_words cs (outline_of cs) (option_map kind_seen k)) (sym c.in-Some.is)

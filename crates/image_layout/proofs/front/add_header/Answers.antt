@@ -2,7 +2,8 @@ use Rattle.std.proofs.Common.{◌++◌, List, ℕ, ap, ◌∙◌}
 use Rattle.image_facts.specs.Places.{pool_of}
 use Rattle.program_tables.specs.Resolved.{resolved}
 use Rattle.image_words.specs.Layout.{method_place, outline_of}
-use Rattle.image_layout.proofs.PlaceLemmas.{words_end, header_same}
+use Rattle.image_words.proofs.PlaceLemmas.{words_end}
+use Rattle.image_layout.proofs.HeaderLemmas.{header_same}
 use Rattle.image_layout.proofs.front.add_header.Goals as goal
 
 pub returns : goal.returns

@@ -3,7 +3,7 @@ use Rattle.std.specs.List.{range_with_len}
 use Rattle.class_pool.specs.declared.class.ClassFile.{ClassFile}
 use Rattle.image_words.specs.Layout.{outline_of}
 use Rattle.image_words.specs.Regions.{first_place}
-use Rattle.image_layout.specs.Outline.{IsOutline}
+use Rattle.image_words.specs.Outline.{IsOutline}
 use Rattle.image_layout.proofs.front.add_object_places.Given as goal
 
 abbrev pub invariant-loop-object : goal.invariant-loop-object

@@ -2,7 +2,7 @@ use Rattle.std.proofs.Common.{◌≡◌, ◌++◌, List, map}
 use Rattle.std.specs.List.{range_with_len}
 use Rattle.class_pool.specs.declared.class.ClassFile.{ClassFile}
 use Rattle.image_words.specs.Layout.{type_place}
-use Rattle.image_layout.specs.Outline.{IsOutline}
+use Rattle.image_words.specs.Outline.{IsOutline}
 use Rattle.image_layout.proofs.front.add_type_places.Given as goal
 
 abbrev pub invariant-loop-number : goal.invariant-loop-number

@@ -1,6 +1,6 @@
 use Rattle.std.proofs.Common.{ℕ, sym, ap, ◌∙◌, arith}
 use Rattle.image_words.specs.Layout.{pool_place}
-use Rattle.image_layout.proofs.PlaceLemmas.{pool_there, pool_none}
+use Rattle.image_layout.proofs.HeaderLemmas.{pool_there, pool_none}
 use Rattle.image_layout.proofs.front.pool_of.Goals as goal
 
 pub returns-then-method-method_count : goal.returns-then-method-method_count

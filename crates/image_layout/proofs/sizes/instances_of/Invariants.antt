@@ -1,4 +1,4 @@
-use Rattle.image_layout.proofs.ListLemmas.{AllTo}
+use Rattle.word_lists.proofs.ListLemmas.{AllTo}
 use Rattle.image_layout.proofs.SizeLemmas.{HasFields}
 use Rattle.image_layout.proofs.sizes.instances_of.Given as goal
 

@@ -1,5 +1,0 @@
-use Rattle.image_layout.proofs.PackLemmas.{Packing}
-use Rattle.image_layout.proofs.packing.add_bytes.Given as goal
-
-abbrev pub invariant-loop-k : goal.invariant-loop-k
-invariant-loop-k l = Packing l.bytes l.fn.words.items l.words.items l.k

@@ -1,6 +1,0 @@
-use Rattle.std.proofs.Common.{◌≡◌, map, take}
-use Rattle.image_words.specs.Layout.{interface_words, classes_of}
-use Rattle.image_layout.proofs.sizes.interface_sizes.Given as goal
-
-abbrev pub invariant-loop-class : goal.invariant-loop-class
-invariant-loop-class l = l.sizes.items ≡ map (interface_words l.program) (take l.class (classes_of l.program))
