@@ -1,0 +1,4 @@
+pub mod ItemLemmas
+pub mod PlacedLemmas
+pub mod FinalLemmas
+pub mod KeyLemmas

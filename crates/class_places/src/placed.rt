@@ -1,0 +1,436 @@
+//! A class's place in the hierarchy (JVM Specification SE 8, 4.1, 4.6, 5.3.5 and 5.4.5).
+ghost use Rattle.std.specs.Prelude.{◌≡◌, Some, ◌<◌, ◌&&◌, ◌||◌, ◌++◌, ◌∷◌, [], not, if◌then◌else◌, OnOk, false, length, reverse, slice_get, IfOk};
+ghost use Rattle.std.specs.Option.{option_copied, option_map_or, option_to_list};
+ghost use Rattle.std.specs.List.{filter_map, list_any};
+ghost use Rattle.class_lookup.specs.Parts.{signature_of, is_final};
+ghost use Rattle.class_lookup.specs.Hierarchy.{superclass, superclasses, is_interface, is_on_a_cycle};
+ghost use Rattle.class_lookup.specs.Lookup.{method_at, declared_in, declared_method, same_place};
+ghost use Rattle.class_lookup.specs.Access.{are_in_one_package};
+ghost use Rattle.class_lookup.specs.Selection.{is_method_with, is_virtual, is_open_to, overrides_directly, overriding, upwards};
+ghost use Rattle.program_tables.specs.Placed.{lacks_superclass, has_bad_superclass, has_bad_superinterface, is_bad_interface, overrides_final, has_overridden_final, is_badly_placed};
+ghost use Rattle.class_places.specs.Signatures.{signature_seen, key_of};
+ghost use Rattle.class_places.specs.Tables.{IsTableOf, AreTables};
+ghost use Rattle.class_pool.specs.declared.class.ClassFile.{ClassFile};
+
+use crate::tables::{MethodTable, declared_by, key_of, tables_of};
+use class_lookup::parts::{has_flags, has_signature, is_in_package_of, text_at};
+use class_lookup::{Classes, Place};
+use class_pool::{ClassFile, Member};
+use jop_base::NoMemory;
+use std::alloc::Global;
+
+/// The class of this number, if there is one.
+pub fn class_at(classes: &Classes, class: u32) -> Option<&ClassFile>
+    ensures { option_copied result ≡ slice_get classes.now class }
+{
+    if class < classes.class_count() {
+        Some(classes.class(class))
+    } else {
+        None
+    }
+}
+
+/// The direct superclass, if there is such a class and it has one.
+fn superclass_at(classes: &Classes, class: u32) -> Option<u32>
+    ensures { result ≡ superclass classes.now class }
+{
+    if class < classes.class_count() {
+        classes.superclass(class)
+    } else {
+        None
+    }
+}
+
+/// Whether there is such a class, and it is an interface.
+fn is_interface_at(classes: &Classes, class: u32) -> bool
+    ensures { result ≡ is_interface classes.now class }
+{
+    class < classes.class_count() && classes.is_interface(class)
+}
+
+/// Whether the class isn't `java/lang/Object` and has no superclass.
+fn lacks_superclass(classes: &Classes, class: u32) -> bool
+    requires { class < length classes.now }
+    ensures { result ≡ lacks_superclass classes.now class }
+{
+    classes.superclass(class).is_none() && class != 0
+}
+
+/// Whether the superclass is final or an interface.
+fn has_bad_superclass(classes: &Classes, class: u32) -> bool
+    requires { class < length classes.now }
+    ensures { result ≡ has_bad_superclass classes.now class }
+{
+    let Some(upper) = classes.superclass(class) else {
+        return false;
+    };
+    match class_at(classes, upper) {
+        Some(file) => has_flags(file.flags, 0x0010) || has_flags(file.flags, 0x0200),
+        None => false,
+    }
+}
+
+/// Whether some superinterface is a class.
+fn has_bad_superinterface(classes: &Classes, class: u32) -> bool
+    requires { class < length classes.now }
+    ensures { result ≡ has_bad_superinterface classes.now class }
+{
+    classes
+        .superinterfaces(class)
+        .iter()
+        .any(|upper| !is_interface_at(classes, *upper))
+}
+
+/// Whether it is an interface whose superclass isn't `java/lang/Object`.
+fn is_bad_interface(classes: &Classes, class: u32) -> bool
+    requires { class < length classes.now }
+    ensures { result ≡ is_bad_interface classes.now class }
+{
+    classes.is_interface(class)
+        && match classes.superclass(class) {
+            Some(upper) => upper != 0,
+            None => false,
+        }
+}
+
+/// The method of this place, if there is one.
+fn method_at(classes: &Classes, place: Place) -> Option<&Member>
+    ensures { option_copied result ≡ method_at classes.now place }
+{
+    if place.class < classes.class_count() {
+        classes
+            .class(place.class)
+            .methods
+            .as_slice()
+            .get(place.index)
+    } else {
+        None
+    }
+}
+
+fn is_final(classes: &Classes, place: Place) -> bool
+    ensures { result ≡ is_method_with is_final classes.now place }
+{
+    match method_at(classes, place) {
+        Some(method) => has_flags(method.flags, 0x0010),
+        None => false,
+    }
+}
+
+/// Whether the method is neither static nor private.
+fn is_virtual(classes: &Classes, place: Place) -> bool
+    ensures { result ≡ is_virtual classes.now place }
+{
+    match method_at(classes, place) {
+        Some(method) => !(has_flags(method.flags, 0x0008) || has_flags(method.flags, 0x0002)),
+        None => false,
+    }
+}
+
+fn are_in_one_package(classes: &Classes, class: u32, other: u32) -> bool
+    ensures { result ≡ are_in_one_package classes.now class other }
+{
+    let count = classes.class_count();
+    class < count && other < count && is_in_package_of(classes.class(class), classes.class(other))
+}
+
+/// Whether the method is public or protected, or is package-private and of the other's package.
+fn is_open_to(classes: &Classes, place: Place, other: Place) -> bool
+    ensures { result ≡ is_open_to classes.now place other }
+{
+    match method_at(classes, place) {
+        Some(method) => {
+            has_flags(method.flags, 0x0001)
+                || has_flags(method.flags, 0x0004)
+                || (!has_flags(method.flags, 0x0007)
+                    && are_in_one_package(classes, other.class, place.class))
+        }
+        None => false,
+    }
+}
+
+fn overrides_directly(classes: &Classes, place: Place, upper: Place) -> bool
+    ensures { result ≡ overrides_directly classes.now place upper }
+{
+    is_virtual(classes, place) && is_virtual(classes, upper) && is_open_to(classes, upper, place)
+}
+
+/// Whether the method overrides one of these without another between.
+fn overrides_one(classes: &Classes, place: Place, found: &[Place]) -> bool
+    ensures { result ≡ list_any (overrides_directly classes.now place) found.now }
+{
+    found
+        .iter()
+        .any(|upper| overrides_directly(classes, place, *upper))
+}
+
+/// Whether the method is the resolved one, or overrides one of these without another between.
+fn joins(classes: &Classes, resolved: Place, found: &[Place], place: Place) -> bool
+    ensures { result ≡ (same_place place resolved || list_any (overrides_directly classes.now place) found.now) }
+{
+    place == resolved || overrides_one(classes, place, found)
+}
+
+/// Puts the method last, if it joins these.
+fn put_joining(
+    classes: &Classes,
+    resolved: Place,
+    found: &mut Vec<Place>,
+    place: Place,
+) -> Result<(), NoMemory>
+    ensures { OnOk result (found.new.items ≡ (if same_place place resolved || list_any (overrides_directly classes.now place) found.old.items then found.old.items ++ place ∷ [] else found.old.items)) }
+{
+    if joins(classes, resolved, found, place) {
+        found.push(place)?;
+    }
+    Ok(())
+}
+
+/// Those of methods of one name and descriptor, from a class upwards, that are the resolved one or override it; the uppermost
+/// first.
+fn overriding(
+    alloc: Global,
+    classes: &Classes,
+    resolved: Place,
+    places: &[Place],
+) -> Result<Vec<Place>, NoMemory>
+    ensures { IfOk result (λ found. found.items ≡ reverse (overriding classes.now resolved places.now)) }
+{
+    let mut found = Vec::new(alloc);
+    let mut i = places.len();
+    while i > 0 {
+        i -= 1;
+        put_joining(classes, resolved, &mut found, places[i])?;
+    }
+    Ok(found)
+}
+
+/// The class, its superclass, and so on, over at most as many classes as there are.
+pub fn superclasses(alloc: Global, classes: &Classes, class: u32) -> Result<Vec<u32>, NoMemory>
+    requires { class < length classes.now }
+    ensures { IfOk result (λ found. found.items ≡ superclasses classes.now class) }
+{
+    let mut found = Vec::new(alloc);
+    let mut next = Some(class);
+    let count = classes.class_count();
+    for _ in 0..count {
+        match next {
+            Some(at) => {
+                found.push(at)?;
+                next = superclass_at(classes, at);
+            }
+            None => return Ok(found),
+        }
+    }
+    Ok(found)
+}
+
+/// The place of the method of this name and descriptor in the class, if it declares one.
+pub(crate) fn declared_in(file: &ClassFile, name: &[u16], descriptor: &[u16]) -> Option<usize>
+    ensures { result ≡ declared_in (λ k. k.methods) (signature_seen name.now descriptor.now) file.now }
+{
+    for (index, method) in file.methods.as_slice().iter().enumerate() {
+        if has_signature(file, method, name, descriptor) {
+            return Some(index);
+        }
+    }
+    None
+}
+
+/// The method of this name and descriptor that the class declares, by its table and the key of both.
+fn declared_method(
+    classes: &Classes,
+    class: u32,
+    table: &MethodTable,
+    key: &[u16],
+    name: &[u16],
+    descriptor: &[u16],
+) -> Option<Place>
+    requires table { (k : ClassFile) → slice_get classes.now class ≡ Some k → IsTableOf table.now k }
+    requires key { key.now ≡ key_of name.now descriptor.now }
+    ensures { result ≡ declared_method classes.now (signature_seen name.now descriptor.now) class }
+{
+    let file = class_at(classes, class)?;
+    let index = declared_by(file, table, key, name, descriptor)?;
+    Some(Place { class, index })
+}
+
+/// Puts the method last, if there is one.
+fn put_found(places: &mut Vec<Place>, found: Option<Place>) -> Result<(), NoMemory>
+    ensures { OnOk result (places.new.items ≡ places.old.items ++ option_to_list found) }
+{
+    if let Some(place) = found {
+        places.push(place)?;
+    }
+    Ok(())
+}
+
+/// The methods of a name and a descriptor that these classes declare, which have these tables.
+fn upwards(
+    alloc: Global,
+    classes: &Classes,
+    chain: &[u32],
+    tables: &[MethodTable],
+    name: &[u16],
+    descriptor: &[u16],
+) -> Result<Vec<Place>, NoMemory>
+    requires { AreTables classes.now chain.now tables.now }
+    ensures { IfOk result (λ places. places.items ≡ filter_map (declared_method classes.now (signature_seen name.now descriptor.now)) chain.now) }
+{
+    let key = key_of(alloc, name, descriptor)?;
+    let mut places = Vec::new(alloc);
+    for (i, table) in tables.iter().enumerate() {
+        let found = declared_method(classes, chain[i], table, &key, name, descriptor);
+        put_found(&mut places, found)?;
+    }
+    Ok(places)
+}
+
+/// Whether the method is one of these.
+fn is_one_of(place: Place, places: &[Place]) -> bool
+    ensures { result ≡ list_any (same_place place) places.now }
+{
+    places.iter().any(|other| place == *other)
+}
+
+/// Whether one method overrides another, among the methods of their name and descriptor from its class upwards.
+fn overrides(
+    alloc: Global,
+    classes: &Classes,
+    places: &[Place],
+    place: Place,
+    upper: Place,
+) -> Result<bool, NoMemory>
+    ensures { IfOk result (λ b. b ≡ (not (same_place place upper) && list_any (same_place place) (overriding classes.now upper places.now))) }
+{
+    if place == upper {
+        return Ok(false);
+    }
+    let found = overriding(alloc, classes, upper, places)?;
+    Ok(is_one_of(place, &found))
+}
+
+/// Whether the other method is final and the method overrides it.
+fn overrides_final_one(
+    alloc: Global,
+    classes: &Classes,
+    places: &[Place],
+    place: Place,
+    upper: Place,
+) -> Result<bool, NoMemory>
+    ensures { IfOk result (λ b. b ≡ (is_method_with is_final classes.now upper && (not (same_place place upper) && list_any (same_place place) (overriding classes.now upper places.now)))) }
+{
+    if !is_final(classes, upper) {
+        return Ok(false);
+    }
+    overrides(alloc, classes, places, place, upper)
+}
+
+/// Whether the method overrides a final one of these, which are the methods of its name and descriptor from its class upwards.
+fn overrides_some_final(
+    alloc: Global,
+    classes: &Classes,
+    places: &[Place],
+    place: Place,
+) -> Result<bool, NoMemory>
+    ensures { IfOk result (λ b. b ≡ list_any (λ a. is_method_with is_final classes.now a && (not (same_place place a) && list_any (same_place place) (overriding classes.now a places.now))) places.now) }
+{
+    for upper in places {
+        if overrides_final_one(alloc, classes, places, place, *upper)? {
+            return Ok(true);
+        }
+    }
+    Ok(false)
+}
+
+/// Whether a method overrides a final one.
+fn overrides_final(
+    alloc: Global,
+    classes: &Classes,
+    chain: &[u32],
+    tables: &[MethodTable],
+    place: Place,
+) -> Result<bool, NoMemory>
+    requires chain { chain.now ≡ superclasses classes.now place.0 }
+    requires tables { AreTables classes.now chain.now tables.now }
+    ensures { IfOk result (λ b. b ≡ overrides_final classes.now place) }
+{
+    let Some(file) = class_at(classes, place.class) else {
+        return Ok(false);
+    };
+    let Some(method) = file.methods.as_slice().get(place.index) else {
+        return Ok(false);
+    };
+    let name = text_at(&file.pool, method.name);
+    let descriptor = text_at(&file.pool, method.descriptor);
+    let places = upwards(alloc, classes, chain, tables, name, descriptor)?;
+    overrides_some_final(alloc, classes, &places, place)
+}
+
+/// Whether the class declares a final method.
+fn declares_final(file: &ClassFile) -> bool
+    ensures { result ≡ list_any is_final file.now.methods }
+{
+    file.methods
+        .as_slice()
+        .iter()
+        .any(|method| has_flags(method.flags, 0x0010))
+}
+
+/// The same, if there is such a class.
+fn declares_final_at(classes: &Classes, class: u32) -> bool
+    ensures { result ≡ option_map_or (λ k. list_any is_final k.methods) (slice_get classes.now class) false }
+{
+    match class_at(classes, class) {
+        Some(file) => declares_final(file),
+        None => false,
+    }
+}
+
+/// Whether a class of a list declares a final method.
+fn has_final(classes: &Classes, chain: &[u32]) -> bool
+    ensures { result ≡ list_any (λ c. option_map_or (λ k. list_any is_final k.methods) (slice_get classes.now c) false) chain.now }
+{
+    chain.iter().any(|class| declares_final_at(classes, *class))
+}
+
+/// Whether a method of the class overrides a final one.
+fn has_overridden_final(alloc: Global, classes: &Classes, class: u32) -> Result<bool, NoMemory>
+    requires { class < length classes.now }
+    ensures { IfOk result (λ b. b ≡ has_overridden_final classes.now class) }
+{
+    let chain = superclasses(alloc, classes, class)?;
+    if !has_final(classes, &chain) {
+        return Ok(false);
+    }
+    let tables = tables_of(alloc, classes, &chain)?;
+    let count = classes.class(class).methods.as_slice().len();
+    for index in 0..count {
+        if overrides_final(alloc, classes, &chain, &tables, Place { class, index })? {
+            return Ok(true);
+        }
+    }
+    Ok(false)
+}
+
+/// Whether the class stands wrongly in the hierarchy, which it does where it is above itself.
+pub fn is_badly_placed(
+    alloc: Global,
+    classes: &Classes,
+    class: u32,
+    on_cycle: bool,
+) -> Result<bool, NoMemory>
+    requires class { class < length classes.now }
+    requires cycle { on_cycle ≡ is_on_a_cycle classes.now class }
+    ensures { IfOk result (λ b. b ≡ is_badly_placed classes.now class) }
+{
+    if lacks_superclass(classes, class)
+        || on_cycle
+        || has_bad_superclass(classes, class)
+        || has_bad_superinterface(classes, class)
+        || is_bad_interface(classes, class)
+    {
+        return Ok(true);
+    }
+    has_overridden_final(alloc, classes, class)
+}

@@ -1,0 +1,10 @@
+pub mod FileLemmas
+pub mod ReadingLemmas
+pub mod AnyLemmas
+pub mod OrderLemmas
+pub mod NameLemmas
+pub mod OrderedLemmas
+pub mod CodeLemmas
+pub mod ResolvedLemmas
+pub mod RefusalLemmas
+pub mod LinkingLemmas

@@ -1,0 +1,4 @@
+pub mod Linked
+pub mod Linking
+pub mod Refusals
+pub mod Resolving

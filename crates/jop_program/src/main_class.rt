@@ -1,0 +1,107 @@
+//! The class whose main is run.
+ghost use Rattle.std.specs.Prelude.{◌≡◌, ◌++◌, false, IfOk, OnOk};
+ghost use Rattle.std.specs.Option.{option_copied, option_map_or};
+ghost use Rattle.class_pool.specs.Utf8.{unit_bytes, utf8_bytes};
+ghost use Rattle.class_lookup.specs.Parts.{same_text, name_of};
+ghost use Rattle.jop_program.specs.Linked.{main_class, main_name, declares_main};
+
+use class_lookup::parts::{has_flags, has_signature, name_of};
+use class_making::parts::text;
+use class_pool::{ClassFile, Units};
+use jop_base::NoMemory;
+use std::alloc::Global;
+
+/// Puts the bytes of a unit last (4.4.7).
+fn put_unit(out: &mut Vec<u8>, unit: u16) -> Result<(), NoMemory>
+    ensures { OnOk result (out.new.items ≡ out.old.items ++ unit_bytes unit) }
+{
+    if 0 < unit && unit < 128 {
+        out.push(unit as u8)?;
+    } else if unit < 2048 {
+        out.push((192 + unit / 64) as u8)?;
+        out.push((128 + unit % 64) as u8)?;
+    } else {
+        out.push((224 + unit / 4096) as u8)?;
+        out.push((128 + unit / 64 % 64) as u8)?;
+        out.push((128 + unit % 64) as u8)?;
+    }
+    Ok(())
+}
+
+/// The bytes of a text.
+fn bytes_of(alloc: Global, units: &[u16]) -> Result<Vec<u8>, NoMemory>
+    ensures { IfOk result (λ bytes. bytes.items ≡ utf8_bytes units.now) }
+{
+    let mut bytes = Vec::new(alloc);
+    for unit in units {
+        put_unit(&mut bytes, *unit)?;
+    }
+    Ok(bytes)
+}
+
+/// Whether these bytes spell the name of the class.
+fn is_spelled(alloc: Global, class: &ClassFile, main: &[u8]) -> Result<bool, NoMemory>
+    ensures { IfOk result (λ spelled. spelled ≡ same_text (utf8_bytes (name_of class.now)) main.now) }
+{
+    let bytes = bytes_of(alloc, name_of(class))?;
+    Ok(bytes.as_slice() == main)
+}
+
+/// The first of the classes whose name these bytes spell.
+fn main_class<'a>(
+    alloc: Global,
+    files: &'a [ClassFile],
+    main: &[u8],
+) -> Result<Option<&'a ClassFile>, NoMemory>
+    ensures { IfOk result (λ class. option_copied class ≡ main_class files.now main.now) }
+{
+    for class in files {
+        if is_spelled(alloc, class, main)? {
+            return Ok(Some(class));
+        }
+    }
+    Ok(None)
+}
+
+/// Whether the class declares `public static void main(String[])`.
+fn declares_main(alloc: Global, class: &ClassFile) -> Result<bool, NoMemory>
+    ensures { IfOk result (λ declares. declares ≡ declares_main class.now) }
+{
+    let name = text(alloc, "main")?;
+    let descriptor = text(alloc, "([Ljava/lang/String;)V")?;
+    Ok(
+        class.methods.as_slice().iter().any(|method| {
+            has_flags(method.flags, 0x0001)
+                && has_flags(method.flags, 0x0008)
+                && has_signature(class, method, name.as_slice(), descriptor.as_slice())
+        }),
+    )
+}
+
+/// The class whose main is run: its name, and whether it declares main.
+#[derive(Drop)]
+pub(crate) struct MainClass {
+    pub(crate) name: Units,
+    pub(crate) declares_main: bool,
+}
+
+/// The class that these bytes name.
+pub(crate) fn find_main(
+    alloc: Global,
+    files: &[ClassFile],
+    main: &[u8],
+) -> Result<MainClass, NoMemory>
+    ensures name { IfOk result (λ m. m.name ≡ main_name files.now main.now) }
+    ensures declares { IfOk result (λ m. m.declares_main ≡ option_map_or declares_main (main_class files.now main.now) false) }
+{
+    match main_class(alloc, files, main)? {
+        Some(class) => Ok(MainClass {
+            name: Units::new(Vec::from_slice(alloc, name_of(class))?),
+            declares_main: declares_main(alloc, class)?,
+        }),
+        None => Ok(MainClass {
+            name: Units::new(Vec::new(alloc)),
+            declares_main: false,
+        }),
+    }
+}
