@@ -1,0 +1,10 @@
+//! The lines that say how a command ended. No memory is taken.
+#![tactic(auto)]
+
+mod line;
+mod link;
+mod pieces;
+mod put;
+
+pub use line::{Counts, Line, LinkLine, Named, Place, Sizes};
+pub use put::{put_line, say};
