@@ -1,0 +1,9 @@
+//! The lines of a trace: of a boundary from which a step is begun, of a byte that the program writes, and of a cycle. Their
+//! texts stand in `specs/Lines.antt`. No memory is taken.
+#![tactic(auto)]
+
+mod hex;
+mod lines;
+mod pieces;
+
+pub use lines::{AtBoundary, put_boundary, put_cycle, put_write};
