@@ -39,7 +39,7 @@ module _ (well : FittingStatesAreWellFormed) (n : ℕ) (r : Session) (going : Is
 
   -- each state goes on as is known of the run
   pub each_mode : StagesAgree → (g : Setting) (s : State) → IsStateOf g r.methods r.machine s → answer_of s.mode ≡ r.mode
-  each_mode agree g s h = 
+  each_mode agree g s h =
       agree r.machine (record { setting = here.setting; is_setting = here.is_setting; state = here.state; stands = here.stands; going = going_mode here.state.mode r.mode here.mode (goes_so r.mode going); waits = here.waits }) g s h.is_setting h.stands
       ∙ here.mode
 

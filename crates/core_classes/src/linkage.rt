@@ -2,9 +2,8 @@
 //! calls its function.
 ghost use Rattle.core_classes.specs.Linkage.{CoreIsLinkable, CoreStandsFirst, CoreIsSupported, BootIsSupported, BootIsLinkable, BootIsOnNoCycle};
 
-use class_making::laws::{items_are_few, plans_have_entries};
-
 use crate::laws::boot_says_plan;
+use class_making::laws::{items_are_few, plans_have_entries};
 
 /// What the core classes name is resolved, and their places in the hierarchy are right, whichever classes stand behind them, if
 /// each of these has a name.

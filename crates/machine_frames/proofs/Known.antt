@@ -1,5 +1,5 @@
 -- Methods by the place of their record.
-use Rattle.std.proofs.Common.{◌≡◌, ℕ, List, length, Option, Some, sym, ◌∙◌, ap}
+use Rattle.std.proofs.Common.{◌≡◌, ℕ, List, Some, sym, ◌∙◌, ap}
 use Rattle.std.specs.Prelude.{slice_get, IsSomeAnd}
 use Rattle.coded_methods.specs.declared.method.CodedMethod.{CodedMethod}
 use Rattle.coded_methods.specs.Methods.{IsMethod, AreMethods}

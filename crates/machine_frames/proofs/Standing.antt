@@ -1,13 +1,12 @@
 -- What a machine that stands for a state tells of its top frame.
-use Rattle.std.proofs.Common.{◌≡◌, ℕ, ◌+◌, ◌-◌, ◌<◌, ◌≤◌, List, [], ◌∷◌, ◌++◌, length, take, drop, reverse, min, Option, Some, None, refl, sym, ◌∙◌, ap, subst, arith, length-append, length-take, length-drop, append-nil}
-use Rattle.std.specs.Prelude.{sum_by, slice_index, slice_get, IsSomeAnd, Result, Ok, Err}
+use Rattle.std.proofs.Common.{◌≡◌, ℕ, ◌+◌, ◌-◌, ◌<◌, ◌≤◌, List, [], ◌∷◌, ◌++◌, length, take, drop, reverse, min, Some, None, refl, sym, ◌∙◌, ap, subst, arith, length-append, length-take, length-drop}
+use Rattle.std.specs.Prelude.{sum_by, slice_index, IsSomeAnd, Result, Ok, Err}
 use Rattle.std.proofs.lemmas.List.{length-reverse}
 use Rattle.std.proofs.lemmas.List.Sums.{sum_by-cons}
 use Rattle.coded_methods.specs.declared.method.CodedMethod.{CodedMethod}
-use Rattle.coded_methods.specs.Methods.{IsMethod}
 use Rattle.jop_opcodes.specs.declared.instruction.Instr.{Instr}
 use Rattle.jop_opcodes.specs.Instruction.{decoded}
-use Rattle.jop_opcodes.specs.Start.{IsStart, IsByteOf}
+use Rattle.jop_opcodes.specs.Start.{IsByteOf}
 use Rattle.jop_core.specs.declared.places.TheConstants.{STACK, METHOD}
 use Rattle.jop_core.specs.State as machine
 use Rattle.bytecode_model.specs.declared.Ending.{Ending}
@@ -19,7 +18,7 @@ use Rattle.bytecode_model.specs.Sizes.{value_words, body_words, frame_words, fra
 use Rattle.bytecode_model.specs.WellFormed as formed
 use Rattle.image_facts.specs.Places.{Places, object_place}
 use Rattle.image_facts.specs.Says.{IsCode}
-use Rattle.machine_stands.specs.Frames.{FrameWords, AreFrames, stacked, vp_over}
+use Rattle.machine_stands.specs.Frames.{stacked}
 use Rattle.machine_stands.specs.StandsFor.{AreLeft, IsAt, IsAtInstruction, IsAtRaise, stack_words}
 use Rattle.machine_stands.specs.Counted.{FramesHaveRoom, FiveAreSaved}
 use Rattle.machine_frames.specs.Frames.{HasStack}

@@ -1,5 +1,5 @@
 -- From a frame to its caller's.
-use Rattle.std.proofs.Common.{◌≡◌, ℕ, suc, Some, ◌+◌, ◌-◌, ◌<◌, ◌≤◌, List, [], ◌∷◌, ◌++◌, length, get_or, reverse, refl, sym, ◌∙◌, ap, subst, arith, length-append, append_assoc, ⊎_elim}
+use Rattle.std.proofs.Common.{◌≡◌, ℕ, suc, Some, ◌+◌, ◌-◌, ◌<◌, ◌≤◌, List, [], ◌∷◌, ◌++◌, length, get_or, reverse, refl, ◌∙◌, ap, arith, length-append, append_assoc, ⊎_elim}
 use Rattle.std.specs.Prelude.{slice_index}
 use Rattle.std.proofs.lemmas.List.{length-reverse}
 use Rattle.coded_methods.specs.declared.method.CodedMethod.{CodedMethod}
@@ -78,22 +78,24 @@ module _ (laws : FrameLaws) (P : Program) (pl : Places) (m : machine.State) (s :
       let vp : get_or (stack_words m) (saved + 2 - STACK) 0 ≡ vp_over ws = read 2 (omega arith) ∙ ap (λ (zs : List ℕ). get_or zs 2 0) words in
       let method : get_or (stack_words m) (saved + 4 - STACK) 0 ≡ pl.method c.method = read 4 (omega arith) ∙ ap (λ (zs : List ℕ). get_or zs 4 0) words in
       let more_words = some_words laws P pl (object_place P pl s.objects) c cs w ws are in
-      record { next = λ to locals_of method_of. (
-        record {
-          frame = c;
-          callers = cs;
-          words = w;
-          below = ws;
-          above = (f.words.locals ++ (f.words.saved ++ reverse f.words.operands)) ++ f.above;
-          are_frames = are;
-          formed = formed;
-          stack = stack ∙ append_assoc (stacked (w ∷ ws)) (f.words.locals ++ (f.words.saved ++ reverse f.words.operands)) f.above;
-          locals_at = locals_of ∙ vp;
-          method_at = method_of ∙ method;
-          nth = omega (arith, nth);
-        },
-        omega (arith, locals_of, vp, locals, more_words),
-      ) }
+      record {
+        next = λ to locals_of method_of. (
+          record {
+            frame = c;
+            callers = cs;
+            words = w;
+            below = ws;
+            above = (f.words.locals ++ (f.words.saved ++ reverse f.words.operands)) ++ f.above;
+            are_frames = are;
+            formed = formed;
+            stack = stack ∙ append_assoc (stacked (w ∷ ws)) (f.words.locals ++ (f.words.saved ++ reverse f.words.operands)) f.above;
+            locals_at = locals_of ∙ vp;
+            method_at = method_of ∙ method;
+            nth = omega (arith, nth);
+          },
+          omega (arith, locals_of, vp, locals, more_words),
+        );
+      }
 
   pub is_called : STACK < at.locals → (saved : ℕ) → saved ≡ at.locals + length f.words.locals → IsCalled P pl m s at number saved
   is_called more saved is = called f.callers f.below f.are_frames.1 f.formed.1 f.are_frames.0.saved f.stack f.locals_at f.nth more saved is

@@ -1,10 +1,10 @@
 -- The frames of a state, as they are found among the words of the machine's stack.
-use Rattle.std.specs.Prelude.{◌≡◌, ℕ, ◌+◌, ◌<◌, ◌≤◌, List, ◌∷◌, ◌++◌, length, Some}
+use Rattle.std.specs.Prelude.{◌≡◌, ℕ, ◌+◌, ◌<◌, ◌≤◌, List, ◌∷◌, ◌++◌, length}
 use Rattle.coded_methods.specs.declared.method.CodedMethod.{CodedMethod}
 use Rattle.jop_core.specs.declared.places.TheConstants.{STACK}
 use Rattle.jop_core.specs.State as machine
 use Rattle.bytecode_model.specs.State.{Frame, State}
-use Rattle.bytecode_model.specs.Program.{Program, Body, body_of}
+use Rattle.bytecode_model.specs.Program.{Program}
 use Rattle.bytecode_model.specs.WellFormed as formed
 use Rattle.image_facts.specs.Places.{Places, object_place}
 use Rattle.machine_stands.specs.Frames.{FrameWords, AreFrames, stacked, vp_over}

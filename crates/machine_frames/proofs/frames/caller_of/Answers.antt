@@ -1,4 +1,4 @@
-use Rattle.std.proofs.Common.{lit<, ◌≡◌, ℕ, ◌+◌, ◌-◌, ◌∙◌, length, sym, ap, subst, arith}
+use Rattle.std.proofs.Common.{lit<, ◌+◌, arith}
 use Rattle.machine_frames.proofs.Known.{there}
 use Rattle.machine_frames.proofs.Standing.{FrameLaws, has_stack}
 use Rattle.machine_frames.proofs.Walking.{body_at, saved_within, is_called, saved_is, few_words}

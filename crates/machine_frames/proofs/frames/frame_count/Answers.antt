@@ -1,4 +1,4 @@
-use Rattle.std.proofs.Common.{lit<, ◌≡◌, ℕ, ◌+◌, ◌≤◌, length, sym, ap, arith}
+use Rattle.std.proofs.Common.{lit<, arith}
 use Rattle.machine_frames.proofs.Standing.{FrameLaws, has_stack, method_place}
 use Rattle.machine_frames.proofs.Walking.{few, ends, top_at, frames_few, few_words}
 use Rattle.machine_frames.proofs.frames.frame_count.Goals as goal

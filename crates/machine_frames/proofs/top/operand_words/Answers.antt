@@ -1,4 +1,4 @@
-use Rattle.std.proofs.Common.{lit<, ◌≡◌, ℕ, ◌-◌, ◌∙◌, sym, ap, arith}
+use Rattle.std.proofs.Common.{lit<, ◌≡◌, ◌-◌, ◌∙◌, arith}
 use Rattle.std.specs.Prelude.{sum_by}
 use Rattle.bytecode_model.specs.Sizes.{value_words}
 use Rattle.machine_frames.proofs.Known.{of_method, there}

@@ -1,7 +1,5 @@
-use Rattle.std.proofs.Common.{lit<, ◌≡◌, ℕ, ◌-◌, ◌∙◌, length, sym, ap, arith, Some, None}
+use Rattle.std.proofs.Common.{lit<, ◌≡◌, ℕ, ◌∙◌, length, sym, ap, arith, Some, None}
 use Rattle.std.specs.declared.option.Option.{Option}
-use Rattle.coded_methods.specs.declared.method.CodedMethod.{CodedMethod}
-use Rattle.jop_opcodes.specs.Start.{IsByteOf}
 use Rattle.machine_frames.proofs.Known.{of_method, there}
 use Rattle.machine_frames.proofs.Standing.{FrameLaws, method_place, code_is, pc_raising, byte_at, of_top}
 use Rattle.machine_frames.proofs.top.raising_pc.Goals as goal

@@ -1,6 +1,6 @@
-use Rattle.std.proofs.Common.{lit<, ◌≡◌, ℕ, ◌∙◌, sym}
+use Rattle.std.proofs.Common.{lit<, ◌≡◌, ◌∙◌}
 use Rattle.machine_frames.proofs.Known.{lies, there}
-use Rattle.machine_frames.proofs.Standing.{FrameLaws, method_place, method_is, of_top}
+use Rattle.machine_frames.proofs.Standing.{FrameLaws, method_place, of_top}
 use Rattle.machine_frames.proofs.top.top_method.Goals as goal
 
 pub on_chip-requires : goal.on_chip-requires
