@@ -1,0 +1,23 @@
+-- Lists.
+use Rattle.std.proofs.Common.{◌≡◌, ℕ, ◌+◌, ◌<◌, List, [], ◌∷◌, ◌++◌, length, map, reverse, drop, get_or, drop-cons, add-one, append_assoc, refl, sym, ap, ◌∙◌}
+use Rattle.std.proofs.lemmas.List.{map-append}
+use Rattle.std.proofs.lemmas.Grind.{reverse_onto}
+
+pub reverse_cons : {A : Type 0} (x : A) (xs : List A) → reverse (x ∷ xs) ≡ reverse xs ++ x ∷ []
+reverse_cons x xs = reverse_onto xs x []
+
+pub map_reverse : {A B : Type 0} (f : A → B) (xs : List A) → map f (reverse xs) ≡ reverse (map f xs)
+map_reverse f [] = refl
+map_reverse f (x ∷ xs) = ap (map f) (reverse_cons x xs) ∙ (map-append f (reverse xs) (x ∷ []) ∙ (ap (λ l. l ++ f x ∷ []) (map_reverse f xs) ∙ sym (reverse_cons (f x) (map f xs))))
+
+-- the same seen in two ways, from the end
+pub reversed_same : {A B C : Type 0} (f : A → C) (g : B → C) (xs : List A) (ys : List B) → map f xs ≡ map g ys → map f (reverse xs) ≡ map g (reverse ys)
+reversed_same f g xs ys e = map_reverse f xs ∙ (ap reverse e ∙ sym (map_reverse g ys))
+
+-- one more is seen as the next
+pub pushed : {A B C : Type 0} (f : A → C) (g : B → C) (xs : List A) (x : A) (ys : List B) (i : ℕ) (d : B) → i < length ys → f x ≡ g (get_or ys i d)
+    → map f (xs ++ x ∷ []) ++ map g (drop (i + 1) ys) ≡ map f xs ++ map g (drop i ys)
+pushed f g xs x ys i d h e =
+    ap (λ l. l ++ map g (drop (i + 1) ys)) (map-append f xs (x ∷ []))
+    ∙ (append_assoc (map f xs) (f x ∷ []) (map g (drop (i + 1) ys))
+    ∙ ap (λ l. map f xs ++ l) (ap (λ y. y ∷ map g (drop (i + 1) ys)) e ∙ sym (ap (map g) (drop-cons ys i d h ∙ ap (λ n. get_or ys i d ∷ drop n ys) (sym (add-one i))))))

@@ -1,0 +1,71 @@
+use Rattle.std.proofs.Common.{◌≡◌, sym, ap, ◌∙◌, subst, Some}
+use Rattle.std.specs.Prelude.{IfSome}
+use Rattle.std.specs.Option.{option_map}
+use Rattle.bytecode_typing.specs.Walk.{incoming, merges}
+use Rattle.program_tables.specs.Meanings.{operand_seen}
+use Rattle.program_tables.specs.Resolved.{resolved}
+use Rattle.verifier_types.specs.Frame.{frame_seen, frame_at_seen}
+use Rattle.bytecode_verifier.specs.Maps.{frames_at}
+use Rattle.bytecode_verifier.specs.Place.{IsNamedAs, behind}
+use Rattle.bytecode_verifier.specs.Settled.{verdict_seen}
+use Rattle.bytecode_verifier.specs.declared.settle.Verdict.TheVariants.{Passes}
+use Rattle.bytecode_verifier.proofs.PlaceLemmas.{verdict_merge, verdict_row}
+use Rattle.bytecode_verifier.proofs.place.verdict_at.Goals as goal
+
+pub returns-then-not-merged : goal.returns-then-not-merged
+returns-then-not-merged c = λ m b maps h.
+    let x = c.args.checking.now in
+    let i = c.in-Some-instruction.x in
+    let f = frame_seen c.in-Some.found.0 in
+    let falling = option_map frame_seen c.args.falling in
+    let map = frame_at_seen c.frame_at-map.result in
+    let at : map ≡ frames_at x.maps.now c.args.place = c.frame_at-map.ensures ∙ ap (frames_at x.maps.now) c.from.ensures in
+    let here : Some f ≡ incoming map falling = ap (option_map (λ y. frame_seen y.0)) (sym c.in-Some.is) ∙ c.in_ok-found.ensures.frame in
+    let joins = subst (λ o. IfSome o (λ y. y.1 ≡ merges (resolved x.around.classes.now) map falling)) c.in-Some.is c.in_ok-found.ensures.merged in
+    let stays = sym c.if-not-stays_within.false ∙ c.stays_within.ensures (operand_seen i.operand) in
+    verdict_merge x c.args.number c.args.place m b maps falling f i map h at here c.in-Some-instruction.ensures.instr c.in-Some-instruction.ensures.operand stays (sym c.if-not-merged.true ∙ joins)
+
+pub returns-in-Breaks : goal.returns-in-Breaks
+returns-in-Breaks c = λ m b maps h.
+    let x = c.args.checking.now in
+    let i = c.in-Some-instruction.x in
+    let f = frame_seen c.in-Some.found.0 in
+    let falling = option_map frame_seen c.args.falling in
+    let map = frame_at_seen c.frame_at-map.result in
+    let at : map ≡ frames_at x.maps.now c.args.place = c.frame_at-map.ensures ∙ ap (frames_at x.maps.now) c.from.ensures in
+    let here : Some f ≡ incoming map falling = ap (option_map (λ y. frame_seen y.0)) (sym c.in-Some.is) ∙ c.in_ok-found.ensures.frame in
+    let joins = subst (λ o. IfSome o (λ y. y.1 ≡ merges (resolved x.around.classes.now) map falling)) c.in-Some.is c.in_ok-found.ensures.merged in
+    let stays = sym c.if-not-stays_within.false ∙ c.stays_within.ensures (operand_seen i.operand) in
+    let named : IsNamedAs x c.args.number c.args.place i = record { operand = sym c.in-Some-instruction.ensures.operand; guarded = sym c.in-Some-instruction.ensures.guarded } in
+    verdict_row x c.args.number c.args.place m b maps falling f i map _ h at here c.in-Some-instruction.ensures.instr c.in-Some-instruction.ensures.operand stays (sym c.if-not-merged.false ∙ joins)
+    (ap (λ v. behind (verdict_seen v f (frame_seen c.settle_row.new.frame))) (sym c.in-Breaks.is) ∙ ap behind (c.in_ok-rule.ensures c.args.number m b maps h named))
+
+pub returns-in-Passes-true : goal.returns-in-Passes-true
+returns-in-Passes-true c = λ m b maps h.
+    let x = c.args.checking.now in
+    let i = c.in-Some-instruction.x in
+    let f = frame_seen c.in-Some.found.0 in
+    let falling = option_map frame_seen c.args.falling in
+    let map = frame_at_seen c.frame_at-map.result in
+    let at : map ≡ frames_at x.maps.now c.args.place = c.frame_at-map.ensures ∙ ap (frames_at x.maps.now) c.from.ensures in
+    let here : Some f ≡ incoming map falling = ap (option_map (λ y. frame_seen y.0)) (sym c.in-Some.is) ∙ c.in_ok-found.ensures.frame in
+    let joins = subst (λ o. IfSome o (λ y. y.1 ≡ merges (resolved x.around.classes.now) map falling)) c.in-Some.is c.in_ok-found.ensures.merged in
+    let stays = sym c.if-not-stays_within.false ∙ c.stays_within.ensures (operand_seen i.operand) in
+    let named : IsNamedAs x c.args.number c.args.place i = record { operand = sym c.in-Some-instruction.ensures.operand; guarded = sym c.in-Some-instruction.ensures.guarded } in
+    verdict_row x c.args.number c.args.place m b maps falling f i map _ h at here c.in-Some-instruction.ensures.instr c.in-Some-instruction.ensures.operand stays (sym c.if-not-merged.false ∙ joins)
+    (ap (λ v. behind (verdict_seen v f (frame_seen c.settle_row.new.frame))) (sym (c.in-Passes-true.is ∙ ap Passes c.in-Passes-true.field-0-test)) ∙ ap behind (c.in_ok-rule.ensures c.args.number m b maps h named))
+
+pub returns-in-Passes-false : goal.returns-in-Passes-false
+returns-in-Passes-false c = λ m b maps h.
+    let x = c.args.checking.now in
+    let i = c.in-Some-instruction.x in
+    let f = frame_seen c.in-Some.found.0 in
+    let falling = option_map frame_seen c.args.falling in
+    let map = frame_at_seen c.frame_at-map.result in
+    let at : map ≡ frames_at x.maps.now c.args.place = c.frame_at-map.ensures ∙ ap (frames_at x.maps.now) c.from.ensures in
+    let here : Some f ≡ incoming map falling = ap (option_map (λ y. frame_seen y.0)) (sym c.in-Some.is) ∙ c.in_ok-found.ensures.frame in
+    let joins = subst (λ o. IfSome o (λ y. y.1 ≡ merges (resolved x.around.classes.now) map falling)) c.in-Some.is c.in_ok-found.ensures.merged in
+    let stays = sym c.if-not-stays_within.false ∙ c.stays_within.ensures (operand_seen i.operand) in
+    let named : IsNamedAs x c.args.number c.args.place i = record { operand = sym c.in-Some-instruction.ensures.operand; guarded = sym c.in-Some-instruction.ensures.guarded } in
+    verdict_row x c.args.number c.args.place m b maps falling f i map _ h at here c.in-Some-instruction.ensures.instr c.in-Some-instruction.ensures.operand stays (sym c.if-not-merged.false ∙ joins)
+    (ap (λ v. behind (verdict_seen v f (frame_seen c.settle_row.new.frame))) (sym (c.in-Passes-false.is ∙ ap Passes c.in-Passes-false.field-0-test)) ∙ ap behind (c.in_ok-rule.ensures c.args.number m b maps h named))

@@ -1,0 +1,16 @@
+pub mod Around
+pub mod Arguments
+pub mod Calls
+pub mod Maps
+pub mod Settled
+pub mod Handled
+pub mod Switched
+pub mod Plain
+pub mod Named
+pub mod Failure
+pub mod Verdict
+pub mod Family
+pub mod Checking
+pub mod Place
+pub mod Methods
+pub mod CoreLaws

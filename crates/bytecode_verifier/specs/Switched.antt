@@ -1,0 +1,13 @@
+-- A case of a switch: JVM Specification SE 8, 4.10.1.9 (tableswitch and lookupswitch).
+use Rattle.std.specs.Prelude.{ℕ, Bool, pos, ◌+ℤ◌}
+use Rattle.jop_opcodes.specs.declared.instruction.Case.{Case}
+use Rattle.bytecode_model.specs.Lists.{natural}
+use Rattle.bytecode_model.specs.Program.{Program}
+use Rattle.bytecode_typing.specs.Types.{TypeFrame}
+use Rattle.bytecode_typing.specs.Assignable.{flows_to}
+use Rattle.bytecode_verifier.specs.declared.maps.MapFrames.{MapFrames}
+use Rattle.bytecode_verifier.specs.Maps.{frame_over}
+
+-- a frame stands where it leads from the place, and takes this one
+abbrev pub is_case_taken : Program → MapFrames → (place : ℕ) → TypeFrame → Case → Bool
+is_case_taken P maps place f c = flows_to P f (frame_over maps (natural (pos place +ℤ c.offset)))

@@ -1,0 +1,262 @@
+//! Calls (JVM Specification SE 8, 4.10.1.9).
+ghost use Rattle.std.specs.Prelude.{◌≡◌, ◌++◌, ◌&&◌, ◌||◌, ◌==◌, not, ℕ, List, map, reverse, true, Some, None, IfOk, OnOk, slice_get};
+ghost use Rattle.std.specs.Option.{option_map};
+ghost use Rattle.std.specs.List.{list_all};
+ghost use Rattle.bytecode_model.specs.Program as model;
+ghost use Rattle.bytecode_model.specs.Rows as rows;
+ghost use Rattle.bytecode_typing.specs.Types as typing;
+ghost use Rattle.bytecode_typing.specs.Types.{is_initialized, result_types};
+ghost use Rattle.bytecode_typing.specs.Checks as checks;
+ghost use Rattle.bytecode_typing.specs.Rules.{Leaves};
+ghost use Rattle.program_tables.specs.Meanings.{declared_seen, HasShape};
+ghost use Rattle.verifier_types.specs.Frame.{frame_seen, operands_seen};
+ghost use Rattle.verifier_types.specs.Seen.{type_seen, moved_seen};
+ghost use Rattle.verifier_types.specs.Site.{Site, Checks, checked_seen};
+ghost use Rattle.bytecode_verifier.specs.Around.{StandsAt};
+ghost use Rattle.bytecode_verifier.specs.Arguments.{arguments_found};
+ghost use Rattle.bytecode_verifier.specs.Calls.{init_left, super_left, virtual_left};
+
+use crate::around::Around;
+use crate::seen::{is_own_class, is_seen_as, is_seen_for, may_access, may_begin, seen, type_of};
+use jop_base::NoMemory;
+use program_tables::{Declared, MethodShape};
+use verifier_types::laws::what_is_taken_is_found;
+use verifier_types::{Checked, Left, Moved, Operands, Rule, TypeFrame, VarType, substitute};
+
+/// Whether both hold.
+pub fn both(first: bool, second: bool) -> bool
+    ensures { result ≡ (first && second) }
+{
+    first && second
+}
+
+/// Takes the arguments of a call off, the last of which is on top, and says whether all are initialised. Nothing where one of them
+/// isn't there.
+pub fn pop_arguments(
+    around: &Around<'_>,
+    operands: &mut Operands,
+    parameters: &[Declared],
+) -> Option<bool>
+    ensures { (s : Site) → StandsAt around.now s → option_map (λ all. (all, operands_seen operands.new)) result ≡ arguments_found s (reverse (map declared_seen parameters.now)) (operands_seen operands.old) }
+{
+    let mut all = true;
+    for i in 0..parameters.len() {
+        let declared = parameters[parameters.len() - 1 - i];
+        let item = match operands.pop() {
+            Some(item) => item,
+            None => return None,
+        };
+        if !is_seen_for(around, declared, item) {
+            return None;
+        }
+        all = both(all, item.is_initialized());
+    }
+    Some(all)
+}
+
+/// Puts what a call gives on the stack.
+fn push_result(operands: &mut Operands, given: Option<Declared>) -> Result<(), NoMemory>
+    ensures { OnOk result (operands_seen operands.new ≡ result_types (option_map declared_seen given) ++ operands_seen operands.old) }
+{
+    match given {
+        Some(declared) => operands.push(type_of(declared)),
+        None => Ok(()),
+    }
+}
+
+/// `invokestatic` of this method.
+pub fn check_static(
+    around: &Around<'_>,
+    frame: &mut TypeFrame,
+    callee: &MethodShape,
+) -> Result<Checked, NoMemory>
+    ensures { IfOk result (λ c. (s : Site) (number : ℕ) (k : model.Method) → StandsAt around.now s → slice_get s.program.methods number ≡ Some k → HasShape callee.now k → Checks s (rows.CallStatic number) frame.old c frame.new) }
+{
+    what_is_taken_is_found();
+    let all = match pop_arguments(around, &mut frame.operands, callee.parameters.as_slice()) {
+        Some(all) => all,
+        None => return Ok(Checked::Fails(Rule::Stack)),
+    };
+    push_result(&mut frame.operands, callee.result)?;
+    Ok(Checked::Leaves(Left {
+        falls: true,
+        access: true,
+        init: all,
+        target: true,
+    }))
+}
+
+/// A call of an `<init>` once its arguments are taken.
+fn check_begin(around: &Around<'_>, frame: &mut TypeFrame, named: u32, all: bool) -> Checked
+    ensures { (s : Site) (first : List typing.VarType) → StandsAt around.now s → checked_seen result (frame_seen frame.new) ≡ init_left s (record (frame_seen frame.old) { stack = first }) named all (operands_seen frame.old.operands) }
+{
+    let object = match frame.operands.pop() {
+        Some(item) => item,
+        None => return Checked::Fails(Rule::Stack),
+    };
+    if !object.is_reference() {
+        return Checked::Fails(Rule::Stack);
+    }
+    let begun = seen(around, object);
+    substitute(&mut frame.locals, object, begun);
+    frame.operands.substitute(object, begun);
+    frame.flag = keeps(frame.flag, object);
+    Checked::Leaves(Left {
+        falls: true,
+        access: true,
+        init: both(all, may_begin(around, named, object)),
+        target: true,
+    })
+}
+
+/// Whether `this` still isn't initialised once this is.
+fn keeps(flag: bool, begun: VarType) -> bool
+    ensures { result ≡ (flag && not (typing.is_this (type_seen begun))) }
+{
+    flag && !begun.is_this()
+}
+
+/// A call of another method of the current class or of a superclass, once its arguments are taken.
+fn check_super(
+    around: &Around<'_>,
+    guarded: bool,
+    frame: &mut TypeFrame,
+    named: u32,
+    all: bool,
+    given: Option<Declared>,
+) -> Result<Checked, NoMemory>
+    ensures { IfOk result (λ c. (s : Site) (first : List typing.VarType) (k : model.Method) → StandsAt around.now s → s.program.guarded s.number s.place ≡ guarded → k.result ≡ option_map declared_seen given → checked_seen c (frame_seen frame.new) ≡ super_left s (record (frame_seen frame.old) { stack = first }) named all k (operands_seen frame.old.operands)) }
+{
+    let object = match frame.operands.pop() {
+        Some(item) => item,
+        None => return Ok(Checked::Fails(Rule::Stack)),
+    };
+    if !both(
+        is_own_class(around, named),
+        is_seen_as(around, around.owner, object),
+    ) {
+        return Ok(Checked::Fails(Rule::Stack));
+    }
+    push_result(&mut frame.operands, given)?;
+    Ok(Checked::Leaves(Left {
+        falls: true,
+        access: may_access(around, guarded, object),
+        init: both(object.is_initialized(), all),
+        target: true,
+    }))
+}
+
+/// `invokespecial` of this method, named through the class `named`.
+pub fn check_special(
+    around: &Around<'_>,
+    guarded: bool,
+    frame: &mut TypeFrame,
+    named: u32,
+    callee: &MethodShape,
+) -> Result<Checked, NoMemory>
+    ensures { IfOk result (λ c. (s : Site) (number : ℕ) (k : model.Method) → StandsAt around.now s → s.program.guarded s.number s.place ≡ guarded → slice_get s.program.methods number ≡ Some k → HasShape callee.now k → Checks s (rows.CallSpecial named number) frame.old c frame.new) }
+{
+    what_is_taken_is_found();
+    let all = match pop_arguments(around, &mut frame.operands, callee.parameters.as_slice()) {
+        Some(all) => all,
+        None => return Ok(Checked::Fails(Rule::Stack)),
+    };
+    if callee.is_init {
+        return Ok(check_begin(around, frame, named, all));
+    }
+    check_super(around, guarded, frame, named, all, callee.result)
+}
+
+/// A call of a method that the receiver's class selects, once its arguments are taken.
+fn check_receiver(
+    around: &Around<'_>,
+    guarded: bool,
+    frame: &mut TypeFrame,
+    named: u32,
+    all: bool,
+    given: Option<Declared>,
+) -> Result<Checked, NoMemory>
+    ensures { IfOk result (λ c. (s : Site) (first : List typing.VarType) (k : model.Method) → StandsAt around.now s → s.program.guarded s.number s.place ≡ guarded → k.result ≡ option_map declared_seen given → checked_seen c (frame_seen frame.new) ≡ virtual_left s (record (frame_seen frame.old) { stack = first }) named all k (operands_seen frame.old.operands)) }
+{
+    let object = match frame.operands.pop() {
+        Some(item) => item,
+        None => return Ok(Checked::Fails(Rule::Stack)),
+    };
+    if !is_seen_as(around, named, object) {
+        return Ok(Checked::Fails(Rule::Stack));
+    }
+    push_result(&mut frame.operands, given)?;
+    Ok(Checked::Leaves(Left {
+        falls: true,
+        access: may_access(around, guarded, object),
+        init: both(object.is_initialized(), all),
+        target: true,
+    }))
+}
+
+/// `invokevirtual` and `invokeinterface` of this method, named through the class `named`.
+pub fn check_virtual(
+    around: &Around<'_>,
+    guarded: bool,
+    frame: &mut TypeFrame,
+    named: u32,
+    callee: &MethodShape,
+) -> Result<Checked, NoMemory>
+    ensures class { IfOk result (λ c. (s : Site) (number : ℕ) (k : model.Method) → StandsAt around.now s → s.program.guarded s.number s.place ≡ guarded → slice_get s.program.methods number ≡ Some k → HasShape callee.now k → Checks s (rows.CallVirtual named number) frame.old c frame.new) }
+    ensures interface { IfOk result (λ c. (s : Site) (number : ℕ) (k : model.Method) → StandsAt around.now s → s.program.guarded s.number s.place ≡ guarded → slice_get s.program.methods number ≡ Some k → HasShape callee.now k → Checks s (rows.CallInterface named number) frame.old c frame.new) }
+{
+    what_is_taken_is_found();
+    let all = match pop_arguments(around, &mut frame.operands, callee.parameters.as_slice()) {
+        Some(all) => all,
+        None => return Ok(Checked::Fails(Rule::Stack)),
+    };
+    check_receiver(around, guarded, frame, named, all, callee.result)
+}
+
+/// Control doesn't go on; whether the rule on initialisation holds.
+fn returns(init: bool) -> Checked
+    ensures { (f : typing.TypeFrame) → checked_seen result f ≡ Leaves None true init true }
+{
+    Checked::Leaves(Left {
+        falls: false,
+        access: true,
+        init,
+        target: true,
+    })
+}
+
+/// A return of a value from a method with this result.
+fn check_value(
+    around: &Around<'_>,
+    frame: &mut TypeFrame,
+    declared: Declared,
+    sort: Moved,
+) -> Checked
+    ensures { (s : Site) → StandsAt around.now s → checked_seen result (frame_seen frame.new) ≡ checks.return_check s.program s.number s.method s.body s.maps s.place (frame_seen frame.old) (Some (declared_seen declared)) (Some (moved_seen sort)) }
+{
+    let item = match frame.operands.pop() {
+        Some(item) => item,
+        None => return Checked::Fails(Rule::Stack),
+    };
+    if !both(item.is_moved(sort), is_seen_for(around, declared, item)) {
+        return Checked::Fails(Rule::Stack);
+    }
+    returns(both(item.is_initialized(), !frame.flag))
+}
+
+/// A return of a method with this result.
+pub fn check_return(
+    around: &Around<'_>,
+    frame: &mut TypeFrame,
+    declared: Option<Declared>,
+    given: Option<Moved>,
+) -> Checked
+    ensures { (s : Site) → StandsAt around.now s → s.method.result ≡ option_map declared_seen declared → Checks s (rows.Return (option_map moved_seen given)) frame.old result frame.new }
+{
+    match (declared, given) {
+        (None, None) => returns(!frame.flag),
+        (Some(declared), Some(sort)) => check_value(around, frame, declared, sort),
+        (None, Some(_)) => Checked::Fails(Rule::Stack),
+        (Some(_), None) => Checked::Fails(Rule::Stack),
+    }
+}

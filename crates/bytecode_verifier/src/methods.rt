@@ -1,0 +1,350 @@
+//! The rules of a method in their order, and what fails first in a program (JVM Specification SE 8, 4.7.3, 4.7.4, 4.9.1 and 4.10.1).
+ghost use Rattle.std.specs.Prelude.{◌≡◌, ◌<◌, ◌≤◌, ◌==◌, ◌&&◌, ◌||◌, ℕ, List, Option, Some, None, length, map, find, not, is_ok, IfOk, slice_get};
+ghost use Rattle.std.specs.Option.{option_map};
+ghost use Rattle.std.specs.List.{filter, range_with_len};
+ghost use Rattle.jop_opcodes.specs.Instruction.{decoded};
+ghost use Rattle.jop_opcodes.specs.declared.instruction.Instr as instr;
+ghost use Rattle.jop_opcodes.specs.Start.{starts_of, first_bad};
+ghost use Rattle.class_pool.specs.declared.class.ClassFile.{ClassFile};
+ghost use Rattle.bytecode_model.specs.Program as model;
+ghost use Rattle.bytecode_typing.specs.Types as typing;
+ghost use Rattle.bytecode_typing.specs.Checks.{class_made_by, made_at};
+ghost use Rattle.bytecode_typing.specs.Walk as walk;
+ghost use Rattle.frame_types.specs.Types.{is_start};
+ghost use Rattle.program_tables.specs.Meanings.{handler_seen, operand_seen};
+ghost use Rattle.program_tables.specs.Numbers.{methods_by_number};
+ghost use Rattle.program_tables.specs.Resolved.{handler_of, resolved};
+ghost use Rattle.verifier_types.specs.Frame.{frame_seen};
+ghost use Rattle.bytecode_verifier.specs.Around.{made_in};
+ghost use Rattle.bytecode_model.specs.Lists.{onto};
+ghost use Rattle.bytecode_verifier.specs.Family.{named_row};
+ghost use Rattle.bytecode_verifier.specs.Failure.{is_bad_entry, lesser, least, types_failure, code_failure, method_failure, walk_failure};
+ghost use Rattle.bytecode_verifier.specs.Maps.{frames_at};
+ghost use Rattle.bytecode_verifier.specs.Verdict.{IsFirstFailure};
+ghost use Rattle.bytecode_verifier.specs.Methods.{IsCodeOf, method_of, body_of, found_in, AreMaps, failure_seen, walk_failed};
+ghost use Rattle.bytecode_verifier.specs.Place.{HasCode, IsMethodOf};
+
+use crate::around::Around;
+use crate::family::{Family, Named, family_of};
+use crate::fault::MethodRule;
+use crate::first::first_frame;
+use crate::maps::MapFrames;
+use crate::members::class_meant;
+use crate::names::map_frames;
+use crate::place::{Step, verdict_at};
+use crate::rows::Checking;
+use class_pool::Code;
+use class_rules::laws::methods_have_code;
+use frame_types::laws::frames_stand_at_instructions;
+use frame_types::{MapFault, frames};
+use jop_base::NoMemory;
+use jop_opcodes::laws::{instructions_end_within, starts_follow_one_another};
+use jop_opcodes::{decode, starts};
+use program_tables::laws::{members_are_there, methods_stand_by_number};
+use program_tables::{Handler, Operand};
+use resolved_program::Program;
+use std::alloc::Global;
+use verifier_types::{Rule, TypeFrame};
+
+/// A place, and the rule that fails there.
+pub type Failure = (u32, MethodRule);
+
+/// The first of the places at which instructions begin from which the code isn't a whole instruction.
+fn first_bad(code: &[u8], starts: &[u32]) -> Option<u32>
+    requires starts { starts.now ≡ starts_of code.now }
+    requires small { length code.now ≤ 33554432 }
+    ensures { result ≡ first_bad code.now }
+{
+    starts_follow_one_another();
+    for place in starts {
+        if decode(code, *place).is_err() {
+            return Some(*place);
+        }
+    }
+    None
+}
+
+/// Whether an instruction begins at the place.
+fn is_start(code: &[u8], starts: &[u32], place: u16) -> bool
+    requires { starts.now ≡ starts_of code.now }
+    ensures { result ≡ is_start code.now place }
+{
+    starts_follow_one_another();
+    starts.binary_search(&u32::from(place)).is_ok()
+}
+
+/// Whether an entry of an exception table is out of its form: its range is empty, or it doesn't begin, end and lead where instructions
+/// begin; it may end with the code.
+fn is_bad_entry(code: &[u8], starts: &[u32], entry: (u16, u16, u16, u16)) -> bool
+    requires { starts.now ≡ starts_of code.now }
+    ensures { result ≡ is_bad_entry code.now entry }
+{
+    let (start, end, handler, _) = entry;
+    if start >= end || !is_start(code, starts, start) || !is_start(code, starts, handler) {
+        return true;
+    }
+    !is_start(code, starts, end) && usize::from(end) != code.len()
+}
+
+/// The least start of the entries that are out of their form.
+fn least_bad_start(code: &[u8], starts: &[u32], entries: &[(u16, u16, u16, u16)]) -> Option<u16>
+    requires { starts.now ≡ starts_of code.now }
+    ensures { result ≡ least (map (λ h. h.0) (filter (is_bad_entry code.now) entries.now)) }
+{
+    let mut found = None;
+    for entry in entries {
+        if is_bad_entry(code, starts, *entry) {
+            found = lesser(found, entry.0);
+        }
+    }
+    found
+}
+
+/// The lesser of a number, if there is one, and another.
+fn lesser(found: Option<u16>, other: u16) -> Option<u16>
+    ensures { result ≡ lesser found (Some other) }
+{
+    match found {
+        Some(number) if number < other => Some(number),
+        _ => Some(other),
+    }
+}
+
+/// The class that an instruction of the family makes an object of, if it does.
+fn made_by(named: Named, operand: Operand) -> Option<u32>
+    ensures { (code : List ℕ) (i : instr.Instr) → result ≡ onto (named_row named code i (operand_seen operand)) class_made_by }
+{
+    match named {
+        Named::New => class_meant(operand),
+        Named::Constant => None,
+        Named::LongConstant => None,
+        Named::NewArray => None,
+        Named::Cast => None,
+        Named::Test => None,
+    }
+}
+
+/// The class that the `new` at a place of a method names.
+fn made_at(program: &Program, method: u32, place: u32) -> Option<u32>
+    requires { method < length (methods_by_number program.now) }
+    ensures { result ≡ made_at (resolved program.now) method place }
+{
+    let x = program.instruction(method, place)?;
+    match family_of(x.instr.op) {
+        Family::Named(named) => made_by(named, x.operand),
+        Family::Unknown => None,
+        Family::Value(_) => None,
+        Family::Array(_) => None,
+        Family::Field(_) => None,
+        Family::Call(_) => None,
+        Family::Leads(_) => None,
+    }
+}
+
+/// The same by places.
+fn made_classes(
+    alloc: Global,
+    program: &Program,
+    method: u32,
+    count: u32,
+) -> Result<Vec<Option<u32>>, NoMemory>
+    requires { method < length (methods_by_number program.now) }
+    ensures { IfOk result (λ made. made.items ≡ map (made_at (resolved program.now) method) (range_with_len 0 count)) }
+{
+    let mut made = Vec::new(alloc);
+    for place in 0..count {
+        made.push(made_at(program, method, place))?;
+    }
+    Ok(made)
+}
+
+/// The exception table of a method of the class.
+fn handlers_of(
+    alloc: Global,
+    program: &Program,
+    class: u32,
+    entries: &[(u16, u16, u16, u16)],
+) -> Result<Vec<Handler>, NoMemory>
+    requires { class < length program.now }
+    ensures { IfOk result (λ handlers. (c : ClassFile) → slice_get program.now class ≡ Some c → map handler_seen handlers.items ≡ map (handler_of program.now c) entries.now) }
+{
+    let mut handlers = Vec::new(alloc);
+    for entry in entries {
+        handlers.push(program.handler(class, *entry))?;
+    }
+    Ok(handlers)
+}
+
+/// The first place of a method at which a rule of the walk fails, and the rule.
+fn walk_places(
+    alloc: Global,
+    checking: &Checking<'_>,
+    number: u32,
+    starts: &[u32],
+    first: TypeFrame,
+) -> Result<Option<(u32, Rule)>, NoMemory>
+    requires method { number < length (methods_by_number checking.now.program.now) }
+    requires code { HasCode checking.now number }
+    requires small { length checking.now.code.now ≤ 33554432 }
+    ensures { IfOk result (λ failed. (m : model.Method) (b : model.Body) (maps : ℕ → Option typing.TypeFrame) → IsMethodOf checking.now number m b maps → option_map walk_failed failed ≡ walk_failure (walk.walk (resolved checking.now.program.now) number m b maps starts.now (Some (frame_seen first)))) }
+{
+    let mut falling = Some(first);
+    for place in starts {
+        match verdict_at(alloc, checking, number, *place, falling)? {
+            Step::Breaks(rule) => return Ok(Some((*place, rule))),
+            Step::Goes(frame) => falling = frame,
+        }
+    }
+    Ok(None)
+}
+
+/// The walk over the method of this number, which has this code and these frames.
+fn walk_method(
+    alloc: Global,
+    program: &Program,
+    number: u32,
+    code: &Code,
+    first: TypeFrame,
+    maps: &MapFrames,
+) -> Result<Option<Failure>, NoMemory>
+    requires method { number < length (methods_by_number program.now) }
+    requires code { IsCodeOf program.now number code.now }
+    requires small { length code.now.code ≤ 33554432 }
+    ensures { IfOk result (λ failure. (h : IsCodeOf program.now number code.now) (given : ℕ → Option typing.TypeFrame) → walk.first_types (method_of program.now number code.now h) (body_of program.now number code.now h) ≡ Some (frame_seen first) → ((place : ℕ) → given place ≡ frames_at maps.now place) → option_map failure_seen failure ≡ walk_failure (walk.walked (resolved program.now) number (method_of program.now number code.now h) (body_of program.now number code.now h) given)) }
+{
+    members_are_there();
+    methods_stand_by_number();
+    instructions_end_within();
+    let bytes = code.code.as_slice();
+    let class = program.method(number).class;
+    let starts = starts(alloc, bytes)?;
+    let made = made_classes(alloc, program, number, bytes.len() as u32)?;
+    let handlers = handlers_of(alloc, program, class, code.handlers.as_slice())?;
+    let checking = Checking {
+        program,
+        around: Around {
+            classes: program.hierarchy(),
+            owner: class,
+            made: &made,
+        },
+        maps,
+        code: bytes,
+        handlers: &handlers,
+        max_locals: code.max_locals,
+        max_stack: code.max_stack,
+        result: program.shape(number).result,
+    };
+    match walk_places(alloc, &checking, number, &starts, first)? {
+        Some((place, rule)) => Ok(Some((place, MethodRule::Walk(rule)))),
+        None => Ok(None),
+    }
+}
+
+/// The frames of the StackMapTable of the method of this number, which has so many bytes of code.
+fn maps_of(
+    alloc: Global,
+    program: &Program,
+    number: u32,
+    code: &Code,
+) -> Result<MapFrames, MapFault>
+    requires method { number < length (methods_by_number program.now) }
+    requires code { IsCodeOf program.now number code.now }
+    requires small { length code.now.code ≤ 33554432 }
+    ensures { (h : IsCodeOf program.now number code.now) → AreMaps program.now (found_in program.now number code.now h) result }
+{
+    members_are_there();
+    frames_stand_at_instructions();
+    starts_follow_one_another();
+    let place = program.method(number);
+    let Ok(index) = u32::try_from(place.index) else {
+        return Err(MapFault::NoMemory);
+    };
+    let found = frames(alloc, program.class(place.class), index)?;
+    let classes = program.hierarchy().classes();
+    let maps = map_frames(
+        alloc,
+        classes,
+        found.at.as_slice(),
+        code.code.as_slice().len() as u32,
+    )?;
+    Ok(maps)
+}
+
+/// What fails first of the rules on frames and of the walk, in the method of this number, which has this code.
+fn types_failure(
+    alloc: Global,
+    program: &Program,
+    number: u32,
+    code: &Code,
+) -> Result<Option<Failure>, NoMemory>
+    requires method { number < length (methods_by_number program.now) }
+    requires code { IsCodeOf program.now number code.now }
+    requires small { length code.now.code ≤ 33554432 }
+    ensures { IfOk result (λ failure. (h : IsCodeOf program.now number code.now) → let m = method_of program.now number code.now h in let b = body_of program.now number code.now h in option_map failure_seen failure ≡ types_failure program.now number m b (walk.first_types m b) (found_in program.now number code.now h)) }
+{
+    methods_stand_by_number();
+    let first = match first_frame(alloc, program.shape(number), code.max_locals)? {
+        Some(frame) => frame,
+        None => return Ok(Some((0, MethodRule::Map))),
+    };
+    match maps_of(alloc, program, number, code) {
+        Ok(maps) => walk_method(alloc, program, number, code, first, &maps),
+        Err(fault) => match fault {
+            MapFault::Bad(place) => Ok(Some((place, MethodRule::Map))),
+            MapFault::NoMemory => Err(NoMemory),
+        },
+    }
+}
+
+/// What fails first in the method of this number, which has this code.
+fn code_failure(
+    alloc: Global,
+    program: &Program,
+    number: u32,
+    code: &Code,
+) -> Result<Option<Failure>, NoMemory>
+    requires method { number < length (methods_by_number program.now) }
+    requires code { IsCodeOf program.now number code.now }
+    requires small { length code.now.code ≤ 33554432 }
+    ensures { IfOk result (λ failure. (h : IsCodeOf program.now number code.now) → option_map failure_seen failure ≡ code_failure program.now number (method_of program.now number code.now h) (body_of program.now number code.now h) h.class h.member code.now) }
+{
+    let bytes = code.code.as_slice();
+    let starts = starts(alloc, bytes)?;
+    if let Some(place) = first_bad(bytes, &starts) {
+        return Ok(Some((place, MethodRule::Opcode)));
+    }
+    if let Some(place) = least_bad_start(bytes, &starts, code.handlers.as_slice()) {
+        return Ok(Some((u32::from(place), MethodRule::Table)));
+    }
+    types_failure(alloc, program, number, code)
+}
+
+/// What fails first in the method of this number.
+fn method_failure(
+    alloc: Global,
+    program: &Program,
+    number: u32,
+) -> Result<Option<Failure>, NoMemory>
+    requires { number < length (methods_by_number program.now) }
+    ensures { IfOk result (λ failure. option_map failure_seen failure ≡ method_failure program.now number) }
+{
+    match program.code(number) {
+        Some(code) => code_failure(alloc, program, number, code),
+        None => Ok(None),
+    }
+}
+
+/// The least method of a program in which a rule fails, with the place and the rule that fail there first.
+pub fn first_failure(
+    alloc: Global,
+    program: &Program,
+) -> Result<Option<(u32, u32, MethodRule)>, NoMemory>
+    ensures { IfOk result (λ found. IsFirstFailure program.now found) }
+{
+    for number in 0..program.method_count() {
+        if let Some((place, rule)) = method_failure(alloc, program, number)? {
+            return Ok(Some((number, place, rule)));
+        }
+    }
+    Ok(None)
+}

@@ -1,0 +1,236 @@
+//! An instruction with the frame before it (JVM Specification SE 8, 4.10.1.6).
+ghost use Rattle.std.specs.Prelude.{◌≡◌, ◌<◌, ◌≤◌, ℕ, not, List, Option, Some, length, Ok, IfOk, IfSome};
+ghost use Rattle.std.specs.Option.{option_map};
+ghost use Rattle.jop_opcodes.specs.Instruction.{decoded};
+ghost use Rattle.jop_opcodes.specs.Target.{cases_of};
+ghost use Rattle.bytecode_model.specs.Program as model;
+ghost use Rattle.bytecode_model.specs.Rows as rows;
+ghost use Rattle.bytecode_model.specs.Table.{row_of};
+ghost use Rattle.bytecode_typing.specs.Types as typing;
+ghost use Rattle.bytecode_typing.specs.Walk as walk;
+ghost use Rattle.program_tables.specs.Meanings.{operand_seen, HasShape};
+ghost use Rattle.program_tables.specs.Numbers.{methods_by_number};
+ghost use Rattle.program_tables.specs.Resolved.{resolved};
+ghost use Rattle.verifier_types.specs.Frame.{frame_seen, frame_at_seen};
+ghost use Rattle.bytecode_verifier.specs.Family.{family_row};
+ghost use Rattle.bytecode_verifier.specs.Place.{HasCode, IsMethodOf, IsNamedAs, stays_within, behind, step_seen};
+ghost use Rattle.bytecode_verifier.specs.Settled.{verdict_seen};
+
+use crate::family::{Call, Family, Leads, family_of};
+use crate::handlers::are_handled;
+use crate::maps::frame_at;
+use crate::members::callee;
+use crate::rows::{Checking, check_row};
+use crate::seen::type_of;
+use crate::settle::{Verdict, settle};
+use crate::switches::keys_rise;
+use class_hierarchy::Hierarchy;
+use jop_base::NoMemory;
+use jop_opcodes::Instr;
+use program_tables::{Instruction, MethodShape, Operand};
+use std::alloc::Global;
+use verifier_types::{Rule, TypeFrame};
+
+/// What is found of an instruction: the rule that fails first, or the frame that falls into the next one, if one does.
+#[derive(Drop)]
+pub enum Step {
+    Breaks(Rule),
+    Goes(Option<TypeFrame>),
+}
+
+const TABLESWITCH: u8 = 170;
+
+const LOOKUPSWITCH: u8 = 171;
+
+/// Whether control doesn't go on behind an instruction of the family.
+fn stops(instr: &Instr, family: Family) -> bool
+    ensures { (code : List ℕ) (o : model.Operand) → result ≡ not (walk.falls_through (family_row family code instr.now o)) }
+{
+    match family {
+        Family::Leads(leads) => match leads {
+            Leads::Jump | Leads::TableSwitch | Leads::Throw | Leads::Return(_) => true,
+            Leads::LookupSwitch => instr.second >= 0,
+            _ => false,
+        },
+        _ => false,
+    }
+}
+
+/// The words of a method's arguments, `this` counted.
+fn argument_words(shape: &MethodShape) -> usize
+    ensures { (m : model.Method) → HasShape shape.now m → result ≡ walk.argument_words m }
+{
+    let mut words = usize::from(shape.has_this);
+    for parameter in shape.parameters.as_slice() {
+        words += type_of(*parameter).words();
+    }
+    words
+}
+
+/// Whether the method's arguments take so many words.
+fn has_words(shape: &MethodShape, count: i32) -> bool
+    ensures { (m : model.Method) → HasShape shape.now m → result ≡ walk.has_words (Some m) count }
+{
+    match usize::try_from(count) {
+        Ok(count) => count == argument_words(shape),
+        Err(_) => false,
+    }
+}
+
+/// Whether an `invokeinterface` of this method has the number of argument words, and then a zero (6.5.invokeinterface).
+fn is_interface_call(checking: &Checking<'_>, place: u32, x: &Instruction) -> bool
+    ensures { (named method : ℕ) → operand_seen x.now.operand ≡ model.AMethod named method → result ≡ walk.is_formed (resolved checking.now.program.now) checking.now.code.now place x.now.instr (rows.CallInterface named method) }
+{
+    let at = place as usize + 4;
+    let behind = if at < checking.code.len() {
+        checking.code[at]
+    } else {
+        0
+    };
+    if behind != 0 {
+        return false;
+    }
+    match x.operand {
+        Operand::Method(_, number) => match callee(checking.program, number) {
+            Some(shape) => has_words(shape, x.instr.second),
+            None => false,
+        },
+        _ => false,
+    }
+}
+
+/// Whether a `tableswitch` has a range, and the keys rise (4.9.1).
+fn is_switch_formed(code: &[u8], place: u32, instr: &Instr) -> bool
+    requires decoded { decoded code.now place ≡ Ok instr.now }
+    requires small { length code.now ≤ 33554432 }
+    ensures { (P : model.Program) → result ≡ walk.is_formed P code.now place instr.now (rows.Switch instr.now.first (cases_of code.now instr.now)) }
+{
+    if instr.op == TABLESWITCH && instr.count == 0 {
+        return false;
+    }
+    keys_rise(code, place, instr)
+}
+
+/// Whether what a row doesn't keep of its instruction is in its form (4.9.1).
+fn is_formed(checking: &Checking<'_>, place: u32, x: &Instruction) -> bool
+    requires decoded { decoded checking.now.code.now place ≡ Ok x.now.instr }
+    requires small { length checking.now.code.now ≤ 33554432 }
+    ensures { IfSome (row_of checking.now.code.now x.now.instr (operand_seen x.now.operand)) (λ row. result ≡ walk.is_formed (resolved checking.now.program.now) checking.now.code.now place x.now.instr row) }
+{
+    match family_of(x.instr.op) {
+        Family::Leads(leads) => match leads {
+            Leads::TableSwitch => is_switch_formed(checking.code, place, &x.instr),
+            Leads::LookupSwitch => is_switch_formed(checking.code, place, &x.instr),
+            Leads::Branch(_) => true,
+            Leads::Same => true,
+            Leads::IsNull => true,
+            Leads::Jump => true,
+            Leads::Throw => true,
+            Leads::Return(_) => true,
+        },
+        Family::Call(call) => match call {
+            Call::Interface => is_interface_call(checking, place, x),
+            Call::Static => true,
+            Call::Special => true,
+            Call::Virtual => true,
+        },
+        Family::Unknown => true,
+        Family::Value(_) => true,
+        Family::Array(_) => true,
+        Family::Named(_) => true,
+        Family::Field(_) => true,
+    }
+}
+
+/// Whether control doesn't pass the end of the code behind an instruction.
+fn stays_within(code: &[u8], place: u32, instr: &Instr) -> bool
+    ensures { (o : model.Operand) → result ≡ stays_within code.now place instr.now (row_of code.now instr.now o) }
+{
+    if instr.op == LOOKUPSWITCH || stops(instr, family_of(instr.op)) {
+        return true;
+    }
+    place as usize + (instr.length as usize) < code.len()
+}
+
+/// What the rules say of an instruction in its form, from those on operands and stack on.
+fn settle_row(
+    checking: &Checking<'_>,
+    place: u32,
+    frame: &mut TypeFrame,
+    x: &Instruction,
+) -> Result<Verdict, NoMemory>
+    requires decoded { decoded checking.now.code.now place ≡ Ok x.now.instr }
+    requires small { length checking.now.code.now ≤ 33554432 }
+    ensures { IfOk result (λ v. (n : ℕ) (m : model.Method) (b : model.Body) (maps : ℕ → Option typing.TypeFrame) → IsMethodOf checking.now n m b maps → IsNamedAs checking.now n place x.now → verdict_seen v (frame_seen frame.old) (frame_seen frame.new) ≡ walk.on_row (resolved checking.now.program.now) n m b maps place (frame_seen frame.old) x.now.instr (row_of checking.now.code.now x.now.instr (operand_seen x.now.operand))) }
+{
+    checking.program.is_resolved();
+    if !is_formed(checking, place, x) {
+        return Ok(Verdict::Breaks(Rule::Operand));
+    }
+    let classes = checking.around.classes;
+    let handled = are_handled(classes, checking.maps, place, frame, checking.handlers);
+    let checked = check_row(checking, place, frame, x)?;
+    Ok(settle(checked, frame, checking.max_stack, handled))
+}
+
+/// The frame before an instruction, which is that of the StackMapTable or the one that falls in, and whether the latter is assignable
+/// to the former.
+fn joined(
+    alloc: Global,
+    classes: &Hierarchy,
+    map: Option<&TypeFrame>,
+    falling: Option<TypeFrame>,
+) -> Result<Option<(TypeFrame, bool)>, NoMemory>
+    ensures frame { IfOk result (λ j. option_map (λ x. frame_seen x.0) j ≡ walk.incoming (frame_at_seen map.entry) (option_map frame_seen falling)) }
+    ensures merged { IfOk result (λ j. IfSome j (λ x. x.1 ≡ walk.merges (resolved classes.now) (frame_at_seen map.entry) (option_map frame_seen falling))) }
+{
+    match map {
+        None => match falling {
+            Some(frame) => Ok(Some((frame, true))),
+            None => Ok(None),
+        },
+        Some(given) => {
+            let merged = match &falling {
+                Some(frame) => frame.flows_to(classes, given),
+                None => true,
+            };
+            Ok(Some((given.copied(alloc)?, merged)))
+        }
+    }
+}
+
+/// What is found at a place of the method of this number, into which the frame `falling` falls, if one does.
+pub fn verdict_at(
+    alloc: Global,
+    checking: &Checking<'_>,
+    number: u32,
+    place: u32,
+    falling: Option<TypeFrame>,
+) -> Result<Step, NoMemory>
+    requires method { number < length (methods_by_number checking.now.program.now) }
+    requires code { HasCode checking.now number }
+    requires small { length checking.now.code.now ≤ 33554432 }
+    ensures { IfOk result (λ step. (m : model.Method) (b : model.Body) (maps : ℕ → Option typing.TypeFrame) → IsMethodOf checking.now number m b maps → step_seen step ≡ behind (walk.verdict_at (resolved checking.now.program.now) number m b maps place (option_map frame_seen falling))) }
+{
+    let classes = checking.around.classes;
+    let map = frame_at(checking.maps, u64::from(place));
+    let (mut frame, merged) = match joined(alloc, classes, map, falling)? {
+        Some(found) => found,
+        None => return Ok(Step::Breaks(Rule::Flow)),
+    };
+    let x = match checking.program.instruction(number, place) {
+        Some(x) => x,
+        None => return Ok(Step::Breaks(Rule::Operand)),
+    };
+    if !stays_within(checking.code, place, &x.instr) {
+        return Ok(Step::Breaks(Rule::Flow));
+    }
+    if !merged {
+        return Ok(Step::Breaks(Rule::Merge));
+    }
+    match settle_row(checking, place, &mut frame, &x)? {
+        Verdict::Breaks(rule) => Ok(Step::Breaks(rule)),
+        Verdict::Passes(true) => Ok(Step::Goes(Some(frame))),
+        Verdict::Passes(false) => Ok(Step::Goes(None)),
+    }
+}
