@@ -2,10 +2,9 @@
 use Rattle.std.proofs.Common.{◌≡◌, ℕ, zero, suc, ◌<◌, ◌≤◌, true, [], ◌∷◌, ◌++◌, Some, None, map, length, refl, sym, ◌∙◌, ap, subst, arith, ◌⊎◌, inl, ⊎_elim, le-leb, lt-ltb, length-append, append-nil}
 use Rattle.std.specs.Prelude.{IsSomeAnd, slice_get}
 use Rattle.std.specs.declared.option.Option.{Option}
-use Rattle.std.specs.Int.{div_ceil}
 use Rattle.std.proofs.lemmas.List.{append_cancel_left}
 use Rattle.memory_timing.specs.declared.Config.{Config}
-use Rattle.memory_timing.specs.Setting.{IsDefault}
+use Rattle.jop_words.specs.declared.command.Settings.{Settings}
 use Rattle.method_cache.specs.Contents.{can_load, empty}
 use Rattle.bare_image.specs.Bare.{Image, IsImage, spelled, return_code}
 use Rattle.jop_outside.specs.Outside.{Rose}
@@ -32,19 +31,20 @@ use Rattle.boundary.specs.Session.{Session, Begins}
 use Rattle.boundary.specs.Activations.{Stage}
 use Rattle.boundary.specs.Runs as whole
 use Rattle.boundary.specs.Runs.{Goes, RunsAll}
-use Rattle.jop_cli.specs.declared.outcome.Counts.{Counts}
+use Rattle.command_lines.specs.declared.line.Counts.{Counts}
+use Rattle.jop_cli.specs.Phase.{HasSettings, blocks_of_code}
 use Rattle.jop_cli.specs.Run.{Outside, EndsIn, at_reset, AreCounts, RunsTo, RunsInPart}
 use Rattle.jop_cli.specs.Wired.{wired}
 
--- the code fits the cache of the usual settings
-pub fits_cache : (image : Image) (config : Config) → IsDefault config → IsImage image → can_load (words_for (length image.code)) (empty config.blocks config.block_words) ≡ true
-fits_cache image config setting grammar =
+-- the code fits the cache of the settings
+pub fits_cache : (settings : Settings) (image : Image) (config : Config) → HasSettings settings config → IsImage image → blocks_of_code settings image ≤ settings.blocks
+    → can_load (words_for (length image.code)) (empty config.blocks config.block_words) ≡ true
+fits_cache settings image config has grammar few =
     let some : 1 ≤ length image.code = omega (arith, ap length grammar.code ∙ length-append (spelled grammar.instructions) (return_code ∷ [])) in
     let words : 0 < words_for (length image.code) = omega (arith, some) in
-    let few : div_ceil (words_for (length image.code)) 64 ≤ 16 = omega (arith, grammar.short) in
-    ap (λ b. can_load (words_for (length image.code)) (empty b config.block_words)) setting.blocks
-    ∙ ap (λ w. can_load (words_for (length image.code)) (empty 16 w)) setting.block_words
-    ∙ rw (lt-ltb 0 (words_for (length image.code)) words, le-leb (div_ceil (words_for (length image.code)) 64) 16 few) refl
+    ap (λ b. can_load (words_for (length image.code)) (empty b config.block_words)) has.blocks
+    ∙ ap (λ w. can_load (words_for (length image.code)) (empty settings.blocks w)) has.block_words
+    ∙ rw (lt-ltb 0 (words_for (length image.code)) words, le-leb (blocks_of_code settings image) settings.blocks few) refl
 
 pub unbroken_at : (r : Session) → r.mode ≡ answers.Bytecode → IsUnbroken r.mode
 unbroken_at r is = subst IsUnbroken (sym is) tt
@@ -114,50 +114,47 @@ never_shows g limit a now t0 t1 r = omega (arith, r.fails.broke.tried.4, r.fails
 -- ---- the run from reset
 
 -- where a run begins that begins with an image
-pub record Started (image : Image) (config : Config) (m : machine.State) : Type 0 where
-  pub setting : IsDefault config
+pub record Started (n : ℕ) (image : Image) (config : Config) (m : machine.State) : Type 0 where
   pub grammar : IsImage image
-  pub is : m ≡ bare_reset 1024 image config
-  pub begins : Begins (bare_setting image 1024 config.memory) m
+  pub is : m ≡ bare_reset n image config
+  pub begins : Begins (bare_setting image n config.memory) m
 
 -- the run is one from reset
-pub from_reset : BareImagesArePrograms → (image : Image) (config : Config) (m now : machine.State) (limit : ℕ) (old new : Outside) (end : RunEnd) → (s : Started image config m)
-    → RunsAll limit m now (wired old.held old.faults old.handed) (wired new.held new.faults new.handed) end → EndsIn image config s.begins.boot limit now old new end
+pub from_reset : BareImagesArePrograms → (n : ℕ) (image : Image) (config : Config) (m now : machine.State) (limit : ℕ) (old new : Outside) (end : RunEnd) → (s : Started n image config m)
+    → RunsAll limit m now (wired old.held old.faults old.handed) (wired new.held new.faults new.handed) end → EndsIn n image config s.begins.boot limit now old new end
 unfolding RunsAll
-from_reset programs image config m now limit old new end s all =
-    let g = bare_setting image 1024 config.memory in
+from_reset programs n image config m now limit old new end s all =
+    let g = bare_setting image n config.memory in
     let E : machine.State → Type 0 = λ z. whole.RunsTo g limit (record { machine = z; state = s.begins.boot }) now (wired old.held old.faults old.handed) (wired new.held new.faults new.handed) end in
-    subst E s.is (all g s.begins.boot (programs image 1024 config.memory s.grammar) s.begins.stands)
+    subst E s.is (all g s.begins.boot (programs image n config.memory s.grammar) s.begins.stands)
 
-pub runs_to : BareImagesArePrograms → (image : Image) (config : Config) (m now : machine.State) (limit : ℕ) (old new : Outside) (end : RunEnd) (counts : Counts) → Started image config m
-    → RunsAll limit m now (wired old.held old.faults old.handed) (wired new.held new.faults new.handed) end → AreCounts counts now → RunsTo image limit end old new counts
-runs_to programs image config m now limit old new end counts s all counted =
-    record { config = config; setting = s.setting; boot = s.begins.boot; is_boot = s.begins.is_boot; now = now; runs = from_reset programs image config m now limit old new end s all; counted = counted }
+pub runs_to : BareImagesArePrograms → (n : ℕ) (image : Image) (config : Config) (m now : machine.State) (limit : ℕ) (old new : Outside) (end : RunEnd) (counts : Counts) → Started n image config m
+    → RunsAll limit m now (wired old.held old.faults old.handed) (wired new.held new.faults new.handed) end → AreCounts counts now → RunsTo n image config limit end old new counts
+runs_to programs n image config m now limit old new end counts s all counted =
+    record { boot = s.begins.boot; is_boot = s.begins.is_boot; now = now; runs = from_reset programs n image config m now limit old new end s all; counted = counted }
 
-pub runs_in_part : BareImagesArePrograms → BareImagesStep → (image : Image) (config : Config) (m now : machine.State) (limit : ℕ) (old new : Outside) → Started image config m
-    → RunsAll limit m now (wired old.held old.faults old.handed) (wired new.held new.faults new.handed) ends.WriteFault → RunsInPart image limit old new
-runs_in_part programs stepping image config m now limit old new s all =
-    let runs = from_reset programs image config m now limit old new ends.WriteFault s all in
+pub runs_in_part : BareImagesArePrograms → BareImagesStep → (n : ℕ) (image : Image) (config : Config) (m now : machine.State) (limit : ℕ) (old new : Outside) → Started n image config m
+    → RunsAll limit m now (wired old.held old.faults old.handed) (wired new.held new.faults new.handed) ends.WriteFault → RunsInPart n image config limit old new
+runs_in_part programs stepping n image config m now limit old new s all =
+    let runs = from_reset programs n image config m now limit old new ends.WriteFault s all in
     record {
-      config = config;
-      setting = s.setting;
       boot = s.begins.boot;
       is_boot = s.begins.is_boot;
       now = now;
       runs = runs;
-      opcode = opcode_is stepping image s.grammar 1024 config.memory limit (at_reset image config s.begins.boot) (boot_runs (bare_setting image 1024 config.memory).program s.begins.boot s.begins.is_boot) now _ _ runs;
+      opcode = opcode_is stepping image s.grammar n config.memory limit (at_reset n image config s.begins.boot) (boot_runs (bare_setting image n config.memory).program s.begins.boot s.begins.is_boot) now _ _ runs;
     }
 
 -- the ends that don't come
-pub no_other : BareImagesArePrograms → BareImagesStep → (image : Image) (config : Config) (m now : machine.State) (limit : ℕ) (old new : Outside) (end : RunEnd) → Started image config m
+pub no_other : BareImagesArePrograms → BareImagesStep → (n : ℕ) (image : Image) (config : Config) (m now : machine.State) (limit : ℕ) (old new : Outside) (end : RunEnd) → Started n image config m
     → RunsAll limit m now (wired old.held old.faults old.handed) (wired new.held new.faults new.handed) end → ((c : ℕ) × (end ≡ ends.Uncaught c)) ⊎ ((end ≡ ends.ReadFault) ⊎ (end ≡ ends.SeenFault)) → ⊥
-no_other programs stepping image config m now limit old new end s all other =
-    let g = bare_setting image 1024 config.memory in
-    let a = at_reset image config s.begins.boot in
-    let runs = from_reset programs image config m now limit old new end s all in
+no_other programs stepping n image config m now limit old new end s all other =
+    let g = bare_setting image n config.memory in
+    let a = at_reset n image config s.begins.boot in
+    let runs = from_reset programs n image config m now limit old new end s all in
     let E : RunEnd → Type 0 = λ e. whole.RunsTo g limit a now (wired old.held old.faults old.handed) (wired new.held new.faults new.handed) e in
     ⊎_elim
-    (λ (c, e). never_uncaught stepping image s.grammar 1024 config.memory limit a (boot_runs (bare_setting image 1024 config.memory).program s.begins.boot s.begins.is_boot) now _ _ c (subst E e runs))
+    (λ (c, e). never_uncaught stepping image s.grammar n config.memory limit a (boot_runs (bare_setting image n config.memory).program s.begins.boot s.begins.is_boot) now _ _ c (subst E e runs))
     (λ rest. ⊎_elim
     (λ e. let rose : Rose 0 0 = never_reads g limit a now _ _ (subst E e runs) in omega (arith, rose))
     (λ e. let rose : Rose 0 0 = never_shows g limit a now _ _ (subst E e runs) in omega (arith, rose))

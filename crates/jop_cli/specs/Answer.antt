@@ -1,21 +1,24 @@
 -- What the top call answers.
-use Rattle.std.specs.Prelude.{◌≡◌, ℕ, ◌<◌, ◌≤◌, true, false, ◌⊎◌, List, length, take, ◌++◌, Ok, Err}
+use Rattle.std.specs.Prelude.{◌≡◌, ℕ, ◌<◌, ◌≤◌, true, false, ◌⊎◌, List, length, Ok, Err}
 use Rattle.std.specs.declared.option.Option.{Option}
+use Rattle.std.specs.declared.result.Result.{Result}
 use Rattle.jop_outside.specs.Outside.{Grew, Rose, OnlyWord, IsWhole, HasLength}
 use Rattle.jop_device.specs.declared.seen.Seen.{Seen}
 use Rattle.bare_image.specs.Bare.{Image, IsBare}
-use Rattle.jop_cli.specs.declared.words.RunCommand.{RunCommand}
+use Rattle.jop_words.specs.declared.command.Settings.{Settings}
+use Rattle.jop_words.specs.declared.command.Command.{Command}
+use Rattle.jop_words.specs.declared.command.Command.TheVariants.{Run}
+use Rattle.jop_words.specs.Command.{command_of}
+use Rattle.command_lines.specs.Said.{SaidLess}
 use Rattle.jop_cli.specs.declared.outcome.Refusal.{Refusal}
 use Rattle.jop_cli.specs.declared.outcome.Refusal.TheVariants.{Usage, TooBig, BadImage, NotBuilt}
 use Rattle.jop_cli.specs.declared.outcome.Ending.{Ending}
 use Rattle.jop_cli.specs.declared.outcome.Ending.TheVariants.{Ended, Refused, Spent, ReadFault, WriteFault, NoMemory}
 use Rattle.jop_cli.specs.declared.outcome.Outcome.{Outcome}
 use Rattle.jop_cli.specs.declared.outcome.Outcome.TheVariants as outcomes
-use Rattle.jop_cli.specs.Command.{command_of}
-use Rattle.jop_cli.specs.Line.{line_of, write_fault_line}
-use Rattle.boundary.specs.declared.runs.RunEnd.TheVariants as ends
-use Rattle.jop_cli.specs.Run.{outside, RunsTo, RunsInPart}
-use Rattle.jop_cli.specs.Phase.{is_linked, IsNoImage}
+use Rattle.jop_cli.specs.Line.{line_of, is_fault}
+use Rattle.jop_cli.specs.Run.{Outside, outside}
+use Rattle.jop_cli.specs.Phase.{is_linked, IsNoImage, IsTooLong, RanWith}
 
 -- what is told of files, out and the watch, and the counts of faults of files and out
 pub record World : Type 0 where
@@ -30,6 +33,9 @@ abbrev pub world : ℕ → (ℕ → Option (List ℕ)) → (ℕ → ℕ) → Opt
 world words files file_faults out out_faults watch =
     record { words = words; files = files; file_faults = file_faults; out = out; out_faults = out_faults; watch = watch }
 
+abbrev pub outside_of : World → Outside
+outside_of w = outside w.out w.watch w.out_faults
+
 -- out and the watch are as they were
 pub record IsQuiet (old new : World) : Type 0 where
   pub out : new.out ≡ old.out
@@ -41,55 +47,58 @@ pub record FilesStayBut (word : ℕ) (old new : World) : Type 0 where
   pub rest : OnlyWord old.words new.words old.files new.files old.file_faults new.file_faults word
   pub later : old.file_faults word ≤ new.file_faults word
 
--- no contents and no count of a file changed
-pub record FilesStay (old new : World) : Type 0 where
+-- nothing changed
+pub record IsUnchanged (old new : World) : Type 0 where
   pub words : new.words ≡ old.words
   pub contents : (k : ℕ) → new.files k ≡ old.files k
   pub counts : (k : ℕ) → new.file_faults k ≡ old.file_faults k
+  pub quiet : IsQuiet old new
 
--- the words give a command `run`, and of the files no more than the count of its image's changed
-pub record Runs (words : List (List ℕ)) (command : RunCommand) (old new : World) : Type 0 where
-  pub command_is : command_of words ≡ Ok command
-  pub files : FilesStayBut command.image old new
+-- ---- `run`
 
--- and these are the file's bytes
-pub record RunsBytes (words : List (List ℕ)) (command : RunCommand) (bytes : List ℕ) (old new : World) : Type 0 where
-  pub runs : Runs words command old new
-  pub whole : IsWhole (old.files command.image) bytes
+-- of the files no more than the count of this word's changed, and these are the file's bytes
+pub record Reads (word : ℕ) (bytes : List ℕ) (old new : World) : Type 0 where
+  pub files : FilesStayBut word old new
+  pub whole : IsWhole (old.files word) bytes
   pub short : length bytes ≤ 16777216
 
 -- and these are those of an image
-pub record RunsImage (words : List (List ℕ)) (command : RunCommand) (image : Image) (old new : World) : Type 0 where
+pub record ReadsImage (word : ℕ) (image : Image) (old new : World) : Type 0 where
   pub bytes : List ℕ
-  pub runs : RunsBytes words command bytes old new
+  pub reads : Reads word bytes old new
   pub unlinked : is_linked bytes ≡ false
   pub bare : IsBare bytes image
 
--- How a refusal of words or of an image comes about.
-abbrev pub RefusedFor : List (List ℕ) → World → World → Refusal → Type 0
-RefusedFor words old new (Usage k) = (command_of words ≡ Err k) × FilesStay old new
-RefusedFor words old new (TooBig operand sum) =
-    (command : RunCommand) × Runs words command old new × (operand ≡ command.image) × (16777216 < sum) × HasLength (old.files operand) sum
-RefusedFor words old new NotBuilt =
-    (command : RunCommand) × (bytes : List ℕ) × RunsBytes words command bytes old new × (is_linked bytes ≡ true)
-RefusedFor words old new BadImage =
-    (command : RunCommand) × (bytes : List ℕ) × RunsBytes words command bytes old new × IsNoImage bytes
+-- How the image of a word is refused before the machine is made.
+abbrev pub RefusedFor : (word : ℕ) → World → World → Refusal → Type 0
+RefusedFor word old new (TooBig operand sum) = FilesStayBut word old new × (operand ≡ word) × (16777216 < sum) × HasLength (old.files word) sum
+RefusedFor word old new NotBuilt = (bytes : List ℕ) × Reads word bytes old new × (is_linked bytes ≡ true)
+RefusedFor word old new BadImage = (bytes : List ℕ) × Reads word bytes old new × IsNoImage bytes
+RefusedFor word old new refusal = ⊥
 
--- How the command of the words ends, each ending with its cause.
+-- The image of a word was read, and its code takes more blocks than the method cache has, or it was run.
+pub record RunsImage (settings : Settings) (word : ℕ) (old new : World) (ending : Ending) : Type 0 where
+  pub image : Image
+  pub reads : ReadsImage word image old new
+  pub ran : IsTooLong settings image (outside_of old) (outside_of new) ending ⊎ RanWith settings image (outside_of old) (outside_of new) ending
+
+-- How the run of the image of a word ends, each ending with its cause.
+abbrev pub RunsFile : Settings → (word : ℕ) → World → World → Ending → Type 0
+RunsFile settings word old new (Refused refusal) = (RefusedFor word old new refusal × IsQuiet old new) ⊎ RunsImage settings word old new (Refused refusal)
+RunsFile settings word old new ReadFault = FilesStayBut word old new × Rose (old.file_faults word) (new.file_faults word) × IsQuiet old new
+RunsFile settings word old new NoMemory = FilesStayBut word old new × IsQuiet old new
+RunsFile settings word old new ending = RunsImage settings word old new ending
+
+-- ---- all commands
+
+-- how what was read of words ends: a command, or the number of a word
+abbrev pub Does : Result Command ℕ → World → World → Ending → Type 0
+Does (Err k) old new ending = (ending ≡ Refused (Usage k)) × IsUnchanged old new
+Does (Ok (Run settings image)) old new ending = RunsFile settings image old new ending
+Does (Ok command) old new ending = (ending ≡ Refused NotBuilt) × IsUnchanged old new
+
 abbrev pub Executed : List (List ℕ) → World → World → Ending → Type 0
-Executed words old new (Refused refusal) = RefusedFor words old new refusal × IsQuiet old new
-Executed words old new (Ended counts) =
-    (command : RunCommand) × (image : Image) × RunsImage words command image old new
-    × RunsTo image command.cycles ends.Ended (outside old.out old.watch old.out_faults) (outside new.out new.watch new.out_faults) counts × (old.out_faults ≤ new.out_faults)
-Executed words old new (Spent counts) =
-    (command : RunCommand) × (image : Image) × RunsImage words command image old new
-    × RunsTo image command.cycles ends.Spent (outside old.out old.watch old.out_faults) (outside new.out new.watch new.out_faults) counts × (command.cycles ≤ counts.clock) × (old.out_faults ≤ new.out_faults)
-Executed words old new ReadFault =
-    (command : RunCommand) × Runs words command old new × Rose (old.file_faults command.image) (new.file_faults command.image) × IsQuiet old new
-Executed words old new WriteFault =
-    (command : RunCommand) × (image : Image) × RunsImage words command image old new
-    × RunsInPart image command.cycles (outside old.out old.watch old.out_faults) (outside new.out new.watch new.out_faults) × Rose old.out_faults new.out_faults
-Executed words old new NoMemory = (command : RunCommand) × Runs words command old new × IsQuiet old new
+Executed words old new ending = Does (command_of words) old new ending
 
 abbrev pub outcome_of : Ending → Outcome
 outcome_of (Ended counts) = outcomes.Ended
@@ -99,14 +108,14 @@ outcome_of ReadFault = outcomes.ReadFault
 outcome_of WriteFault = outcomes.WriteFault
 outcome_of NoMemory = outcomes.NoMemory
 
--- an ending whose line replaces no answer
-abbrev pub IsFault : Ending → Type 0
-IsFault (Ended counts) = ⊥
-IsFault (Refused refusal) = ⊥
-IsFault (Spent counts) = ⊥
-IsFault ReadFault = Unit {0}
-IsFault WriteFault = Unit {0}
-IsFault NoMemory = Unit {0}
+-- the outcome where the line of an ending couldn't be put
+abbrev pub outcome_unsaid : Ending → Outcome
+outcome_unsaid (Ended counts) = outcomes.WriteFault
+outcome_unsaid (Refused refusal) = outcomes.WriteFault
+outcome_unsaid (Spent counts) = outcomes.WriteFault
+outcome_unsaid ReadFault = outcomes.ReadFault
+outcome_unsaid WriteFault = outcomes.WriteFault
+outcome_unsaid NoMemory = outcomes.NoMemory
 
 -- an outcome after which out and the watch are as they were
 abbrev pub LeavesOut : Outcome → Type 0
@@ -117,41 +126,11 @@ LeavesOut outcomes.ReadFault = Unit {0}
 LeavesOut outcomes.WriteFault = ⊥
 LeavesOut outcomes.NoMemory = Unit {0}
 
--- the whole line was put
-pub record SaidLine (line : List ℕ) (ending : Ending) (old new : Option (List ℕ)) (outcome : Outcome) : Type 0 where
-  pub outcome_is : outcome ≡ outcome_of ending
-  pub put : Grew old new line
-
--- err failed at the line of an answer, of which a front was put. Then the line of a write fault was put behind it, or less of that line and err
--- failed again.
-pub record SaidFault (line : List ℕ) (ending : Ending) (old new : Option (List ℕ)) (before now : ℕ) (outcome : Outcome) : Type 0 where
-  pub answer : IsFault ending → ⊥
-  pub outcome_is : outcome ≡ outcomes.WriteFault
-  pub front : ℕ
-  pub part : front < length line
-  pub middle : ℕ
-  pub rose : Rose before middle
-  pub later : middle ≤ now
-  pub fault_front : ℕ
-  pub fault_within : fault_front ≤ length write_fault_line
-  pub fault_part : fault_front < length write_fault_line → Rose middle now
-  pub put : Grew old new (take front line ++ take fault_front write_fault_line)
-
--- err failed at the line of a fault or of want of memory, of which a front was put
-pub record SaidPart (line : List ℕ) (ending : Ending) (old new : Option (List ℕ)) (before now : ℕ) (outcome : Outcome) : Type 0 where
-  pub fault : IsFault ending
-  pub outcome_is : outcome ≡ outcome_of ending
-  pub rose : Rose before now
-  pub front : ℕ
-  pub part : front < length line
-  pub put : Grew old new (take front line)
-
--- what err was given of an ending, and the outcome
+-- what err was given of an ending, and the outcome: the whole line, or less where err failed
 pub record Said (words : List (List ℕ)) (ending : Ending) (old new : Option (List ℕ)) (before now : ℕ) (outcome : Outcome) : Type 0 where
   pub later : before ≤ now
-  pub said : SaidLine (line_of words ending) ending old new outcome
-      ⊎ SaidFault (line_of words ending) ending old new before now outcome
-      ⊎ SaidPart (line_of words ending) ending old new before now outcome
+  pub said : (Grew old new (line_of words ending) × (outcome ≡ outcome_of ending))
+      ⊎ (SaidLess (is_fault ending) (line_of words ending) old new before now × (outcome ≡ outcome_unsaid ending))
 
 -- What the program answers: the command ended with a cause, and its line was said.
 pub record Answered (words : List (List ℕ)) (old new : World) (err err' : Option (List ℕ)) (faults faults' : ℕ) (outcome : Outcome) : Type 0 where

@@ -1,8 +1,5 @@
 pub mod Wired
 pub mod Run
-pub mod Command
-pub mod CommandRows
-pub mod Grammar
 pub mod Line
 pub mod Phase
 pub mod Answer

@@ -1,15 +1,18 @@
 -- What the phases of the top call do.
-use Rattle.std.specs.Prelude.{◌≡◌, ℕ, ◌<◌, ◌≤◌, Bool, true, false, List, nat_eq, codes}
+use Rattle.std.specs.Prelude.{◌≡◌, ℕ, ◌<◌, ◌≤◌, Bool, true, false, List, length, nat_eq, codes}
 use Rattle.std.specs.List.{starts_with}
 use Rattle.std.specs.declared.option.Option.{Option}
 use Rattle.jop_outside.specs.Outside.{Rose, HasLength}
-use Rattle.jop_device.specs.declared.seen.Seen.{Seen}
 use Rattle.bare_image.specs.Bare.{Image, IsBare}
-use Rattle.jop_cli.specs.declared.outcome.Refusal.TheVariants.{TooBig, BadImage, NotBuilt}
+use Rattle.jop_cli.specs.declared.outcome.Refusal.TheVariants.{TooBig, BadImage, NotBuilt, MethodTooLong}
 use Rattle.jop_cli.specs.declared.outcome.Ending.{Ending}
 use Rattle.jop_cli.specs.declared.outcome.Ending.TheVariants.{Ended, Refused, Spent, ReadFault, WriteFault, NoMemory}
+use Rattle.memory_timing.specs.declared.Config.{Config}
+use Rattle.method_cache.specs.Contents.{blocks_for}
+use Rattle.jop_core.specs.Reset.{words_for}
+use Rattle.jop_words.specs.declared.command.Settings.{Settings}
 use Rattle.boundary.specs.declared.runs.RunEnd.TheVariants as ends
-use Rattle.jop_cli.specs.Run.{outside, RunsTo, RunsInPart}
+use Rattle.jop_cli.specs.Run.{Outside, RunsTo, RunsInPart}
 
 -- why the file of a word wasn't read, what is told of it, and its counts of faults
 abbrev pub LoadFault : ℕ → Option (List ℕ) → ℕ → ℕ → Ending → Type 0
@@ -34,13 +37,35 @@ ImageFault bytes (Refused BadImage) = IsNoImage bytes
 ImageFault bytes NoMemory = Unit {0}
 ImageFault bytes ending = ⊥
 
+-- the machine has the settings that were given
+pub record HasSettings (settings : Settings) (config : Config) : Type 0 where
+  pub memory : config.memory ≡ settings.memory
+  pub read : config.read ≡ settings.read
+  pub write : config.write ≡ settings.write
+  pub blocks : config.blocks ≡ settings.blocks
+  pub block_words : config.block_words ≡ settings.block_words
+
+-- how many blocks of the method cache the code of an image takes
+abbrev pub blocks_of_code : Settings → Image → ℕ
+blocks_of_code settings image = blocks_for settings.block_words (words_for (length image.code))
+
 -- how the run of an image ends, what out and the watch then hold, and out's count of faults
-abbrev pub Ran : Image → (limit : ℕ) → (held held' : Option (List ℕ)) → (handed handed' : Option (List Seen)) → (faults faults' : ℕ) → Ending → Type 0
-Ran image limit held held' handed handed' faults faults' (Ended counts) =
-    RunsTo image limit ends.Ended (outside held handed faults) (outside held' handed' faults') counts × (faults ≤ faults')
-Ran image limit held held' handed handed' faults faults' (Spent counts) =
-    RunsTo image limit ends.Spent (outside held handed faults) (outside held' handed' faults') counts × (limit ≤ counts.clock) × (faults ≤ faults')
-Ran image limit held held' handed handed' faults faults' WriteFault =
-    RunsInPart image limit (outside held handed faults) (outside held' handed' faults') × Rose faults faults'
-Ran image limit held held' handed handed' faults faults' NoMemory = (held' ≡ held) × (handed' ≡ handed) × (faults' ≡ faults)
-Ran image limit held held' handed handed' faults faults' ending = ⊥
+abbrev pub Ran : (n : ℕ) → Image → Config → (limit : ℕ) → (old new : Outside) → Ending → Type 0
+Ran n image config limit old new (Ended counts) = RunsTo n image config limit ends.Ended old new counts × (old.faults ≤ new.faults)
+Ran n image config limit old new (Spent counts) = RunsTo n image config limit ends.Spent old new counts × (limit ≤ counts.clock) × (old.faults ≤ new.faults)
+Ran n image config limit old new WriteFault = RunsInPart n image config limit old new × Rose old.faults new.faults
+Ran n image config limit old new NoMemory = new ≡ old
+Ran n image config limit old new ending = ⊥
+
+-- The code of the image takes more blocks than the method cache has, and nothing was done.
+pub record IsTooLong (settings : Settings) (image : Image) (old new : Outside) (ending : Ending) : Type 0 where
+  pub blocks : settings.blocks < blocks_of_code settings image
+  pub ending_is : ending ≡ Refused (MethodTooLong 0 (blocks_of_code settings image) settings.blocks)
+  pub same : new ≡ old
+
+-- The code fits the method cache, and the image was run by a machine with the settings.
+pub record RanWith (settings : Settings) (image : Image) (old new : Outside) (ending : Ending) : Type 0 where
+  pub blocks : blocks_of_code settings image ≤ settings.blocks
+  pub config : Config
+  pub has : HasSettings settings config
+  pub ran : Ran settings.stack image config settings.cycles old new ending

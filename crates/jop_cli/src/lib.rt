@@ -3,12 +3,11 @@
 
 mod devices;
 pub mod host;
-pub mod laws;
 mod lines;
 mod outcome;
 mod run;
+mod settings;
 mod top;
-mod words;
 
 pub use outcome::{Outcome, Refusal};
 pub use top::jop;

@@ -1,5 +1,7 @@
 //! How a call of the program ends.
 
+use command_lines::Counts;
+
 /// Why a command was refused.
 #[derive(Clone, Copy, PartialEq, Eq)]
 pub enum Refusal {
@@ -11,8 +13,10 @@ pub enum Refusal {
     TooBig(u32, u128),
     /// The file is in no image grammar.
     BadImage,
-    /// The image is a linked one, which can't be run yet.
+    /// The command can't be done yet, or the image is a linked one, which can't be run yet.
     NotBuilt,
+    /// The method of this number takes so many blocks of the method cache, which has fewer.
+    MethodTooLong(u32, u32, u32),
 }
 
 /// How a call of the program ends.
@@ -48,14 +52,6 @@ impl Outcome {
             Outcome::NoMemory => 5,
         }
     }
-}
-
-/// The counts of a machine that a line shows.
-#[derive(Clone, Copy)]
-pub(crate) struct Counts {
-    pub clock: u64,
-    pub hits: u64,
-    pub misses: u64,
 }
 
 /// An outcome with what its line shows.

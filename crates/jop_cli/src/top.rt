@@ -1,20 +1,25 @@
 //! The top call.
-ghost use Rattle.std.specs.Prelude.{◌≡◌, ◌<◌, ◌≤◌, ◌^◌, ◌↔◌, false, length, IfOk, IfErr, IsTrue, IsOk};
+ghost use Rattle.std.specs.Prelude.{◌≡◌, ◌<◌, ◌≤◌, ◌^◌, false, length, IfOk, IfErr, IsOk};
 ghost use Rattle.jop_outside.specs.Outside.{IsWhole, OnlyWord};
 ghost use Rattle.bare_image.specs.Bare.{IsImage, IsBare};
-ghost use Rattle.jop_cli.specs.Command.{texts};
-ghost use Rattle.jop_cli.specs.Phase.{LoadFault, is_linked, ImageFault, Ran};
-ghost use Rattle.jop_cli.specs.Run.{AreCounts};
-ghost use Rattle.jop_cli.specs.Answer.{world, Executed, Answered, Said, IsFault, LeavesOut, outcome_of};
+ghost use Rattle.stack_cache.specs.Size.{IsSize};
+ghost use Rattle.jop_core.specs.Reset.{CanStartBare};
+ghost use Rattle.jop_words.specs.Command.{texts};
+ghost use Rattle.jop_words.specs.Range.{AreSettings};
+ghost use Rattle.jop_cli.specs.Phase.{LoadFault, is_linked, ImageFault, blocks_of_code, Ran, RanWith};
+ghost use Rattle.jop_cli.specs.Run.{AreCounts, outside};
+ghost use Rattle.jop_cli.specs.Answer.{world, RunsFile, Executed, Answered, Said, LeavesOut, outcome_of, outcome_unsaid};
 
-use crate::lines::{put_line, put_text};
-use crate::outcome::{Counts, Ending, Outcome, Refusal};
+use crate::lines::say_ending;
+use crate::outcome::{Ending, Outcome, Refusal};
 use crate::run::run;
-use crate::words::read_words;
+use crate::settings::{blocks_of, config_of};
 use boundary::laws::{bare_images_are_programs, bare_images_step};
 use boundary::{RunEnd, Running};
+use command_lines::Counts;
 use jop_core::{Bare, BareFault, Config, Machine, Watch, read_bare};
 use jop_outside::{Files, LONGEST_FILE, ReadAll, Sink, Source, read_all};
+use jop_words::{Command, Settings, read_words};
 use std::alloc::Global;
 
 // The bytes of a word's file.
@@ -54,23 +59,25 @@ fn image_of(alloc: Global, bytes: &[u8]) -> Result<Bare, Ending>
 }
 
 // Runs an image from reset, up to a limit of cycles.
-fn run_image<O: Sink, V: Watch>(
+fn run_image<const N: usize, O: Sink, V: Watch>(
     alloc: Global,
     bare: &Bare,
+    config: Config,
     out: &mut O,
     watch: &mut V,
     limit: u64,
 ) -> Ending
+    requires size { IsSize N }
+    requires room { CanStartBare bare.now config }
     requires grammar { IsImage bare.now }
     requires few { limit < 2 ^ 63 }
-    ensures ran { Ran bare.now limit (O.held out.old) (O.held out.new) (V.held watch.old) (V.held watch.new)
-        (O.faults out.old) (O.faults out.new) result }
+    ensures ran { Ran N bare.now config limit (outside (O.held out.old) (V.held watch.old) (O.faults out.old)) (outside (O.held out.new) (V.held watch.new) (O.faults out.new)) result }
     ensures leaves { LeavesOut (outcome_of result) → (out.new ≡ out.old) × (watch.new ≡ watch.old) }
 {
     // The laws are for the proof.
     bare_images_are_programs();
     bare_images_step();
-    let Ok(mut running) = Running::<1024>::start_bare(alloc, bare, Config::default()) else {
+    let Ok(mut running) = Running::<N>::start_bare(alloc, bare, config) else {
         return Ending::NoMemory;
     };
     match run(&mut running, out, watch, limit) {
@@ -81,7 +88,7 @@ fn run_image<O: Sink, V: Watch>(
     }
 }
 
-fn counts_of(machine: &Machine<1024>) -> Counts
+fn counts_of<const N: usize>(machine: &Machine<N>) -> Counts
     ensures { AreCounts result machine.now }
 {
     Counts {
@@ -89,6 +96,60 @@ fn counts_of(machine: &Machine<1024>) -> Counts
         hits: machine.hits(),
         misses: machine.misses(),
     }
+}
+
+// Runs an image with settings, where its code fits the method cache.
+fn run_with<O: Sink, V: Watch>(
+    alloc: Global,
+    bare: &Bare,
+    settings: &Settings,
+    out: &mut O,
+    watch: &mut V,
+) -> Ending
+    requires settings { AreSettings settings.now }
+    requires grammar { IsImage bare.now }
+    requires room { blocks_of_code settings.now bare.now ≤ settings.now.blocks }
+    ensures ran { RanWith settings.now bare.now (outside (O.held out.old) (V.held watch.old) (O.faults out.old)) (outside (O.held out.new) (V.held watch.new) (O.faults out.new)) result }
+    ensures leaves { LeavesOut (outcome_of result) → (out.new ≡ out.old) × (watch.new ≡ watch.old) }
+{
+    let config = config_of(settings);
+    let limit = settings.cycles;
+    match settings.stack {
+        256 => run_image::<256, O, V>(alloc, bare, config, out, watch, limit),
+        512 => run_image::<512, O, V>(alloc, bare, config, out, watch, limit),
+        _ => run_image::<1024, O, V>(alloc, bare, config, out, watch, limit),
+    }
+}
+
+// Runs the image of a word.
+fn run_file<F: Files, O: Sink, V: Watch>(
+    alloc: Global,
+    settings: &Settings,
+    word: u32,
+    files: &mut F,
+    out: &mut O,
+    watch: &mut V,
+) -> Ending
+    requires settings { AreSettings settings.now }
+    requires there { word < F.words files.old }
+    ensures runs { RunsFile settings.now word
+        (world (F.words files.old) (F.told files.old) (F.faults files.old) (O.held out.old) (O.faults out.old) (V.held watch.old))
+        (world (F.words files.new) (F.told files.new) (F.faults files.new) (O.held out.new) (O.faults out.new) (V.held watch.new)) result }
+    ensures leaves { LeavesOut (outcome_of result) → (out.new ≡ out.old) × (watch.new ≡ watch.old) }
+{
+    let bytes = match load(alloc, files, word) {
+        Ok(bytes) => bytes,
+        Err(ending) => return ending,
+    };
+    let bare = match image_of(alloc, &bytes) {
+        Ok(bare) => bare,
+        Err(ending) => return ending,
+    };
+    let blocks = blocks_of(&bare, settings.block_words);
+    if blocks > settings.blocks {
+        return Ending::Refused(Refusal::MethodTooLong(0, blocks, settings.blocks));
+    }
+    run_with(alloc, &bare, settings, out, watch)
 }
 
 // Does the command of the words, but for its line.
@@ -110,37 +171,32 @@ fn execute<F: Files, O: Sink, V: Watch>(
         Ok(command) => command,
         Err(k) => return Ending::Refused(Refusal::Usage(k)),
     };
-    let bytes = match load(alloc, files, command.image) {
-        Ok(bytes) => bytes,
-        Err(ending) => return ending,
+    let Command::Run { settings, image } = command else {
+        return Ending::Refused(Refusal::NotBuilt);
     };
-    let bare = match image_of(alloc, &bytes) {
-        Ok(bare) => bare,
-        Err(ending) => return ending,
-    };
-    run_image(alloc, &bare, out, watch, command.cycles)
+    run_file(alloc, &settings, image, files, out, watch)
 }
 
 // Puts the line of an ending, and gives the outcome.
-fn say<E: Sink>(err: &mut E, words: &[&str], ending: Ending) -> Outcome
+fn conclude<E: Sink>(err: &mut E, words: &[&str], ending: Ending) -> Outcome
     ensures { Said (texts words.now) ending (E.held err.old) (E.held err.new) (E.faults err.old) (E.faults err.new) result }
 {
-    if let Err(_) = put_line(err, words, ending) {
-        if !is_fault(ending) {
-            let _ = put_text(err, b"write fault\n");
-            return Outcome::WriteFault;
-        }
+    match say_ending(err, words, ending) {
+        Ok(()) => outcome_for(ending),
+        Err(_) => outcome_unsaid(ending),
     }
-    outcome_for(ending)
 }
 
-// Whether the line of an ending replaces no answer.
-fn is_fault(ending: Ending) -> bool
-    ensures { IsTrue result ↔ IsFault ending }
+// The outcome where the line of an ending couldn't be put.
+fn outcome_unsaid(ending: Ending) -> Outcome
+    ensures { result ≡ outcome_unsaid ending }
 {
     match ending {
-        Ending::Ended(_) | Ending::Refused(_) | Ending::Spent(_) => false,
-        Ending::ReadFault | Ending::WriteFault | Ending::NoMemory => true,
+        Ending::ReadFault => Outcome::ReadFault,
+        Ending::NoMemory => Outcome::NoMemory,
+        Ending::Ended(_) | Ending::Refused(_) | Ending::Spent(_) | Ending::WriteFault => {
+            Outcome::WriteFault
+        }
     }
 }
 
@@ -181,5 +237,5 @@ pub fn jop<F: Files, S: Source, O: Sink, E: Sink, V: Watch>(
 {
     let _ = input;
     let ending = execute(alloc, words, files, out, watch);
-    say(err, words, ending)
+    conclude(err, words, ending)
 }

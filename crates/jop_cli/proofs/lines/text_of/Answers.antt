@@ -1,6 +1,6 @@
 use Rattle.std.proofs.Common.{sym, ◌∙◌, ap, List, ℕ}
 use Rattle.std.specs.Borrow.{Bor}
-use Rattle.jop_cli.proofs.Joined.{text_at-texts, text_at-past}
+use Rattle.jop_cli.proofs.Words.{text_at-texts, text_at-past}
 use Rattle.jop_cli.proofs.lines.text_of.Goals as goal
 
 pub returns-in-Some : goal.returns-in-Some
