@@ -12,6 +12,7 @@ fn name_of(outcome: Outcome) -> &'static str {
         Outcome::Refused(Refusal::TooBig(_, _)) => "TooBig",
         Outcome::Refused(Refusal::BadImage) => "BadImage",
         Outcome::Refused(Refusal::NotBuilt) => "NotBuilt",
+        Outcome::Refused(Refusal::MethodTooLong(_, _, _)) => "MethodTooLong",
         Outcome::Spent => "Spent",
         Outcome::ReadFault => "ReadFault",
         Outcome::WriteFault => "WriteFault",
@@ -35,6 +36,38 @@ fn entries_of(
     Ok(entries)
 }
 
+// What comes of a call of these words over objects in memory, where they are few enough for one.
+fn called(
+    alloc: Global,
+    words: &[&str],
+    entries: Vec<Option<Vec<u8>>>,
+    out: &mut MemSink,
+    err: &mut MemSink,
+) -> Option<Outcome> {
+    if words.len() >= 1 << 32 || entries.len() != words.len() {
+        return None;
+    }
+    let mut files = MemFiles::new(entries, Vec::new(alloc));
+    let mut input = MemSource::new(Vec::new(alloc), Vec::new(alloc));
+    Some(jop(alloc, words, &mut files, &mut input, out, err, &mut NoWatch))
+}
+
+// Prints words, what came of their call, and what `out` and `err` hold.
+fn print_line(
+    rt: &HostRuntime,
+    words: &[&str],
+    outcome: Outcome,
+    out: &[u8],
+    err: &[u8],
+) -> io::Result<()> {
+    for word in words {
+        print!(rt; "{word} ")?;
+    }
+    let (name, status) = (name_of(outcome), outcome.status());
+    let line = std::str::from_utf8(err).unwrap_or("no text");
+    println!(rt; "-> {name} {status}, out {out:?}, err {line:?}")
+}
+
 /// Calls words, the last of which names a file with these bytes or, without any, one that can't be read, and
 /// prints what comes of it. The puts into out and into err whose numbers are listed fail.
 pub fn show(
@@ -45,27 +78,11 @@ pub fn show(
     err_fails: &[u64],
 ) -> io::Result<()> {
     let alloc = rt.alloc();
-    let entries = entries_of(alloc, words.len(), file)?;
-    if words.len() >= 1 << 32 || entries.len() != words.len() {
-        return println!(rt; "too many words");
-    }
-    let mut files = MemFiles::new(entries, Vec::new(alloc));
-    let mut input = MemSource::new(Vec::new(alloc), Vec::new(alloc));
     let mut out = MemSink::new(alloc, out_fails.to_vec(alloc)?);
     let mut err = MemSink::new(alloc, err_fails.to_vec(alloc)?);
-    let outcome = jop(
-        alloc,
-        words,
-        &mut files,
-        &mut input,
-        &mut out,
-        &mut err,
-        &mut NoWatch,
-    );
-    for word in words {
-        print!(rt; "{word} ")?;
+    let entries = entries_of(alloc, words.len(), file)?;
+    match called(alloc, words, entries, &mut out, &mut err) {
+        Some(outcome) => print_line(rt, words, outcome, out.held(), err.held()),
+        None => println!(rt; "too many words"),
     }
-    let (name, status) = (name_of(outcome), outcome.status());
-    let line = std::str::from_utf8(err.held()).unwrap_or("no text");
-    println!(rt; "-> {name} {status}, out {:?}, err {line:?}", out.held())
 }

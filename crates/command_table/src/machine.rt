@@ -112,15 +112,8 @@ const DIVIDES: [u32; 22] = [
     0x6cff_b100,
 ];
 
-/// The registers of a linked image at reset.
-pub fn show_reset(rt: &HostRuntime) -> io::Result<()> {
-    let config = Config::default();
-    if !can_start(&DIVIDES, config) {
-        return println!(rt; "the image doesn't fit");
-    }
-    let Ok(machine) = Machine::<1024>::new(rt.alloc(), &DIVIDES, config) else {
-        return println!(rt; "no memory");
-    };
+// Compares the registers of a machine at reset with those that were worked out.
+fn print_reset(rt: &HostRuntime, machine: &Machine<1024>) -> io::Result<()> {
     let reset = Registers {
         a: 0,
         b: 0,
@@ -135,12 +128,24 @@ pub fn show_reset(rt: &HostRuntime) -> io::Result<()> {
         misses: 0,
         halt: Halt::Running,
     };
-    println!(rt; "reset as worked out: {}", registers_of(&machine) == reset)?;
+    println!(rt; "reset as worked out: {}", registers_of(machine) == reset)?;
     println!(rt;
         "uncaught: {}, at a boundary: {}",
         machine.uncaught().is_some(),
         machine.at_boundary()
     )
+}
+
+/// The registers of a linked image at reset.
+pub fn show_reset(rt: &HostRuntime) -> io::Result<()> {
+    let config = Config::default();
+    if !can_start(&DIVIDES, config) {
+        return println!(rt; "the image doesn't fit");
+    }
+    match Machine::<1024>::new(rt.alloc(), &DIVIDES, config) {
+        Ok(machine) => print_reset(rt, &machine),
+        Err(_) => println!(rt; "no memory"),
+    }
 }
 
 // What the registers hold at a clock of the code `10 41 ff`, 333 times, and `b1`, without locals: within each
@@ -195,34 +200,49 @@ fn keeps_to_the_table(machine: &mut Machine<1024>, device: &mut Counter) -> u64 
     999
 }
 
-/// The registers at each of a thousand cycles.
-pub fn show_thousand_cycles(rt: &HostRuntime) -> io::Result<()> {
-    let Ok(bare) = read_bare(rt.alloc(), &thousand(rt.alloc())?) else {
-        return println!(rt; "no image");
-    };
-    let Ok(mut machine) = Machine::<1024>::bare(rt.alloc(), &bare, Config::default()) else {
-        return println!(rt; "no memory");
-    };
+// Compares the registers at each of a thousand cycles, and at the last, with those that were worked out.
+fn print_cycles(rt: &HostRuntime, machine: &mut Machine<1024>) -> io::Result<()> {
     let mut device = Counter { bytes: 0 };
     println!(rt;
         "{} cycles as worked out",
-        keeps_to_the_table(&mut machine, &mut device)
+        keeps_to_the_table(machine, &mut device)
     )?;
     let last = Registers {
         mpc: entry(177),
         opcode: 177,
         ..worked_out(999)
     };
-    println!(rt; "then as worked out: {}", registers_of(&machine) == last)?;
+    println!(rt; "then as worked out: {}", registers_of(machine) == last)?;
+    print_last(rt, machine, &mut device)
+}
+
+// What comes of two cycles more: the last one, and one of a machine that halted.
+fn print_last(
+    rt: &HostRuntime,
+    machine: &mut Machine<1024>,
+    device: &mut Counter,
+) -> io::Result<()> {
     if machine.clock() >= 1000 {
         return println!(rt; "too many cycles");
     }
-    let went = machine.cycle(&mut device) == Tick::Went;
+    let went = machine.cycle(device) == Tick::Went;
     let ended = machine.halt() == Halt::Ended;
     println!(rt;
         "the last cycle went: {went}, ended: {ended}, clock {}",
         machine.clock()
     )?;
-    let halted = machine.clock() < 2000 && machine.cycle(&mut device) == Tick::Halted;
+    let halted = machine.clock() < 2000 && machine.cycle(device) == Tick::Halted;
     println!(rt; "halted: {halted}, {} bytes", device.bytes)
+}
+
+/// The registers at each of a thousand cycles.
+pub fn show_thousand_cycles(rt: &HostRuntime) -> io::Result<()> {
+    let image = thousand(rt.alloc())?;
+    let Ok(bare) = read_bare(rt.alloc(), &image) else {
+        return println!(rt; "no image");
+    };
+    match Machine::<1024>::bare(rt.alloc(), &bare, Config::default()) {
+        Ok(mut machine) => print_cycles(rt, &mut machine),
+        Err(_) => println!(rt; "no memory"),
+    }
 }

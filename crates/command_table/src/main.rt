@@ -16,6 +16,8 @@ fn main(rt: HostRuntime) -> io::Result<()> {
     rows::show_limits(&rt)?;
     rows::show_refusals(&rt)?;
     rows::show_other_files(&rt)?;
+    rows::show_machines(&rt)?;
+    rows::show_others(&rt)?;
     rows::show_usages(&rt)?;
     rows::show_faults(&rt)?;
     watches::show_states(&rt)?;

@@ -58,6 +58,37 @@ pub fn show_other_files(rt: &HostRuntime) -> io::Result<()> {
     show_large_file(rt, "a\nb")
 }
 
+/// Machines that were asked for: images that fit their method cache, and one that doesn't.
+pub fn show_machines(rt: &HostRuntime) -> io::Result<()> {
+    // 75 words of code
+    let code = nops(rt.alloc(), 299)?;
+    for blocks in ["1", "2"] {
+        let words = ["run", "--blocks", blocks, "--block-words", "64", "b"];
+        show(rt, &words, Some(&code), &[], &[])?;
+    }
+    for stack in ["256", "512", "1024"] {
+        let words = ["run", "--memory", "16", "--stack", stack, "b"];
+        show(rt, &words, Some(HELLO), &[], &[])?;
+    }
+    Ok(())
+}
+
+/// Commands that aren't built yet. No file is asked for: each would be a fault.
+pub fn show_others(rt: &HostRuntime) -> io::Result<()> {
+    show(rt, &["link", "--main", "A", "A.class"], None, &[], &[])?;
+    show(rt, &["trace", "--micro", "b"], None, &[], &[])?;
+    show(
+        rt,
+        &["bound", "--method", "A.a()V", "i", "b"],
+        None,
+        &[],
+        &[],
+    )?;
+    show(rt, &["check", "i", "b", "c"], None, &[], &[])?;
+    show(rt, &["asm", "t"], None, &[], &[])?;
+    show(rt, &["work", "1"], None, &[], &[])
+}
+
 /// Words that give no command. No file is asked for: each would be a fault.
 pub fn show_usages(rt: &HostRuntime) -> io::Result<()> {
     show(rt, &[], None, &[], &[])?;

@@ -1,4 +1,6 @@
 // What a watch in memory holds after a run.
+ghost use Rattle.std.specs.Prelude.{◌≡◌, length};
+
 use crate::images::{HELLO, nops};
 use jop_cli::jop;
 use jop_core::{MemWatch, Seen};
@@ -7,9 +9,11 @@ use microcode_rom::entry;
 use std::alloc::{AllocError, Global};
 use std::io;
 
-// The watch after a run of an image.
-fn watched(alloc: Global, image: &[u8], mut watch: MemWatch) -> Result<MemWatch, AllocError> {
-    let mut files = SureFiles::new(vec![in alloc; None, Some(image.to_vec(alloc)?)]?);
+// Runs the last of two files, with a watch.
+fn run(alloc: Global, files: Vec<Option<Vec<u8>>>, watch: &mut MemWatch)
+    requires { length files.items ≡ 2 }
+{
+    let mut files = SureFiles::new(files);
     let mut input = SureSource::new(Vec::new(alloc));
     let mut out = SureSink::new(alloc);
     let mut err = SureSink::new(alloc);
@@ -20,9 +24,16 @@ fn watched(alloc: Global, image: &[u8], mut watch: MemWatch) -> Result<MemWatch,
         &mut input,
         &mut out,
         &mut err,
-        &mut watch,
+        watch,
     );
     let _ = outcome;
+}
+
+// The watch after a run of an image.
+fn watched(alloc: Global, image: &[u8], mut watch: MemWatch) -> Result<MemWatch, AllocError> {
+    let image = image.to_vec(alloc)?;
+    let files = vec![in alloc; None, Some(image)]?;
+    run(alloc, files, &mut watch);
     Ok(watch)
 }
 
@@ -58,19 +69,22 @@ pub fn show_states(rt: &HostRuntime) -> io::Result<()> {
     println!(rt; "states as wanted: {}", watch.held() == wanted.as_slice())
 }
 
-/// How many states a watch holds after 4,096 cycles: one that finds its memory as it goes, and one that has it.
+// How many states a watch holds after a run of an image, and at which clock the last of them is.
+fn show_long_watch(rt: &HostRuntime, image: &[u8], watch: MemWatch) -> io::Result<()> {
+    let watch = watched(rt.alloc(), image, watch)?;
+    let last = watch.held().last().map(|state| state.clock);
+    println!(rt;
+        "{} states, the last at clock {}",
+        watch.held().len(),
+        last.unwrap_or(0)
+    )
+}
+
+/// The same after 4,096 cycles: of a watch that finds its memory as it goes, and of one that has it.
 pub fn show_long_watches(rt: &HostRuntime) -> io::Result<()> {
     let alloc = rt.alloc();
     let image = nops(alloc, 4095)?;
+    show_long_watch(rt, &image, MemWatch::new(alloc))?;
     let with_room = MemWatch::with_capacity(alloc, 4096).map_err(|_| AllocError)?;
-    for watch in [MemWatch::new(alloc), with_room] {
-        let watch = watched(alloc, &image, watch)?;
-        let last = watch.held().last().map(|state| state.clock);
-        println!(rt;
-            "{} states, the last at clock {}",
-            watch.held().len(),
-            last.unwrap_or(0)
-        )?;
-    }
-    Ok(())
+    show_long_watch(rt, &image, with_room)
 }
