@@ -16,6 +16,7 @@ impl Devices for Counter {
     ghost told = { λ _. record {
       left = None;
       held = None;
+      line = λ _. [];
       noted = None;
       handed = None;
       read_faults = 0;

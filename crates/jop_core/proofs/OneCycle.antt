@@ -15,9 +15,9 @@ use Rattle.jop_core.specs.declared.halt.Halt.TheVariants.{Running}
 use Rattle.jop_core.specs.declared.tick.Tick.TheVariants.{Went, ReadFault, WriteFault}
 use Rattle.jop_device.specs.declared.seen.Seen.{Seen}
 use Rattle.jop_core.specs.State.{State, seen_of}
-use Rattle.jop_device.specs.Told.{Told, Saw, Passed, Exchanged, CountsRise, OnlyReads, OnlySees, OnlyWrites}
-use Rattle.jop_core.specs.Ticked.{Ticked, writes_of, notes_of}
-use Rattle.jop_core.proofs.Tells.{Passed-trans, Passed-quiet, Exchanged-after, Exchanged-before}
+use Rattle.jop_device.specs.Told.{Told, Saw, Passed, PassedInPart, Exchanged, CountsRise, OnlyReads, OnlySees, OnlyWrites}
+use Rattle.jop_core.specs.Ticked.{Ticked, writes_of, first_write, notes_of}
+use Rattle.jop_core.proofs.Tells.{Passed-trans, PassedInPart-after, Passed-quiet, Exchanged-after, Exchanged-before}
 use Rattle.jop_core.specs.Cycle.{cycle_of, asks_input, output_of, ran, counted, asks, body_asks, is_ldin, puts, body_outputs, is_stout}
 
 pub cycle_of-here : (s : State) (address : ℕ) (m : Option Micro) (input : Option ℕ) → nat_lt 0 s.stall ≡ false → address ≡ s.mpc → micro_of (slice_index WORDS address) ≡ m
@@ -63,13 +63,14 @@ Ticked-went old new input asked out t0 t1 t2 running is asks_is outputs start pu
 
 -- a cycle whose byte could not be put out: a microinstruction that puts one out asks for none
 pub Ticked-refused : (old : State) (input : Option ℕ) (asked : Bool) (out : List ℕ) (t0 t1 t2 : Told) → old.halt ≡ Running → asked ≡ false → output_of old ≡ out
-    → Begun old asked input t0 t1 → Passed t1 t2 [] [] [] → OnlyWrites t1 t2 → out ≢ [] → Rose t1.write_faults t2.write_faults → Ticked old old t0 t2 WriteFault
+    → Begun old asked input t0 t1 → PassedInPart t1 t2 [] [] (first_write out) → OnlyWrites t1 t2 → out ≢ [] → Rose t1.write_faults t2.write_faults → Ticked old old t0 t2 WriteFault
 Ticked-refused old input asked out t0 t1 t2 running quiet outputs start put writes some rose =
     let A : Bool → Type 0 = λ b. Exchanged t0 t1 b input [] (seen_of old ∷ []) (Saw (seen_of old) ∷ []) in
+    let W : List ℕ → Type 0 = λ bytes. PassedInPart t0 t2 (seen_of old ∷ []) (Saw (seen_of old) ∷ []) (first_write bytes) in
     let passed = Passed-quiet t0 t1 input [] (seen_of old ∷ []) (Saw (seen_of old) ∷ []) (subst A quiet start.exchanged) in (
       running,
       refl,
-      Passed-trans t0 t1 t2 [] [] [] (seen_of old ∷ []) [] (seen_of old ∷ []) (Saw (seen_of old) ∷ []) [] (Saw (seen_of old) ∷ []) passed put refl refl refl,
+      subst W (sym outputs) (PassedInPart-after t0 t1 t2 (seen_of old ∷ []) [] (seen_of old ∷ []) (Saw (seen_of old) ∷ []) (first_write out) passed put refl),
       record { reads = omega (arith, start.counts.reads); writes = omega (arith, start.counts.writes); sees = omega (arith, start.counts.sees) },
       (λ none. some (sym outputs ∙ none)),
       omega (arith, rose, start.counts.writes),

@@ -1,9 +1,10 @@
 -- How what a device tells goes on over several calls.
-use Rattle.std.proofs.Common.{◌≡◌, ℕ, Bool, false, List, ◌++◌, sym, subst, ◌∙◌}
+use Rattle.std.proofs.Common.{◌≡◌, ℕ, Bool, false, List, [], ◌++◌, refl, sym, subst, ◌∙◌}
 use Rattle.std.specs.declared.option.Option.{Option}
 use Rattle.telling.specs.Growing.{Grew-trans}
 use Rattle.jop_device.specs.declared.seen.Seen.{Seen}
-use Rattle.jop_device.specs.Told.{Told, Note, Passed, Exchanged, GivesWhere}
+use Rattle.jop_device.specs.Told.{Told, Note, Passed, PassedInPart, Exchanged, GivesWhere}
+use Rattle.jop_device.specs.Noting.{Noted-trans, NotedInPart-after}
 
 pub Passed-trans : (t0 t1 t2 : Told) (out0 out1 out : List ℕ) (seen0 seen1 seen : List Seen) (notes0 notes1 notes : List Note)
     → Passed t0 t1 out0 seen0 notes0 → Passed t1 t2 out1 seen1 notes1
@@ -11,7 +12,16 @@ pub Passed-trans : (t0 t1 t2 : Told) (out0 out1 out : List ℕ) (seen0 seen1 see
 Passed-trans t0 t1 t2 out0 out1 out seen0 seen1 seen notes0 notes1 notes first second outs seens all = record {
   left = second.left ∙ first.left;
   held = Grew-trans _ _ _ out0 out1 out first.held second.held outs;
-  noted = Grew-trans _ _ _ notes0 notes1 notes first.noted second.noted all;
+  noted = Noted-trans t0 t1 t2 notes0 notes1 notes first.noted second.noted all;
+  handed = Grew-trans _ _ _ seen0 seen1 seen first.handed second.handed seens;
+}
+
+pub PassedInPart-after : (t0 t1 t2 : Told) (seen0 seen1 seen : List Seen) (notes : List Note) (last : Note)
+    → Passed t0 t1 [] seen0 notes → PassedInPart t1 t2 seen1 [] last → seen ≡ seen0 ++ seen1 → PassedInPart t0 t2 seen notes last
+PassedInPart-after t0 t1 t2 seen0 seen1 seen notes last first second seens = record {
+  left = second.left ∙ first.left;
+  held = Grew-trans _ _ _ [] [] [] first.held second.held refl;
+  noted = NotedInPart-after t0 t1 t2 notes last first.noted second.noted;
   handed = Grew-trans _ _ _ seen0 seen1 seen first.handed second.handed seens;
 }
 
@@ -28,7 +38,7 @@ pub Exchanged-after : (t0 t1 t2 : Told) (asked : Bool) (byte : Option ℕ) (out0
 Exchanged-after t0 t1 t2 asked byte out0 out1 out seen0 seen1 seen notes0 notes1 notes first second outs seens all = record {
   left = GivesWhere-left asked t0.left t1.left t2.left byte first.left second.left;
   held = Grew-trans _ _ _ out0 out1 out first.held second.held outs;
-  noted = Grew-trans _ _ _ notes0 notes1 notes first.noted second.noted all;
+  noted = Noted-trans t0 t1 t2 notes0 notes1 notes first.noted second.noted all;
   handed = Grew-trans _ _ _ seen0 seen1 seen first.handed second.handed seens;
 }
 
@@ -38,7 +48,7 @@ pub Exchanged-before : (t0 t1 t2 : Told) (asked : Bool) (byte : Option ℕ) (out
 Exchanged-before t0 t1 t2 asked byte out0 out1 out seen0 seen1 seen notes0 notes1 notes first second outs seens all = record {
   left = GivesWhere-right asked t0.left t1.left t2.left byte second.left first.left;
   held = Grew-trans _ _ _ out0 out1 out first.held second.held outs;
-  noted = Grew-trans _ _ _ notes0 notes1 notes first.noted second.noted all;
+  noted = Noted-trans t0 t1 t2 notes0 notes1 notes first.noted second.noted all;
   handed = Grew-trans _ _ _ seen0 seen1 seen first.handed second.handed seens;
 }
 

@@ -8,7 +8,7 @@ use Rattle.jop_core.specs.declared.tick.Tick.{Tick}
 use Rattle.jop_core.specs.declared.tick.Tick.TheVariants.{Went, Halted, ReadFault, WriteFault, SeenFault}
 use Rattle.jop_core.specs.State.{State, seen_of}
 use Rattle.jop_core.specs.Cycle.{cycle_of, asks_input, output_of}
-use Rattle.jop_device.specs.Told.{Told, Note, Wrote, Saw, Passed, Exchanged, CountsRise, OnlyReads, OnlyWrites}
+use Rattle.jop_device.specs.Told.{Told, Note, Wrote, Saw, Passed, PassedInPart, Exchanged, CountsRise, OnlyReads, OnlyWrites}
 
 abbrev pub writes_of : List ℕ → List Note
 writes_of [] = []
@@ -18,10 +18,15 @@ writes_of (byte ∷ bytes) = Wrote byte ∷ writes_of bytes
 abbrev pub notes_of : State → List Note
 notes_of s = Saw (seen_of s) ∷ writes_of (output_of s)
 
+-- what a device notes of the first of these bytes
+abbrev pub first_write : List ℕ → Note
+first_write [] = Wrote 0
+first_write (byte ∷ bytes) = Wrote byte
+
 -- a device was given a byte, or there was none
 abbrev pub PutOut : {T E : Type 0} → Told → Told → List ℕ → Result T E → Type 0
 PutOut told told' out (Ok x) = Passed told told' out [] (writes_of out) × OnlyWrites told told'
-PutOut told told' out (Err e) = Passed told told' [] [] [] × OnlyWrites told told' × (out ≢ []) × Rose told.write_faults told'.write_faults
+PutOut told told' out (Err e) = PassedInPart told told' [] [] (first_write out) × OnlyWrites told told' × (out ≢ []) × Rose told.write_faults told'.write_faults
 
 -- a device was asked for a byte where the microinstruction asks for one
 abbrev pub AskedIn : {E : Type 0} → Told → Told → (asked : Bool) → Result (Option ℕ) E → Type 0
@@ -38,6 +43,6 @@ Ticked old new told told' Halted = (old.halt ≢ Running) × (new ≡ old) × (t
 Ticked old new told told' ReadFault =
     (old.halt ≡ Running) × (new ≡ old) × Passed told told' [] (seen_of old ∷ []) (Saw (seen_of old) ∷ []) × CountsRise told told' × (asks_input old ≡ true) × Rose told.read_faults told'.read_faults
 Ticked old new told told' WriteFault =
-    (old.halt ≡ Running) × (new ≡ old) × Passed told told' [] (seen_of old ∷ []) (Saw (seen_of old) ∷ []) × CountsRise told told' × (output_of old ≢ []) × Rose told.write_faults told'.write_faults
+    (old.halt ≡ Running) × (new ≡ old) × PassedInPart told told' (seen_of old ∷ []) (Saw (seen_of old) ∷ []) (first_write (output_of old)) × CountsRise told told' × (output_of old ≢ []) × Rose told.write_faults told'.write_faults
 Ticked old new told told' SeenFault =
-    (old.halt ≡ Running) × (new ≡ old) × Passed told told' [] [] [] × CountsRise told told' × Rose told.seen_faults told'.seen_faults
+    (old.halt ≡ Running) × (new ≡ old) × PassedInPart told told' [] [] (Saw (seen_of old)) × CountsRise told told' × Rose told.seen_faults told'.seen_faults

@@ -1,5 +1,6 @@
 -- What a device tells, and what each of its calls does to that.
-use Rattle.std.specs.Prelude.{◌≡◌, ℕ, ◌^◌, ◌<◌, ◌≤◌, Bool, true, false, List, [], ◌∷◌, Some, None, Ok, Err}
+use Rattle.std.specs.Prelude.{◌≡◌, ℕ, ◌^◌, ◌<◌, ◌≤◌, Bool, true, false, List, [], ◌∷◌, ◌++◌, Some, None, Ok, Err}
+use Rattle.std.specs.List.{flat_map}
 use Rattle.std.specs.declared.option.Option.{Option}
 use Rattle.std.specs.declared.result.Result.{Result}
 use Rattle.telling.specs.Telling.{Grew, Rose}
@@ -10,22 +11,49 @@ pub data Note : Type 0 where
   Wrote : ℕ → Note
   Saw : Seen → Note
 
--- What is left of a device's input, what it holds of its output, what it has noted and which states it was handed, each where it tells.
--- Its counts of faults.
+-- What is left of a device's input, what it holds of its output, what it has written of all that it noted and which states it was handed, each where it
+-- tells; the line that it writes of a thing, if any. Its counts of faults.
 pub record Told : Type 0 where
   pub left : Option (List ℕ)
   pub held : Option (List ℕ)
-  pub noted : Option (List Note)
+  pub line : Note → List ℕ
+  pub noted : Option (List ℕ)
   pub handed : Option (List Seen)
   pub read_faults : ℕ
   pub write_faults : ℕ
   pub seen_faults : ℕ
 
+-- a device that writes nothing of what it notes
+abbrev pub silent : Note → List ℕ
+silent note = []
+
+-- the lines of things in order grew what it has written, which goes on to write such lines
+pub record Noted (old new : Told) (notes : List Note) : Type 0 where
+  pub line : new.line ≡ old.line
+  pub written : Grew old.noted new.noted (flat_map old.line notes)
+
 -- A device was given these bytes and handed these states, noted all of it in this order, and no byte was taken from it.
 pub record Passed (old new : Told) (out : List ℕ) (seen : List Seen) (notes : List Note) : Type 0 where
   pub left : new.left ≡ old.left
   pub held : Grew old.held new.held out
-  pub noted : Grew old.noted new.noted notes
+  pub noted : Noted old new notes
+  pub handed : Grew old.handed new.handed seen
+
+-- What is told now was told before, and these are added to it, and then a front of the last, which is all of it only where the last is empty.
+pub record GrewInPart {A : Type 0} (old new : Option (List A)) (more last : List A) : Type 0 where
+  pub grown : (ys : List A) → new ≡ Some ys
+      → (xs : List A) × (old ≡ Some xs) × (front : List A) × (rest : List A) × (last ≡ front ++ rest) × (rest ≡ [] → front ≡ []) × (ys ≡ xs ++ (more ++ front))
+
+-- the lines of things in order and a front of one more
+pub record NotedInPart (old new : Told) (notes : List Note) (last : Note) : Type 0 where
+  pub line : new.line ≡ old.line
+  pub written : GrewInPart old.noted new.noted (flat_map old.line notes) (old.line last)
+
+-- A device was handed these states and noted them, and of one thing more, on which it failed, no more than a part. Nothing was put out or taken.
+pub record PassedInPart (old new : Told) (seen : List Seen) (notes : List Note) (last : Note) : Type 0 where
+  pub left : new.left ≡ old.left
+  pub held : Grew old.held new.held []
+  pub noted : NotedInPart old new notes last
   pub handed : Grew old.handed new.handed seen
 
 -- the counts never fall
@@ -70,7 +98,7 @@ Gives old new byte = IsGiven byte × GivesFirst old new byte
 pub record TookByte (old new : Told) (byte : Option ℕ) : Type 0 where
   pub left : Gives old.left new.left byte
   pub held : Grew old.held new.held []
-  pub noted : Grew old.noted new.noted []
+  pub noted : Noted old new []
   pub handed : Grew old.handed new.handed []
 
 -- where a byte was asked for it was given, and else nothing was
@@ -82,7 +110,7 @@ GivesWhere false old new byte = (new ≡ old) × (byte ≡ None)
 pub record Exchanged (old new : Told) (asked : Bool) (byte : Option ℕ) (out : List ℕ) (seen : List Seen) (notes : List Note) : Type 0 where
   pub left : GivesWhere asked old.left new.left byte
   pub held : Grew old.held new.held out
-  pub noted : Grew old.noted new.noted notes
+  pub noted : Noted old new notes
   pub handed : Grew old.handed new.handed seen
 
 -- these answers were given, one after the other
@@ -94,7 +122,7 @@ GivesEach old new (answer ∷ answers) = (mid : Option (List ℕ)) × Gives old 
 pub record Attended (old new : Told) (answers : List (Option ℕ)) (out : List ℕ) (seen : List Seen) (notes : List Note) : Type 0 where
   pub left : GivesEach old.left new.left answers
   pub held : Grew old.held new.held out
-  pub noted : Grew old.noted new.noted notes
+  pub noted : Noted old new notes
   pub handed : Grew old.handed new.handed seen
   pub counts : CountsRise old new
 
@@ -106,9 +134,9 @@ Inputs old new (Err e) = Passed old new [] [] [] × OnlyReads old new × Rose ol
 -- what `output` does
 abbrev pub Outputs : {T E : Type 0} → Told → Told → ℕ → Result T E → Type 0
 Outputs old new byte (Ok x) = Passed old new (byte ∷ []) [] (Wrote byte ∷ []) × OnlyWrites old new
-Outputs old new byte (Err e) = Passed old new [] [] [] × OnlyWrites old new × Rose old.write_faults new.write_faults
+Outputs old new byte (Err e) = PassedInPart old new [] [] (Wrote byte) × OnlyWrites old new × Rose old.write_faults new.write_faults
 
 -- what `seen` does
 abbrev pub Sees : {T E : Type 0} → Told → Told → Seen → Result T E → Type 0
 Sees old new at (Ok x) = Passed old new [] (at ∷ []) (Saw at ∷ []) × OnlySees old new
-Sees old new at (Err e) = Passed old new [] [] [] × OnlySees old new × Rose old.seen_faults new.seen_faults
+Sees old new at (Err e) = PassedInPart old new [] [] (Saw at) × OnlySees old new × Rose old.seen_faults new.seen_faults

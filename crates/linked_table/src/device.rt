@@ -1,6 +1,6 @@
 //! The device of the rows.
 ghost use Rattle.std.specs.Prelude.{None, []};
-ghost use Rattle.jop_device.specs.Told.{Told};
+ghost use Rattle.jop_device.specs.Told.{Told, silent};
 
 use jop_core::{DeviceFault, Devices, Seen};
 use std::alloc::Global;
@@ -26,6 +26,7 @@ impl Devices for Keeper {
     ghost told = { λ d. record {
       left = None;
       held = None;
+      line = silent;
       noted = None;
       handed = None;
       read_faults = 0;

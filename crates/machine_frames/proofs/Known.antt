@@ -1,6 +1,8 @@
 -- Methods by the place of their record.
-use Rattle.std.proofs.Common.{◌≡◌, ℕ, List, Some, sym, ◌∙◌, ap}
-use Rattle.std.specs.Prelude.{slice_get, IsSomeAnd}
+use Rattle.std.proofs.Common.{◌≡◌, ℕ, ◌<◌, List, Some, None, refl, sym, ◌∙◌, ap}
+use Rattle.std.proofs.lemmas.Option.{slice_get_within}
+use Rattle.std.specs.declared.option.Option.{Option}
+use Rattle.std.specs.Prelude.{slice_get, length, IsSomeAnd}
 use Rattle.coded_methods.specs.declared.method.CodedMethod.{CodedMethod}
 use Rattle.coded_methods.specs.Methods.{IsMethod, AreMethods}
 use Rattle.bytecode_model.specs.Program.{Program, Body, body_of}
@@ -24,3 +26,11 @@ module _ (P : Program) (pl : Places) (methods : List CodedMethod) (are : AreMeth
       let (e, got, known) = known_at in
       let same : x ≡ e = is m e got (known.place_is ∙ sym at) in
       (ap (λ (y : CodedMethod). y.max_locals) same ∙ known.max_locals, ap (λ (y : CodedMethod). y.code.now) same ∙ known.code)
+
+-- a number of a method that lies at a place is one of the list
+within : (methods : List CodedMethod) (k place : ℕ) (found : Option CodedMethod) → slice_get methods k ≡ found → IsSomeAnd found (λ e. e.place ≡ place) → k < length methods
+within methods k place (Some e) is lies_there = slice_get_within methods k e is
+within methods k place None is lies_there = absurd lies_there
+
+pub within_list : (methods : List CodedMethod) (k place : ℕ) → IsSomeAnd (slice_get methods k) (λ e. e.place ≡ place) → k < length methods
+within_list methods k place lies_there = within methods k place (slice_get methods k) refl lies_there

@@ -1,5 +1,5 @@
 //! The top frame.
-ghost use Rattle.std.specs.Prelude.{◌≡◌, sum_by};
+ghost use Rattle.std.specs.Prelude.{◌≡◌, ◌<◌, length, sum_by};
 ghost use Rattle.bytecode_model.specs.Sizes.{value_words};
 ghost use Rattle.machine_frames.specs.Shows.{IsShown, EachTop, IsRunning, EachRunning, IsRaising, EachRaising};
 
@@ -12,7 +12,8 @@ use machine_stands::frames_have_room;
 /// The number of its method.
 pub fn top_method<const N: usize>(machine: &Machine<N>, methods: &[CodedMethod<'_>]) -> u32
     requires { IsShown N methods.now machine.now }
-    ensures { EachTop methods.now machine.now (λ f. f.method ≡ result) }
+    ensures method { EachTop methods.now machine.now (λ f. f.method ≡ result) }
+    ensures known { result < length methods.now }
 {
     // The law is for the proof.
     frames_have_room();

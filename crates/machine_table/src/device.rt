@@ -1,6 +1,6 @@
 //! The device of the machines of the table.
 ghost use Rattle.std.specs.Prelude.{None, []};
-ghost use Rattle.jop_device.specs.Told.{Told};
+ghost use Rattle.jop_device.specs.Told.{Told, silent};
 
 use jop_core::{DeviceFault, Devices, MemWatch, Seen, Watch};
 use std::alloc::Global;
@@ -30,6 +30,7 @@ impl Devices for Keeper {
     ghost told = { λ d. record {
       left = None;
       held = None;
+      line = silent;
       noted = None;
       handed = None;
       read_faults = 0;

@@ -15,6 +15,7 @@ impl Devices for Nothing {
     ghost told = { λ _. record {
       left = None;
       held = None;
+      line = λ _. [];
       noted = None;
       handed = None;
       read_faults = 0;

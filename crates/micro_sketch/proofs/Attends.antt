@@ -3,6 +3,7 @@ use Rattle.std.proofs.Common.{◌≡◌, ℕ, Bool, true, false, List, [], ◌�
 use Rattle.std.specs.declared.option.Option.{Option}
 use Rattle.telling.specs.Growing.{Grew-refl, Grew-trans}
 use Rattle.jop_device.specs.declared.seen.Seen.{Seen}
+use Rattle.jop_device.specs.Noting.{Noted-refl, Noted-trans}
 use Rattle.jop_device.specs.Told.{Told, Note, Exchanged, GivesWhere, GivesEach, Attended, CountsRise}
 
 -- the answers of a cycle: one where it asks, and else none
@@ -19,7 +20,7 @@ GivesEach-one true l0 l1 input gives = (l1, gives, refl)
 GivesEach-one false l0 l1 input gives = gives.0
 
 pub Attended-refl : (told : Told) → Attended told told [] [] [] []
-Attended-refl told = record { left = refl; held = Grew-refl told.held; noted = Grew-refl told.noted; handed = Grew-refl told.handed; counts = record { reads = omega arith; writes = omega arith; sees = omega arith } }
+Attended-refl told = record { left = refl; held = Grew-refl told.held; noted = Noted-refl told; handed = Grew-refl told.handed; counts = record { reads = omega arith; writes = omega arith; sees = omega arith } }
 
 pub Attended-one : (t0 t1 : Told) (asks : Bool) (input : Option ℕ) (out : List ℕ) (seen : List Seen) (notes : List Note)
     → Exchanged t0 t1 asks input out seen notes → CountsRise t0 t1 → Attended t0 t1 (asked_for asks input) out seen notes
@@ -37,7 +38,7 @@ pub Attended-trans : (t0 t1 t2 : Told) (answers0 answers1 : List (Option ℕ)) (
 Attended-trans t0 t1 t2 answers0 answers1 out0 out1 out seen0 seen1 seen notes0 notes1 notes first second outs seens all = record {
   left = GivesEach-append t0.left t1.left t2.left answers0 answers1 first.left second.left;
   held = Grew-trans _ _ _ out0 out1 out first.held second.held outs;
-  noted = Grew-trans _ _ _ notes0 notes1 notes first.noted second.noted all;
+  noted = Noted-trans t0 t1 t2 notes0 notes1 notes first.noted second.noted all;
   handed = Grew-trans _ _ _ seen0 seen1 seen first.handed second.handed seens;
   counts = let a = first.counts in let b = second.counts in record { reads = omega (arith, a.reads, b.reads); writes = omega (arith, a.writes, b.writes); sees = omega (arith, a.sees, b.sees) };
 }

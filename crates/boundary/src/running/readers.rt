@@ -1,5 +1,5 @@
 //! What is read of the state for which a run's machine stands: its top frame, and how many frames there are.
-ghost use Rattle.std.specs.Prelude.{◌≡◌, length, sum_by};
+ghost use Rattle.std.specs.Prelude.{◌≡◌, ◌<◌, length, sum_by};
 ghost use Rattle.bytecode_model.specs.Sizes.{value_words};
 ghost use Rattle.boundary.specs.Answers.{IsGoing};
 ghost use Rattle.boundary.specs.Session.{EachState, EachTop};
@@ -14,7 +14,8 @@ impl<'a, const N: usize> Running<'a, N> {
     /// The number of the method whose frame is on top.
     pub fn method(&self) -> u32
         requires { IsGoing self.now.mode }
-        ensures { EachTop self.now (λ f. f.method ≡ result) }
+        ensures method { EachTop self.now (λ f. f.method ≡ result) }
+        ensures known { result < length self.now.methods }
     {
         // The laws are for the proof.
         fitting_states_are_well_formed();

@@ -12,7 +12,7 @@ top_method-requires g c =
     let r : Session = record { machine = c.self.inside.machine; methods = methods_of c.self.inside.methods; mode = c.self.inside.mode } in
     (lit< tt, is_shown c.fitting_states_are_well_formed.ensures c.stages_agree.ensures g.row.N r c.args.self.now c.self.view_is c.requires c.self.invariant c.as_slice.result.now c.as_slice.ensures)
 
-pub returns : goal.returns
-returns g c =
+pub returns-clause-method : goal.returns-clause-method
+returns-clause-method g c =
     let r : Session = record { machine = c.self.inside.machine; methods = methods_of c.self.inside.methods; mode = c.self.inside.mode } in
-    each_state c.fitting_states_are_well_formed.ensures c.stages_agree.ensures g.row.N r c.args.self.now c.self.view_is c.requires c.self.invariant c.as_slice.result.now c.as_slice.ensures (λ (s : State). IsSomeAnd (top_frame s.frames) (λ (f : Frame). f.method ≡ c.top_method.result)) c.top_method.ensures
+    each_state c.fitting_states_are_well_formed.ensures c.stages_agree.ensures g.row.N r c.args.self.now c.self.view_is c.requires c.self.invariant c.as_slice.result.now c.as_slice.ensures (λ (s : State). IsSomeAnd (top_frame s.frames) (λ (f : Frame). f.method ≡ c.top_method.result)) c.top_method.ensures.method
