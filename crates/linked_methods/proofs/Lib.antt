@@ -1,0 +1,4 @@
+mod Coded
+mod Filled
+mod Places
+mod Ended

@@ -1,0 +1,8 @@
+mod Between
+mod Caught
+mod Statics
+mod Tables
+mod Boot
+mod Limits
+mod Handlers
+mod Told
