@@ -4,9 +4,11 @@ use Rattle.std.specs.List.{concat}
 use Rattle.std.specs.declared.option.Option.{Option}
 use Rattle.command_lines.specs.declared.line.Counts.{Counts}
 use Rattle.command_lines.specs.declared.line.Line.{Line}
-use Rattle.command_lines.specs.declared.line.Line.TheVariants.{Ended, Uncaught, Spent, Linked, Usage, TooBig, BadImage, NotBuilt, Differs, MethodTooLong, MemoryTooSmall, Link, ReadFault, WriteFault, NoMemory}
+use Rattle.command_lines.specs.declared.line.Line.TheVariants.{Ended, Uncaught, Spent, Linked, Usage, TooBig, BadImage, NotBuilt, Differs, MethodTooLong, MemoryTooSmall, Link, Asm, ReadFault, WriteFault, NoMemory}
 use Rattle.command_lines.specs.declared.line.LinkLine.{LinkLine}
 use Rattle.command_lines.specs.declared.line.LinkLine.TheVariants.{BadClass, UnsupportedVersion, Duplicate, Unsupported, Unresolved, BadHierarchy, NoMain, NotVerified, TooLarge}
+use Rattle.command_lines.specs.declared.line.AsmLine.{AsmLine}
+use Rattle.command_lines.specs.declared.line.AsmLine.TheVariants.{Broken, TooLong}
 use Rattle.command_lines.specs.declared.line.Place.{Place}
 use Rattle.command_lines.specs.declared.line.Place.TheVariants as place
 use Rattle.command_lines.specs.declared.line.Named.{Named}
@@ -64,6 +66,12 @@ link_parts (NotVerified file method pc rule) =
     codes "link: not verified file=" ∷ decimal file ∷ codes " method=" ∷ decimal method ∷ codes " pc=" ∷ decimal pc ∷ codes " rule=" ∷ rule.now ∷ codes "\n" ∷ []
 link_parts (TooLarge what count limit) = codes "link: too large " ∷ what.now ∷ codes " count=" ∷ decimal count ∷ codes " limit=" ∷ decimal limit ∷ codes "\n" ∷ []
 
+-- ---- refusals of assembling
+
+abbrev pub asm_parts : AsmLine → List (List ℕ)
+asm_parts (Broken line rule) = codes "asm: line=" ∷ decimal line ∷ codes " " ∷ rule.now ∷ codes "\n" ∷ []
+asm_parts (TooLong words) = codes "asm: too long words=" ∷ decimal words ∷ codes "\n" ∷ []
+
 -- ---- the whole line
 
 abbrev pub parts_of : Line → List (List ℕ)
@@ -80,6 +88,7 @@ parts_of (Differs word kept linked) = codes "differs word=" ∷ decimal word ∷
 parts_of (MethodTooLong name blocks limit) = codes "method too long " ∷ name.now ∷ codes " blocks=" ∷ decimal blocks ∷ codes " limit=" ∷ decimal limit ∷ codes "\n" ∷ []
 parts_of (MemoryTooSmall words given) = codes "memory too small words=" ∷ decimal words ∷ codes " given=" ∷ decimal given ∷ codes "\n" ∷ []
 parts_of (Link refusal) = link_parts refusal
+parts_of (Asm refusal) = asm_parts refusal
 parts_of ReadFault = codes "read fault\n" ∷ []
 parts_of WriteFault = codes "write fault\n" ∷ []
 parts_of NoMemory = codes "no memory\n" ∷ []

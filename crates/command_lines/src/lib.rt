@@ -6,5 +6,5 @@ mod link;
 mod pieces;
 mod put;
 
-pub use line::{Counts, Line, LinkLine, Named, Place, Sizes};
+pub use line::{AsmLine, Counts, Line, LinkLine, Named, Place, Sizes};
 pub use put::{put_line, say};

@@ -56,6 +56,7 @@ pub enum Line<'a> {
         given: u32,
     },
     Link(LinkLine<'a>),
+    Asm(AsmLine<'a>),
     ReadFault,
     WriteFault,
     NoMemory,
@@ -79,6 +80,15 @@ pub enum LinkLine<'a> {
     NotVerified(u32, u32, u32, &'a [u8]),
     /// What is counted, its count, and the limit.
     TooLarge(&'a [u8], u64, u64),
+}
+
+/// Why a text of microcode isn't assembled.
+#[derive(Clone, Copy)]
+pub enum AsmLine<'a> {
+    /// The line of the text, counted from 1, and the rule that is broken.
+    Broken(u32, &'a [u8]),
+    /// How many words there are, which are too many.
+    TooLong(u32),
 }
 
 /// Where an item stands in a class file.

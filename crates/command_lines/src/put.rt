@@ -6,7 +6,7 @@ ghost use Rattle.command_lines.specs.Line.{line_of, counts_parts, is_fault};
 ghost use Rattle.command_lines.specs.Put.{PutLine};
 ghost use Rattle.command_lines.specs.Said.{Said};
 
-use crate::line::{Counts, Line, Sizes};
+use crate::line::{AsmLine, Counts, Line, Sizes};
 use crate::link::put_link_line;
 use crate::pieces::{Piece, put_pieces};
 use jop_outside::{Failed, Sink};
@@ -40,6 +40,8 @@ pub fn put_line<O: Sink>(sink: &mut O, line: &Line<'_>) -> Result<(), Failed>
         } => put_method(sink, name, blocks, limit),
         Line::MemoryTooSmall { words, given } => put_memory(sink, words, given),
         Line::Link(ref refusal) => put_link_line(sink, refusal),
+        Line::Asm(AsmLine::Broken(line, rule)) => put_broken(sink, line, rule),
+        Line::Asm(AsmLine::TooLong(words)) => put_too_long(sink, words),
         Line::ReadFault => put_text(sink, b"read fault\n"),
         Line::WriteFault => put_text(sink, b"write fault\n"),
         Line::NoMemory => put_text(sink, b"no memory\n"),
@@ -189,6 +191,36 @@ fn put_memory<O: Sink>(sink: &mut O, words: u32, given: u32) -> Result<(), Faile
             Piece::Number(words as u128),
             Piece::Text(b" given="),
             Piece::Number(given as u128),
+            Piece::Text(b"\n"),
+        ],
+    )
+}
+
+fn put_broken<O: Sink>(sink: &mut O, line: u32, rule: &[u8]) -> Result<(), Failed>
+    ensures put { PutLine (O.held sink.old) (O.held sink.new) (concat (codes "asm: line=" ∷ decimal line ∷ codes " " ∷ rule.now ∷ codes "\n" ∷ [])) result }
+    ensures cause { HasCause (O.faults sink.old) (O.faults sink.new) result }
+{
+    put_pieces(
+        sink,
+        &[
+            Piece::Text(b"asm: line="),
+            Piece::Number(line as u128),
+            Piece::Text(b" "),
+            Piece::Text(rule),
+            Piece::Text(b"\n"),
+        ],
+    )
+}
+
+fn put_too_long<O: Sink>(sink: &mut O, words: u32) -> Result<(), Failed>
+    ensures put { PutLine (O.held sink.old) (O.held sink.new) (concat (codes "asm: too long words=" ∷ decimal words ∷ codes "\n" ∷ [])) result }
+    ensures cause { HasCause (O.faults sink.old) (O.faults sink.new) result }
+{
+    put_pieces(
+        sink,
+        &[
+            Piece::Text(b"asm: too long words="),
+            Piece::Number(words as u128),
             Piece::Text(b"\n"),
         ],
     )

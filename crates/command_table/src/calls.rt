@@ -8,11 +8,13 @@ use std::io;
 fn name_of(outcome: Outcome) -> &'static str {
     match outcome {
         Outcome::Ended => "Ended",
+        Outcome::Written => "Written",
         Outcome::Refused(Refusal::Usage(_)) => "Usage",
         Outcome::Refused(Refusal::TooBig(_, _)) => "TooBig",
         Outcome::Refused(Refusal::BadImage) => "BadImage",
         Outcome::Refused(Refusal::NotBuilt) => "NotBuilt",
         Outcome::Refused(Refusal::MethodTooLong(_, _, _)) => "MethodTooLong",
+        Outcome::Refused(Refusal::Asm(_)) => "Asm",
         Outcome::Spent => "Spent",
         Outcome::ReadFault => "ReadFault",
         Outcome::WriteFault => "WriteFault",
@@ -36,40 +38,69 @@ fn entries_of(
     Ok(entries)
 }
 
-// What comes of a call of these words over objects in memory, where they are few enough for one.
+/// What came of a call, and what `out` and `err` then hold.
+#[derive(Drop)]
+pub struct Answer {
+    pub outcome: Outcome,
+    pub out: MemSink,
+    pub err: MemSink,
+}
+
+/// What comes of a call of these words, where they are few enough for one. The last of them names a file with these
+/// bytes or, without any, one that can't be read. The puts into out and into err whose numbers are listed fail.
+pub fn call(
+    alloc: Global,
+    words: &[&str],
+    file: Option<&[u8]>,
+    out_fails: &[u64],
+    err_fails: &[u64],
+) -> Result<Option<Answer>, AllocError> {
+    let entries = entries_of(alloc, words.len(), file)?;
+    let out = MemSink::new(alloc, out_fails.to_vec(alloc)?);
+    let err = MemSink::new(alloc, err_fails.to_vec(alloc)?);
+    Ok(called(alloc, words, entries, out, err))
+}
+
+// What comes of a call of these words over objects in memory.
 fn called(
     alloc: Global,
     words: &[&str],
     entries: Vec<Option<Vec<u8>>>,
-    out: &mut MemSink,
-    err: &mut MemSink,
-) -> Option<Outcome> {
+    mut out: MemSink,
+    mut err: MemSink,
+) -> Option<Answer> {
     if words.len() >= 1 << 32 || entries.len() != words.len() {
         return None;
     }
     let mut files = MemFiles::new(entries, Vec::new(alloc));
     let mut input = MemSource::new(Vec::new(alloc), Vec::new(alloc));
-    Some(jop(alloc, words, &mut files, &mut input, out, err, &mut NoWatch))
+    let outcome = jop(
+        alloc,
+        words,
+        &mut files,
+        &mut input,
+        &mut out,
+        &mut err,
+        &mut NoWatch,
+    );
+    Some(Answer { outcome, out, err })
 }
 
-// Prints words, what came of their call, and what `out` and `err` hold.
-fn print_line(
-    rt: &HostRuntime,
-    words: &[&str],
-    outcome: Outcome,
-    out: &[u8],
-    err: &[u8],
-) -> io::Result<()> {
+// Prints words and the outcome of their call.
+fn print_outcome(rt: &HostRuntime, words: &[&str], outcome: Outcome) -> io::Result<()> {
     for word in words {
         print!(rt; "{word} ")?;
     }
     let (name, status) = (name_of(outcome), outcome.status());
-    let line = std::str::from_utf8(err).unwrap_or("no text");
-    println!(rt; "-> {name} {status}, out {out:?}, err {line:?}")
+    print!(rt; "-> {name} {status}")
 }
 
-/// Calls words, the last of which names a file with these bytes or, without any, one that can't be read, and
-/// prints what comes of it. The puts into out and into err whose numbers are listed fail.
+/// The text that these bytes are.
+pub fn text_of(bytes: &[u8]) -> &str {
+    std::str::from_utf8(bytes).unwrap_or("no text")
+}
+
+/// Prints what comes of a call.
 pub fn show(
     rt: &HostRuntime,
     words: &[&str],
@@ -77,12 +108,26 @@ pub fn show(
     out_fails: &[u64],
     err_fails: &[u64],
 ) -> io::Result<()> {
-    let alloc = rt.alloc();
-    let mut out = MemSink::new(alloc, out_fails.to_vec(alloc)?);
-    let mut err = MemSink::new(alloc, err_fails.to_vec(alloc)?);
-    let entries = entries_of(alloc, words.len(), file)?;
-    match called(alloc, words, entries, &mut out, &mut err) {
-        Some(outcome) => print_line(rt, words, outcome, out.held(), err.held()),
-        None => println!(rt; "too many words"),
-    }
+    let Some(answer) = call(rt.alloc(), words, file, out_fails, err_fails)? else {
+        return println!(rt; "too many words");
+    };
+    let (out, err) = (answer.out.held(), text_of(answer.err.held()));
+    print_outcome(rt, words, answer.outcome)?;
+    println!(rt; ", out {out:?}, err {err:?}")
+}
+
+/// The same, where `out` holds a text.
+pub fn show_text(
+    rt: &HostRuntime,
+    words: &[&str],
+    file: Option<&[u8]>,
+    out_fails: &[u64],
+    err_fails: &[u64],
+) -> io::Result<()> {
+    let Some(answer) = call(rt.alloc(), words, file, out_fails, err_fails)? else {
+        return println!(rt; "too many words");
+    };
+    let (out, err) = (text_of(answer.out.held()), text_of(answer.err.held()));
+    print_outcome(rt, words, answer.outcome)?;
+    println!(rt; ", out {out:?}, err {err:?}")
 }

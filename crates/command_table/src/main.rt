@@ -7,6 +7,7 @@ mod calls;
 mod images;
 mod machine;
 mod rows;
+mod texts;
 mod watches;
 
 use std::io;
@@ -20,6 +21,11 @@ fn main(rt: HostRuntime) -> io::Result<()> {
     rows::show_others(&rt)?;
     rows::show_usages(&rt)?;
     rows::show_faults(&rt)?;
+    texts::show_listings(&rt)?;
+    texts::show_broken_rules(&rt)?;
+    texts::show_text_faults(&rt)?;
+    texts::show_longest_listing(&rt)?;
+    texts::show_long_text(&rt)?;
     watches::show_states(&rt)?;
     watches::show_long_watches(&rt)?;
     machine::show_reset(&rt)?;

@@ -85,7 +85,6 @@ pub fn show_others(rt: &HostRuntime) -> io::Result<()> {
         &[],
     )?;
     show(rt, &["check", "i", "b", "c"], None, &[], &[])?;
-    show(rt, &["asm", "t"], None, &[], &[])?;
     show(rt, &["work", "1"], None, &[], &[])
 }
 

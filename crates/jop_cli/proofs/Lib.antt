@@ -1,3 +1,4 @@
 pub mod Reset
 pub mod Executing
 pub mod Words
+pub mod Fitting

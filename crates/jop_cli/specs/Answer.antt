@@ -1,68 +1,32 @@
 -- What the top call answers.
-use Rattle.std.specs.Prelude.{◌≡◌, ℕ, ◌<◌, ◌≤◌, true, false, ◌⊎◌, List, length, Ok, Err}
+use Rattle.std.specs.Prelude.{◌≡◌, ℕ, ◌≤◌, true, false, ◌⊎◌, List, Ok, Err}
 use Rattle.std.specs.declared.option.Option.{Option}
 use Rattle.std.specs.declared.result.Result.{Result}
-use Rattle.jop_outside.specs.Outside.{Grew, Rose, OnlyWord, IsWhole, HasLength}
-use Rattle.jop_device.specs.declared.seen.Seen.{Seen}
+use Rattle.jop_outside.specs.Outside.{Grew, Rose}
 use Rattle.bare_image.specs.Bare.{Image, IsBare}
 use Rattle.jop_words.specs.declared.command.Settings.{Settings}
 use Rattle.jop_words.specs.declared.command.Command.{Command}
-use Rattle.jop_words.specs.declared.command.Command.TheVariants.{Run}
+use Rattle.jop_words.specs.declared.command.Command.TheVariants.{Run, Asm as Assemble}
 use Rattle.jop_words.specs.Command.{command_of}
 use Rattle.command_lines.specs.Said.{SaidLess}
 use Rattle.jop_cli.specs.declared.outcome.Refusal.{Refusal}
 use Rattle.jop_cli.specs.declared.outcome.Refusal.TheVariants.{Usage, TooBig, BadImage, NotBuilt}
 use Rattle.jop_cli.specs.declared.outcome.Ending.{Ending}
-use Rattle.jop_cli.specs.declared.outcome.Ending.TheVariants.{Ended, Refused, Spent, ReadFault, WriteFault, NoMemory}
+use Rattle.jop_cli.specs.declared.outcome.Ending.TheVariants.{Ended, Written, Refused, Spent, ReadFault, WriteFault, NoMemory}
 use Rattle.jop_cli.specs.declared.outcome.Outcome.{Outcome}
 use Rattle.jop_cli.specs.declared.outcome.Outcome.TheVariants as outcomes
 use Rattle.jop_cli.specs.Line.{line_of, is_fault}
 use Rattle.jop_cli.specs.Run.{Outside, outside}
 use Rattle.jop_cli.specs.Phase.{is_linked, IsNoImage, IsTooLong, RanWith}
-
--- what is told of files, out and the watch, and the counts of faults of files and out
-pub record World : Type 0 where
-  pub words : ℕ
-  pub files : ℕ → Option (List ℕ)
-  pub file_faults : ℕ → ℕ
-  pub out : Option (List ℕ)
-  pub out_faults : ℕ
-  pub watch : Option (List Seen)
-
-abbrev pub world : ℕ → (ℕ → Option (List ℕ)) → (ℕ → ℕ) → Option (List ℕ) → ℕ → Option (List Seen) → World
-world words files file_faults out out_faults watch =
-    record { words = words; files = files; file_faults = file_faults; out = out; out_faults = out_faults; watch = watch }
+use Rattle.jop_cli.specs.World.{World, IsQuiet, FilesStayBut, IsUnchanged, Reads, IsTooBig}
+use Rattle.jop_cli.specs.Assembling.{Assembles}
 
 abbrev pub outside_of : World → Outside
 outside_of w = outside w.out w.watch w.out_faults
 
--- out and the watch are as they were
-pub record IsQuiet (old new : World) : Type 0 where
-  pub out : new.out ≡ old.out
-  pub out_faults : new.out_faults ≡ old.out_faults
-  pub watch : new.watch ≡ old.watch
-
--- no contents and no count of a file changed, but for the count of the file of a word, which didn't fall
-pub record FilesStayBut (word : ℕ) (old new : World) : Type 0 where
-  pub rest : OnlyWord old.words new.words old.files new.files old.file_faults new.file_faults word
-  pub later : old.file_faults word ≤ new.file_faults word
-
--- nothing changed
-pub record IsUnchanged (old new : World) : Type 0 where
-  pub words : new.words ≡ old.words
-  pub contents : (k : ℕ) → new.files k ≡ old.files k
-  pub counts : (k : ℕ) → new.file_faults k ≡ old.file_faults k
-  pub quiet : IsQuiet old new
-
 -- ---- `run`
 
--- of the files no more than the count of this word's changed, and these are the file's bytes
-pub record Reads (word : ℕ) (bytes : List ℕ) (old new : World) : Type 0 where
-  pub files : FilesStayBut word old new
-  pub whole : IsWhole (old.files word) bytes
-  pub short : length bytes ≤ 16777216
-
--- and these are those of an image
+-- the file of a word was read, and its bytes are those of an image
 pub record ReadsImage (word : ℕ) (image : Image) (old new : World) : Type 0 where
   pub bytes : List ℕ
   pub reads : Reads word bytes old new
@@ -71,7 +35,7 @@ pub record ReadsImage (word : ℕ) (image : Image) (old new : World) : Type 0 wh
 
 -- How the image of a word is refused before the machine is made.
 abbrev pub RefusedFor : (word : ℕ) → World → World → Refusal → Type 0
-RefusedFor word old new (TooBig operand sum) = FilesStayBut word old new × (operand ≡ word) × (16777216 < sum) × HasLength (old.files word) sum
+RefusedFor word old new (TooBig operand sum) = IsTooBig word old new operand sum
 RefusedFor word old new NotBuilt = (bytes : List ℕ) × Reads word bytes old new × (is_linked bytes ≡ true)
 RefusedFor word old new BadImage = (bytes : List ℕ) × Reads word bytes old new × IsNoImage bytes
 RefusedFor word old new refusal = ⊥
@@ -95,6 +59,7 @@ RunsFile settings word old new ending = RunsImage settings word old new ending
 abbrev pub Does : Result Command ℕ → World → World → Ending → Type 0
 Does (Err k) old new ending = (ending ≡ Refused (Usage k)) × IsUnchanged old new
 Does (Ok (Run settings image)) old new ending = RunsFile settings image old new ending
+Does (Ok (Assemble text)) old new ending = Assembles text old new ending
 Does (Ok command) old new ending = (ending ≡ Refused NotBuilt) × IsUnchanged old new
 
 abbrev pub Executed : List (List ℕ) → World → World → Ending → Type 0
@@ -102,6 +67,7 @@ Executed words old new ending = Does (command_of words) old new ending
 
 abbrev pub outcome_of : Ending → Outcome
 outcome_of (Ended counts) = outcomes.Ended
+outcome_of Written = outcomes.Written
 outcome_of (Refused refusal) = outcomes.Refused refusal
 outcome_of (Spent counts) = outcomes.Spent
 outcome_of ReadFault = outcomes.ReadFault
@@ -111,6 +77,7 @@ outcome_of NoMemory = outcomes.NoMemory
 -- the outcome where the line of an ending couldn't be put
 abbrev pub outcome_unsaid : Ending → Outcome
 outcome_unsaid (Ended counts) = outcomes.WriteFault
+outcome_unsaid Written = outcomes.WriteFault
 outcome_unsaid (Refused refusal) = outcomes.WriteFault
 outcome_unsaid (Spent counts) = outcomes.WriteFault
 outcome_unsaid ReadFault = outcomes.ReadFault
@@ -120,6 +87,7 @@ outcome_unsaid NoMemory = outcomes.NoMemory
 -- an outcome after which out and the watch are as they were
 abbrev pub LeavesOut : Outcome → Type 0
 LeavesOut outcomes.Ended = ⊥
+LeavesOut outcomes.Written = ⊥
 LeavesOut (outcomes.Refused refusal) = Unit {0}
 LeavesOut outcomes.Spent = ⊥
 LeavesOut outcomes.ReadFault = Unit {0}

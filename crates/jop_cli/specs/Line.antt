@@ -1,15 +1,27 @@
--- The line of each ending.
+-- The line of each ending, which is empty where all was written.
 use Rattle.std.specs.Prelude.{ℕ, Bool, true, false, List, [], ◌∷◌, get_or, codes, decimal}
 use Rattle.std.specs.List.{concat}
 use Rattle.jop_cli.specs.declared.outcome.Refusal.{Refusal}
-use Rattle.jop_cli.specs.declared.outcome.Refusal.TheVariants.{Usage, TooBig, BadImage, NotBuilt, MethodTooLong}
+use Rattle.jop_cli.specs.declared.outcome.Refusal.TheVariants.{Usage, TooBig, BadImage, NotBuilt, MethodTooLong, Asm}
+use Rattle.jop_cli.specs.declared.outcome.AsmRefusal.TheVariants.{Line, TooLong}
 use Rattle.jop_cli.specs.declared.outcome.Ending.{Ending}
-use Rattle.jop_cli.specs.declared.outcome.Ending.TheVariants.{Ended, Refused, Spent, ReadFault, WriteFault, NoMemory}
+use Rattle.jop_cli.specs.declared.outcome.Ending.TheVariants.{Ended, Written, Refused, Spent, ReadFault, WriteFault, NoMemory}
+use Rattle.microcode_asm.specs.declared.AsmKind.{AsmKind}
+use Rattle.microcode_asm.specs.declared.AsmKind.TheVariants.{Form, NoLabel, LabelTwice, EntryTwice, ConstTwice, NoTurns}
 use Rattle.command_lines.specs.Line.{counts_parts}
 
 -- the text of a word
 abbrev pub text_at : List (List ℕ) → ℕ → List ℕ
 text_at words k = get_or words k []
+
+-- the name of a rule of microprograms
+abbrev pub kind_name : AsmKind → List ℕ
+kind_name Form = codes "Form"
+kind_name NoLabel = codes "NoLabel"
+kind_name LabelTwice = codes "LabelTwice"
+kind_name EntryTwice = codes "EntryTwice"
+kind_name ConstTwice = codes "ConstTwice"
+kind_name NoTurns = codes "NoTurns"
 
 abbrev pub refusal_parts : List (List ℕ) → Refusal → List (List ℕ)
 refusal_parts words (Usage k) = codes "usage: word " ∷ decimal k ∷ codes "\n" ∷ []
@@ -17,9 +29,12 @@ refusal_parts words (TooBig operand sum) = codes "too big " ∷ text_at words op
 refusal_parts words BadImage = codes "bad image\n" ∷ []
 refusal_parts words NotBuilt = codes "not built\n" ∷ []
 refusal_parts words (MethodTooLong method blocks limit) = codes "method too long " ∷ codes "boot" ∷ codes " blocks=" ∷ decimal blocks ∷ codes " limit=" ∷ decimal limit ∷ codes "\n" ∷ []
+refusal_parts words (Asm (Line number kind)) = codes "asm: line=" ∷ decimal number ∷ codes " " ∷ kind_name kind ∷ codes "\n" ∷ []
+refusal_parts words (Asm (TooLong count)) = codes "asm: too long words=" ∷ decimal count ∷ codes "\n" ∷ []
 
 abbrev pub parts_of : List (List ℕ) → Ending → List (List ℕ)
 parts_of words (Ended counts) = codes "ended" ∷ counts_parts counts
+parts_of words Written = []
 parts_of words (Refused refusal) = refusal_parts words refusal
 parts_of words (Spent counts) = codes "spent" ∷ counts_parts counts
 parts_of words ReadFault = codes "read fault\n" ∷ []
@@ -33,6 +48,7 @@ line_of words ending = concat (parts_of words ending)
 -- an ending whose line replaces no answer
 abbrev pub is_fault : Ending → Bool
 is_fault (Ended counts) = false
+is_fault Written = false
 is_fault (Refused refusal) = false
 is_fault (Spent counts) = false
 is_fault ReadFault = true

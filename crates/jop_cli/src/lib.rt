@@ -1,13 +1,15 @@
 //! The program: what it does with the words of its command line.
 #![tactic(auto)]
 
+mod assembling;
 mod devices;
 pub mod host;
 mod lines;
+mod load;
 mod outcome;
 mod run;
 mod settings;
 mod top;
 
-pub use outcome::{Outcome, Refusal};
+pub use outcome::{AsmRefusal, Outcome, Refusal};
 pub use top::jop;

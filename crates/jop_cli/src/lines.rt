@@ -3,11 +3,12 @@ ghost use Rattle.std.specs.Prelude.{◌≡◌};
 ghost use Rattle.jop_outside.specs.Outside.{HasCause};
 ghost use Rattle.command_lines.specs.Said as lines;
 ghost use Rattle.jop_words.specs.Command.{texts};
-ghost use Rattle.jop_cli.specs.Line.{text_at, line_of, is_fault};
+ghost use Rattle.jop_cli.specs.Line.{text_at, kind_name, line_of, is_fault};
 
-use crate::outcome::{Ending, Refusal};
-use command_lines::{Line, say};
+use crate::outcome::{AsmRefusal, Ending, Refusal};
+use command_lines::{AsmLine, Line, say};
 use jop_outside::{Failed, Sink};
+use microcode_asm::AsmKind;
 
 // The text of a word, and an empty one where there is no such word.
 fn text_of<'a>(words: &[&'a str], k: u32) -> &'a [u8]
@@ -19,7 +20,7 @@ fn text_of<'a>(words: &[&'a str], k: u32) -> &'a [u8]
     }
 }
 
-/// Puts the line of an ending, whose command's words these were.
+/// Puts the line of an ending, if it has one, whose command's words these were.
 pub(crate) fn say_ending<O: Sink>(
     sink: &mut O,
     words: &[&str],
@@ -30,6 +31,7 @@ pub(crate) fn say_ending<O: Sink>(
 {
     match ending {
         Ending::Ended(counts) => say(sink, &Line::Ended(counts)),
+        Ending::Written => Ok(()),
         Ending::Spent(counts) => say(sink, &Line::Spent(counts)),
         Ending::Refused(refusal) => say_refusal(sink, words, refusal),
         Ending::ReadFault => say(sink, &Line::ReadFault),
@@ -55,5 +57,25 @@ fn say_refusal<O: Sink>(sink: &mut O, words: &[&str], refusal: Refusal) -> Resul
                 limit,
             },
         ),
+        Refusal::Asm(AsmRefusal::Line(number, kind)) => {
+            say(sink, &Line::Asm(AsmLine::Broken(number, kind_name(kind))))
+        }
+        Refusal::Asm(AsmRefusal::TooLong(words)) => {
+            say(sink, &Line::Asm(AsmLine::TooLong(words)))
+        }
+    }
+}
+
+// The name of a rule of microprograms.
+fn kind_name(kind: AsmKind) -> &'static [u8]
+    ensures { result.now ≡ kind_name kind }
+{
+    match kind {
+        AsmKind::Form => b"Form",
+        AsmKind::NoLabel => b"NoLabel",
+        AsmKind::LabelTwice => b"LabelTwice",
+        AsmKind::EntryTwice => b"EntryTwice",
+        AsmKind::ConstTwice => b"ConstTwice",
+        AsmKind::NoTurns => b"NoTurns",
     }
 }

@@ -1,6 +1,7 @@
 //! How a call of the program ends.
 
 use command_lines::Counts;
+use microcode_asm::AsmKind;
 
 /// Why a command was refused.
 #[derive(Clone, Copy, PartialEq, Eq)]
@@ -17,6 +18,17 @@ pub enum Refusal {
     NotBuilt,
     /// The method of this number takes so many blocks of the method cache, which has fewer.
     MethodTooLong(u32, u32, u32),
+    /// The text isn't assembled.
+    Asm(AsmRefusal),
+}
+
+/// Why a text of microcode isn't assembled.
+#[derive(Clone, Copy, PartialEq, Eq)]
+pub enum AsmRefusal {
+    /// The line of this number, counted from 1, is the first that breaks a rule.
+    Line(u32, AsmKind),
+    /// No line breaks a rule, and the words, so many, are more than 2,048.
+    TooLong(u32),
 }
 
 /// How a call of the program ends.
@@ -24,6 +36,8 @@ pub enum Refusal {
 pub enum Outcome {
     /// The program of the image returned from boot.
     Ended,
+    /// The whole answer was put.
+    Written,
     /// The command was refused.
     Refused(Refusal),
     /// The run was stopped at the first boundary whose clock was at least the given count of cycles.
@@ -45,7 +59,7 @@ impl Outcome {
         ensures { result ≡ status_of self }
     {
         match self {
-            Outcome::Ended => 0,
+            Outcome::Ended | Outcome::Written => 0,
             Outcome::Refused(_) => 2,
             Outcome::Spent => 3,
             Outcome::ReadFault | Outcome::WriteFault => 4,
@@ -58,6 +72,7 @@ impl Outcome {
 #[derive(Clone, Copy)]
 pub(crate) enum Ending {
     Ended(Counts),
+    Written,
     Refused(Refusal),
     Spent(Counts),
     ReadFault,

@@ -1,16 +1,18 @@
 //! The top call.
 ghost use Rattle.std.specs.Prelude.{◌≡◌, ◌<◌, ◌≤◌, ◌^◌, false, length, IfOk, IfErr, IsOk};
-ghost use Rattle.jop_outside.specs.Outside.{IsWhole, OnlyWord};
 ghost use Rattle.bare_image.specs.Bare.{IsImage, IsBare};
 ghost use Rattle.stack_cache.specs.Size.{IsSize};
 ghost use Rattle.jop_core.specs.Reset.{CanStartBare};
 ghost use Rattle.jop_words.specs.Command.{texts};
 ghost use Rattle.jop_words.specs.Range.{AreSettings};
-ghost use Rattle.jop_cli.specs.Phase.{LoadFault, is_linked, ImageFault, blocks_of_code, Ran, RanWith};
+ghost use Rattle.jop_cli.specs.Phase.{is_linked, ImageFault, blocks_of_code, Ran, RanWith};
 ghost use Rattle.jop_cli.specs.Run.{AreCounts, outside};
-ghost use Rattle.jop_cli.specs.Answer.{world, RunsFile, Executed, Answered, Said, LeavesOut, outcome_of, outcome_unsaid};
+ghost use Rattle.jop_cli.specs.World.{world};
+ghost use Rattle.jop_cli.specs.Answer.{RunsFile, Executed, Answered, Said, LeavesOut, outcome_of, outcome_unsaid};
 
+use crate::assembling::assemble_file;
 use crate::lines::say_ending;
+use crate::load::load;
 use crate::outcome::{Ending, Outcome, Refusal};
 use crate::run::run;
 use crate::settings::{blocks_of, config_of};
@@ -18,29 +20,9 @@ use boundary::laws::{bare_images_are_programs, bare_images_step};
 use boundary::{RunEnd, Running};
 use command_lines::Counts;
 use jop_core::{Bare, BareFault, Config, Machine, Watch, read_bare};
-use jop_outside::{Files, LONGEST_FILE, ReadAll, Sink, Source, read_all};
+use jop_outside::{Files, Sink, Source};
 use jop_words::{Command, Settings, read_words};
 use std::alloc::Global;
-
-// The bytes of a word's file.
-fn load<F: Files>(alloc: Global, files: &mut F, word: u32) -> Result<Vec<u8>, Ending>
-    requires { word < F.words files.old }
-    ensures whole { IfOk result (λ bytes. IsWhole (F.told files.old word) bytes.items) }
-    ensures short { IfOk result (λ bytes. length bytes.items ≤ LONGEST_FILE) }
-    ensures fault { IfErr result (LoadFault word (F.told files.old word) (F.faults files.old word) (F.faults files.new word)) }
-    ensures later { F.faults files.old word ≤ F.faults files.new word }
-    ensures rest { OnlyWord (F.words files.old) (F.words files.new) (F.told files.old) (F.told files.new)
-        (F.faults files.old) (F.faults files.new) word }
-{
-    match read_all(alloc, files, word, LONGEST_FILE) {
-        Ok(bytes) => Ok(bytes),
-        Err(ReadAll::TooBig(length)) => {
-            Err(Ending::Refused(Refusal::TooBig(word, length as u128)))
-        }
-        Err(ReadAll::ReadFault) => Err(Ending::ReadFault),
-        Err(ReadAll::NoMemory) => Err(Ending::NoMemory),
-    }
-}
 
 // The image that the bytes are, where it can be run.
 fn image_of(alloc: Global, bytes: &[u8]) -> Result<Bare, Ending>
@@ -171,10 +153,11 @@ fn execute<F: Files, O: Sink, V: Watch>(
         Ok(command) => command,
         Err(k) => return Ending::Refused(Refusal::Usage(k)),
     };
-    let Command::Run { settings, image } = command else {
-        return Ending::Refused(Refusal::NotBuilt);
-    };
-    run_file(alloc, &settings, image, files, out, watch)
+    match command {
+        Command::Run { settings, image } => run_file(alloc, &settings, image, files, out, watch),
+        Command::Asm { text } => assemble_file(alloc, text, files, out),
+        _ => Ending::Refused(Refusal::NotBuilt),
+    }
 }
 
 // Puts the line of an ending, and gives the outcome.
@@ -194,9 +177,11 @@ fn outcome_unsaid(ending: Ending) -> Outcome
     match ending {
         Ending::ReadFault => Outcome::ReadFault,
         Ending::NoMemory => Outcome::NoMemory,
-        Ending::Ended(_) | Ending::Refused(_) | Ending::Spent(_) | Ending::WriteFault => {
-            Outcome::WriteFault
-        }
+        Ending::Ended(_)
+        | Ending::Written
+        | Ending::Refused(_)
+        | Ending::Spent(_)
+        | Ending::WriteFault => Outcome::WriteFault,
     }
 }
 
@@ -205,6 +190,7 @@ fn outcome_for(ending: Ending) -> Outcome
 {
     match ending {
         Ending::Ended(_) => Outcome::Ended,
+        Ending::Written => Outcome::Written,
         Ending::Refused(refusal) => Outcome::Refused(refusal),
         Ending::Spent(_) => Outcome::Spent,
         Ending::ReadFault => Outcome::ReadFault,
@@ -213,10 +199,11 @@ fn outcome_for(ending: Ending) -> Outcome
     }
 }
 
-/// Does all that the program does, and puts one line that says how it ended into `err`.
+/// Does all that the program does, and puts one line that says how it ended into `err`, unless it is `Written`.
 ///
 /// Word k names file k. `run` of an image puts the program's output into `out`, and hands the registers of
-/// each state of the machine, from reset on, from which a cycle was done or tried to `watch`.
+/// each state of the machine, from reset on, from which a cycle was done or tried to `watch`. `asm` puts the
+/// words of the text's microprogram into `out`, a line for each.
 pub fn jop<F: Files, S: Source, O: Sink, E: Sink, V: Watch>(
     alloc: Global,
     words: &[&str],

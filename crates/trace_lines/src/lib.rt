@@ -6,4 +6,5 @@ mod hex;
 mod lines;
 mod pieces;
 
+pub use hex::hex as hex_digits;
 pub use lines::{AtBoundary, put_boundary, put_cycle, put_write};

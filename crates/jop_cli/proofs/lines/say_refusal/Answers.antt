@@ -1,0 +1,12 @@
+use Rattle.std.proofs.Common.{false, sym, subst}
+use Rattle.command_lines.specs.Said as lines
+use Rattle.jop_words.specs.Command.{texts}
+use Rattle.jop_cli.specs.declared.outcome.Refusal.{Refusal}
+use Rattle.jop_cli.specs.declared.outcome.Ending.TheVariants.{Refused}
+use Rattle.jop_cli.specs.Line.{line_of}
+use Rattle.jop_cli.proofs.lines.say_refusal.Goals as goal
+
+pub returns-in-MethodTooLong-clause-said : goal.returns-in-MethodTooLong-clause-said
+returns-in-MethodTooLong-clause-said g c =
+    let P : Refusal → Type 0 = λ r. lines.Said false (line_of (texts c.args.words.now) (Refused r)) (g.O.Sink.held c.args.sink.now) (g.O.Sink.held c.say-in-MethodTooLong.new.sink) (g.O.Sink.faults c.args.sink.now) (g.O.Sink.faults c.say-in-MethodTooLong.new.sink) c.say-in-MethodTooLong.result in
+    subst P (sym c.in-MethodTooLong.is) c.say-in-MethodTooLong.ensures.said

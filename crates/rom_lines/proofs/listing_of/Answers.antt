@@ -1,0 +1,7 @@
+use Rattle.rom_lines.proofs.Listing.{one_more}
+use Rattle.rom_lines.proofs.listing_of.Goals as goal
+
+pub loop-address-preserved : goal.loop-address-preserved
+loop-address-preserved c =
+    let more = one_more c.args.words.now c.loop-address.address 0 c.loop-address-test.true in
+    cc (c.in_ok-extend_from_slice.ensures.items, c.word_line.ensures, c.loop-address.invariant, more)
