@@ -6,3 +6,4 @@ mod Boot
 mod Limits
 mod Handlers
 mod Told
+mod Uncaught

@@ -1,14 +1,18 @@
--- What a verified program that is laid out has at the start of its run: JVM Specification SE 8, 4.10, 5.2.
-use Rattle.std.specs.Prelude.{◌≡◌, ℕ, true, None, List, length, IsSomeAnd}
+-- What a verified program that is laid out has at the start of its run, and at its end: JVM Specification SE 8, 2.10, 4.10 and 5.2.
+use Rattle.std.specs.Prelude.{◌≡◌, ℕ, ◌<◌, true, None, List, length, IsSomeAnd}
 use Rattle.class_pool.specs.declared.class.ClassFile.{ClassFile}
+use Rattle.jop_core.specs.State as machine
+use Rattle.bytecode_model.specs.declared.Ending.TheVariants.{Uncaught}
+use Rattle.bytecode_model.specs.State.{State}
 use Rattle.bytecode_model.specs.Program.{body_of}
 use Rattle.bytecode_model.specs.Sizes.{body_words}
 use Rattle.bytecode_typing.specs.Typed.{Typed}
 use Rattle.bytecode_typing.specs.Lawful.{Lawful}
 use Rattle.program_tables.specs.Resolving.{IsResolved}
 use Rattle.program_tables.specs.Resolved.{resolved}
-use Rattle.image_facts.specs.Places.{image_of, image_words}
+use Rattle.image_facts.specs.Places.{Places, image_of, image_words}
 use Rattle.image_facts.specs.Says.{Says}
+use Rattle.machine_stands.specs.StandsFor.{StandsFor}
 use Rattle.image_words.specs.Regions.{places_of}
 use Rattle.word_lists.specs.Laid.{Laid}
 use Rattle.image_layout.specs.Layout.{IsLaidOut, first_passed}
@@ -31,3 +35,7 @@ VerifiedProgramsAreTold = (cs : List ClassFile) (laid : Laid) → IsResolved cs 
 -- the method that is run first has no local variables, and one operand; five words are saved
 abbrev pub BootTakesSixWords : Type 0
 BootTakesSixWords = (files : List ClassFile) (main : List ℕ) → let P = resolved (linked_classes files main) in IsSomeAnd (body_of P P.boot) (λ b. body_words b ≡ 6)
+
+-- a machine that stands for a state in which an object of a class wasn't caught: the class is one of the program's
+abbrev pub UncaughtClassesAreThere : Type 0
+UncaughtClassesAreThere = (cs : List ClassFile) (pl : Places) (chip size : ℕ) (m : machine.State) (s : State) (class : ℕ) → StandsFor (resolved cs) pl chip size m s → s.mode ≡ Uncaught class → class < length cs

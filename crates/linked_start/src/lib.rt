@@ -2,7 +2,7 @@
 //! nothing; a caller whose proof needs a law calls its function.
 #![tactic(auto)]
 
-ghost use Rattle.linked_start.specs.Start.{BootTakesSixWords, VerifiedProgramsAreTold};
+ghost use Rattle.linked_start.specs.Start.{BootTakesSixWords, UncaughtClassesAreThere, VerifiedProgramsAreTold};
 
 use class_rules::laws::methods_have_code;
 use frame_types::laws::frames_stand_at_instructions;
@@ -30,4 +30,9 @@ pub fn verified_programs_are_told()
 /// The frame of the method that is run first takes six words of the stack.
 pub fn boot_takes_six_words()
     ensures { BootTakesSixWords }
+{}
+
+/// Where an object of a class isn't caught, the class is one of the program's.
+pub fn uncaught_classes_are_there()
+    ensures { UncaughtClassesAreThere }
 {}
