@@ -1,0 +1,30 @@
+import jop.Io;
+
+/** Reads samples to the end of its input, and writes what the stages make of each, and at last how many were overloads. */
+public class Main {
+    private static final int LIMIT = 255;
+    private static final Stage[] STAGES = {new Gain(2, LIMIT), new Mean()};
+    private static int overloads;
+
+    public static void main(String[] arguments) {
+        int sample = Io.read();
+        while (sample >= 0) {
+            Io.write(output(sample));
+            sample = Io.read();
+        }
+        Io.write(overloads);
+    }
+
+    private static int output(int sample) {
+        int level = sample;
+        try {
+            for (int i = 0; i < STAGES.length; i++) {
+                level = STAGES[i].step(level);
+            }
+        } catch (Overload overload) {
+            overloads++;
+            level = LIMIT - overload.level() % 16;
+        }
+        return level;
+    }
+}

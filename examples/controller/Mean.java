@@ -1,0 +1,16 @@
+/** The weighted mean of the last samples. */
+class Mean implements Stage {
+    private final int[] last = new int[Weights.COUNT];
+    private int next;
+
+    public int step(int sample) {
+        last[next] = sample;
+        next = (next + 1) % last.length;
+        int sum = 0;
+        for (int age = 0; age < last.length; age++) {
+            int place = (next + last.length - 1 - age) % last.length;
+            sum += last[place] * Weights.of(age);
+        }
+        return sum / Weights.sum();
+    }
+}
