@@ -13,4 +13,5 @@ mod tables;
 mod uses;
 
 pub use layout::lay_out;
+pub use limits::coded_methods;
 pub use word_lists::{Counted, LayFault, Layout};

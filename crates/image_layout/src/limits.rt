@@ -26,8 +26,8 @@ const MOST_METHODS: u64 = 65535;
 /// How many words an image has at most.
 pub(crate) const MOST_WORDS: u64 = 1048576;
 
-/// How many methods have code.
-fn coded_methods(program: &Program) -> u32
+/// How many methods of the program have code.
+pub fn coded_methods(program: &Program) -> u32
     ensures { result ≡ coded_methods program.now }
 {
     let mut coded = 0;
