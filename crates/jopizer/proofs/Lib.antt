@@ -1,0 +1,8 @@
+pub mod LinkLemmas
+pub mod LengthLemmas
+pub mod NameLemmas
+pub mod ImageLemmas
+pub mod TableLemmas
+pub mod CatchLemmas
+pub mod OneLemmas
+pub mod RefusedLemmas

@@ -1,0 +1,6 @@
+use Rattle.std.proofs.Common.{◌≡◌, take}
+use Rattle.linked_image.specs.Linked.{contents}
+use Rattle.jopizer.proofs.linking.copies.Given as goal
+
+abbrev pub invariant-loop-file : goal.invariant-loop-file
+invariant-loop-file l = contents l.copies.items ≡ contents (take l.file-index l.files)

@@ -1,0 +1,4 @@
+pub mod Linked
+pub mod Refused
+pub mod Images
+pub mod Laws
