@@ -1,5 +1,5 @@
 -- What a verified program that is laid out has at the start of its run.
-use Rattle.std.proofs.Common.{◌≡◌, length, refl, sym, ◌∙◌, ap}
+use Rattle.std.proofs.Common.{◌≡◌, length, refl, sym, ◌∙◌, ap, arith}
 use Rattle.program_tables.specs.Resolved.{resolved}
 use Rattle.image_facts.specs.Laws.{WordsEnd}
 use Rattle.image_facts.specs.Places.{image_of}
@@ -23,5 +23,6 @@ told laws lie ends says cs laid r v within is =
       typed = typed_program laws cs r v;
       linked = refl;
       words = words;
+      few = omega (arith, ap length is.words, (within_limits cs within).words);
       count = sym (ap length words ∙ ends P pl P.first_statics P.first_objects (statics_alike P lawful));
     }

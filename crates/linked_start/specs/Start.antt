@@ -1,5 +1,5 @@
 -- What a verified program that is laid out has at the start of its run, and at its end: JVM Specification SE 8, 2.10, 4.10 and 5.2.
-use Rattle.std.specs.Prelude.{◌≡◌, ℕ, ◌<◌, true, None, List, length, IsSomeAnd}
+use Rattle.std.specs.Prelude.{◌≡◌, ℕ, ◌<◌, ◌≤◌, true, None, List, length, IsSomeAnd}
 use Rattle.class_pool.specs.declared.class.ClassFile.{ClassFile}
 use Rattle.jop_core.specs.State as machine
 use Rattle.bytecode_model.specs.declared.Ending.TheVariants.{Uncaught}
@@ -14,12 +14,13 @@ use Rattle.image_facts.specs.Places.{Places, image_of, image_words}
 use Rattle.image_facts.specs.Says.{Says}
 use Rattle.machine_stands.specs.StandsFor.{StandsFor}
 use Rattle.image_words.specs.Regions.{places_of}
+use Rattle.image_words.specs.Limits.{most_words}
 use Rattle.word_lists.specs.Laid.{Laid}
 use Rattle.image_layout.specs.Layout.{IsLaidOut, first_passed}
 use Rattle.bytecode_verifier.specs.Failure.{IsVerified, types_found}
 use Rattle.jop_program.specs.Linked.{linked_classes}
 
--- Its image says the program, which is lawful and has the types that the verifier finds. The words are those of the image, and as many.
+-- Its image says the program, which is lawful and has the types that the verifier finds. The words are those of the image, and as many: no more than an image may have.
 pub record IsTold (cs : List ClassFile) (laid : Laid) : Type 0 where
   pub says : Says (resolved cs) (places_of cs)
   pub lawful : Lawful (resolved cs)
@@ -27,6 +28,7 @@ pub record IsTold (cs : List ClassFile) (laid : Laid) : Type 0 where
   pub linked : (resolved cs).linked ≡ true
   pub words : laid.words ≡ image_of (resolved cs) (places_of cs)
   pub count : image_words (resolved cs) (places_of cs) ≡ length laid.words
+  pub few : length laid.words ≤ most_words
 
 -- so is each that no rule of the verifier and no limit of the image refuses
 abbrev pub VerifiedProgramsAreTold : Type 0
