@@ -6,3 +6,4 @@ pub mod TableLemmas
 pub mod CatchLemmas
 pub mod OneLemmas
 pub mod RefusedLemmas
+pub mod BootLemmas

@@ -6,13 +6,21 @@ ghost use Rattle.image_facts.specs.Says.{Says};
 ghost use Rattle.image_laws.specs.Laws.{CatchesAreNumbered, TablesAreAtStarts};
 ghost use Rattle.image_words.specs.Regions.{places_of};
 ghost use Rattle.program_tables.specs.Resolved.{resolved};
-ghost use Rattle.jopizer.specs.Laws.{OneLinked, LinkedFilesAreNotRefused, LinkedImagesAreRead};
+ghost use Rattle.jopizer.specs.Laws.{OneLinked, LinkedFilesAreNotRefused, LinkedImagesAreRead, MethodsAreOfFiles};
 
 use crate::linked::Linked;
 use bytecode_typing::the_walk_finds_a_typing;
 use bytecode_verifier::Verified;
+use bytecode_verifier::laws::boot_is_verified;
 use class_file::laws::one_class;
 use class_rules::laws::methods_have_code;
+use core_classes::laws::{
+    boot_is_a_class, boot_says_plan, core_classes_are_classes, core_has_bytes, core_is_named,
+};
+use core_classes::linkage::{
+    boot_is_linkable, boot_is_on_no_cycle, boot_is_supported, core_is_linkable, core_is_supported,
+    core_stands_first,
+};
 use frame_types::laws::frames_stand_at_instructions;
 use image_laws::laws::images_say_programs;
 use jop_opcodes::laws::{
@@ -20,7 +28,7 @@ use jop_opcodes::laws::{
     starts_follow_one_another,
 };
 use linked_image::one_image;
-use program_tables::laws::methods_stand_by_number;
+use program_tables::laws::{members_are_there, methods_stand_by_number};
 
 /// The file of an image is that of one linked program.
 pub fn one_linked()
@@ -43,6 +51,25 @@ pub fn linked_images_are_read()
 {
     one_class();
     one_image();
+}
+
+/// A method in which a rule of the verifier fails is one of a file.
+pub fn methods_are_of_files()
+    ensures { MethodsAreOfFiles }
+{
+    core_is_linkable();
+    core_stands_first();
+    core_is_supported();
+    core_classes_are_classes();
+    core_has_bytes();
+    core_is_named();
+    boot_is_linkable();
+    boot_is_supported();
+    boot_is_a_class();
+    boot_says_plan();
+    boot_is_on_no_cycle();
+    boot_is_verified();
+    members_are_there();
 }
 
 /// The types that the exception tables of a verified program catch have numbers, and their ranges lie between instructions.
