@@ -1,5 +1,5 @@
 -- The run of an image, as an answer of the call.
-use Rattle.std.proofs.Common.{◌≡◌, ℕ, ◌≤◌, sym, subst}
+use Rattle.std.proofs.Common.{◌≡◌, ℕ, ◌≤◌, List, sym, subst}
 use Rattle.std.specs.declared.result.Result.{Result}
 use Rattle.bare_image.specs.Bare.{Image}
 use Rattle.memory_timing.specs.declared.Config.{Config}
@@ -17,5 +17,5 @@ with_settings settings n image config old new ending is few has ran =
     let P : ℕ → Type 0 = λ k. Ran k image config settings.cycles old new ending in
     record { blocks = few; config = config; has = has; ran = subst P (sym is) ran }
 
-pub does_by : (r q : Result Command ℕ) (old new : World) (ending : Ending) → q ≡ r → Does q old new ending → Does r old new ending
-does_by r q old new ending is does = let P : Result Command ℕ → Type 0 = λ x. Does x old new ending in subst P is does
+pub does_by : (words : List (List ℕ)) (r q : Result Command ℕ) (old new : World) (ending : Ending) → q ≡ r → Does words q old new ending → Does words r old new ending
+does_by words r q old new ending is does = let P : Result Command ℕ → Type 0 = λ x. Does words x old new ending in subst P is does

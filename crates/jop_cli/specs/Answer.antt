@@ -6,20 +6,21 @@ use Rattle.jop_outside.specs.Outside.{Grew, Rose}
 use Rattle.bare_image.specs.Bare.{Image, IsBare}
 use Rattle.jop_words.specs.declared.command.Settings.{Settings}
 use Rattle.jop_words.specs.declared.command.Command.{Command}
-use Rattle.jop_words.specs.declared.command.Command.TheVariants.{Run, Asm as Assemble}
+use Rattle.jop_words.specs.declared.command.Command.TheVariants.{Run, Asm as Assemble, Link as LinkTo}
 use Rattle.jop_words.specs.Command.{command_of}
 use Rattle.command_lines.specs.Said.{SaidLess}
 use Rattle.jop_cli.specs.declared.outcome.Refusal.{Refusal}
-use Rattle.jop_cli.specs.declared.outcome.Refusal.TheVariants.{Usage, TooBig, BadImage, NotBuilt}
+use Rattle.jop_cli.specs.declared.outcome.Refusal.TheVariants.{Usage, TooBig, BadImage, NotBuilt, Link}
 use Rattle.jop_cli.specs.declared.outcome.Ending.{Ending}
-use Rattle.jop_cli.specs.declared.outcome.Ending.TheVariants.{Ended, Written, Refused, Spent, ReadFault, WriteFault, NoMemory}
+use Rattle.jop_cli.specs.declared.outcome.Ending.TheVariants.{Ended, Written, Linked, Refused, NotLinked, Spent, ReadFault, WriteFault, NoMemory}
 use Rattle.jop_cli.specs.declared.outcome.Outcome.{Outcome}
 use Rattle.jop_cli.specs.declared.outcome.Outcome.TheVariants as outcomes
-use Rattle.jop_cli.specs.Line.{line_of, is_fault}
+use Rattle.jop_cli.specs.Line.{text_at, line_of, is_fault}
 use Rattle.jop_cli.specs.Run.{Outside, outside}
 use Rattle.jop_cli.specs.Phase.{is_linked, IsNoImage, IsTooLong, RanWith}
 use Rattle.jop_cli.specs.World.{World, IsQuiet, FilesStayBut, IsUnchanged, Reads, IsTooBig}
 use Rattle.jop_cli.specs.Assembling.{Assembles}
+use Rattle.jop_cli.specs.Linking.{LinksFiles}
 
 abbrev pub outside_of : World → Outside
 outside_of w = outside w.out w.watch w.out_faults
@@ -55,20 +56,23 @@ RunsFile settings word old new ending = RunsImage settings word old new ending
 
 -- ---- all commands
 
--- how what was read of words ends: a command, or the number of a word
-abbrev pub Does : Result Command ℕ → World → World → Ending → Type 0
-Does (Err k) old new ending = (ending ≡ Refused (Usage k)) × IsUnchanged old new
-Does (Ok (Run settings image)) old new ending = RunsFile settings image old new ending
-Does (Ok (Assemble text)) old new ending = Assembles text old new ending
-Does (Ok command) old new ending = (ending ≡ Refused NotBuilt) × IsUnchanged old new
+-- how what was read of the words ends: a command, or the number of a word
+abbrev pub Does : (words : List (List ℕ)) → Result Command ℕ → World → World → Ending → Type 0
+Does words (Err k) old new ending = (ending ≡ Refused (Usage k)) × IsUnchanged old new
+Does words (Ok (Run settings image)) old new ending = RunsFile settings image old new ending
+Does words (Ok (Assemble text)) old new ending = Assembles text old new ending
+Does words (Ok (LinkTo main first)) old new ending = LinksFiles (text_at words main) first old new ending
+Does words (Ok command) old new ending = (ending ≡ Refused NotBuilt) × IsUnchanged old new
 
 abbrev pub Executed : List (List ℕ) → World → World → Ending → Type 0
-Executed words old new ending = Does (command_of words) old new ending
+Executed words old new ending = Does words (command_of words) old new ending
 
 abbrev pub outcome_of : Ending → Outcome
 outcome_of (Ended counts) = outcomes.Ended
 outcome_of Written = outcomes.Written
+outcome_of (Linked sizes) = outcomes.Written
 outcome_of (Refused refusal) = outcomes.Refused refusal
+outcome_of (NotLinked refusal name) = outcomes.Refused (Link refusal)
 outcome_of (Spent counts) = outcomes.Spent
 outcome_of ReadFault = outcomes.ReadFault
 outcome_of WriteFault = outcomes.WriteFault
@@ -78,7 +82,9 @@ outcome_of NoMemory = outcomes.NoMemory
 abbrev pub outcome_unsaid : Ending → Outcome
 outcome_unsaid (Ended counts) = outcomes.WriteFault
 outcome_unsaid Written = outcomes.WriteFault
+outcome_unsaid (Linked sizes) = outcomes.WriteFault
 outcome_unsaid (Refused refusal) = outcomes.WriteFault
+outcome_unsaid (NotLinked refusal name) = outcomes.WriteFault
 outcome_unsaid (Spent counts) = outcomes.WriteFault
 outcome_unsaid ReadFault = outcomes.ReadFault
 outcome_unsaid WriteFault = outcomes.WriteFault

@@ -4,5 +4,6 @@ pub mod Line
 pub mod Phase
 pub mod World
 pub mod Assembling
+pub mod Linking
 pub mod Answer
 pub mod Status

@@ -2,13 +2,17 @@
 use Rattle.std.specs.Prelude.{ℕ, Bool, true, false, List, [], ◌∷◌, get_or, codes, decimal}
 use Rattle.std.specs.List.{concat}
 use Rattle.jop_cli.specs.declared.outcome.Refusal.{Refusal}
-use Rattle.jop_cli.specs.declared.outcome.Refusal.TheVariants.{Usage, TooBig, BadImage, NotBuilt, MethodTooLong, Asm}
+use Rattle.jop_cli.specs.declared.outcome.Refusal.TheVariants.{Usage, TooBig, BadImage, NotBuilt, MethodTooLong, Asm, Link}
 use Rattle.jop_cli.specs.declared.outcome.AsmRefusal.TheVariants.{Line, TooLong}
 use Rattle.jop_cli.specs.declared.outcome.Ending.{Ending}
-use Rattle.jop_cli.specs.declared.outcome.Ending.TheVariants.{Ended, Written, Refused, Spent, ReadFault, WriteFault, NoMemory}
+use Rattle.jop_cli.specs.declared.outcome.Ending.TheVariants.{Ended, Written, Linked, Refused, NotLinked, Spent, ReadFault, WriteFault, NoMemory}
 use Rattle.microcode_asm.specs.declared.AsmKind.{AsmKind}
 use Rattle.microcode_asm.specs.declared.AsmKind.TheVariants.{Form, NoLabel, LabelTwice, EntryTwice, ConstTwice, NoTurns}
 use Rattle.command_lines.specs.Line.{counts_parts}
+use Rattle.jopizer.specs.declared.refusal.LinkRefusal.{LinkRefusal}
+use Rattle.jopizer.specs.declared.refusal.LinkRefusal.TheVariants as links
+use Rattle.refusal_lines.specs.Lines as named
+use Rattle.refusal_lines.specs.Lines.{failure_parts, limit_parts}
 
 -- the text of a word
 abbrev pub text_at : List (List ℕ) → ℕ → List ℕ
@@ -23,6 +27,20 @@ kind_name EntryTwice = codes "EntryTwice"
 kind_name ConstTwice = codes "ConstTwice"
 kind_name NoTurns = codes "NoTurns"
 
+-- why files aren't linked; some of the lines name a class or a member
+abbrev pub link_parts : LinkRefusal → (name : List ℕ) → List (List ℕ)
+link_parts (links.Resolving refusal) name = named.refusal_parts refusal name
+link_parts (links.NotVerified file method pc rule) name = failure_parts file method pc rule
+link_parts (links.TooLarge what count limit) name = limit_parts what count limit
+link_parts (links.FileTooLarge count limit) name = codes "link: too large " ∷ codes "ImageBytes" ∷ codes " count=" ∷ decimal count ∷ codes " limit=" ∷ decimal limit ∷ codes "\n" ∷ []
+link_parts links.NoMemory name = []
+
+-- want of memory refuses no files
+abbrev pub is_memory : LinkRefusal → Bool
+is_memory (links.Resolving refusal) = named.is_want_of_memory refusal
+is_memory refusal = false
+
+-- what files refuse has an ending of its own
 abbrev pub refusal_parts : List (List ℕ) → Refusal → List (List ℕ)
 refusal_parts words (Usage k) = codes "usage: word " ∷ decimal k ∷ codes "\n" ∷ []
 refusal_parts words (TooBig operand sum) = codes "too big " ∷ text_at words operand ∷ codes " sum=" ∷ decimal sum ∷ codes "\n" ∷ []
@@ -31,11 +49,15 @@ refusal_parts words NotBuilt = codes "not built\n" ∷ []
 refusal_parts words (MethodTooLong method blocks limit) = codes "method too long " ∷ codes "boot" ∷ codes " blocks=" ∷ decimal blocks ∷ codes " limit=" ∷ decimal limit ∷ codes "\n" ∷ []
 refusal_parts words (Asm (Line number kind)) = codes "asm: line=" ∷ decimal number ∷ codes " " ∷ kind_name kind ∷ codes "\n" ∷ []
 refusal_parts words (Asm (TooLong count)) = codes "asm: too long words=" ∷ decimal count ∷ codes "\n" ∷ []
+refusal_parts words (Link refusal) = []
 
 abbrev pub parts_of : List (List ℕ) → Ending → List (List ℕ)
 parts_of words (Ended counts) = codes "ended" ∷ counts_parts counts
 parts_of words Written = []
+parts_of words (Linked sizes) =
+    codes "linked classes=" ∷ decimal sizes.classes ∷ codes " methods=" ∷ decimal sizes.methods ∷ codes " words=" ∷ decimal sizes.words ∷ codes " bytes=" ∷ decimal sizes.bytes ∷ codes "\n" ∷ []
 parts_of words (Refused refusal) = refusal_parts words refusal
+parts_of words (NotLinked refusal name) = link_parts refusal name.items
 parts_of words (Spent counts) = codes "spent" ∷ counts_parts counts
 parts_of words ReadFault = codes "read fault\n" ∷ []
 parts_of words WriteFault = codes "write fault\n" ∷ []
@@ -49,7 +71,9 @@ line_of words ending = concat (parts_of words ending)
 abbrev pub is_fault : Ending → Bool
 is_fault (Ended counts) = false
 is_fault Written = false
+is_fault (Linked sizes) = false
 is_fault (Refused refusal) = false
+is_fault (NotLinked refusal name) = is_memory refusal
 is_fault (Spent counts) = false
 is_fault ReadFault = true
 is_fault WriteFault = true

@@ -5,6 +5,7 @@ mod assembling;
 mod devices;
 pub mod host;
 mod lines;
+mod linking;
 mod load;
 mod outcome;
 mod run;

@@ -1,17 +1,20 @@
 //! The line of each ending, on err. No memory is taken.
 ghost use Rattle.std.specs.Prelude.{◌≡◌};
+ghost use Rattle.std.specs.List.{concat};
 ghost use Rattle.jop_outside.specs.Outside.{HasCause};
 ghost use Rattle.command_lines.specs.Said as lines;
 ghost use Rattle.jop_words.specs.Command.{texts};
-ghost use Rattle.jop_cli.specs.Line.{text_at, kind_name, line_of, is_fault};
+ghost use Rattle.jop_cli.specs.Line.{text_at, kind_name, link_parts, is_memory, line_of, is_fault};
 
 use crate::outcome::{AsmRefusal, Ending, Refusal};
-use command_lines::{AsmLine, Line, say};
+use command_lines::{AsmLine, Line, LinkLine, say};
 use jop_outside::{Failed, Sink};
+use jopizer::LinkRefusal;
 use microcode_asm::AsmKind;
+use refusal_lines::{say_failure, say_limit};
 
-// The text of a word, and an empty one where there is no such word.
-fn text_of<'a>(words: &[&'a str], k: u32) -> &'a [u8]
+/// The text of a word, and an empty one where there is no such word.
+pub(crate) fn text_of<'a>(words: &[&'a str], k: u32) -> &'a [u8]
     ensures { result.now ≡ text_at (texts words.now) k }
 {
     match words.get(k as usize) {
@@ -24,16 +27,18 @@ fn text_of<'a>(words: &[&'a str], k: u32) -> &'a [u8]
 pub(crate) fn say_ending<O: Sink>(
     sink: &mut O,
     words: &[&str],
-    ending: Ending,
+    ending: &Ending,
 ) -> Result<(), Failed>
-    ensures said { lines.Said (is_fault ending) (line_of (texts words.now) ending) (O.held sink.old) (O.held sink.new) (O.faults sink.old) (O.faults sink.new) result }
+    ensures said { lines.Said (is_fault ending.now) (line_of (texts words.now) ending.now) (O.held sink.old) (O.held sink.new) (O.faults sink.old) (O.faults sink.new) result }
     ensures cause { HasCause (O.faults sink.old) (O.faults sink.new) result }
 {
     match ending {
-        Ending::Ended(counts) => say(sink, &Line::Ended(counts)),
+        Ending::Ended(counts) => say(sink, &Line::Ended(*counts)),
         Ending::Written => Ok(()),
-        Ending::Spent(counts) => say(sink, &Line::Spent(counts)),
-        Ending::Refused(refusal) => say_refusal(sink, words, refusal),
+        Ending::Linked(sizes) => say(sink, &Line::Linked(*sizes)),
+        Ending::Spent(counts) => say(sink, &Line::Spent(*counts)),
+        Ending::Refused(refusal) => say_refusal(sink, words, *refusal),
+        Ending::NotLinked(refusal, name) => say_link_refusal(sink, *refusal, name),
         Ending::ReadFault => say(sink, &Line::ReadFault),
         Ending::WriteFault => say(sink, &Line::WriteFault),
         Ending::NoMemory => say(sink, &Line::NoMemory),
@@ -63,6 +68,29 @@ fn say_refusal<O: Sink>(sink: &mut O, words: &[&str], refusal: Refusal) -> Resul
         Refusal::Asm(AsmRefusal::TooLong(words)) => {
             say(sink, &Line::Asm(AsmLine::TooLong(words)))
         }
+        Refusal::Link(_) => Ok(()),
+    }
+}
+
+fn say_link_refusal<O: Sink>(
+    sink: &mut O,
+    refusal: LinkRefusal,
+    name: &[u8],
+) -> Result<(), Failed>
+    ensures said { lines.Said (is_memory refusal) (concat (link_parts refusal name.now)) (O.held sink.old) (O.held sink.new) (O.faults sink.old) (O.faults sink.new) result }
+    ensures cause { HasCause (O.faults sink.old) (O.faults sink.new) result }
+{
+    match refusal {
+        LinkRefusal::Resolving(refusal) => refusal_lines::say_refusal(sink, refusal, name),
+        LinkRefusal::NotVerified(file, method, pc, rule) => {
+            say_failure(sink, file, method, pc, rule)
+        }
+        LinkRefusal::TooLarge(what, count, limit) => say_limit(sink, what, count, limit),
+        LinkRefusal::FileTooLarge(count, limit) => say(
+            sink,
+            &Line::Link(LinkLine::TooLarge(b"ImageBytes", count, limit)),
+        ),
+        LinkRefusal::NoMemory => Ok(()),
     }
 }
 

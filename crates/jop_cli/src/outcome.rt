@@ -1,10 +1,11 @@
 //! How a call of the program ends.
 
-use command_lines::Counts;
+use command_lines::{Counts, Sizes};
+use jopizer::LinkRefusal;
 use microcode_asm::AsmKind;
 
 /// Why a command was refused.
-#[derive(Clone, Copy, PartialEq, Eq)]
+#[derive(Clone, Copy)]
 pub enum Refusal {
     /// The words give no command. The number is that of the first word at which none can go on, or the
     /// number of words where they end early.
@@ -20,10 +21,12 @@ pub enum Refusal {
     MethodTooLong(u32, u32, u32),
     /// The text isn't assembled.
     Asm(AsmRefusal),
+    /// The files aren't linked.
+    Link(LinkRefusal),
 }
 
 /// Why a text of microcode isn't assembled.
-#[derive(Clone, Copy, PartialEq, Eq)]
+#[derive(Clone, Copy)]
 pub enum AsmRefusal {
     /// The line of this number, counted from 1, is the first that breaks a rule.
     Line(u32, AsmKind),
@@ -32,7 +35,7 @@ pub enum AsmRefusal {
 }
 
 /// How a call of the program ends.
-#[derive(Clone, Copy, PartialEq, Eq)]
+#[derive(Clone, Copy)]
 pub enum Outcome {
     /// The program of the image returned from boot.
     Ended,
@@ -69,11 +72,15 @@ impl Outcome {
 }
 
 /// An outcome with what its line shows.
-#[derive(Clone, Copy)]
+#[derive(Drop)]
 pub(crate) enum Ending {
     Ended(Counts),
     Written,
+    /// What was linked was written, and has these sizes.
+    Linked(Sizes),
     Refused(Refusal),
+    /// The files aren't linked, and what the line names in them has these bytes.
+    NotLinked(LinkRefusal, Vec<u8>),
     Spent(Counts),
     ReadFault,
     WriteFault,

@@ -12,6 +12,7 @@ ghost use Rattle.jop_cli.specs.Answer.{RunsFile, Executed, Answered, Said, Leave
 
 use crate::assembling::assemble_file;
 use crate::lines::say_ending;
+use crate::linking::link_files;
 use crate::load::load;
 use crate::outcome::{Ending, Outcome, Refusal};
 use crate::run::run;
@@ -156,6 +157,7 @@ fn execute<F: Files, O: Sink, V: Watch>(
     match command {
         Command::Run { settings, image } => run_file(alloc, &settings, image, files, out, watch),
         Command::Asm { text } => assemble_file(alloc, text, files, out),
+        Command::Link { main, first } => link_files(alloc, words, main, first, files, out),
         _ => Ending::Refused(Refusal::NotBuilt),
     }
 }
@@ -164,34 +166,37 @@ fn execute<F: Files, O: Sink, V: Watch>(
 fn conclude<E: Sink>(err: &mut E, words: &[&str], ending: Ending) -> Outcome
     ensures { Said (texts words.now) ending (E.held err.old) (E.held err.new) (E.faults err.old) (E.faults err.new) result }
 {
-    match say_ending(err, words, ending) {
-        Ok(()) => outcome_for(ending),
-        Err(_) => outcome_unsaid(ending),
+    match say_ending(err, words, &ending) {
+        Ok(()) => outcome_for(&ending),
+        Err(_) => outcome_unsaid(&ending),
     }
 }
 
 // The outcome where the line of an ending couldn't be put.
-fn outcome_unsaid(ending: Ending) -> Outcome
-    ensures { result ≡ outcome_unsaid ending }
+fn outcome_unsaid(ending: &Ending) -> Outcome
+    ensures { result ≡ outcome_unsaid ending.now }
 {
     match ending {
         Ending::ReadFault => Outcome::ReadFault,
         Ending::NoMemory => Outcome::NoMemory,
         Ending::Ended(_)
         | Ending::Written
+        | Ending::Linked(_)
         | Ending::Refused(_)
+        | Ending::NotLinked(_, _)
         | Ending::Spent(_)
         | Ending::WriteFault => Outcome::WriteFault,
     }
 }
 
-fn outcome_for(ending: Ending) -> Outcome
-    ensures { result ≡ outcome_of ending }
+fn outcome_for(ending: &Ending) -> Outcome
+    ensures { result ≡ outcome_of ending.now }
 {
     match ending {
         Ending::Ended(_) => Outcome::Ended,
-        Ending::Written => Outcome::Written,
-        Ending::Refused(refusal) => Outcome::Refused(refusal),
+        Ending::Written | Ending::Linked(_) => Outcome::Written,
+        Ending::Refused(refusal) => Outcome::Refused(*refusal),
+        Ending::NotLinked(refusal, _) => Outcome::Refused(Refusal::Link(*refusal)),
         Ending::Spent(_) => Outcome::Spent,
         Ending::ReadFault => Outcome::ReadFault,
         Ending::WriteFault => Outcome::WriteFault,
@@ -203,7 +208,7 @@ fn outcome_for(ending: Ending) -> Outcome
 ///
 /// Word k names file k. `run` of an image puts the program's output into `out`, and hands the registers of
 /// each state of the machine, from reset on, from which a cycle was done or tried to `watch`. `asm` puts the
-/// words of the text's microprogram into `out`, a line for each.
+/// words of the text's microprogram into `out`, a line for each, and `link` the file of the image of the class files.
 pub fn jop<F: Files, S: Source, O: Sink, E: Sink, V: Watch>(
     alloc: Global,
     words: &[&str],
