@@ -72,11 +72,7 @@ fn say_refusal<O: Sink>(sink: &mut O, words: &[&str], refusal: Refusal) -> Resul
     }
 }
 
-fn say_link_refusal<O: Sink>(
-    sink: &mut O,
-    refusal: LinkRefusal,
-    name: &[u8],
-) -> Result<(), Failed>
+fn say_link_refusal<O: Sink>(sink: &mut O, refusal: LinkRefusal, name: &[u8]) -> Result<(), Failed>
     ensures said { lines.Said (is_memory refusal) (concat (link_parts refusal name.now)) (O.held sink.old) (O.held sink.new) (O.faults sink.old) (O.faults sink.new) result }
     ensures cause { HasCause (O.faults sink.old) (O.faults sink.new) result }
 {

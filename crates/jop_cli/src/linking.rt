@@ -52,7 +52,9 @@ fn read_operands<F: Files>(
 {
     match read_files(alloc, files, first, end) {
         Ok(read) => Ok(read),
-        Err(FilesFault::TooBig(operand, sum)) => Err(Ending::Refused(Refusal::TooBig(operand, sum))),
+        Err(FilesFault::TooBig(operand, sum)) => Err(Ending::Refused(Refusal::TooBig(
+            operand, sum,
+        ))),
         Err(FilesFault::ReadFault(_)) => Err(Ending::ReadFault),
         Err(FilesFault::NoMemory) => Err(Ending::NoMemory),
     }
@@ -110,11 +112,7 @@ fn file_made(alloc: Global, linked: Linked) -> Result<(Vec<u8>, Sizes), Ending>
 }
 
 // The file of the image to which the files are linked, and its sizes.
-fn linked_file(
-    alloc: Global,
-    files: &[Vec<u8>],
-    main: &[u8],
-) -> Result<(Vec<u8>, Sizes), Ending>
+fn linked_file(alloc: Global, files: &[Vec<u8>], main: &[u8]) -> Result<(Vec<u8>, Sizes), Ending>
     requires { length files.now < 2 ^ 32 }
     ensures linked { IfOk result (λ made. AreLinkedTo (contents files.now) main.now made.0.items made.1) }
     ensures fault { IfErr result (LinkFault (contents files.now) main.now) }

@@ -68,7 +68,10 @@ fn show_selected(
     let start = Instant::now(rt)?;
     let found = all_selected(classes, names, descriptor.as_slice());
     let microseconds = start.elapsed(rt)?.as_micros();
-    println!(rt; "classes={} selected={found}", classes.classes().class_count())?;
+    println!(rt;
+        "classes={} selected={found}",
+        classes.classes().class_count()
+    )?;
     if with_times {
         println!(rt; "lookups_us={microseconds}")?;
     }

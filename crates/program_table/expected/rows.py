@@ -1,0 +1,189 @@
+#!/usr/bin/env python3
+"""rows.py CLASSES CONTROLLER [PLAIN MICROCODE]: writes the rows of the table and what they have to give.
+
+CLASSES is where `javac --release 8` put the classes of this folder, CONTROLLER where it put those of examples/controller. The image of each program is worked out by
+../../image_table/expected/expected_image.py from the format alone. With PLAIN, the plain simulator of examples/machine, and the text of the microcode, the images are run
+too: what they put out is what a Java virtual machine puts out with the same classes, and the cycles are those of the plain simulator."""
+import os
+import struct
+import subprocess
+import sys
+
+sys.path.insert(0, os.path.join(os.path.dirname(os.path.abspath(__file__)), '../../image_table/expected'))
+import expected_image
+from classfile import ClassFile
+
+MAIN = '([Ljava/lang/String;)V'
+PUBLIC_STATIC = 9
+
+
+class Made(ClassFile):
+    """a class file by hand, whose code has exceptions and frames"""
+
+    def __init__(self, name, above='java/lang/Object', major=52, **more):
+        super().__init__(0x21, name, above, **more)
+        self.major = major
+
+    def code(self, flags, name, descriptor, code, stack=2, local=1, table=(), frames=b'', count=0):
+        body = struct.pack('>HHI', stack, local, len(code)) + code + struct.pack('>H', len(table))
+        body += b''.join(struct.pack('>HHHH', *entry) for entry in table)
+        if frames:
+            maps = struct.pack('>H', count) + frames
+            body += struct.pack('>HHI', 1, self.utf8('StackMapTable'), len(maps)) + maps
+        else:
+            body += b'\0\0'
+        self.methods.append(struct.pack('>HHH', flags, self.utf8(name), self.utf8(descriptor)) + struct.pack('>HHI', 1, self.utf8('Code'), len(body)) + body)
+        return self
+
+    def member(self, tag, owner, name, descriptor):
+        both = self.entry(b'\x0c' + struct.pack('>HH', self.utf8(name), self.utf8(descriptor)))
+        return self.entry(struct.pack('>BHH', tag, self.cls(owner), both))
+
+    def main(self, code, **more):
+        return self.code(PUBLIC_STATIC, 'main', MAIN, code, **more)
+
+    def bytes(self):
+        data = self.data()
+        return data[:6] + struct.pack('>H', self.major) + data[8:]
+
+
+def sum_of(data):
+    total = 0
+    for byte in data:
+        total = (total * 31 + byte) & 0xFFFFFFFF
+    return total
+
+
+def out_text(data):
+    return '%d bytes, sum %08x' % (len(data), sum_of(data)) if len(data) > 64 else data.hex() + '.'
+
+
+def image_of(main, files):
+    image = expected_image.link(main.encode(), files)
+    words = [expected_image.word(w) for _, region in image.regions() for w in region]
+    name = main.encode()
+    data = b'JOPI' + struct.pack('>HH', 1, len(name)) + name + struct.pack('>II', len(words), len(files))
+    data += b''.join(struct.pack('>I', w) for w in words) + b''.join(struct.pack('>I', len(f)) + f for f in files)
+    line = 'linked classes=%d methods=%d words=%d bytes=%d' % (len(image.cs), len(image.coded), len(words), len(data))
+    return data, line
+
+
+class Table:
+    def __init__(self):
+        self.given, self.wanted = [], []
+
+    def call(self, items, status, out, line):
+        """a call; an item is a word, or a word and its file's bytes ('@' for those that were put out last), or the input"""
+        texts, words = [], []
+        for item in items:
+            if isinstance(item, bytes):
+                texts.append('<' + item.hex())
+            elif isinstance(item, tuple):
+                texts.append(item[0] + '=' + (item[1] if item[1] == '@' else item[1].hex()))
+                words.append(item[0])
+            else:
+                texts.append(item)
+                words.append(item)
+        self.given.append(' '.join(texts))
+        self.wanted.append(' '.join(words) + ' -> %d, out %s' % (status, out_text(out)))
+        self.wanted.append('"' + line + '\\n"')
+
+    def refused(self, line, *files, main='A'):
+        names = ['%c.class' % (ord('a') + i) for i in range(len(files))]
+        self.call(['link', '--main', main] + list(zip(names, files)), 2, b'', line)
+
+    def linked(self, main, files, spelled=None):
+        data, line = image_of(main, [f for _, f in files])
+        self.call(['link', '--main', spelled or main] + files, 0, data, line)
+        return data
+
+
+def plain(name='A', major=52):
+    return Made(name, major=major).main(b'\xb1')
+
+
+def links(table):
+    branch = b'\x03\x99\x00\x03\xb1'
+    table.refused('link: unsupported version file=0 major=53', plain(major=53).bytes())
+    table.refused('link: not verified file=0 method=0 pc=1 rule=target', Made('A', major=50).main(branch).bytes())
+    table.linked('A', [('a.class', Made('A', major=50).main(branch, frames=b'\x04', count=1).bytes())])
+    table.refused('link: unsupported file=0 method=0 pc=0 item=fadd', Made('A').main(b'\x62\xb1').bytes())
+    names = Made('A')
+    entry = names.member(9, 'java/lang/System', 'out', 'I')
+    table.refused('link: unresolved file=0 entry=%d why=NoClass name=java/lang/System' % entry, names.main(b'\xb2' + struct.pack('>H', entry) + b'\x57\xb1').bytes())
+    table.refused('link: duplicate file=1 name=A', plain().bytes(), plain().bytes())
+    table.linked('A', [('a.class', plain().bytes())])
+    table.refused('link: no main', plain().bytes(), main='B')
+    orphan = plain()
+    orphan.above = 0
+    table.refused('link: bad hierarchy file=0', orphan.bytes())
+    table.refused('link: bad class file=1', plain().bytes(), plain('B').bytes()[:-1])
+    lost = Made('A')
+    lost_method = lost.member(10, 'A', 'step', '(I)I')
+    table.refused('link: unresolved file=0 entry=%d why=NoMethod name=A.step(I)I' % lost_method, lost.main(b'\x03\xb8' + struct.pack('>H', lost_method) + b'\x57\xb1').bytes())
+    lost = Made('A')
+    lost_field = lost.member(9, 'A', 'sum', 'J')
+    table.refused('link: unresolved file=0 entry=%d why=NoField name=A.sumJ' % lost_field, lost.main(b'\xb2' + struct.pack('>H', lost_field) + b'\x58\xb1').bytes())
+    table.refused('link: not verified file=1 method=1 pc=2 rule=stack', plain().bytes(), Made('B').code(9, 'f', '()V', b'\xb1').code(9, 'g', '()V', b'\x03\x57\x57\xb1').bytes())
+    packed = Made('app/Main').main(b'\xb1').bytes()
+    table.linked('app/Main', [('app/Main.class', packed)])
+    table.linked('app/Main', [('app/Main.class', packed)], spelled='app.Main')
+    table.call(['link', '--main', 'A', ('a.class', plain().bytes()), 'b.class'], 4, b'', 'read fault')
+    table.call(['link', ('a.class', plain().bytes())], 2, b'', 'usage: word 1')
+    table.call(['link', '--main', 'A'], 2, b'', 'usage: word 3')
+    table.call(['link', '--main', 'A', '--main', 'A', ('a.class', plain().bytes())], 2, b'', 'usage: word 3')
+
+
+CONTROLLER = ['Main', 'Gain', 'Stage', 'Mean', 'Weights', 'Overload']
+PROGRAMS = {
+    'Recursion': [], 'Unwinding': ['Fault'], 'Words': [], 'Sorting': [], 'Filling': ['Node'], 'Levels': ['Named', 'Sized', 'Base', 'Middle', 'Last', '1'],
+    'Starting': ['One', 'Two', 'Three'], 'Longs': [], 'Echo': [], 'Locks': [], 'Arrays': [], 'Types': ['Shape', 'Square'], 'Uncaught': ['Fault'], 'Branches': [],
+}
+INPUT = b'hello \xff\0 world'
+SAMPLES = bytes([1, 10, 20, 30, 40, 100, 128, 255, 0, 0, 127, 3])
+
+
+def read(folder, name):
+    with open(os.path.join(folder, name + '.class'), 'rb') as file:
+        return file.read()
+
+
+def run_plainly(simulator, microcode, data, given):
+    with open('/tmp/rows.jopi', 'wb') as file:
+        file.write(data)
+    ran = subprocess.run([simulator, microcode, '/tmp/rows.jopi'], input=given, capture_output=True)
+    return ran.returncode, ran.stdout, ran.stderr.decode().strip()
+
+
+def run_by_java(folder, main, given):
+    ran = subprocess.run(['java', '-Xmx64m', '-XX:+UseSerialGC', '-cp', folder, main], input=given, capture_output=True)
+    return ran.stdout
+
+
+def programs(table, classes, controller, runner):
+    rows = [('Main', controller, CONTROLLER, SAMPLES)]
+    rows += [(main, classes, [main] + [main + '$' + inner for inner in inners], INPUT) for main, inners in PROGRAMS.items()]
+    for main, folder, names, given in rows:
+        data = table.linked(main, [(name + '.class', read(folder, name)) for name in names])
+        if not runner:
+            continue
+        status, out, line = run_plainly(*runner, data, given)
+        assert out == run_by_java(folder, main, given), main
+        if status == 1:
+            number = int(line.split()[1]) - 8
+            words = line.split()
+            words[1] = expected_image.link(main.encode(), [read(folder, n) for n in names]).cs[number].name.decode()
+            line = ' '.join(words)
+        table.call([given, 'run', ('image', '@')], status, out, line)
+
+
+def main():
+    table = Table()
+    links(table)
+    programs(table, sys.argv[1], sys.argv[2], sys.argv[3:5])
+    with open('stdin', 'w') as given, open('stdout', 'w') as wanted:
+        given.write('\n'.join(table.given) + '\n')
+        wanted.write('\n'.join(table.wanted) + '\n')
+
+
+main()

@@ -1,0 +1,86 @@
+//! The items of a row.
+
+use std::alloc::{AllocError, Global};
+
+// The value of a hexadecimal digit.
+fn digit_of(byte: u8) -> Option<u8> {
+    match byte {
+        b'0'..=b'9' => Some(byte - b'0'),
+        b'a'..=b'f' => Some(byte - b'a' + 10),
+        _ => None,
+    }
+}
+
+// The bytes that pairs of digits spell.
+fn hex_bytes(alloc: Global, digits: &[u8]) -> Result<Option<Vec<u8>>, AllocError> {
+    let mut bytes = Vec::new(alloc);
+    let mut rest = digits;
+    while let [high, low, behind @ ..] = rest {
+        let (Some(high), Some(low)) = (digit_of(*high), digit_of(*low)) else {
+            return Ok(None);
+        };
+        bytes.push((high << 4) | low)?;
+        rest = behind;
+    }
+    Ok(if rest.is_empty() { Some(bytes) } else { None })
+}
+
+// Whether an item is the input.
+fn is_input(item: &str) -> bool {
+    matches!(item.as_bytes(), [b'<', ..])
+}
+
+// The word of an item.
+fn word_of(item: &str) -> &str {
+    match item.split_once('=') {
+        Some((word, _)) => word,
+        None => item,
+    }
+}
+
+// The bytes of the file that an item's word names, if it has one.
+fn file_of(alloc: Global, item: &str, last: &[u8]) -> Result<Option<Vec<u8>>, AllocError> {
+    match item.split_once('=') {
+        None => Ok(None),
+        Some((_, "@")) => Ok(Some(last.to_vec(alloc)?)),
+        Some((_, digits)) => hex_bytes(alloc, digits.as_bytes()),
+    }
+}
+
+/// The words of a line.
+pub fn words_of(alloc: Global, line: &str) -> Result<Vec<&str>, AllocError> {
+    let mut words = Vec::new(alloc);
+    for item in line.split(' ') {
+        if !is_input(item) {
+            words.push(word_of(item))?;
+        }
+    }
+    Ok(words)
+}
+
+/// The files of the words of a line.
+pub fn files_of(
+    alloc: Global,
+    line: &str,
+    last: &[u8],
+) -> Result<Vec<Option<Vec<u8>>>, AllocError> {
+    let mut files = Vec::new(alloc);
+    for item in line.split(' ') {
+        if !is_input(item) {
+            files.push(file_of(alloc, item, last)?)?;
+        }
+    }
+    Ok(files)
+}
+
+/// The input of a line.
+pub fn input_of(alloc: Global, line: &str) -> Result<Vec<u8>, AllocError> {
+    for item in line.split(' ') {
+        if let [b'<', digits @ ..] = item.as_bytes() {
+            if let Some(bytes) = hex_bytes(alloc, digits)? {
+                return Ok(bytes);
+            }
+        }
+    }
+    Ok(Vec::new(alloc))
+}
