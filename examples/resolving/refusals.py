@@ -6,8 +6,9 @@
 Each row has a title, the class whose main is run, the files, and what refuses them, which was worked out by hand from the order of the passes:
 files are read; names; what isn't supported; superclasses and superinterfaces; the hierarchy; all else that is named; the number of files; main.
 In each pass the files in their order, of each file its places in theirs. Core classes have the numbers 0 to 22, so file 0 is class 23.
+What a line names is what was put into the pool at the entry; a class that isn't there stands beside the title, in `MISSING`.
 """
-import struct, sys
+import re, struct, sys
 
 def u1(n): return struct.pack('>B', n)
 def u2(n): return struct.pack('>H', n)
@@ -18,7 +19,7 @@ PUBLIC, PRIVATE, PROTECTED, STATIC, FINAL, SUPER, INTERFACE, ABSTRACT, NATIVE = 
 class Maker:
     """A class file: its pool grows as things are mentioned."""
     def __init__(self, name, superclass='java/lang/Object', flags=PUBLIC | SUPER, interfaces=(), major=52):
-        self.pool, self.index = [None], {}
+        self.pool, self.index, self.name = [None], {}, name
         self.major, self.flags = major, flags
         self.this = self.klass(name)
         self.superclass = self.klass(superclass) if superclass else 0
@@ -30,7 +31,7 @@ class Maker:
             self.index[key] = len(self.pool)
             self.pool += [data] + [b''] * (places - 1)
         return self.index[key]
-    def text(self, s): return self.entry(('t', s), u1(1) + u2(len(s)) + s.encode())
+    def text(self, s): return self.entry(('t', s), u1(1) + u2(len(s.encode())) + s.encode())
     def klass(self, s): return self.entry(('c', s), u1(7) + u2(self.text(s)))
     def string(self, s): return self.entry(('s', s), u1(8) + u2(self.text(s)))
     def float(self): return self.entry('f', u1(4) + u4(0x3F800000))
@@ -62,9 +63,31 @@ class Maker:
         out += u2(len(self.methods)) + b''.join(u2(f) + u2(n) + u2(d) + (u2(1) + a if a else u2(0)) for f, n, d, a in self.methods)
         return out + u2(0)
 
+# the first class that isn't there, of an entry that is refused for that
+MISSING = {
+    'no-superclass-there': 'B', 'no-superinterface-there': 'J', 'superclass-before-superinterface': 'B', 'supertypes-before-hierarchy': 'E',
+    'no-class-of-new': 'X', 'no-class-of-array': 'X', 'no-class-of-field': 'java/lang/System', 'no-class-in-descriptor': 'X', 'no-class-in-field-descriptor': 'X',
+    'no-class-before-its-descriptor': 'Y', 'second-class-of-a-descriptor': 'X', 'class-of-a-result': 'X', 'class-behind-known-ones': 'p/X', 'class-of-other-letters': 'p/\u0416\u20ac',
+    'field-descriptor': 'X', 'method-descriptor': 'X', 'second-class-of-a-method': 'X', 'caught-class': 'X', 'class-in-a-frame': 'X', 'instruction-before-handler': 'Z', 'handler-before-frame': 'Y',
+    'field-before-code': 'X', 'supertypes-before-hierarchy-behind-it': 'E', 'mentions-by-file': 'X', 'mentions-before-main': 'X',
+}
+
+def named(title, maker, entry, why):
+    """What the line names of the entry of a pool."""
+    if why == 'NoClass': return MISSING[title]
+    kind, *parts = next(key for key, index in maker.index.items() if index == entry)
+    return parts[0] if kind == 'c' else f'{parts[0]}.{parts[1]}{parts[2]}'
+
+def line(title, wanted, files):
+    """The line that link puts of the refusal, and behind it the number of the class that has a name already."""
+    if wanted.startswith('classes='): return wanted
+    if m := re.match(r'unresolved file=(\d+) entry=(\d+) why=(.*)', wanted): return f'link: {wanted} name={named(title, files[int(m[1])], int(m[2]), m[3])}'
+    if m := re.match(r'duplicate file=(\d+) class=(\d+)', wanted): return f'link: duplicate file={m[1]} name={files[int(m[1])].name} earlier={m[2]}'
+    return f'link: {wanted}'
+
 rows = []
 def row(title, wanted, *files, main='A'):
-    rows.append((title, main, [f if isinstance(f, bytes) else f.bytes() for f in files], wanted))
+    rows.append((title, main, [f if isinstance(f, bytes) else f.bytes() for f in files], line(title, wanted, files)))
 
 def A(**more): return Maker('A', **more).init()
 def with_main(m): return m.main()
@@ -218,6 +241,11 @@ one('no-class-of-array', 'NoClass', 0xbd, lambda m: m.klass('[LX;'))
 one('no-class-of-field', 'NoClass', 0xb2, lambda m: m.fieldref('java/lang/System', 'out', 'Ljava/io/PrintStream;'))
 one('no-class-in-descriptor', 'NoClass', 0xb8, lambda m: m.methodref('B', 'f', '(LX;)V'), B)
 one('no-class-in-field-descriptor', 'NoClass', 0xb2, lambda m: m.fieldref('B', 'nothing', '[[LX;'), B)
+one('no-class-before-its-descriptor', 'NoClass', 0xb8, lambda m: m.methodref('[[LY;', 'f', '(LX;)V'))
+one('second-class-of-a-descriptor', 'NoClass', 0xb8, lambda m: m.methodref('B', 'f', '(ILB;[[LX;LY;)LZ;'), B)
+one('class-of-a-result', 'NoClass', 0xb8, lambda m: m.methodref('B', 'f', '(JLA;)[LX;'), B)
+one('class-behind-known-ones', 'NoClass', 0xb6, lambda m: m.methodref('jop/Boot', 'f', '(LA;Ljop/Boot;LB;Ljava/lang/StackOverflowError;Ljop/Io;)Lp/X;'), B)
+one('class-of-other-letters', 'NoClass', 0xbb, lambda m: m.klass('p/\u0416\u20ac'))
 one('no-field', 'NoField', 0xb2, lambda m: m.fieldref('B', 'x', 'J'), B)
 one('no-field-of-array', 'NoField', 0xb4, lambda m: m.fieldref('[I', 'length', 'I'))
 one('no-method', 'NoMethod', 0xb8, lambda m: m.methodref('B', 'f', '(I)V'), B)
@@ -274,6 +302,8 @@ m = good().field('x', 'I').field('y', '[LX;')
 row('field-descriptor', f'unresolved file=0 entry={m.text("[LX;")} why=NoClass', m)
 m = good().method('f', '(ILX;)V', PUBLIC | STATIC, b'\xb1')
 row('method-descriptor', f'unresolved file=0 entry={m.text("(ILX;)V")} why=NoClass', m)
+m = good().method('f', '(LA;[B)LX;', PUBLIC | STATIC, b'\xb1')
+row('second-class-of-a-method', f'unresolved file=0 entry={m.text("(LA;[B)LX;")} why=NoClass', m)
 m = Maker('A').main(b'\x00\xb1', [(0, 1, 1, 0)]); i = m.klass('X'); m.methods = []; m.main(b'\x00\xb1', [(0, 1, 1, 0), (0, 1, 1, i)])
 row('caught-class', f'unresolved file=0 entry={i} why=NoClass', m)
 m = Maker('A'); i = m.klass('p/Q'); m.main(b'\x00\xb1', [(0, 1, 1, i)])

@@ -1,72 +1,36 @@
 //! What resolving answers, as a text.
 
 use crate::row::Row;
-use jop_opcodes::name;
-use jop_program::{Counted, LinkRefusal, Program, core_classes, resolve};
-use program_tables::{Item, Site, Why};
+use jop_outside::MemSink;
+use jop_program::{LinkRefusal, Program, core_classes, resolve};
+use refusal_lines::{name_in, say_refusal};
 use std::alloc::{AllocError, Global};
 
-fn item_text(alloc: Global, item: Item) -> Result<String, AllocError> {
-    let text = match item {
-        Item::Opcode(op) => name(op),
-        Item::LdcFloat => "ldc float",
-        Item::LdcClass => "ldc class",
-        Item::LdcMethod => "ldc method",
-        Item::LdcDouble => "ldc2_w double",
-        Item::NewarrayFloat => "newarray float",
-        Item::NewarrayDouble => "newarray double",
-        Item::DescriptorFloat => "descriptor F",
-        Item::DescriptorDouble => "descriptor D",
-        Item::Native => "native",
-        Item::InterfaceCode => "interface code",
+// The line of a refusal, without its end.
+fn line_text(alloc: Global, refusal: LinkRefusal, name: &[u8]) -> Result<String, AllocError> {
+    let mut line = MemSink::new(alloc, Vec::new(alloc));
+    if say_refusal(&mut line, refusal, name).is_err() {
+        return Err(AllocError);
+    }
+    match str::from_utf8(line.held()) {
+        Ok(line) => String::from_str(alloc, line.trim_end()),
+        Err(_) => String::from_str(alloc, "no text"),
+    }
+}
+
+fn refusal_text(
+    alloc: Global,
+    files: &[Vec<u8>],
+    refusal: LinkRefusal,
+) -> Result<String, AllocError> {
+    let Ok(name) = name_in(alloc, files, refusal) else {
+        return Err(AllocError);
     };
-    String::from_str(alloc, text)
-}
-
-fn site_text(alloc: Global, site: Site) -> Result<String, AllocError> {
-    match site {
-        Site::Field(field) => format!(in alloc; "field={field}"),
-        Site::Method(method) => format!(in alloc; "method={method}"),
-        Site::Code(method, pc) => format!(in alloc; "method={method} pc={pc}"),
-    }
-}
-
-fn why_text(why: Why) -> &'static str {
-    match why {
-        Why::NoClass => "NoClass",
-        Why::NoField => "NoField",
-        Why::NoMethod => "NoMethod",
-        Why::NotAccessible => "NotAccessible",
-        Why::WrongKind => "WrongKind",
-        Why::NotImplemented => "NotImplemented",
-    }
-}
-
-fn refusal_text(alloc: Global, refusal: LinkRefusal) -> Result<String, AllocError> {
+    let line = line_text(alloc, refusal, &name)?;
     match refusal {
-        LinkRefusal::BadClass(file) => format!(in alloc; "bad class file={file}"),
-        LinkRefusal::UnsupportedVersion(file, major) => {
-            format!(in alloc; "unsupported version file={file} major={major}")
-        }
-        LinkRefusal::Duplicate(file, earlier) => {
-            format!(in alloc; "duplicate file={file} class={earlier}")
-        }
-        LinkRefusal::Unsupported(file, site, item) => {
-            let (site, item) = (site_text(alloc, site)?, item_text(alloc, item)?);
-            format!(in alloc; "unsupported file={file} {site} item={item}")
-        }
-        LinkRefusal::Unresolved(file, entry, why) => {
-            format!(in alloc;
-                "unresolved file={file} entry={entry} why={}",
-                why_text(why)
-            )
-        }
-        LinkRefusal::BadHierarchy(file) => format!(in alloc; "bad hierarchy file={file}"),
-        LinkRefusal::NoMain => String::from_str(alloc, "no main"),
-        LinkRefusal::TooLarge(Counted::Classes, count, limit) => {
-            format!(in alloc; "too large Classes count={count} limit={limit}")
-        }
+        LinkRefusal::Duplicate(_, earlier) => format!(in alloc; "{line} earlier={earlier}"),
         LinkRefusal::NoMemory => Err(AllocError),
+        _ => Ok(line),
     }
 }
 
@@ -91,6 +55,6 @@ pub fn answer(alloc: Global, row: &Row) -> Result<String, AllocError> {
     }
     match resolve(alloc, &row.files, &row.main) {
         Ok(program) => program_text(alloc, &program),
-        Err(refusal) => refusal_text(alloc, refusal),
+        Err(refusal) => refusal_text(alloc, &row.files, refusal),
     }
 }

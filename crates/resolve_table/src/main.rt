@@ -2,8 +2,8 @@
 //! the first is told. The rows were made by `examples/resolving/refusals.py`, which also works out what each row has to give.
 //!
 //! Each line of the input has a title, the name of the class whose main is run, and the files' bytes in hexadecimal digits.
-//! What is printed is the refusal, or how many classes, methods, fields
-//! and types the program has. The first line says how many core classes there are.
+//! What is printed is the line of the refusal, behind that of a name that is taken also the number of the class that has it; or how
+//! many classes, methods, fields and types the program has. The first line says how many core classes there are.
 #![tactic(auto)]
 
 mod answer;
