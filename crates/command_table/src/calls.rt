@@ -15,6 +15,7 @@ fn name_of(outcome: Outcome) -> &'static str {
         Outcome::Refused(Refusal::NotBuilt) => "NotBuilt",
         Outcome::Refused(Refusal::MethodTooLong(_, _, _)) => "MethodTooLong",
         Outcome::Refused(Refusal::Asm(_)) => "Asm",
+        Outcome::Refused(Refusal::Link(_)) => "Link",
         Outcome::Spent => "Spent",
         Outcome::ReadFault => "ReadFault",
         Outcome::WriteFault => "WriteFault",
@@ -56,6 +57,17 @@ pub fn call(
     err_fails: &[u64],
 ) -> Result<Option<Answer>, AllocError> {
     let entries = entries_of(alloc, words.len(), file)?;
+    call_with(alloc, words, entries, out_fails, err_fails)
+}
+
+/// The same, of these files.
+pub fn call_with(
+    alloc: Global,
+    words: &[&str],
+    entries: Vec<Option<Vec<u8>>>,
+    out_fails: &[u64],
+    err_fails: &[u64],
+) -> Result<Option<Answer>, AllocError> {
     let out = MemSink::new(alloc, out_fails.to_vec(alloc)?);
     let err = MemSink::new(alloc, err_fails.to_vec(alloc)?);
     Ok(called(alloc, words, entries, out, err))
@@ -86,8 +98,8 @@ fn called(
     Some(Answer { outcome, out, err })
 }
 
-// Prints words and the outcome of their call.
-fn print_outcome(rt: &HostRuntime, words: &[&str], outcome: Outcome) -> io::Result<()> {
+/// Prints words and the outcome of their call.
+pub fn print_outcome(rt: &HostRuntime, words: &[&str], outcome: Outcome) -> io::Result<()> {
     for word in words {
         print!(rt; "{word} ")?;
     }

@@ -5,6 +5,7 @@
 
 mod calls;
 mod images;
+mod links;
 mod machine;
 mod rows;
 mod texts;
@@ -21,6 +22,9 @@ fn main(rt: HostRuntime) -> io::Result<()> {
     rows::show_others(&rt)?;
     rows::show_usages(&rt)?;
     rows::show_faults(&rt)?;
+    links::show_images(&rt)?;
+    links::show_refused_files(&rt)?;
+    links::show_link_faults(&rt)?;
     texts::show_listings(&rt)?;
     texts::show_broken_rules(&rt)?;
     texts::show_text_faults(&rt)?;

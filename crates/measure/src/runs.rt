@@ -38,7 +38,7 @@ fn ends(alloc: Global) -> Result<bool, AllocError> {
         &mut err,
         &mut NoWatch,
     );
-    Ok(outcome == Outcome::Ended)
+    Ok(matches!(outcome, Outcome::Ended))
 }
 
 // How many of so many runs end.
