@@ -1,2 +1,3 @@
 pub mod NamingLemmas
 pub mod LineLemmas
+pub mod LawLemmas

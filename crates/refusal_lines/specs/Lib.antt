@@ -2,3 +2,4 @@ pub mod Names
 pub mod Lines
 pub mod Entries
 pub mod Naming
+pub mod Laws

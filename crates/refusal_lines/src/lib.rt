@@ -3,6 +3,7 @@
 
 mod bytes;
 mod entries;
+pub mod laws;
 mod lines;
 mod missing;
 mod names;
