@@ -1,11 +1,15 @@
 -- The run of an image, as an answer of the call.
-use Rattle.std.proofs.Common.{◌≡◌, ℕ, ◌≤◌, List, sym, subst}
+use Rattle.std.proofs.Common.{◌≡◌, ℕ, ◌≤◌, List, refl, sym, subst, ⊎_elim}
 use Rattle.std.specs.declared.result.Result.{Result}
 use Rattle.bare_image.specs.Bare.{Image}
 use Rattle.memory_timing.specs.declared.Config.{Config}
 use Rattle.jop_words.specs.declared.command.Settings.{Settings}
 use Rattle.jop_words.specs.declared.command.Command.{Command}
 use Rattle.jop_cli.specs.declared.outcome.Ending.{Ending}
+use Rattle.jop_cli.specs.declared.outcome.Ending.TheVariants as endings
+use Rattle.jop_cli.specs.Leaving.{FailsRisen}
+use Rattle.jop_cli.specs.Assembling.{Assembles}
+use Rattle.jop_cli.specs.Linking.{LinksFiles}
 use Rattle.jop_cli.specs.Run.{Outside}
 use Rattle.jop_cli.specs.Phase.{HasSettings, blocks_of_code, Ran, RanWith}
 use Rattle.jop_cli.specs.World.{World}
@@ -19,3 +23,28 @@ with_settings settings n image config old new ending is few has ran =
 
 pub does_by : (words : List (List ℕ)) (r q : Result Command ℕ) (old new : World) (ending : Ending) → q ≡ r → Does words q old new ending → Does words r old new ending
 does_by words r q old new ending is does = let P : Result Command ℕ → Type 0 = λ x. Does words x old new ending in subst P is does
+
+-- ---- only a run takes input
+
+risen_but : (e : Ending) (before now : ℕ) → (e ≡ endings.InputFault → ⊥) → FailsRisen e before now
+risen_but (endings.Ended counts) before now other = tt
+risen_but endings.Written before now other = tt
+risen_but (endings.Linked sizes) before now other = tt
+risen_but (endings.Uncaught class name counts) before now other = tt
+risen_but (endings.Refused refusal) before now other = tt
+risen_but (endings.TooLong method name blocks limit) before now other = tt
+risen_but (endings.NotLinked refusal name) before now other = tt
+risen_but (endings.Spent counts) before now other = tt
+risen_but endings.ReadFault before now other = tt
+risen_but endings.InputFault before now other = absurd (other refl)
+risen_but endings.WriteFault before now other = tt
+risen_but endings.NoMemory before now other = tt
+
+pub assembles_risen : (text : ℕ) (old new : World) (e : Ending) (before now : ℕ) → Assembles text old new e → FailsRisen e before now
+assembles_risen text old new e before now does = risen_but e before now (λ is. subst (Assembles text old new) is does)
+
+no_input : (main : List ℕ) (first : ℕ) (old new : World) → LinksFiles main first old new endings.InputFault → ⊥
+no_input main first old new links = ⊎_elim (λ f. f.0) (λ r. r.put.0) links
+
+pub links_risen : (main : List ℕ) (first : ℕ) (old new : World) (e : Ending) (before now : ℕ) → LinksFiles main first old new e → FailsRisen e before now
+links_risen main first old new e before now links = risen_but e before now (λ is. no_input main first old new (subst (LinksFiles main first old new) is links))

@@ -2,3 +2,8 @@ pub mod Reset
 pub mod Executing
 pub mod Words
 pub mod Fitting
+mod Starting
+mod Ended
+mod Taken
+mod Held
+mod Endings

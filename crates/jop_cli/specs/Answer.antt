@@ -3,56 +3,62 @@ use Rattle.std.specs.Prelude.{◌≡◌, ℕ, ◌≤◌, true, false, ◌⊎◌,
 use Rattle.std.specs.declared.option.Option.{Option}
 use Rattle.std.specs.declared.result.Result.{Result}
 use Rattle.jop_outside.specs.Outside.{Grew, Rose}
-use Rattle.bare_image.specs.Bare.{Image, IsBare}
 use Rattle.jop_words.specs.declared.command.Settings.{Settings}
 use Rattle.jop_words.specs.declared.command.Command.{Command}
 use Rattle.jop_words.specs.declared.command.Command.TheVariants.{Run, Asm as Assemble, Link as LinkTo}
 use Rattle.jop_words.specs.Command.{command_of}
 use Rattle.command_lines.specs.Said.{SaidLess}
-use Rattle.jop_cli.specs.declared.outcome.Refusal.{Refusal}
-use Rattle.jop_cli.specs.declared.outcome.Refusal.TheVariants.{Usage, TooBig, BadImage, NotBuilt, Link}
+use Rattle.jop_cli.specs.declared.outcome.Refusal.TheVariants.{Usage, TooBig, NotBuilt, MethodTooLong, Link}
 use Rattle.jop_cli.specs.declared.outcome.Ending.{Ending}
-use Rattle.jop_cli.specs.declared.outcome.Ending.TheVariants.{Ended, Written, Linked, Refused, NotLinked, Spent, ReadFault, WriteFault, NoMemory}
+use Rattle.jop_cli.specs.declared.outcome.Ending.TheVariants.{Ended, Written, Linked, Uncaught, Refused, TooLong, NotLinked, Spent, ReadFault, InputFault, WriteFault, NoMemory}
 use Rattle.jop_cli.specs.declared.outcome.Outcome.{Outcome}
 use Rattle.jop_cli.specs.declared.outcome.Outcome.TheVariants as outcomes
 use Rattle.jop_cli.specs.Line.{text_at, line_of, is_fault}
 use Rattle.jop_cli.specs.Run.{Outside, outside}
-use Rattle.jop_cli.specs.Phase.{is_linked, IsNoImage, IsTooLong, RanWith}
-use Rattle.jop_cli.specs.World.{World, IsQuiet, FilesStayBut, IsUnchanged, Reads, IsTooBig}
+use Rattle.jop_cli.specs.Phase.{is_linked, RunsBareBytes}
+use Rattle.jop_cli.specs.Lent.{Lent, lent}
+use Rattle.jop_cli.specs.LinkedFile.{RunsLinkedBytes}
+use Rattle.jop_cli.specs.World.{World, IsQuiet, IsUntaken, FilesStayBut, IsUnchanged, Reads, IsTooBig}
 use Rattle.jop_cli.specs.Assembling.{Assembles}
 use Rattle.jop_cli.specs.Linking.{LinksFiles}
 
 abbrev pub outside_of : World → Outside
 outside_of w = outside w.out w.watch w.out_faults
 
+abbrev pub lent_of : World → Lent
+lent_of w = lent w.left w.read_faults w.out w.out_faults w.watch
+
 -- ---- `run`
 
--- the file of a word was read, and its bytes are those of an image
-pub record ReadsImage (word : ℕ) (image : Image) (old new : World) : Type 0 where
+-- why the file of a word wasn't read
+abbrev pub FileFault : (word : ℕ) → World → World → Ending → Type 0
+FileFault word old new (Refused (TooBig operand sum)) = IsTooBig word old new operand sum
+FileFault word old new ReadFault = FilesStayBut word old new × Rose (old.file_faults word) (new.file_faults word)
+FileFault word old new NoMemory = FilesStayBut word old new
+FileFault word old new ending = ⊥
+
+-- The file of a word was read, and its bytes are those of a bare image that was run, or of none. The input isn't asked.
+pub record RunsBare (settings : Settings) (word : ℕ) (old new : World) (ending : Ending) : Type 0 where
   pub bytes : List ℕ
   pub reads : Reads word bytes old new
-  pub unlinked : is_linked bytes ≡ false
-  pub bare : IsBare bytes image
+  pub bare : is_linked bytes ≡ false
+  pub runs : RunsBareBytes settings bytes (outside_of old) (outside_of new) ending
+  pub input : IsUntaken old new
 
--- How the image of a word is refused before the machine is made.
-abbrev pub RefusedFor : (word : ℕ) → World → World → Refusal → Type 0
-RefusedFor word old new (TooBig operand sum) = IsTooBig word old new operand sum
-RefusedFor word old new NotBuilt = (bytes : List ℕ) × Reads word bytes old new × (is_linked bytes ≡ true)
-RefusedFor word old new BadImage = (bytes : List ℕ) × Reads word bytes old new × IsNoImage bytes
-RefusedFor word old new refusal = ⊥
+-- The file of a word was read, and its bytes begin as those of a linked image.
+pub record ReadsLinked (word : ℕ) (bytes : List ℕ) (old new : World) : Type 0 where
+  pub reads : Reads word bytes old new
+  pub linked : is_linked bytes ≡ true
 
--- The image of a word was read, and its code takes more blocks than the method cache has, or it was run.
-pub record RunsImage (settings : Settings) (word : ℕ) (old new : World) (ending : Ending) : Type 0 where
-  pub image : Image
-  pub reads : ReadsImage word image old new
-  pub ran : IsTooLong settings image (outside_of old) (outside_of new) ending ⊎ RanWith settings image (outside_of old) (outside_of new) ending
+-- They were run, or are no such image.
+pub record RunsLinked (settings : Settings) (word : ℕ) (old new : World) (ending : Ending) : Type 0 where
+  pub bytes : List ℕ
+  pub reads : ReadsLinked word bytes old new
+  pub runs : RunsLinkedBytes settings bytes (lent_of old) (lent_of new) ending
 
 -- How the run of the image of a word ends, each ending with its cause.
 abbrev pub RunsFile : Settings → (word : ℕ) → World → World → Ending → Type 0
-RunsFile settings word old new (Refused refusal) = (RefusedFor word old new refusal × IsQuiet old new) ⊎ RunsImage settings word old new (Refused refusal)
-RunsFile settings word old new ReadFault = FilesStayBut word old new × Rose (old.file_faults word) (new.file_faults word) × IsQuiet old new
-RunsFile settings word old new NoMemory = FilesStayBut word old new × IsQuiet old new
-RunsFile settings word old new ending = RunsImage settings word old new ending
+RunsFile settings word old new ending = (FileFault word old new ending × IsQuiet old new) ⊎ (RunsBare settings word old new ending ⊎ RunsLinked settings word old new ending)
 
 -- ---- all commands
 
@@ -71,10 +77,13 @@ abbrev pub outcome_of : Ending → Outcome
 outcome_of (Ended counts) = outcomes.Ended
 outcome_of Written = outcomes.Written
 outcome_of (Linked sizes) = outcomes.Written
+outcome_of (Uncaught class name counts) = outcomes.Uncaught class
 outcome_of (Refused refusal) = outcomes.Refused refusal
+outcome_of (TooLong method name blocks limit) = outcomes.Refused (MethodTooLong method blocks limit)
 outcome_of (NotLinked refusal name) = outcomes.Refused (Link refusal)
 outcome_of (Spent counts) = outcomes.Spent
 outcome_of ReadFault = outcomes.ReadFault
+outcome_of InputFault = outcomes.ReadFault
 outcome_of WriteFault = outcomes.WriteFault
 outcome_of NoMemory = outcomes.NoMemory
 
@@ -83,22 +92,23 @@ abbrev pub outcome_unsaid : Ending → Outcome
 outcome_unsaid (Ended counts) = outcomes.WriteFault
 outcome_unsaid Written = outcomes.WriteFault
 outcome_unsaid (Linked sizes) = outcomes.WriteFault
+outcome_unsaid (Uncaught class name counts) = outcomes.WriteFault
 outcome_unsaid (Refused refusal) = outcomes.WriteFault
+outcome_unsaid (TooLong method name blocks limit) = outcomes.WriteFault
 outcome_unsaid (NotLinked refusal name) = outcomes.WriteFault
 outcome_unsaid (Spent counts) = outcomes.WriteFault
 outcome_unsaid ReadFault = outcomes.ReadFault
+outcome_unsaid InputFault = outcomes.ReadFault
 outcome_unsaid WriteFault = outcomes.WriteFault
 outcome_unsaid NoMemory = outcomes.NoMemory
 
--- an outcome after which out and the watch are as they were
-abbrev pub LeavesOut : Outcome → Type 0
-LeavesOut outcomes.Ended = ⊥
-LeavesOut outcomes.Written = ⊥
-LeavesOut (outcomes.Refused refusal) = Unit {0}
-LeavesOut outcomes.Spent = ⊥
-LeavesOut outcomes.ReadFault = Unit {0}
-LeavesOut outcomes.WriteFault = ⊥
-LeavesOut outcomes.NoMemory = Unit {0}
+-- the words say `run`, and the bytes of the image begin as those of a linked one
+pub record RunsLinkedFile (words : List (List ℕ)) (old new : World) : Type 0 where
+  pub settings : Settings
+  pub image : ℕ
+  pub command : command_of words ≡ Ok (Run settings image)
+  pub bytes : List ℕ
+  pub reads : ReadsLinked image bytes old new
 
 -- what err was given of an ending, and the outcome: the whole line, or less where err failed
 pub record Said (words : List (List ℕ)) (ending : Ending) (old new : Option (List ℕ)) (before now : ℕ) (outcome : Outcome) : Type 0 where

@@ -10,7 +10,7 @@ use Rattle.jop_cli.specs.declared.outcome.Refusal.{Refusal}
 use Rattle.jop_cli.specs.declared.outcome.Refusal.TheVariants.{TooBig, Asm}
 use Rattle.jop_cli.specs.declared.outcome.Ending.{Ending}
 use Rattle.jop_cli.specs.declared.outcome.Ending.TheVariants.{Written, Refused, ReadFault, WriteFault, NoMemory}
-use Rattle.jop_cli.specs.World.{World, IsQuiet, FilesStayBut, Reads, IsTooBig}
+use Rattle.jop_cli.specs.World.{World, IsQuiet, IsUntaken, FilesStayBut, Reads, IsTooBig}
 
 -- this is the listing of the microprogram that a text is
 pub record IsListing (text listing : List ℕ) : Type 0 where
@@ -42,6 +42,7 @@ pub record PutsListing (word : ℕ) (old new : World) : Type 0 where
   pub put : Grew old.out new.out listing
   pub later : old.out_faults ≤ new.out_faults
   pub watch : new.watch ≡ old.watch
+  pub input : IsUntaken old new
 
 -- a front of the listing was put, where out failed
 pub record PutsFront (word : ℕ) (old new : World) : Type 0 where
@@ -52,6 +53,7 @@ pub record PutsFront (word : ℕ) (old new : World) : Type 0 where
   pub put : Grew old.out new.out (take count listing)
   pub rose : Rose old.out_faults new.out_faults
   pub watch : new.watch ≡ old.watch
+  pub input : IsUntaken old new
 
 -- How the text of a word is refused.
 abbrev pub NotAssembled : (word : ℕ) → World → World → Refusal → Type 0

@@ -3,7 +3,12 @@ pub mod Run
 pub mod Line
 pub mod Phase
 pub mod World
+pub mod Leaving
 pub mod Assembling
 pub mod Linking
+pub mod Lent
+pub mod LinkedRun
+pub mod LinkedSettings
+pub mod LinkedFile
 pub mod Answer
 pub mod Status

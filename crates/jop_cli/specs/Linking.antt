@@ -14,7 +14,7 @@ use Rattle.command_lines.specs.declared.line.Sizes.{Sizes}
 use Rattle.jop_cli.specs.declared.outcome.Refusal.TheVariants.{TooBig}
 use Rattle.jop_cli.specs.declared.outcome.Ending.{Ending}
 use Rattle.jop_cli.specs.declared.outcome.Ending.TheVariants.{Linked, Refused, NotLinked, ReadFault, WriteFault, NoMemory}
-use Rattle.jop_cli.specs.World.{World, IsQuiet}
+use Rattle.jop_cli.specs.World.{World, IsQuiet, IsUntaken}
 
 -- the name of a class, in which each `.` of the word reads as `/`
 abbrev pub slashed : (byte : ℕ) → ℕ
@@ -105,6 +105,7 @@ pub record LinksRead (main : List ℕ) (first : ℕ) (old new : World) (ending :
   pub reads : ReadsFiles first files old new
   pub put : PutsLinked files (class_name main) old.out new.out old.out_faults new.out_faults ending
   pub watch : new.watch ≡ old.watch
+  pub input : IsUntaken old new
 
 -- How the linking of the files of the words from one on ends, each ending with its cause. A word names the main class.
 abbrev pub LinksFiles : (main : List ℕ) → (first : ℕ) → World → World → Ending → Type 0

@@ -1,10 +1,10 @@
 -- What the phases of the top call do.
-use Rattle.std.specs.Prelude.{◌≡◌, ℕ, ◌<◌, ◌≤◌, Bool, true, false, List, length, nat_eq, codes}
+use Rattle.std.specs.Prelude.{◌≡◌, ℕ, ◌<◌, ◌≤◌, ◌⊎◌, Bool, List, length, nat_eq, codes}
 use Rattle.std.specs.List.{starts_with}
 use Rattle.std.specs.declared.option.Option.{Option}
 use Rattle.jop_outside.specs.Outside.{Rose, HasLength}
 use Rattle.bare_image.specs.Bare.{Image, IsBare}
-use Rattle.jop_cli.specs.declared.outcome.Refusal.TheVariants.{TooBig, BadImage, NotBuilt, MethodTooLong}
+use Rattle.jop_cli.specs.declared.outcome.Refusal.TheVariants.{TooBig, BadImage, MethodTooLong}
 use Rattle.jop_cli.specs.declared.outcome.Ending.{Ending}
 use Rattle.jop_cli.specs.declared.outcome.Ending.TheVariants.{Ended, Refused, Spent, ReadFault, WriteFault, NoMemory}
 use Rattle.memory_timing.specs.declared.Config.{Config}
@@ -25,15 +25,9 @@ LoadFault word told before now ending = ⊥
 abbrev pub is_linked : List ℕ → Bool
 is_linked bytes = starts_with nat_eq bytes (codes "JOPI")
 
--- The bytes are in no image grammar.
-pub record IsNoImage (bytes : List ℕ) : Type 0 where
-  pub unlinked : is_linked bytes ≡ false
-  pub not_bare : (image : Image) → IsBare bytes image → ⊥
-
--- why the bytes of a file weren't run
+-- why the bytes of a file that don't begin as those of a linked image weren't run
 abbrev pub ImageFault : List ℕ → Ending → Type 0
-ImageFault bytes (Refused NotBuilt) = is_linked bytes ≡ true
-ImageFault bytes (Refused BadImage) = IsNoImage bytes
+ImageFault bytes (Refused BadImage) = (image : Image) → IsBare bytes image → ⊥
 ImageFault bytes NoMemory = Unit {0}
 ImageFault bytes ending = ⊥
 
@@ -69,3 +63,13 @@ pub record RanWith (settings : Settings) (image : Image) (old new : Outside) (en
   pub config : Config
   pub has : HasSettings settings config
   pub ran : Ran settings.stack image config settings.cycles old new ending
+
+-- The bytes are those of an image, and its code takes more blocks than the method cache has, or it was run.
+pub record RunsImage (settings : Settings) (bytes : List ℕ) (old new : Outside) (ending : Ending) : Type 0 where
+  pub image : Image
+  pub bare : IsBare bytes image
+  pub ran : IsTooLong settings image old new ending ⊎ RanWith settings image old new ending
+
+-- how the run of bytes that don't begin as those of a linked image ends
+abbrev pub RunsBareBytes : Settings → (bytes : List ℕ) → (old new : Outside) → Ending → Type 0
+RunsBareBytes settings bytes old new ending = (ImageFault bytes ending × (new ≡ old)) ⊎ RunsImage settings bytes old new ending

@@ -4,21 +4,29 @@ use Rattle.std.specs.declared.option.Option.{Option}
 use Rattle.jop_outside.specs.Outside.{OnlyWord, IsWhole, HasLength}
 use Rattle.jop_device.specs.declared.seen.Seen.{Seen}
 
--- what is told of files, out and the watch, and the counts of faults of files and out
+-- what is told of files, the input, out and the watch, and the counts of faults of files, the input and out
 pub record World : Type 0 where
   pub words : ℕ
   pub files : ℕ → Option (List ℕ)
   pub file_faults : ℕ → ℕ
+  pub left : Option (List ℕ)
+  pub read_faults : ℕ
   pub out : Option (List ℕ)
   pub out_faults : ℕ
   pub watch : Option (List Seen)
 
-abbrev pub world : ℕ → (ℕ → Option (List ℕ)) → (ℕ → ℕ) → Option (List ℕ) → ℕ → Option (List Seen) → World
-world words files file_faults out out_faults watch =
-    record { words = words; files = files; file_faults = file_faults; out = out; out_faults = out_faults; watch = watch }
+abbrev pub world : ℕ → (ℕ → Option (List ℕ)) → (ℕ → ℕ) → Option (List ℕ) → ℕ → Option (List ℕ) → ℕ → Option (List Seen) → World
+world words files file_faults left read_faults out out_faults watch =
+    record { words = words; files = files; file_faults = file_faults; left = left; read_faults = read_faults; out = out; out_faults = out_faults; watch = watch }
 
--- out and the watch are as they were
+-- the input is as it was
+pub record IsUntaken (old new : World) : Type 0 where
+  pub left : new.left ≡ old.left
+  pub read_faults : new.read_faults ≡ old.read_faults
+
+-- the input, out and the watch are as they were
 pub record IsQuiet (old new : World) : Type 0 where
+  pub input : IsUntaken old new
   pub out : new.out ≡ old.out
   pub out_faults : new.out_faults ≡ old.out_faults
   pub watch : new.watch ≡ old.watch

@@ -1,9 +1,9 @@
 //! Assembling the text of an operand.
-ghost use Rattle.std.specs.Prelude.{◌≡◌, ◌<◌, ◌≤◌, List, Option, length, IfOk, IfErr};
+ghost use Rattle.std.specs.Prelude.{◌≡◌, ◌<◌, ◌≤◌, ℕ, List, Option, length, IfOk, IfErr};
 ghost use Rattle.jop_device.specs.declared.seen.Seen.{Seen};
 ghost use Rattle.jop_cli.specs.World.{world};
 ghost use Rattle.jop_cli.specs.Assembling.{IsListing, ListingFault, Assembles};
-ghost use Rattle.jop_cli.specs.Answer.{LeavesOut, outcome_of};
+ghost use Rattle.jop_cli.specs.Leaving.{Leaves};
 
 use crate::load::load;
 use crate::outcome::{AsmRefusal, Ending, Refusal};
@@ -42,10 +42,10 @@ pub(crate) fn assemble_file<F: Files, O: Sink>(
     out: &mut O,
 ) -> Ending
     requires there { word < F.words files.old }
-    ensures assembles { (watch : Option (List Seen)) → Assembles word
-        (world (F.words files.old) (F.told files.old) (F.faults files.old) (O.held out.old) (O.faults out.old) watch)
-        (world (F.words files.new) (F.told files.new) (F.faults files.new) (O.held out.new) (O.faults out.new) watch) result }
-    ensures leaves { LeavesOut (outcome_of result) → out.new ≡ out.old }
+    ensures assembles { (left : Option (List ℕ)) (read_faults : ℕ) (watch : Option (List Seen)) → Assembles word
+        (world (F.words files.old) (F.told files.old) (F.faults files.old) left read_faults (O.held out.old) (O.faults out.old) watch)
+        (world (F.words files.new) (F.told files.new) (F.faults files.new) left read_faults (O.held out.new) (O.faults out.new) watch) result }
+    ensures leaves { Leaves result → out.new ≡ out.old }
 {
     let text = match load(alloc, files, word) {
         Ok(text) => text,

@@ -1,10 +1,10 @@
 //! The line of each ending, on err. No memory is taken.
-ghost use Rattle.std.specs.Prelude.{◌≡◌};
+ghost use Rattle.std.specs.Prelude.{◌≡◌, false};
 ghost use Rattle.std.specs.List.{concat};
 ghost use Rattle.jop_outside.specs.Outside.{HasCause};
 ghost use Rattle.command_lines.specs.Said as lines;
 ghost use Rattle.jop_words.specs.Command.{texts};
-ghost use Rattle.jop_cli.specs.Line.{text_at, kind_name, link_parts, is_memory, line_of, is_fault};
+ghost use Rattle.jop_cli.specs.Line.{text_at, kind_name, link_parts, too_long_parts, is_memory, line_of, is_fault};
 
 use crate::outcome::{AsmRefusal, Ending, Refusal};
 use command_lines::{AsmLine, Line, LinkLine, say};
@@ -37,9 +37,11 @@ pub(crate) fn say_ending<O: Sink>(
         Ending::Written => Ok(()),
         Ending::Linked(sizes) => say(sink, &Line::Linked(*sizes)),
         Ending::Spent(counts) => say(sink, &Line::Spent(*counts)),
+        Ending::Uncaught(_, name, counts) => say(sink, &Line::Uncaught(name, *counts)),
         Ending::Refused(refusal) => say_refusal(sink, words, *refusal),
+        Ending::TooLong(_, name, blocks, limit) => say_too_long(sink, name, *blocks, *limit),
         Ending::NotLinked(refusal, name) => say_link_refusal(sink, *refusal, name),
-        Ending::ReadFault => say(sink, &Line::ReadFault),
+        Ending::ReadFault | Ending::InputFault => say(sink, &Line::ReadFault),
         Ending::WriteFault => say(sink, &Line::WriteFault),
         Ending::NoMemory => say(sink, &Line::NoMemory),
     }
@@ -54,14 +56,11 @@ fn say_refusal<O: Sink>(sink: &mut O, words: &[&str], refusal: Refusal) -> Resul
         Refusal::TooBig(k, sum) => say(sink, &Line::TooBig(text_of(words, k), sum)),
         Refusal::BadImage => say(sink, &Line::BadImage),
         Refusal::NotBuilt => say(sink, &Line::NotBuilt),
-        Refusal::MethodTooLong(_, blocks, limit) => say(
-            sink,
-            &Line::MethodTooLong {
-                name: b"boot",
-                blocks,
-                limit,
-            },
-        ),
+        Refusal::Differs(word, kept, linked) => say(sink, &Line::Differs { word, kept, linked }),
+        Refusal::MethodTooLong(_, blocks, limit) => say_too_long(sink, b"boot", blocks, limit),
+        Refusal::MemoryTooSmall(words, given) => {
+            say(sink, &Line::MemoryTooSmall { words, given })
+        }
         Refusal::Asm(AsmRefusal::Line(number, kind)) => {
             say(sink, &Line::Asm(AsmLine::Broken(number, kind_name(kind))))
         }
@@ -70,6 +69,18 @@ fn say_refusal<O: Sink>(sink: &mut O, words: &[&str], refusal: Refusal) -> Resul
         }
         Refusal::Link(_) => Ok(()),
     }
+}
+
+fn say_too_long<O: Sink>(sink: &mut O, name: &[u8], blocks: u32, limit: u32) -> Result<(), Failed>
+    ensures said { lines.Said false (concat (too_long_parts name.now blocks limit)) (O.held sink.old) (O.held sink.new) (O.faults sink.old) (O.faults sink.new) result }
+    ensures cause { HasCause (O.faults sink.old) (O.faults sink.new) result }
+{
+    let line = Line::MethodTooLong {
+        name,
+        blocks,
+        limit,
+    };
+    say(sink, &line)
 }
 
 fn say_link_refusal<O: Sink>(sink: &mut O, refusal: LinkRefusal, name: &[u8]) -> Result<(), Failed>

@@ -9,7 +9,7 @@ ghost use Rattle.jopizer.specs.Refused.{IsRefusal};
 ghost use Rattle.jop_cli.specs.Line.{text_at};
 ghost use Rattle.jop_cli.specs.World.{world};
 ghost use Rattle.jop_cli.specs.Linking.{slashed, class_name, OperandsFault, AreSizes, AreLinkedTo, LinkFault, PutsLinked, LinksFiles};
-ghost use Rattle.jop_cli.specs.Answer.{LeavesOut, outcome_of};
+ghost use Rattle.jop_cli.specs.Leaving.{Leaves};
 
 use crate::lines::text_of;
 use crate::outcome::{Ending, Refusal};
@@ -60,8 +60,8 @@ fn read_operands<F: Files>(
     }
 }
 
-// The ending where this refuses the files.
-fn not_linked(alloc: Global, files: &[Vec<u8>], refusal: LinkRefusal) -> Ending
+/// The ending where this refuses the files.
+pub(crate) fn not_linked(alloc: Global, files: &[Vec<u8>], refusal: LinkRefusal) -> Ending
     ensures { (main : List ℕ) → IsRefusal (contents files.now) main refusal → LinkFault (contents files.now) main result }
 {
     match refusal {
@@ -127,7 +127,7 @@ fn linked_file(alloc: Global, files: &[Vec<u8>], main: &[u8]) -> Result<(Vec<u8>
 fn put_linked<O: Sink>(alloc: Global, files: &[Vec<u8>], main: &[u8], out: &mut O) -> Ending
     requires { length files.now < 2 ^ 32 }
     ensures put { PutsLinked (contents files.now) main.now (O.held out.old) (O.held out.new) (O.faults out.old) (O.faults out.new) result }
-    ensures leaves { LeavesOut (outcome_of result) → out.new ≡ out.old }
+    ensures leaves { Leaves result → out.new ≡ out.old }
 {
     let (bytes, sizes) = match linked_file(alloc, files, main) {
         Ok(made) => made,
@@ -152,10 +152,10 @@ pub(crate) fn link_files<F: Files, O: Sink>(
     requires few { length words.now < 2 ^ 32 }
     requires main { main < length words.now }
     requires first { first < length words.now }
-    ensures links { (watch : Option (List Seen)) → LinksFiles (text_at (texts words.now) main) first
-        (world (F.words files.old) (F.told files.old) (F.faults files.old) (O.held out.old) (O.faults out.old) watch)
-        (world (F.words files.new) (F.told files.new) (F.faults files.new) (O.held out.new) (O.faults out.new) watch) result }
-    ensures leaves { LeavesOut (outcome_of result) → out.new ≡ out.old }
+    ensures links { (left : Option (List ℕ)) (read_faults : ℕ) (watch : Option (List Seen)) → LinksFiles (text_at (texts words.now) main) first
+        (world (F.words files.old) (F.told files.old) (F.faults files.old) left read_faults (O.held out.old) (O.faults out.old) watch)
+        (world (F.words files.new) (F.told files.new) (F.faults files.new) left read_faults (O.held out.new) (O.faults out.new) watch) result }
+    ensures leaves { Leaves result → out.new ≡ out.old }
 {
     let read = match read_operands(alloc, files, first, words.len() as u32) {
         Ok(read) => read,

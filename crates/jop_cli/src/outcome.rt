@@ -15,10 +15,15 @@ pub enum Refusal {
     TooBig(u32, u128),
     /// The file is in no image grammar.
     BadImage,
-    /// The command can't be done yet, or the image is a linked one, which can't be run yet.
+    /// The command can't be done yet.
     NotBuilt,
+    /// The word at this place is the first that the image has otherwise than its class files are linked to: the image's
+    /// and the linked one, none past an end.
+    Differs(u32, Option<u32>, Option<u32>),
     /// The method of this number takes so many blocks of the method cache, which has fewer.
     MethodTooLong(u32, u32, u32),
+    /// The image has so many words, and the memory, of so many, has fewer.
+    MemoryTooSmall(u32, u32),
     /// The text isn't assembled.
     Asm(AsmRefusal),
     /// The files aren't linked.
@@ -41,6 +46,8 @@ pub enum Outcome {
     Ended,
     /// The whole answer was put.
     Written,
+    /// An object of the class of this number wasn't caught.
+    Uncaught(u32),
     /// The command was refused.
     Refused(Refusal),
     /// The run was stopped at the first boundary whose clock was at least the given count of cycles.
@@ -63,6 +70,7 @@ impl Outcome {
     {
         match self {
             Outcome::Ended | Outcome::Written => 0,
+            Outcome::Uncaught(_) => 1,
             Outcome::Refused(_) => 2,
             Outcome::Spent => 3,
             Outcome::ReadFault | Outcome::WriteFault => 4,
@@ -78,11 +86,18 @@ pub(crate) enum Ending {
     Written,
     /// What was linked was written, and has these sizes.
     Linked(Sizes),
+    /// An object of the class of this number wasn't caught, whose name has these bytes.
+    Uncaught(u32, Vec<u8>, Counts),
     Refused(Refusal),
+    /// The method of this number, whose name has these bytes, takes so many blocks of the method cache, which has so many.
+    TooLong(u32, Vec<u8>, u32, u32),
     /// The files aren't linked, and what the line names in them has these bytes.
     NotLinked(LinkRefusal, Vec<u8>),
     Spent(Counts),
+    /// A file failed.
     ReadFault,
+    /// The input failed.
+    InputFault,
     WriteFault,
     NoMemory,
 }

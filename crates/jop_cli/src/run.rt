@@ -2,11 +2,13 @@
 ghost use Rattle.std.specs.Prelude.{◌≡◌, ◌<◌, ◌^◌};
 ghost use Rattle.boundary.specs.Answers.{IsUnbroken};
 ghost use Rattle.boundary.specs.Runs.{RunsAll};
+ghost use Rattle.jop_cli.specs.Run.{AreCounts};
 ghost use Rattle.jop_cli.specs.Wired.{wired};
 
 use crate::devices::RunDevice;
 use boundary::{RunEnd, Running};
-use jop_core::Watch;
+use command_lines::Counts;
+use jop_core::{Machine, Watch};
 use jop_outside::Sink;
 
 /// Runs a machine until its program has ended, its clock is at least the limit at a boundary, or `out` fails. The watch
@@ -25,4 +27,15 @@ pub(crate) fn run<const N: usize, O: Sink, V: Watch>(
 {
     let mut device = RunDevice { out, watch };
     boundary::run(running, &mut device, limit)
+}
+
+/// The counts of a machine.
+pub(crate) fn counts_of<const N: usize>(machine: &Machine<N>) -> Counts
+    ensures { AreCounts result machine.now }
+{
+    Counts {
+        clock: machine.clock(),
+        hits: machine.hits(),
+        misses: machine.misses(),
+    }
 }

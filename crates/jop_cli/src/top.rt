@@ -1,39 +1,36 @@
 //! The top call.
-ghost use Rattle.std.specs.Prelude.{◌≡◌, ◌<◌, ◌≤◌, ◌^◌, false, length, IfOk, IfErr, IsOk};
+ghost use Rattle.std.specs.Prelude.{◌≡◌, ◌<◌, ◌≤◌, ◌^◌, ℕ, List, length, IfOk, IfErr};
 ghost use Rattle.bare_image.specs.Bare.{IsImage, IsBare};
 ghost use Rattle.stack_cache.specs.Size.{IsSize};
 ghost use Rattle.jop_core.specs.Reset.{CanStartBare};
 ghost use Rattle.jop_words.specs.Command.{texts};
 ghost use Rattle.jop_words.specs.Range.{AreSettings};
-ghost use Rattle.jop_cli.specs.Phase.{is_linked, ImageFault, blocks_of_code, Ran, RanWith};
-ghost use Rattle.jop_cli.specs.Run.{AreCounts, outside};
+ghost use Rattle.jop_cli.specs.Phase.{ImageFault, blocks_of_code, Ran, RanWith, RunsBareBytes};
+ghost use Rattle.jop_cli.specs.Run.{outside};
 ghost use Rattle.jop_cli.specs.World.{world};
-ghost use Rattle.jop_cli.specs.Answer.{RunsFile, Executed, Answered, Said, LeavesOut, outcome_of, outcome_unsaid};
+ghost use Rattle.jop_cli.specs.Leaving.{Leaves, LeavesAll, FailsRisen};
+ghost use Rattle.jop_cli.specs.Answer.{ReadsLinked, RunsFile, RunsLinkedFile, Executed, Answered, Said, outcome_of, outcome_unsaid};
 
 use crate::assembling::assemble_file;
 use crate::lines::say_ending;
+use crate::linked_file::run_linked_bytes;
 use crate::linking::link_files;
 use crate::load::load;
 use crate::outcome::{Ending, Outcome, Refusal};
-use crate::run::run;
+use crate::run::{counts_of, run};
 use crate::settings::{blocks_of, config_of};
 use boundary::laws::{bare_images_are_programs, bare_images_step};
 use boundary::{RunEnd, Running};
-use command_lines::Counts;
-use jop_core::{Bare, BareFault, Config, Machine, Watch, read_bare};
+use jop_core::{Bare, BareFault, Config, Watch, read_bare};
 use jop_outside::{Files, Sink, Source};
 use jop_words::{Command, Settings, read_words};
 use std::alloc::Global;
 
-// The image that the bytes are, where it can be run.
+// The image that the bytes are.
 fn image_of(alloc: Global, bytes: &[u8]) -> Result<Bare, Ending>
     ensures bare { IfOk result (IsBare bytes.now) }
-    ensures unlinked { IsOk result → is_linked bytes.now ≡ false }
     ensures fault { IfErr result (ImageFault bytes.now) }
 {
-    if bytes.starts_with(b"JOPI") {
-        return Err(Ending::Refused(Refusal::NotBuilt));
-    }
     match read_bare(alloc, bytes) {
         Ok(bare) => Ok(bare),
         Err(BareFault::Bad) => Err(Ending::Refused(Refusal::BadImage)),
@@ -55,7 +52,7 @@ fn run_image<const N: usize, O: Sink, V: Watch>(
     requires grammar { IsImage bare.now }
     requires few { limit < 2 ^ 63 }
     ensures ran { Ran N bare.now config limit (outside (O.held out.old) (V.held watch.old) (O.faults out.old)) (outside (O.held out.new) (V.held watch.new) (O.faults out.new)) result }
-    ensures leaves { LeavesOut (outcome_of result) → (out.new ≡ out.old) × (watch.new ≡ watch.old) }
+    ensures leaves { Leaves result → (out.new ≡ out.old) × (watch.new ≡ watch.old) }
 {
     // The laws are for the proof.
     bare_images_are_programs();
@@ -71,16 +68,6 @@ fn run_image<const N: usize, O: Sink, V: Watch>(
     }
 }
 
-fn counts_of<const N: usize>(machine: &Machine<N>) -> Counts
-    ensures { AreCounts result machine.now }
-{
-    Counts {
-        clock: machine.clock(),
-        hits: machine.hits(),
-        misses: machine.misses(),
-    }
-}
-
 // Runs an image with settings, where its code fits the method cache.
 fn run_with<O: Sink, V: Watch>(
     alloc: Global,
@@ -93,7 +80,7 @@ fn run_with<O: Sink, V: Watch>(
     requires grammar { IsImage bare.now }
     requires room { blocks_of_code settings.now bare.now ≤ settings.now.blocks }
     ensures ran { RanWith settings.now bare.now (outside (O.held out.old) (V.held watch.old) (O.faults out.old)) (outside (O.held out.new) (V.held watch.new) (O.faults out.new)) result }
-    ensures leaves { LeavesOut (outcome_of result) → (out.new ≡ out.old) × (watch.new ≡ watch.old) }
+    ensures leaves { Leaves result → (out.new ≡ out.old) × (watch.new ≡ watch.old) }
 {
     let config = config_of(settings);
     let limit = settings.cycles;
@@ -104,27 +91,19 @@ fn run_with<O: Sink, V: Watch>(
     }
 }
 
-// Runs the image of a word.
-fn run_file<F: Files, O: Sink, V: Watch>(
+// Runs the bare image of whose file these are the bytes.
+fn run_bare_bytes<O: Sink, V: Watch>(
     alloc: Global,
+    bytes: &[u8],
     settings: &Settings,
-    word: u32,
-    files: &mut F,
     out: &mut O,
     watch: &mut V,
 ) -> Ending
     requires settings { AreSettings settings.now }
-    requires there { word < F.words files.old }
-    ensures runs { RunsFile settings.now word
-        (world (F.words files.old) (F.told files.old) (F.faults files.old) (O.held out.old) (O.faults out.old) (V.held watch.old))
-        (world (F.words files.new) (F.told files.new) (F.faults files.new) (O.held out.new) (O.faults out.new) (V.held watch.new)) result }
-    ensures leaves { LeavesOut (outcome_of result) → (out.new ≡ out.old) × (watch.new ≡ watch.old) }
+    ensures runs { RunsBareBytes settings.now bytes.now (outside (O.held out.old) (V.held watch.old) (O.faults out.old)) (outside (O.held out.new) (V.held watch.new) (O.faults out.new)) result }
+    ensures leaves { Leaves result → (out.new ≡ out.old) × (watch.new ≡ watch.old) }
 {
-    let bytes = match load(alloc, files, word) {
-        Ok(bytes) => bytes,
-        Err(ending) => return ending,
-    };
-    let bare = match image_of(alloc, &bytes) {
+    let bare = match image_of(alloc, bytes) {
         Ok(bare) => bare,
         Err(ending) => return ending,
     };
@@ -135,27 +114,66 @@ fn run_file<F: Files, O: Sink, V: Watch>(
     run_with(alloc, &bare, settings, out, watch)
 }
 
+// Runs the image of a word.
+fn run_file<F: Files, S: Source, O: Sink, V: Watch>(
+    alloc: Global,
+    settings: &Settings,
+    word: u32,
+    files: &mut F,
+    input: &mut S,
+    out: &mut O,
+    watch: &mut V,
+) -> Ending
+    requires settings { AreSettings settings.now }
+    requires there { word < F.words files.old }
+    ensures runs { RunsFile settings.now word
+        (world (F.words files.old) (F.told files.old) (F.faults files.old) (S.left input.old) (S.faults input.old) (O.held out.old) (O.faults out.old) (V.held watch.old))
+        (world (F.words files.new) (F.told files.new) (F.faults files.new) (S.left input.new) (S.faults input.new) (O.held out.new) (O.faults out.new) (V.held watch.new)) result }
+    ensures leaves { Leaves result → (input.new ≡ input.old) × (out.new ≡ out.old) × (watch.new ≡ watch.old) }
+    ensures input { ((bytes : List ℕ) → ReadsLinked word bytes
+        (world (F.words files.old) (F.told files.old) (F.faults files.old) (S.left input.old) (S.faults input.old) (O.held out.old) (O.faults out.old) (V.held watch.old))
+        (world (F.words files.new) (F.told files.new) (F.faults files.new) (S.left input.new) (S.faults input.new) (O.held out.new) (O.faults out.new) (V.held watch.new)) → ⊥) → input.new ≡ input.old }
+    ensures rose { FailsRisen result (S.faults input.old) (S.faults input.new) }
+{
+    let bytes = match load(alloc, files, word) {
+        Ok(bytes) => bytes,
+        Err(ending) => return ending,
+    };
+    if bytes.starts_with(b"JOPI") {
+        run_linked_bytes(alloc, &bytes, settings, input, out, watch)
+    } else {
+        run_bare_bytes(alloc, &bytes, settings, out, watch)
+    }
+}
+
 // Does the command of the words, but for its line.
-fn execute<F: Files, O: Sink, V: Watch>(
+fn execute<F: Files, S: Source, O: Sink, V: Watch>(
     alloc: Global,
     words: &[&str],
     files: &mut F,
+    input: &mut S,
     out: &mut O,
     watch: &mut V,
 ) -> Ending
     requires words { length words.now ≡ F.words files.old }
     requires few { length words.now < 2 ^ 32 }
     ensures executed { Executed (texts words.now)
-        (world (F.words files.old) (F.told files.old) (F.faults files.old) (O.held out.old) (O.faults out.old) (V.held watch.old))
-        (world (F.words files.new) (F.told files.new) (F.faults files.new) (O.held out.new) (O.faults out.new) (V.held watch.new)) result }
-    ensures leaves { LeavesOut (outcome_of result) → (out.new ≡ out.old) × (watch.new ≡ watch.old) }
+        (world (F.words files.old) (F.told files.old) (F.faults files.old) (S.left input.old) (S.faults input.old) (O.held out.old) (O.faults out.old) (V.held watch.old))
+        (world (F.words files.new) (F.told files.new) (F.faults files.new) (S.left input.new) (S.faults input.new) (O.held out.new) (O.faults out.new) (V.held watch.new)) result }
+    ensures leaves { Leaves result → (input.new ≡ input.old) × (out.new ≡ out.old) × (watch.new ≡ watch.old) }
+    ensures input { (RunsLinkedFile (texts words.now)
+        (world (F.words files.old) (F.told files.old) (F.faults files.old) (S.left input.old) (S.faults input.old) (O.held out.old) (O.faults out.old) (V.held watch.old))
+        (world (F.words files.new) (F.told files.new) (F.faults files.new) (S.left input.new) (S.faults input.new) (O.held out.new) (O.faults out.new) (V.held watch.new)) → ⊥) → input.new ≡ input.old }
+    ensures rose { FailsRisen result (S.faults input.old) (S.faults input.new) }
 {
     let command = match read_words(words) {
         Ok(command) => command,
         Err(k) => return Ending::Refused(Refusal::Usage(k)),
     };
     match command {
-        Command::Run { settings, image } => run_file(alloc, &settings, image, files, out, watch),
+        Command::Run { settings, image } => {
+            run_file(alloc, &settings, image, files, input, out, watch)
+        }
         Command::Asm { text } => assemble_file(alloc, text, files, out),
         Command::Link { main, first } => link_files(alloc, words, main, first, files, out),
         _ => Ending::Refused(Refusal::NotBuilt),
@@ -177,12 +195,14 @@ fn outcome_unsaid(ending: &Ending) -> Outcome
     ensures { result ≡ outcome_unsaid ending.now }
 {
     match ending {
-        Ending::ReadFault => Outcome::ReadFault,
+        Ending::ReadFault | Ending::InputFault => Outcome::ReadFault,
         Ending::NoMemory => Outcome::NoMemory,
         Ending::Ended(_)
         | Ending::Written
         | Ending::Linked(_)
+        | Ending::Uncaught(_, _, _)
         | Ending::Refused(_)
+        | Ending::TooLong(_, _, _, _)
         | Ending::NotLinked(_, _)
         | Ending::Spent(_)
         | Ending::WriteFault => Outcome::WriteFault,
@@ -195,10 +215,14 @@ fn outcome_for(ending: &Ending) -> Outcome
     match ending {
         Ending::Ended(_) => Outcome::Ended,
         Ending::Written | Ending::Linked(_) => Outcome::Written,
+        Ending::Uncaught(class, _, _) => Outcome::Uncaught(*class),
         Ending::Refused(refusal) => Outcome::Refused(*refusal),
+        Ending::TooLong(method, _, blocks, limit) => {
+            Outcome::Refused(Refusal::MethodTooLong(*method, *blocks, *limit))
+        }
         Ending::NotLinked(refusal, _) => Outcome::Refused(Refusal::Link(*refusal)),
         Ending::Spent(_) => Outcome::Spent,
-        Ending::ReadFault => Outcome::ReadFault,
+        Ending::ReadFault | Ending::InputFault => Outcome::ReadFault,
         Ending::WriteFault => Outcome::WriteFault,
         Ending::NoMemory => Outcome::NoMemory,
     }
@@ -206,8 +230,8 @@ fn outcome_for(ending: &Ending) -> Outcome
 
 /// Does all that the program does, and puts one line that says how it ended into `err`, unless it is `Written`.
 ///
-/// Word k names file k. `run` of an image puts the program's output into `out`, and hands the registers of
-/// each state of the machine, from reset on, from which a cycle was done or tried to `watch`. `asm` puts the
+/// Word k names file k. `run` of an image takes the program's input from `input`, puts its output into `out`, and hands the
+/// registers of each state of the machine, from reset on, from which a cycle was done or tried to `watch`. `asm` puts the
 /// words of the text's microprogram into `out`, a line for each, and `link` the file of the image of the class files.
 pub fn jop<F: Files, S: Source, O: Sink, E: Sink, V: Watch>(
     alloc: Global,
@@ -221,13 +245,14 @@ pub fn jop<F: Files, S: Source, O: Sink, E: Sink, V: Watch>(
     requires words { length words.now ≡ F.words files.old }
     requires few { length words.now < 2 ^ 32 }
     ensures answered { Answered (texts words.now)
-        (world (F.words files.old) (F.told files.old) (F.faults files.old) (O.held out.old) (O.faults out.old) (V.held watch.old))
-        (world (F.words files.new) (F.told files.new) (F.faults files.new) (O.held out.new) (O.faults out.new) (V.held watch.new))
+        (world (F.words files.old) (F.told files.old) (F.faults files.old) (S.left input.old) (S.faults input.old) (O.held out.old) (O.faults out.old) (V.held watch.old))
+        (world (F.words files.new) (F.told files.new) (F.faults files.new) (S.left input.new) (S.faults input.new) (O.held out.new) (O.faults out.new) (V.held watch.new))
         (E.held err.old) (E.held err.new) (E.faults err.old) (E.faults err.new) result }
-    ensures leaves { LeavesOut result → (out.new ≡ out.old) × (watch.new ≡ watch.old) }
-    ensures input { input.new ≡ input.old }
+    ensures leaves { LeavesAll result (S.faults input.old) (S.faults input.new) → (input.new ≡ input.old) × (out.new ≡ out.old) × (watch.new ≡ watch.old) }
+    ensures input { (RunsLinkedFile (texts words.now)
+        (world (F.words files.old) (F.told files.old) (F.faults files.old) (S.left input.old) (S.faults input.old) (O.held out.old) (O.faults out.old) (V.held watch.old))
+        (world (F.words files.new) (F.told files.new) (F.faults files.new) (S.left input.new) (S.faults input.new) (O.held out.new) (O.faults out.new) (V.held watch.new)) → ⊥) → input.new ≡ input.old }
 {
-    let _ = input;
-    let ending = execute(alloc, words, files, out, watch);
+    let ending = execute(alloc, words, files, input, out, watch);
     conclude(err, words, ending)
 }

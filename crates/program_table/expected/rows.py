@@ -177,9 +177,42 @@ def programs(table, classes, controller, runner):
         table.call([given, 'run', ('image', '@')], status, out, line)
 
 
+def image_bytes(main, words, files):
+    data = b'JOPI' + struct.pack('>HH', 1, len(main)) + main + struct.pack('>II', len(words), len(files))
+    return data + b''.join(struct.pack('>I', w) for w in words) + b''.join(struct.pack('>I', len(f)) + f for f in files)
+
+
+def images(table, classes):
+    """images that aren't run, or not to their end"""
+    files = [read(classes, 'Echo')]
+    image = expected_image.link(b'Echo', files)
+    words = [expected_image.word(w) for _, region in image.regions() for w in region]
+    data = image_bytes(b'Echo', words, files)
+
+    def run(options, data, status, line, out=b''):
+        table.call([INPUT, 'run'] + options.split() + [('image', data)], status, out, line)
+
+    run('', data[:-1], 2, 'bad image')
+    run('', data + b'\0', 2, 'bad image')
+    run('', image_bytes(b'Echo', words[:7] + [words[7] ^ 1] + words[8:], files), 2, 'differs word=7 kept=%08x linked=%08x' % (words[7] ^ 1, words[7]))
+    run('', image_bytes(b'Echo', words[:-1], files), 2, 'differs word=%d kept=none linked=%08x' % (len(words) - 1, words[-1]))
+    run('', image_bytes(b'Echo', words + [5], files), 2, 'differs word=%d kept=00000005 linked=none' % len(words))
+    run('', image_bytes(b'A', [], [plain(major=53).bytes()]), 2, 'link: unsupported version file=0 major=53')
+    run('', image_bytes(b'A', words, [plain().bytes(), plain().bytes()]), 2, 'link: duplicate file=1 name=A')
+    run('--memory %d' % (len(words) - 1), data, 2, 'memory too small words=%d given=%d' % (len(words), len(words) - 1))
+    taken = [-(-len(image.m(p)['code']['code']) // 4) for p in image.coded]
+    for limit in (1, 4, max(taken) - 1):
+        k = next(i for i, n in enumerate(taken) if n > limit)
+        c, name = image.coded[k][0], image.sig(image.coded[k])
+        text = image.cs[c].name + b'.' + name[0] + name[1]
+        run('--memory 16 --block-words 1 --blocks %d' % limit, data, 2, 'method too long %s blocks=%d limit=%d' % (text.decode(), taken[k], limit))
+    run('--cycles 0', data, 3, 'spent cycles=0 hits=0 misses=0')
+
+
 def main():
     table = Table()
     links(table)
+    images(table, sys.argv[1])
     programs(table, sys.argv[1], sys.argv[2], sys.argv[3:5])
     with open('stdin', 'w') as given, open('stdout', 'w') as wanted:
         given.write('\n'.join(table.given) + '\n')

@@ -8,5 +8,5 @@ use Rattle.jop_cli.proofs.lines.say_refusal.Goals as goal
 
 pub returns-in-MethodTooLong-clause-said : goal.returns-in-MethodTooLong-clause-said
 returns-in-MethodTooLong-clause-said g c =
-    let P : Refusal → Type 0 = λ r. lines.Said false (line_of (texts c.args.words.now) (Refused r)) (g.O.Sink.held c.args.sink.now) (g.O.Sink.held c.say-in-MethodTooLong.new.sink) (g.O.Sink.faults c.args.sink.now) (g.O.Sink.faults c.say-in-MethodTooLong.new.sink) c.say-in-MethodTooLong.result in
-    subst P (sym c.in-MethodTooLong.is) c.say-in-MethodTooLong.ensures.said
+    let P : Refusal → Type 0 = λ r. lines.Said false (line_of (texts c.args.words.now) (Refused r)) (g.O.Sink.held c.args.sink.now) (g.O.Sink.held c.say_too_long.new.sink) (g.O.Sink.faults c.args.sink.now) (g.O.Sink.faults c.say_too_long.new.sink) c.say_too_long.result in
+    subst P (sym c.in-MethodTooLong.is) c.say_too_long.ensures.said

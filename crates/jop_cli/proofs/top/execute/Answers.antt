@@ -4,21 +4,31 @@ use Rattle.jop_words.specs.declared.command.Command.{Command}
 use Rattle.jop_words.specs.declared.command.Command.TheVariants.{Asm, Link}
 use Rattle.jop_words.specs.Command.{texts, command_of}
 use Rattle.jop_cli.specs.World.{world}
-use Rattle.jop_cli.proofs.Executing.{does_by}
+use Rattle.jop_cli.proofs.Executing.{does_by, assembles_risen, links_risen}
 use Rattle.jop_cli.proofs.top.execute.Goals as goal
 
 pub returns-in-Asm-clause-executed : goal.returns-in-Asm-clause-executed
 returns-in-Asm-clause-executed g c =
     let is : ◌≡◌ {A = Result Command ℕ} (Ok (Asm c.in-Asm.text)) (command_of (texts c.args.words.now)) = cc (c.in-Ok.is, c.in-Asm.is, c.read_words.ensures.exact) in
     does_by (texts c.args.words.now) (command_of (texts c.args.words.now)) (Ok (Asm c.in-Asm.text))
-    (world (g.F.Files.words c.args.files.now) (g.F.Files.told c.args.files.now) (g.F.Files.faults c.args.files.now) (g.O.Sink.held c.args.out.now) (g.O.Sink.faults c.args.out.now) (g.V.Watch.held c.args.watch.now))
-    (world (g.F.Files.words c.assemble_file.new.files) (g.F.Files.told c.assemble_file.new.files) (g.F.Files.faults c.assemble_file.new.files) (g.O.Sink.held c.assemble_file.new.out) (g.O.Sink.faults c.assemble_file.new.out) (g.V.Watch.held c.args.watch.now))
-    c.assemble_file.result is (c.assemble_file.ensures.assembles (g.V.Watch.held c.args.watch.now))
+    (world (g.F.Files.words c.args.files.now) (g.F.Files.told c.args.files.now) (g.F.Files.faults c.args.files.now) (g.S.Source.left c.args.input.now) (g.S.Source.faults c.args.input.now) (g.O.Sink.held c.args.out.now) (g.O.Sink.faults c.args.out.now) (g.V.Watch.held c.args.watch.now))
+    (world (g.F.Files.words c.assemble_file.new.files) (g.F.Files.told c.assemble_file.new.files) (g.F.Files.faults c.assemble_file.new.files) (g.S.Source.left c.args.input.now) (g.S.Source.faults c.args.input.now) (g.O.Sink.held c.assemble_file.new.out) (g.O.Sink.faults c.assemble_file.new.out) (g.V.Watch.held c.args.watch.now))
+    c.assemble_file.result is (c.assemble_file.ensures.assembles (g.S.Source.left c.args.input.now) (g.S.Source.faults c.args.input.now) (g.V.Watch.held c.args.watch.now))
 
 pub returns-in-Link-clause-executed : goal.returns-in-Link-clause-executed
 returns-in-Link-clause-executed g c =
     let is : ◌≡◌ {A = Result Command ℕ} (Ok (Link c.in-Link.main c.in-Link.first)) (command_of (texts c.args.words.now)) = cc (c.in-Ok.is, c.in-Link.is, c.read_words.ensures.exact) in
     does_by (texts c.args.words.now) (command_of (texts c.args.words.now)) (Ok (Link c.in-Link.main c.in-Link.first))
-    (world (g.F.Files.words c.args.files.now) (g.F.Files.told c.args.files.now) (g.F.Files.faults c.args.files.now) (g.O.Sink.held c.args.out.now) (g.O.Sink.faults c.args.out.now) (g.V.Watch.held c.args.watch.now))
-    (world (g.F.Files.words c.link_files.new.files) (g.F.Files.told c.link_files.new.files) (g.F.Files.faults c.link_files.new.files) (g.O.Sink.held c.link_files.new.out) (g.O.Sink.faults c.link_files.new.out) (g.V.Watch.held c.args.watch.now))
-    c.link_files.result is (c.link_files.ensures.links (g.V.Watch.held c.args.watch.now))
+    (world (g.F.Files.words c.args.files.now) (g.F.Files.told c.args.files.now) (g.F.Files.faults c.args.files.now) (g.S.Source.left c.args.input.now) (g.S.Source.faults c.args.input.now) (g.O.Sink.held c.args.out.now) (g.O.Sink.faults c.args.out.now) (g.V.Watch.held c.args.watch.now))
+    (world (g.F.Files.words c.link_files.new.files) (g.F.Files.told c.link_files.new.files) (g.F.Files.faults c.link_files.new.files) (g.S.Source.left c.args.input.now) (g.S.Source.faults c.args.input.now) (g.O.Sink.held c.link_files.new.out) (g.O.Sink.faults c.link_files.new.out) (g.V.Watch.held c.args.watch.now))
+    c.link_files.result is (c.link_files.ensures.links (g.S.Source.left c.args.input.now) (g.S.Source.faults c.args.input.now) (g.V.Watch.held c.args.watch.now))
+
+pub returns-in-Asm-clause-rose : goal.returns-in-Asm-clause-rose
+returns-in-Asm-clause-rose g c =
+    assembles_risen c.in-Asm.text _ _ c.assemble_file.result (g.S.Source.faults c.args.input.now) (g.S.Source.faults c.args.input.now)
+    (c.assemble_file.ensures.assembles (g.S.Source.left c.args.input.now) (g.S.Source.faults c.args.input.now) (g.V.Watch.held c.args.watch.now))
+
+pub returns-in-Link-clause-rose : goal.returns-in-Link-clause-rose
+returns-in-Link-clause-rose g c =
+    links_risen _ c.in-Link.first _ _ c.link_files.result (g.S.Source.faults c.args.input.now) (g.S.Source.faults c.args.input.now)
+    (c.link_files.ensures.links (g.S.Source.left c.args.input.now) (g.S.Source.faults c.args.input.now) (g.V.Watch.held c.args.watch.now))

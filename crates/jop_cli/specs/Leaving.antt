@@ -1,0 +1,38 @@
+-- After which endings the outside is as it was.
+use Rattle.std.specs.Prelude.{ℕ}
+use Rattle.jop_outside.specs.Outside.{Rose}
+use Rattle.jop_cli.specs.declared.outcome.Ending.{Ending}
+use Rattle.jop_cli.specs.declared.outcome.Ending.TheVariants.{Ended, Written, Linked, Uncaught, Refused, TooLong, NotLinked, Spent, ReadFault, InputFault, WriteFault, NoMemory}
+use Rattle.jop_cli.specs.declared.outcome.Outcome.{Outcome}
+use Rattle.jop_cli.specs.declared.outcome.Outcome.TheVariants as outcomes
+
+-- an ending after which the input, out and the watch are as they were
+abbrev pub Leaves : Ending → Type 0
+Leaves (Ended counts) = ⊥
+Leaves Written = ⊥
+Leaves (Linked sizes) = ⊥
+Leaves (Uncaught class name counts) = ⊥
+Leaves (Refused refusal) = Unit {0}
+Leaves (TooLong method name blocks limit) = Unit {0}
+Leaves (NotLinked refusal name) = Unit {0}
+Leaves (Spent counts) = ⊥
+Leaves ReadFault = Unit {0}
+Leaves InputFault = ⊥
+Leaves WriteFault = ⊥
+Leaves NoMemory = Unit {0}
+
+-- the input fails only where its count rose
+abbrev pub FailsRisen : Ending → (before now : ℕ) → Type 0
+FailsRisen InputFault before now = Rose before now
+FailsRisen ending before now = Unit {0}
+
+-- an outcome after which they are as they were, and the input's counts of faults; where the input failed it was a run's
+abbrev pub LeavesAll : Outcome → (before now : ℕ) → Type 0
+LeavesAll outcomes.Ended before now = ⊥
+LeavesAll outcomes.Written before now = ⊥
+LeavesAll (outcomes.Uncaught class) before now = ⊥
+LeavesAll (outcomes.Refused refusal) before now = Unit {0}
+LeavesAll outcomes.Spent before now = ⊥
+LeavesAll outcomes.ReadFault before now = Rose before now → ⊥
+LeavesAll outcomes.WriteFault before now = ⊥
+LeavesAll outcomes.NoMemory before now = Unit {0}

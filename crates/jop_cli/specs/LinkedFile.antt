@@ -1,0 +1,80 @@
+-- What `run` does with the bytes of the file of a linked image.
+use Rattle.std.specs.Prelude.{◌≡◌, ℕ, ◌⊎◌, List, [], slice_get, IsSomeAnd}
+use Rattle.class_pool.specs.Utf8.{utf8_bytes}
+use Rattle.class_pool.specs.declared.class.ClassFile.{ClassFile}
+use Rattle.class_lookup.specs.Parts.{name_of}
+use Rattle.program_tables.specs.Numbers.{method_text}
+use Rattle.program_tables.specs.Resolved.{at_method}
+use Rattle.linked_image.specs.Linked as file
+use Rattle.linked_image.specs.Linked.{Image}
+use Rattle.jop_words.specs.declared.command.Settings.{Settings}
+use Rattle.jopizer.specs.Linked.{Parts, IsLinked, image_of}
+use Rattle.jopizer.specs.Images.{DiffersFirst}
+use Rattle.jop_cli.specs.declared.linked_end.LinkedEnd.{LinkedEnd}
+use Rattle.jop_cli.specs.declared.linked_end.LinkedEnd.TheVariants as runs
+use Rattle.jop_cli.specs.declared.linked_end.ImageEnd.TheVariants as ends
+use Rattle.jop_cli.specs.declared.outcome.Refusal.TheVariants.{BadImage, Differs, MemoryTooSmall}
+use Rattle.jop_cli.specs.declared.outcome.Ending.{Ending}
+use Rattle.jop_cli.specs.declared.outcome.Ending.TheVariants.{Ended, Uncaught, Refused, TooLong, NotLinked, Spent, InputFault, WriteFault, NoMemory}
+use Rattle.jop_cli.specs.Linking.{Refuses, HasName}
+use Rattle.jop_cli.specs.Lent.{Lent}
+use Rattle.jop_cli.specs.LinkedSettings.{RunsLinked}
+
+-- ---- the bytes
+
+-- why the bytes are no image that can be run
+abbrev pub BytesFault : (bytes : List ℕ) → Ending → Type 0
+BytesFault bytes (Refused BadImage) = (image : Image) → ¬ file.IsLinked bytes image
+BytesFault bytes (Refused (Differs word kept linked)) = (image : Image) × file.IsLinked bytes image × DiffersFirst image word kept linked
+BytesFault bytes (NotLinked refusal name) = (image : Image) × file.IsLinked bytes image × Refuses image.files image.main refusal × HasName image.files refusal name.items
+BytesFault bytes NoMemory = Unit {0}
+BytesFault bytes ending = ⊥
+
+-- ---- the run
+
+-- these are the bytes of the name of the class of this number
+abbrev pub NamesClass : List ClassFile → (class : ℕ) → (name : List ℕ) → Type 0
+NamesClass cs class name = IsSomeAnd (slice_get cs class) (λ k. name ≡ utf8_bytes (name_of k))
+
+-- these are the bytes of the name of the method of this number, behind its class and before its descriptor
+abbrev pub NamesMethod : List ClassFile → (method : ℕ) → (name : List ℕ) → Type 0
+NamesMethod cs method name = name ≡ at_method cs method [] (method_text cs)
+
+-- this ending says that the method's code doesn't fit; or there was no memory for its name
+abbrev pub IsTooLongAs : List ClassFile → (method blocks limit : ℕ) → Ending → Type 0
+IsTooLongAs cs method blocks limit (TooLong number name count most) = (number ≡ method) × (count ≡ blocks) × (most ≡ limit) × NamesMethod cs method name.items
+IsTooLongAs cs method blocks limit NoMemory = Unit {0}
+IsTooLongAs cs method blocks limit ending = ⊥
+
+-- this ending says how a run ended
+abbrev pub SaysEnd : List ClassFile → LinkedEnd → Ending → Type 0
+SaysEnd cs (runs.Ended counts) ending = ending ≡ Ended counts
+SaysEnd cs (runs.Uncaught class counts) (Uncaught number name said) = (number ≡ class) × (said ≡ counts) × NamesClass cs class name.items
+SaysEnd cs (runs.Uncaught class counts) ending = ⊥
+SaysEnd cs (runs.Spent counts) ending = ending ≡ Spent counts
+SaysEnd cs runs.ReadFault ending = ending ≡ InputFault
+SaysEnd cs runs.WriteFault ending = ending ≡ WriteFault
+SaysEnd cs runs.NoMemory ending = ending ≡ NoMemory
+
+-- how the run of what was linked ends, with what its line shows
+abbrev pub EndsAs : Settings → Parts → (old new : Lent) → Ending → Type 0
+EndsAs settings l old new (TooLong method name blocks limit) = RunsLinked settings l old new (ends.MethodTooLong method blocks) × (limit ≡ settings.blocks) × NamesMethod l.classes method name.items
+EndsAs settings l old new (Refused (MemoryTooSmall words given)) = RunsLinked settings l old new (ends.MemoryTooSmall words) × (given ≡ settings.memory)
+EndsAs settings l old new (Ended counts) = RunsLinked settings l old new (ends.Ran (runs.Ended counts))
+EndsAs settings l old new (Uncaught class name counts) = RunsLinked settings l old new (ends.Ran (runs.Uncaught class counts)) × NamesClass l.classes class name.items
+EndsAs settings l old new (Spent counts) = RunsLinked settings l old new (ends.Ran (runs.Spent counts))
+EndsAs settings l old new InputFault = RunsLinked settings l old new (ends.Ran runs.ReadFault)
+EndsAs settings l old new WriteFault = RunsLinked settings l old new (ends.Ran runs.WriteFault)
+EndsAs settings l old new NoMemory = new ≡ old
+EndsAs settings l old new ending = ⊥
+
+-- the bytes are the file of what was linked, and it was run
+pub record RunsProgram (settings : Settings) (bytes : List ℕ) (old new : Lent) (ending : Ending) : Type 0 where
+  pub linked : Parts
+  pub is_linked : IsLinked linked
+  pub is_file : file.IsLinked bytes (image_of linked)
+  pub ends_as : EndsAs settings linked old new ending
+
+-- how the run of the bytes ends
+abbrev pub RunsLinkedBytes : Settings → (bytes : List ℕ) → (old new : Lent) → Ending → Type 0
+RunsLinkedBytes settings bytes old new ending = (BytesFault bytes ending × (new ≡ old)) ⊎ RunsProgram settings bytes old new ending

@@ -1,0 +1,86 @@
+//! The run of what was linked, with settings.
+ghost use Rattle.std.specs.Prelude.{◌≡◌, ◌≤◌, ℕ, length};
+ghost use Rattle.jop_words.specs.Range.{AreSettings};
+ghost use Rattle.program_tables.specs.Resolved.{resolved};
+ghost use Rattle.linked_methods.specs.Fitting.{Fits};
+ghost use Rattle.jop_cli.specs.declared.linked_end.ImageEnd.TheVariants as ends;
+ghost use Rattle.jop_cli.specs.Lent.{lent};
+ghost use Rattle.jop_cli.specs.LinkedSettings.{LeavesDevices, RanWith, RunsLinked};
+
+use crate::linked_end::{ImageEnd, LinkedEnd};
+use crate::linked_machine::run_linked;
+use crate::settings::config_of;
+use jop_core::Watch;
+use jop_outside::{Sink, Source};
+use jop_words::Settings;
+use jopizer::Linked;
+use linked_methods::first_too_long;
+use linked_start::verified_programs_are_told;
+use std::alloc::Global;
+
+/// How many words the image has.
+fn words_of(linked: &Linked) -> u32
+    ensures { result ≡ length linked.now.laid.words }
+{
+    // The law is for the proof.
+    verified_programs_are_told();
+    let program = linked.program();
+    program.program().is_resolved();
+    program.is_typed();
+    linked.layout().words().len() as u32
+}
+
+/// Runs what a machine with these settings holds.
+fn run_held<S: Source, O: Sink, V: Watch>(
+    alloc: Global,
+    linked: &Linked,
+    settings: &Settings,
+    input: &mut S,
+    out: &mut O,
+    watch: &mut V,
+) -> LinkedEnd
+    requires settings { AreSettings settings.now }
+    requires codes { (m : ℕ) → Fits (resolved linked.now.classes) settings.now.blocks settings.now.block_words m }
+    requires memory { length linked.now.laid.words ≤ settings.now.memory }
+    ensures ran { RanWith settings.now linked.now
+        (lent (S.left input.old) (S.faults input.old) (O.held out.old) (O.faults out.old) (V.held watch.old))
+        (lent (S.left input.new) (S.faults input.new) (O.held out.new) (O.faults out.new) (V.held watch.new)) result }
+    ensures leaves { LeavesDevices (ends.Ran result) → (input.new ≡ input.old) × (out.new ≡ out.old) × (watch.new ≡ watch.old) }
+{
+    let program = linked.program();
+    let layout = linked.layout();
+    let config = config_of(settings);
+    let limit = settings.cycles;
+    match settings.stack {
+        256 => run_linked::<256, S, O, V>(alloc, program, layout, config, input, out, watch, limit),
+        512 => run_linked::<512, S, O, V>(alloc, program, layout, config, input, out, watch, limit),
+        _ => run_linked::<1024, S, O, V>(alloc, program, layout, config, input, out, watch, limit),
+    }
+}
+
+/// Runs what was linked from reset, where a machine with these settings holds it: each code fits its method cache, and the
+/// words its memory. The first method whose code doesn't fit is told before the memory is looked at.
+pub(crate) fn run_with_settings<S: Source, O: Sink, V: Watch>(
+    alloc: Global,
+    linked: &Linked,
+    settings: &Settings,
+    input: &mut S,
+    out: &mut O,
+    watch: &mut V,
+) -> ImageEnd
+    requires { AreSettings settings.now }
+    ensures runs { RunsLinked settings.now linked.now
+        (lent (S.left input.old) (S.faults input.old) (O.held out.old) (O.faults out.old) (V.held watch.old))
+        (lent (S.left input.new) (S.faults input.new) (O.held out.new) (O.faults out.new) (V.held watch.new)) result }
+    ensures leaves { LeavesDevices result → (input.new ≡ input.old) × (out.new ≡ out.old) × (watch.new ≡ watch.old) }
+{
+    let program = linked.program().program();
+    if let Some(long) = first_too_long(program, settings.blocks, settings.block_words) {
+        return ImageEnd::MethodTooLong(long.method, long.blocks);
+    }
+    let words = words_of(linked);
+    if words > settings.memory {
+        return ImageEnd::MemoryTooSmall(words);
+    }
+    ImageEnd::Ran(run_held(alloc, linked, settings, input, out, watch))
+}
