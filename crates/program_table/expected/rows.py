@@ -11,6 +11,7 @@ import sys
 
 sys.path.insert(0, os.path.join(os.path.dirname(os.path.abspath(__file__)), '../../image_table/expected'))
 import expected_image
+import worked
 from classfile import ClassFile
 
 MAIN = '([Ljava/lang/String;)V'
@@ -35,6 +36,9 @@ class Made(ClassFile):
         self.methods.append(struct.pack('>HHH', flags, self.utf8(name), self.utf8(descriptor)) + struct.pack('>HHI', 1, self.utf8('Code'), len(body)) + body)
         return self
 
+    def field(self, flags, name, descriptor):
+        self.fields.append(struct.pack('>HHHH', flags, self.utf8(name), self.utf8(descriptor), 0))
+
     def member(self, tag, owner, name, descriptor):
         both = self.entry(b'\x0c' + struct.pack('>HH', self.utf8(name), self.utf8(descriptor)))
         return self.entry(struct.pack('>BHH', tag, self.cls(owner), both))
@@ -43,8 +47,10 @@ class Made(ClassFile):
         return self.code(PUBLIC_STATIC, 'main', MAIN, code, **more)
 
     def bytes(self):
-        data = self.data()
-        return data[:6] + struct.pack('>H', self.major) + data[8:]
+        out = struct.pack('>IHHH', 0xCAFEBABE, 0, self.major, len(self.entries) + 1) + b''.join(self.entries)
+        out += struct.pack('>HHHH', self.flags, self.name, self.above, 0)
+        out += struct.pack('>H', len(self.fields)) + b''.join(self.fields)
+        return out + struct.pack('>H', len(self.methods)) + b''.join(self.methods) + b'\0\0'
 
 
 def sum_of(data):
@@ -83,7 +89,7 @@ class Table:
                 words.append(item[0])
             else:
                 texts.append(item)
-                words.append(item)
+                words += [item] if item[0] not in '!^' else []
         self.given.append(' '.join(texts))
         self.wanted.append(' '.join(words) + ' -> %d, out %s' % (status, out_text(out)))
         self.wanted.append('"' + line + '\\n"')
@@ -111,6 +117,8 @@ def links(table):
     names = Made('A')
     entry = names.member(9, 'java/lang/System', 'out', 'I')
     table.refused('link: unresolved file=0 entry=%d why=NoClass name=java/lang/System' % entry, names.main(b'\xb2' + struct.pack('>H', entry) + b'\x57\xb1').bytes())
+    table.refused('link: unsupported file=0 method=0 pc=2 item=lmul', Made('A').main(b'\x0a\x0a\x69\x57\xb1', stack=4).bytes())
+    table.refused('link: not verified file=0 method=0 pc=1 rule=stack', Made('A').main(b'\x09\x57\xb1').bytes())
     table.refused('link: duplicate file=1 name=A', plain().bytes(), plain().bytes())
     table.linked('A', [('a.class', plain().bytes())])
     table.refused('link: no main', plain().bytes(), main='B')
@@ -138,6 +146,7 @@ CONTROLLER = ['Main', 'Gain', 'Stage', 'Mean', 'Weights', 'Overload']
 PROGRAMS = {
     'Recursion': [], 'Unwinding': ['Fault'], 'Words': [], 'Sorting': [], 'Filling': ['Node'], 'Levels': ['Named', 'Sized', 'Base', 'Middle', 'Last', '1'],
     'Starting': ['One', 'Two', 'Three'], 'Longs': [], 'Echo': [], 'Locks': [], 'Arrays': [], 'Types': ['Shape', 'Square'], 'Uncaught': ['Fault'], 'Branches': [],
+    'Adding': ['Stage', 'Gain'], 'Wrapping': [],
 }
 INPUT = b'hello \xff\0 world'
 SAMPLES = bytes([1, 10, 20, 30, 40, 100, 128, 255, 0, 0, 127, 3])
@@ -148,11 +157,19 @@ def read(folder, name):
         return file.read()
 
 
-def run_plainly(simulator, microcode, data, given):
+def run_plainly(simulator, microcode, data, given, stack=1024, memory=262144):
     with open('/tmp/rows.jopi', 'wb') as file:
         file.write(data)
-    ran = subprocess.run([simulator, microcode, '/tmp/rows.jopi'], input=given, capture_output=True)
+    ran = subprocess.run([simulator, microcode, '/tmp/rows.jopi', str(stack), str(memory)], input=given, capture_output=True)
     return ran.returncode, ran.stdout, ran.stderr.decode().strip()
+
+
+def with_name(line, main, files):
+    """the line, with the name of the class whose number stands in it"""
+    words = line.split()
+    if words[0] == 'uncaught':
+        words[1] = expected_image.link(main.encode(), files).cs[int(words[1]) - 8].name.decode()
+    return ' '.join(words)
 
 
 def run_by_java(folder, main, given):
@@ -168,12 +185,8 @@ def programs(table, classes, controller, runner):
         if not runner:
             continue
         status, out, line = run_plainly(*runner, data, given)
-        assert out == run_by_java(folder, main, given), main
-        if status == 1:
-            number = int(line.split()[1]) - 8
-            words = line.split()
-            words[1] = expected_image.link(main.encode(), [read(folder, n) for n in names]).cs[number].name.decode()
-            line = ' '.join(words)
+        assert out == run_by_java(folder + os.pathsep + classes, main, given), main
+        line = with_name(line, main, [read(folder, n) for n in names])
         table.call([given, 'run', ('image', '@')], status, out, line)
 
 
@@ -209,11 +222,57 @@ def images(table, classes):
     run('--cycles 0', data, 3, 'spent cycles=0 hits=0 misses=0')
 
 
+def failing(table, classes, runner):
+    """calls of the input and of out that fail"""
+    files = [read(classes, 'Echo')]
+    data = table.linked('Echo', [('Echo.class', files[0])])
+    turned = bytes(~b & 0xff for b in INPUT)
+    for item, out, line in (('!0', b'', 'read fault'), ('!3', turned[:3], 'read fault'), ('^0', b'', 'write fault'), ('^4', turned[:4], 'write fault')):
+        table.call([item, INPUT, 'run', ('image', data)], 4, out, line)
+    status, out, line = run_plainly(*runner, data, b'')
+    assert out == b'\0\xff'
+    table.call(['run', ('image', data)], status, out, line)
+
+
+def by_hand(table, runner):
+    """the worked rows on runs"""
+
+    def run(files, out, status=0, **settings):
+        data = table.linked('A', list(zip(['a.class', 'b.class'], files)))
+        ran = run_plainly(*runner, data, b'', **settings)
+        assert ran[:2] == (status, out), (ran, out)
+        options = [word for name, value in settings.items() for word in ('--' + name, str(value))]
+        table.call(['run'] + options + [('image', '@')], status, out, with_name(ran[2], 'A', files))
+
+    def words_of(files):
+        return int(image_of('A', files)[1].split('words=')[1].split()[0])
+
+    run([worked.division(Made)], b'\x80\0\0\0', 1)
+    run([worked.handlers(Made)], b'\x02')
+    run([worked.depth(Made, 2)], b'\x17', stack=256)
+    run([worked.depth(Made, 3)], b'\x16', stack=256)
+    some, words = [worked.objects(Made)], words_of([worked.objects(Made)])
+    run(some, b'\x0a', memory=words + 12)
+    run(some, b'', 1, memory=words + 1)
+    table.linked('A', [('a.class', some[0])])
+    table.call(['run', '--memory', str(words - 1), ('image', '@')], 2, b'', 'memory too small words=%d given=%d' % (words, words - 1))
+    run([worked.empty_switch(Made)], b'')
+    run([worked.far_switch(Made)], b'\x02')
+    run([worked.other_class(Made), worked.interface(ClassFile)], b'\x07')
+    run([plain().bytes()], b'')
+    longs = [worked.longs(Made)]
+    run(longs, b'', memory=words_of(longs) + 10)
+    run(longs, b'', 1, memory=words_of(longs) + 9)
+
+
 def main():
     table = Table()
     links(table)
     images(table, sys.argv[1])
     programs(table, sys.argv[1], sys.argv[2], sys.argv[3:5])
+    if sys.argv[3:5]:
+        failing(table, sys.argv[1], sys.argv[3:5])
+        by_hand(table, sys.argv[3:5])
     with open('stdin', 'w') as given, open('stdout', 'w') as wanted:
         given.write('\n'.join(table.given) + '\n')
         wanted.write('\n'.join(table.wanted) + '\n')

@@ -1,6 +1,6 @@
 //! A call of the top call over objects in memory, and how it is printed.
 
-use crate::row::{files_of, input_of, words_of};
+use crate::row::{files_of, input_of, numbers_of, words_of};
 use jop_cli::{Outcome, jop};
 use jop_core::NoWatch;
 use jop_outside::{MemFiles, MemSink, MemSource};
@@ -12,7 +12,7 @@ fn called(
     alloc: Global,
     words: &[&str],
     files: Vec<Option<Vec<u8>>>,
-    input: Vec<u8>,
+    mut input: MemSource,
     out: &mut MemSink,
     err: &mut MemSink,
 ) -> Option<Outcome> {
@@ -20,7 +20,6 @@ fn called(
         return None;
     }
     let mut files = MemFiles::new(files, Vec::new(alloc));
-    let mut input = MemSource::new(input, Vec::new(alloc));
     Some(jop(alloc, words, &mut files, &mut input, out, err, &mut NoWatch))
 }
 
@@ -66,8 +65,8 @@ pub fn show(rt: &HostRuntime, line: &str, last: &[u8]) -> io::Result<Vec<u8>> {
     let alloc = rt.alloc();
     let words = words_of(alloc, line)?;
     let files = files_of(alloc, line, last)?;
-    let input = input_of(alloc, line)?;
-    let mut out = MemSink::new(alloc, Vec::new(alloc));
+    let input = MemSource::new(input_of(alloc, line)?, numbers_of(alloc, line, b'!')?);
+    let mut out = MemSink::new(alloc, numbers_of(alloc, line, b'^')?);
     let mut err = MemSink::new(alloc, Vec::new(alloc));
     match called(alloc, &words, files, input, &mut out, &mut err) {
         Some(outcome) => print_call(rt, &words, outcome, out.held(), err.held())?,

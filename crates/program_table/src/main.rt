@@ -4,6 +4,7 @@
 //! Each line of the input is a call; its items stand between blanks:
 //!
 //! - `<HEX`: the bytes of the input.
+//! - `!N` and `^N`: the call of this number on the input, or on out, fails; N is a digit.
 //! - `WORD=HEX`: a word, and the bytes of the file that it names.
 //! - `WORD=@`: the same, with the bytes that the last call put out.
 //! - `WORD`: a word; a file of this name can't be read.

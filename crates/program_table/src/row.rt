@@ -25,9 +25,9 @@ fn hex_bytes(alloc: Global, digits: &[u8]) -> Result<Option<Vec<u8>>, AllocError
     Ok(if rest.is_empty() { Some(bytes) } else { None })
 }
 
-// Whether an item is the input.
-fn is_input(item: &str) -> bool {
-    matches!(item.as_bytes(), [b'<', ..])
+// Whether an item is no word, but says what the input has or which calls fail.
+fn is_setting(item: &str) -> bool {
+    matches!(item.as_bytes(), [b'<' | b'!' | b'^', ..])
 }
 
 // The word of an item.
@@ -51,7 +51,7 @@ fn file_of(alloc: Global, item: &str, last: &[u8]) -> Result<Option<Vec<u8>>, Al
 pub fn words_of(alloc: Global, line: &str) -> Result<Vec<&str>, AllocError> {
     let mut words = Vec::new(alloc);
     for item in line.split(' ') {
-        if !is_input(item) {
+        if !is_setting(item) {
             words.push(word_of(item))?;
         }
     }
@@ -66,7 +66,7 @@ pub fn files_of(
 ) -> Result<Vec<Option<Vec<u8>>>, AllocError> {
     let mut files = Vec::new(alloc);
     for item in line.split(' ') {
-        if !is_input(item) {
+        if !is_setting(item) {
             files.push(file_of(alloc, item, last)?)?;
         }
     }
@@ -83,4 +83,17 @@ pub fn input_of(alloc: Global, line: &str) -> Result<Vec<u8>, AllocError> {
         }
     }
     Ok(Vec::new(alloc))
+}
+
+/// The numbers behind this mark, each a digit.
+pub fn numbers_of(alloc: Global, line: &str, mark: u8) -> Result<Vec<u64>, AllocError> {
+    let mut numbers = Vec::new(alloc);
+    for item in line.split(' ') {
+        if let [first, digit @ b'0'..=b'9'] = item.as_bytes() {
+            if *first == mark {
+                numbers.push((*digit - b'0') as u64)?;
+            }
+        }
+    }
+    Ok(numbers)
 }
