@@ -2,19 +2,26 @@
 
 use crate::files::size_of;
 use bytecode_verifier::{Verified, VerifyFault, verify};
+use class_pool::Code;
 use image_layout::lay_out;
 use jop_program::{Program, resolve};
 use sample_classes::MAIN;
 use std::io;
 use std::time::Instant;
 
+// How many bytes the code of a method has, and 0 where it has none.
+fn code_length(code: Option<&Code>) -> usize {
+    match code {
+        Some(code) => code.code.as_slice().len(),
+        None => 0,
+    }
+}
+
 // How many bytes of code the methods have.
 fn code_size(program: &Program) -> usize {
     let mut sum = 0usize;
     for number in 0..program.method_count() {
-        if let Some(code) = program.code(number) {
-            sum = sum.wrapping_add(code.code.as_slice().len());
-        }
+        sum = sum.wrapping_add(code_length(program.code(number)));
     }
     sum
 }
@@ -74,9 +81,13 @@ fn show_owned(
     show_verified(rt, verified.program(), start, with_times)
 }
 
-// Lets go of a program that isn't verified, and says so.
-fn show_unverified(rt: &HostRuntime, program: Program) -> io::Result<()> {
+// Frees a program. Each other owner hands it on, so that this alone needs a proof that it may be freed.
+fn free(program: Program) {
     let _ = program;
+}
+
+fn show_unverified(rt: &HostRuntime, program: Program) -> io::Result<()> {
+    free(program);
     println!(rt; "not verified")
 }
 
@@ -119,9 +130,9 @@ fn show_resolved(
     Instant::now(rt)
 }
 
-// Lets go of a program of which nothing can be told.
+// The error, behind which nothing is told of the program.
 fn fail(program: Program, error: io::Error) -> io::Result<()> {
-    let _ = program;
+    free(program);
     Err(error)
 }
 
