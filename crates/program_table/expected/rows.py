@@ -235,7 +235,7 @@ def failing(table, classes, runner):
 
 
 def by_hand(table, runner):
-    """the worked rows on runs"""
+    """small programs by hand, with what their runs put out"""
 
     def run(files, out, status=0, **settings):
         data = table.linked('A', list(zip(['a.class', 'b.class'], files)))
