@@ -32,14 +32,10 @@ registers_line clock mpc a b sp vp = concat (decimal clock ∷ codes " " ∷ mpc
 abbrev pub cycle_line : Seen → List ℕ
 cycle_line at = registers_line at.clock (short_hex at.mpc) (hex 8 at.a) (hex 8 at.b) (short_hex at.sp) (short_hex at.vp)
 
--- ---- of the steps of a run
+-- ---- of what the devices note
 
 -- what a trace has of the bytes that a step writes and, with its cycles, of the states from which these are done
 abbrev pub note_line : (cycles : Bool) → Note → List ℕ
 note_line cycles (Wrote byte) = write_line byte
 note_line true (Saw at) = cycle_line at
 note_line false (Saw at) = []
-
--- the lines of a step
-abbrev pub step_lines : (cycles : Bool) → AtBoundary → List Note → List ℕ
-step_lines cycles at notes = boundary_line at ++ flat_map (note_line cycles) notes

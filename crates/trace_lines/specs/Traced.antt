@@ -28,7 +28,17 @@ pub record Rests (old new : Told) : Type 0 where
   pub handed : Grew old.handed new.handed []
   pub counts : OnlyWrites old new
 
--- a line was put behind what was noted or, where that failed, a front of it that isn't all of it
+-- a line was put behind what was noted
+pub record LineIsPut (old new : Told) (line : List ℕ) : Type 0 where
+  pub rests : Rests old new
+  pub noted : Grew old.noted new.noted line
+
+-- a front of a line was put that isn't all of it, and counted as a failed write
+pub record LineFails (old new : Told) (line : List ℕ) : Type 0 where
+  pub rests : Rests old new
+  pub noted : GrewInPart old.noted new.noted [] line
+  pub rose : Rose old.write_faults new.write_faults
+
 abbrev pub PutsLine : {T E : Type 0} → Told → Told → (line : List ℕ) → Result T E → Type 0
-PutsLine old new line (Ok x) = Rests old new × Grew old.noted new.noted line
-PutsLine old new line (Err e) = Rests old new × GrewInPart old.noted new.noted [] line × Rose old.write_faults new.write_faults
+PutsLine old new line (Ok x) = LineIsPut old new line
+PutsLine old new line (Err e) = LineFails old new line
