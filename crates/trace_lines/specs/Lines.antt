@@ -1,7 +1,7 @@
 -- The lines of a trace.
-use Rattle.std.specs.Prelude.{ℕ, Bool, true, false, List, [], ◌∷◌, ◌++◌, codes, decimal, drop, Some, None}
+use Rattle.std.specs.Prelude.{ℕ, Bool, true, false, List, [], ◌∷◌, codes, decimal, drop, Some, None}
 use Rattle.std.specs.declared.option.Option.{Option}
-use Rattle.std.specs.List.{concat, flat_map}
+use Rattle.std.specs.List.{concat}
 use Rattle.jop_opcodes.specs.Row.{row_of}
 use Rattle.jop_device.specs.declared.seen.Seen.{Seen}
 use Rattle.jop_device.specs.Told.{Note, Wrote, Saw}
