@@ -19,4 +19,3 @@ pub mod Lasting
 pub mod Answered
 pub mod Whole
 pub mod Tracing
-pub mod StageLines

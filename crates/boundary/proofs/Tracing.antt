@@ -1,5 +1,5 @@
 -- A traced run, boundary by boundary.
-use Rattle.std.proofs.Common.{◌≡◌, ℕ, zero, suc, ◌+◌, ◌<◌, ◌≤◌, Bool, List, [], ◌++◌, Option, None, refl, sym, ◌∙◌, ap, subst, arith, append_assoc, ◌⊎◌, ⊎_elim}
+use Rattle.std.proofs.Common.{◌≡◌, ◌≢◌, ℕ, zero, suc, ◌+◌, ◌<◌, ◌≤◌, Bool, List, [], ◌++◌, Option, None, refl, sym, ◌∙◌, ap, subst, arith, append_assoc, ◌⊎◌, ⊎_elim}
 use Rattle.std.specs.List.{flat_map}
 use Rattle.jop_outside.specs.Outside.{Grew}
 use Rattle.jop_outside.specs.Growing.{Grew-refl, Grew-trans}
@@ -14,14 +14,16 @@ use Rattle.trace_lines.specs.Lines.{note_line}
 use Rattle.trace_lines.specs.Traced.{LineIsPut}
 use Rattle.bytecode_model.specs.declared.Ending.TheVariants as modes
 use Rattle.bytecode_model.specs.State.{State}
-use Rattle.bytecode_typing.specs.Fits.{IsGoing}
+use Rattle.bytecode_typing.specs.Fits as states
 use Rattle.boundary.specs.declared.answer.Boundary.{Boundary}
 use Rattle.boundary.specs.declared.answer.Boundary.TheVariants as answers
-use Rattle.boundary.specs.Answers.{answer_of}
+use Rattle.boundary.specs.Answers.{answer_of, mode_after, IsGoing}
+use Rattle.coded_methods.specs.Methods.{AreMethods}
 use Rattle.boundary.specs.Setting.{Setting, Stands}
+use Rattle.boundary.specs.Session.{Session, IsStateOf}
 use Rattle.boundary.specs.Activations.{Stage}
-use Rattle.boundary.specs.Advances.{Advances, Reaches}
-use Rattle.boundary.specs.Traces.{unnoted, run_text, step_text, stage_line, IsTraced, TracesOn, AfterLine, StepTraces, TraceBreaks}
+use Rattle.boundary.specs.Advances.{Advances, Reaches, StepsTo}
+use Rattle.boundary.specs.Traces.{unnoted, run_text, step_text, stage_line, IsTraced, TracesOn, AfterLine, AtWrite, StepTraces, StepTracesAll, TraceBreaks}
 use Rattle.boundary.proofs.Keeping.{going_mode}
 use Rattle.boundary.proofs.Whole.{goes_so, ended_mode, uncaught_mode, run_none, run_more}
 
@@ -67,7 +69,7 @@ stage_is b now e = ap (λ (m : machine.State). let c : Stage = record { machine 
 
 -- the traced run goes on
 abbrev pub Far : (cycles : Bool) → (names : List (List ℕ)) → (g : Setting) → (limit : ℕ) → (a : Stage) → (now : machine.State) → (told told' : Told) → Type 0
-Far cycles names g limit a now told told' = TracesOn cycles names g limit a now told told' (λ s. IsGoing s.mode)
+Far cycles names g limit a now told told' = TracesOn cycles names g limit a now told told' (λ s. states.IsGoing s.mode)
 
 -- the step reached a boundary at which the machine goes on
 went_on : (names : List (List ℕ)) (g : Setting) (a : Stage) (now : machine.State) (t0 t1 : Told) (answer : Boundary) → (answer ≡ answers.Bytecode) ⊎ (answer ≡ answers.Raise) → StepTraces names g a now t0 t1 answer
@@ -82,7 +84,7 @@ module _ (laws : AreRunLaws) (keep : CyclesKeep) (cycles : Bool) (names : List (
   traced_none a told stage = record { run = run_none laws keep g limit a (unnoted told) stage; line = refl; text = Grew-refl told.noted }
 
   -- one step more, with its line
-  traced_more : (a b : Stage) (new : machine.State) (t0 t1 t2 t3 : Told) → IsTraced cycles names g limit a b t0 t1 → t1.line ≡ note_line cycles → IsGoing b.state.mode → b.machine.clock < limit → LineIsPut t1 t2 (stage_line names g b) → (v : Advances g b.state b.machine new t2 t3)
+  traced_more : (a b : Stage) (new : machine.State) (t0 t1 t2 t3 : Told) → IsTraced cycles names g limit a b t0 t1 → t1.line ≡ note_line cycles → states.IsGoing b.state.mode → b.machine.clock < limit → LineIsPut t1 t2 (stage_line names g b) → (v : Advances g b.state b.machine new t2 t3)
       → IsTraced cycles names g limit a (record { machine = new; state = v.next }) t0 t3
   unfolding run_more
   traced_more a b new t0 t1 t2 t3 r shown going below put v =
@@ -97,7 +99,7 @@ module _ (laws : AreRunLaws) (keep : CyclesKeep) (cycles : Bool) (names : List (
         text = Grew-trans t0.noted t1.noted t3.noted before _ _ r.text step refl;
       }
 
-  pub far_none : (a : Stage) (told : Told) → Stands g a.machine a.state → IsGoing a.state.mode → Far cycles names g limit a a.machine told told
+  pub far_none : (a : Stage) (told : Told) → Stands g a.machine a.state → states.IsGoing a.state.mode → Far cycles names g limit a a.machine told told
   far_none a told stage going = record { last = a; now_is = refl; traced = traced_none a told stage; holds = going }
 
   module _ (a : Stage) (now new : machine.State) (t0 t1 t2 : Told) (shown : t0.line ≡ note_line cycles) (far : Far cycles names g limit a now t0 t1) (below : now.clock < limit) where
@@ -125,7 +127,7 @@ module _ (laws : AreRunLaws) (keep : CyclesKeep) (cycles : Bool) (names : List (
     pub far_on : (answer : Boundary) → (answer ≡ answers.Bytecode) ⊎ (answer ≡ answers.Raise) → AllSteps answer → Far cycles names g limit a new t0 t2
     far_on answer on steps =
         let w = went_on names g far.last new t1 t2 answer on (from_last answer steps) in
-        reach (λ s. IsGoing s.mode) answer w (going_mode w.holds.0.next.mode answer w.holds.1 (goes_so answer on))
+        reach (λ s. states.IsGoing s.mode) answer w (going_mode w.holds.0.next.mode answer w.holds.1 (goes_so answer on))
 
     pub far_ended : AllSteps answers.Halted → TracesOn cycles names g limit a new t0 t2 (λ s. s.mode ≡ modes.Ended)
     far_ended steps = let w = from_last answers.Halted steps in reach (λ s. s.mode ≡ modes.Ended) answers.Halted w (ended_mode w.holds.0.next.mode w.holds.1)
@@ -143,3 +145,27 @@ module _ (laws : AreRunLaws) (keep : CyclesKeep) (cycles : Bool) (names : List (
 
   pub uncaught_at_once : (a : Stage) (told : Told) (class : ℕ) → Stands g a.machine a.state → answer_of a.state.mode ≡ answers.Uncaught class → TracesOn cycles names g limit a a.machine told told (λ s. s.mode ≡ modes.Uncaught class)
   uncaught_at_once a told class stage is = record { last = a; now_is = refl; traced = traced_none a told stage; holds = uncaught_mode a.state.mode class is }
+
+-- ---- one step
+
+-- a step behind its line, where no state was refused
+pub step_traced : (names : List (List ℕ)) (g : Setting) (a : Stage) (now : machine.State) (t0 t1 t2 : Told) (answer : Boundary) → answer ≢ answers.SeenFault → LineIsPut t0 t1 (stage_line names g a) → StepsTo g a.state a.machine now t1 t2 answer
+    → StepTraces names g a now t0 t2 answer
+step_traced names g a now t0 t1 t2 answers.Bytecode h line step = record { begun = t1; line = line; holds = step }
+step_traced names g a now t0 t1 t2 answers.Raise h line step = record { begun = t1; line = line; holds = step }
+step_traced names g a now t0 t1 t2 answers.Halted h line step = record { begun = t1; line = line; holds = step }
+step_traced names g a now t0 t1 t2 (answers.Uncaught c) h line step = record { begun = t1; line = line; holds = step }
+step_traced names g a now t0 t1 t2 answers.ReadFault h line step = record { begun = t1; line = line; holds = step }
+step_traced names g a now t0 t1 t2 answers.WriteFault h line step = AtWrite (record { begun = t1; line = line; holds = step })
+step_traced names g a now t0 t1 t2 answers.SeenFault h line step = absurd (h refl)
+step_traced names g a now t0 t1 t2 answers.Stopped h line step = step
+
+pub mode_stays : (answer mode : Boundary) → IsGoing answer → mode ≡ mode_after answer → mode ≡ answer
+mode_stays answer mode going is = is ∙ ⊎_elim (λ e. ap mode_after e ∙ sym e) (λ e. ap mode_after e ∙ sym e) going
+
+-- what is said of a step, at a state for which a run's machine stands
+pub all_steps : (names : List (List ℕ)) (g : Setting) (s : State) (first here : Session) (new : machine.State) (t0 t1 : Told) (answer : Boundary) → here.methods ≡ first.methods → IsStateOf g first.methods first.machine s → StepTracesAll names here new t0 t1 answer
+    → (t : State) → Stands g here.machine t → StepTraces names g (record { machine = here.machine; state = t }) new t0 t1 answer
+unfolding StepTracesAll
+all_steps names g s first here new t0 t1 answer same is steps t stands =
+    steps g t (record { is_setting = is.is_setting; methods_are = subst (λ methods. AreMethods g.program g.places methods) (sym same) is.methods_are; stands = stands })

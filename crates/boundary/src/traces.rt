@@ -1,6 +1,6 @@
 //! A run of the machine with its trace: a line at each boundary from which a step is begun, and the lines of what the device
 //! notes in the step.
-ghost use Rattle.std.specs.Prelude.{◌≡◌, ◌<◌, ◌≤◌, ◌^◌, length};
+ghost use Rattle.std.specs.Prelude.{◌≡◌, ◌≢◌, ◌<◌, ◌≤◌, ◌^◌, length};
 ghost use Rattle.boundary.specs.Answers.{IsGoing, IsUnbroken};
 ghost use Rattle.boundary.specs.Setting.{Setting};
 ghost use Rattle.boundary.specs.Session.{IsStateOf};
@@ -21,18 +21,18 @@ use trace_lines::{AtBoundary, TraceDevice};
 
 /// The same as [`run`](crate::run), with its trace: before each step the line of its boundary is put. The names are those of
 /// the methods with code, by number. Where a line fails, the run ends in a `WriteFault`.
-pub fn trace<const N: usize, S: Source, O: Sink>(
+pub fn trace<'i, 'o, const N: usize, S: Source, O: Sink>(
     running: &mut Running<'_, N>,
     names: &[Vec<u8>],
-    device: &mut TraceDevice<'_, '_, S, O>,
+    device: &mut TraceDevice<'i, 'o, S, O>,
     limit: u64,
 ) -> RunEnd
     requires unbroken { IsUnbroken running.old.mode }
     requires few { limit < 2 ^ 63 }
     requires named { length running.old.methods ≤ length names.now }
-    ensures traces { TracesAll device.old.cycles (texts names.now) limit running.old running.new.machine (⟦<TraceDevice<'_, '_, S, O> as Devices>⟧.told device.old) (⟦<TraceDevice<'_, '_, S, O> as Devices>⟧.told device.new) result }
+    ensures traces { TracesAll device.old.cycles (texts names.now) limit running.old running.new.machine (⟦<TraceDevice<'i, 'o, S, O> as Devices>⟧.told device.old) (⟦<TraceDevice<'i, 'o, S, O> as Devices>⟧.told device.new) result }
     ensures methods { running.new.methods ≡ running.old.methods }
-    ensures names { ⟦<TraceDevice<'_, '_, S, O> as Devices>⟧.names device.new ≡ ⟦<TraceDevice<'_, '_, S, O> as Devices>⟧.names device.old }
+    ensures names { ⟦<TraceDevice<'i, 'o, S, O> as Devices>⟧.names device.new ≡ ⟦<TraceDevice<'i, 'o, S, O> as Devices>⟧.names device.old }
 {
     // The laws are for the proof.
     runs_add_up();
@@ -47,18 +47,18 @@ pub fn trace<const N: usize, S: Source, O: Sink>(
 }
 
 // The same from a machine that goes on.
-fn trace_to_end<const N: usize, S: Source, O: Sink>(
+fn trace_to_end<'i, 'o, const N: usize, S: Source, O: Sink>(
     running: &mut Running<'_, N>,
     names: &[Vec<u8>],
-    device: &mut TraceDevice<'_, '_, S, O>,
+    device: &mut TraceDevice<'i, 'o, S, O>,
     limit: u64,
 ) -> RunEnd
     requires going { IsGoing running.old.mode }
     requires few { limit < 2 ^ 63 }
     requires named { length running.old.methods ≤ length names.now }
-    ensures traces { TracesAll device.old.cycles (texts names.now) limit running.old running.new.machine (⟦<TraceDevice<'_, '_, S, O> as Devices>⟧.told device.old) (⟦<TraceDevice<'_, '_, S, O> as Devices>⟧.told device.new) result }
+    ensures traces { TracesAll device.old.cycles (texts names.now) limit running.old running.new.machine (⟦<TraceDevice<'i, 'o, S, O> as Devices>⟧.told device.old) (⟦<TraceDevice<'i, 'o, S, O> as Devices>⟧.told device.new) result }
     ensures methods { running.new.methods ≡ running.old.methods }
-    ensures names { ⟦<TraceDevice<'_, '_, S, O> as Devices>⟧.names device.new ≡ ⟦<TraceDevice<'_, '_, S, O> as Devices>⟧.names device.old }
+    ensures names { ⟦<TraceDevice<'i, 'o, S, O> as Devices>⟧.names device.new ≡ ⟦<TraceDevice<'i, 'o, S, O> as Devices>⟧.names device.old }
 {
     // The laws are for the proof.
     runs_add_up();
@@ -78,19 +78,20 @@ fn trace_to_end<const N: usize, S: Source, O: Sink>(
 }
 
 // Puts the line of the boundary and goes on to the next one. A line that fails is a write that fails.
-fn trace_step<const N: usize, S: Source, O: Sink>(
+fn trace_step<'i, 'o, const N: usize, S: Source, O: Sink>(
     running: &mut Running<'_, N>,
     names: &[Vec<u8>],
-    device: &mut TraceDevice<'_, '_, S, O>,
+    device: &mut TraceDevice<'i, 'o, S, O>,
 ) -> Boundary
     requires going { IsGoing running.old.mode }
     requires clock { running.old.machine.clock < 2 ^ 63 }
     requires named { length running.old.methods ≤ length names.now }
-    ensures steps { StepTracesAll (texts names.now) running.old running.new.machine (⟦<TraceDevice<'_, '_, S, O> as Devices>⟧.told device.old) (⟦<TraceDevice<'_, '_, S, O> as Devices>⟧.told device.new) result }
+    ensures steps { StepTracesAll (texts names.now) running.old running.new.machine (⟦<TraceDevice<'i, 'o, S, O> as Devices>⟧.told device.old) (⟦<TraceDevice<'i, 'o, S, O> as Devices>⟧.told device.new) result }
     ensures time { PassesTime running.old.machine running.new.machine result }
+    ensures shown { result ≢ Boundary.SeenFault }
     ensures mode { IsGoing result → running.new.mode ≡ result }
     ensures methods { running.new.methods ≡ running.old.methods }
-    ensures names { ⟦<TraceDevice<'_, '_, S, O> as Devices>⟧.names device.new ≡ ⟦<TraceDevice<'_, '_, S, O> as Devices>⟧.names device.old }
+    ensures names { ⟦<TraceDevice<'i, 'o, S, O> as Devices>⟧.names device.new ≡ ⟦<TraceDevice<'i, 'o, S, O> as Devices>⟧.names device.old }
 {
     if let Err(_) = put_line(running, names, device) {
         return Boundary::WriteFault;
@@ -102,16 +103,16 @@ fn trace_step<const N: usize, S: Source, O: Sink>(
 }
 
 // Puts the line of the boundary.
-fn put_line<const N: usize, S: Source, O: Sink>(
+fn put_line<'i, 'o, const N: usize, S: Source, O: Sink>(
     running: &Running<'_, N>,
     names: &[Vec<u8>],
-    device: &mut TraceDevice<'_, '_, S, O>,
+    device: &mut TraceDevice<'i, 'o, S, O>,
 ) -> Result<(), DeviceFault>
     requires going { IsGoing running.now.mode }
     requires named { length running.now.methods ≤ length names.now }
-    ensures put { (g : Setting) (s : State) → IsStateOf g running.now.methods running.now.machine s → PutsLine (⟦<TraceDevice<'_, '_, S, O> as Devices>⟧.told device.old) (⟦<TraceDevice<'_, '_, S, O> as Devices>⟧.told device.new)
+    ensures put { (g : Setting) (s : State) → IsStateOf g running.now.methods running.now.machine s → PutsLine (⟦<TraceDevice<'i, 'o, S, O> as Devices>⟧.told device.old) (⟦<TraceDevice<'i, 'o, S, O> as Devices>⟧.told device.new)
         (stage_line (texts names.now) g (record { machine = running.now.machine; state = s })) result }
-    ensures names { ⟦<TraceDevice<'_, '_, S, O> as Devices>⟧.names device.new ≡ ⟦<TraceDevice<'_, '_, S, O> as Devices>⟧.names device.old }
+    ensures names { ⟦<TraceDevice<'i, 'o, S, O> as Devices>⟧.names device.new ≡ ⟦<TraceDevice<'i, 'o, S, O> as Devices>⟧.names device.old }
 {
     device.put_boundary(at_boundary(running, names))
 }
