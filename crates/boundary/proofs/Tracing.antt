@@ -1,5 +1,5 @@
 -- A traced run, boundary by boundary.
-use Rattle.std.proofs.Common.{◌≡◌, ◌≢◌, ℕ, zero, suc, ◌+◌, ◌<◌, ◌≤◌, Bool, List, [], ◌++◌, Option, None, refl, sym, ◌∙◌, ap, subst, arith, append_assoc, ◌⊎◌, ⊎_elim}
+use Rattle.std.proofs.Common.{◌≡◌, ◌≢◌, ℕ, ◌<◌, Bool, List, [], ◌++◌, Option, None, refl, sym, ◌∙◌, ap, subst, arith, ◌⊎◌, ⊎_elim}
 use Rattle.std.specs.List.{flat_map}
 use Rattle.jop_outside.specs.Outside.{Grew}
 use Rattle.jop_outside.specs.Growing.{Grew-refl, Grew-trans}
@@ -23,7 +23,7 @@ use Rattle.boundary.specs.Setting.{Setting, Stands}
 use Rattle.boundary.specs.Session.{Session, IsStateOf}
 use Rattle.boundary.specs.Activations.{Stage}
 use Rattle.boundary.specs.Advances.{Advances, Reaches, StepsTo}
-use Rattle.boundary.specs.Traces.{unnoted, run_text, step_text, stage_line, IsTraced, TracesOn, AfterLine, AtWrite, StepTraces, StepTracesAll, TraceBreaks}
+use Rattle.boundary.specs.Traces.{unnoted, run_text, stage_line, IsTraced, TracesOn, AfterLine, AtWrite, StepTraces, StepTracesAll, TraceBreaks}
 use Rattle.boundary.proofs.Keeping.{going_mode}
 use Rattle.boundary.proofs.Whole.{goes_so, ended_mode, uncaught_mode, run_none, run_more}
 
@@ -164,8 +164,8 @@ pub mode_stays : (answer mode : Boundary) → IsGoing answer → mode ≡ mode_a
 mode_stays answer mode going is = is ∙ ⊎_elim (λ e. ap mode_after e ∙ sym e) (λ e. ap mode_after e ∙ sym e) going
 
 -- what is said of a step, at a state for which a run's machine stands
-pub all_steps : (names : List (List ℕ)) (g : Setting) (s : State) (first here : Session) (new : machine.State) (t0 t1 : Told) (answer : Boundary) → here.methods ≡ first.methods → IsStateOf g first.methods first.machine s → StepTracesAll names here new t0 t1 answer
-    → (t : State) → Stands g here.machine t → StepTraces names g (record { machine = here.machine; state = t }) new t0 t1 answer
+pub all_steps : (names : List (List ℕ)) (g : Setting) (s : State) (first r : Session) (new : machine.State) (t0 t1 : Told) (answer : Boundary) → r.methods ≡ first.methods → IsStateOf g first.methods first.machine s → StepTracesAll names r new t0 t1 answer
+    → (t : State) → Stands g r.machine t → StepTraces names g (record { machine = r.machine; state = t }) new t0 t1 answer
 unfolding StepTracesAll
-all_steps names g s first here new t0 t1 answer same is steps t stands =
+all_steps names g s first r new t0 t1 answer same is steps t stands =
     steps g t (record { is_setting = is.is_setting; methods_are = subst (λ methods. AreMethods g.program g.places methods) (sym same) is.methods_are; stands = stands })

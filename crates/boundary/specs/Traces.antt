@@ -1,7 +1,6 @@
 -- The run of the machine with its trace: at each boundary from which a step is begun a line, and then the lines of what the device notes in the step.
 use Rattle.std.specs.Prelude.{◌≡◌, ℕ, zero, suc, ◌<◌, ◌≤◌, Bool, List, [], ◌++◌, length, map, sum_by, slice_get, Some, None, Vec}
 use Rattle.std.specs.List.{flat_map}
-use Rattle.std.specs.declared.option.Option.{Option}
 use Rattle.std.specs.declared.alloc.Global.{Global}
 use Rattle.jop_outside.specs.Outside.{Grew}
 use Rattle.jop_core.specs.State as machine
@@ -40,8 +39,8 @@ name_of names method = elim (slice_get names method) [ None ↦ [] | Some name �
 abbrev pub stage_line : (names : List (List ℕ)) → Setting → Stage → List ℕ
 stage_line names g a =
     elim (top_frame a.state.frames) [
-      None ↦ []
-    | Some f ↦ step_line a.machine.clock (name_of names f.method) f.pc (step_name (next_opcode g.program a.state)) (length a.state.frames) (sum_by value_words f.operands)
+      | None ↦ []
+      | Some f ↦ step_line a.machine.clock (name_of names f.method) f.pc (step_name (next_opcode g.program a.state)) (length a.state.frames) (sum_by value_words f.operands)
     ]
 
 -- the lines of a step: that of its boundary, and then those of what the device notes in its cycles

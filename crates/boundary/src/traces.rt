@@ -13,8 +13,8 @@ ghost use Rattle.boundary.specs.Traces.{TracesAll, StepTracesAll, stage_line, te
 use crate::answer::Boundary;
 use crate::running::Running;
 use crate::runs::RunEnd;
-use jop_core::{DeviceFault, Devices};
 use jop_core::laws::cycles_keep;
+use jop_core::{DeviceFault, Devices};
 use jop_outside::{Sink, Source};
 use micro_sketch::laws::runs_add_up;
 use trace_lines::{AtBoundary, TraceDevice};
@@ -118,10 +118,7 @@ fn put_line<'i, 'o, const N: usize, S: Source, O: Sink>(
 }
 
 // The boundary at which a run stands.
-fn at_boundary<'n, const N: usize>(
-    running: &Running<'_, N>,
-    names: &'n [Vec<u8>],
-) -> AtBoundary<'n>
+fn at_boundary<'n, const N: usize>(running: &Running<'_, N>, names: &'n [Vec<u8>]) -> AtBoundary<'n>
     requires going { IsGoing running.now.mode }
     requires named { length running.now.methods ≤ length names.now }
     ensures { (g : Setting) (s : State) → IsStateOf g running.now.methods running.now.machine s → boundary_line result ≡ stage_line (texts names.now) g (record { machine = running.now.machine; state = s }) }

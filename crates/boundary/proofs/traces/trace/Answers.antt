@@ -1,8 +1,5 @@
-use Rattle.std.proofs.Common.{lit<, subst, sym}
 use Rattle.trace_lines.specs.Traced.{traced}
-use Rattle.boundary.specs.Answers.{IsGoing, IsUnbroken}
 use Rattle.boundary.specs.Traces.{TracesAll, texts}
-use Rattle.boundary.proofs.Whole.{broken}
 use Rattle.boundary.proofs.Tracing.{ended_at_once, uncaught_at_once}
 use Rattle.boundary.proofs.traces.trace.Goals as goal
 
