@@ -2,11 +2,11 @@
 
 ghost use Rattle.std.specs.Prelude.{◌≡◌, option_copied};
 ghost use Rattle.class_lookup.specs.Lookup.{method_at};
-ghost use Rattle.class_lookup.specs.Access.{are_in_one_package};
 ghost use Rattle.class_lookup.specs.Selection.{is_virtual, is_public_instance, is_instance};
 ghost use Rattle.class_hierarchy.specs.Selecting.{is_open, is_near, is_joining};
 
-use class_lookup::parts::{has_flags, is_in_package_of};
+use crate::pending::are_in_one_package;
+use class_lookup::parts::has_flags;
 use class_lookup::{Classes, Place};
 use class_pool::Member;
 
@@ -66,14 +66,6 @@ pub(crate) fn is_open(classes: &Classes, place: Place) -> bool
         }
         None => false,
     }
-}
-
-/// Whether both classes are of one package.
-fn are_in_one_package(classes: &Classes, class: u32, other: u32) -> bool
-    ensures { result ≡ are_in_one_package classes.now class other }
-{
-    let count = classes.class_count();
-    class < count && other < count && is_in_package_of(classes.class(class), classes.class(other))
 }
 
 /// Whether the second method is package-private, and the first belongs to its package.
