@@ -59,6 +59,12 @@ kept_same p q old new h e = record { long = h.long; each = λ c. h.each c ∙ ap
 
 -- ---- one method, class by class
 
+-- what was made of the number at a place
+pub read_mapped : (f : ℕ → Option Place) (lower : List ℕ) (i : ℕ) (x : Option Place) → i < length lower → x ≡ get_or (map f lower) i x → x ≡ f (get_or lower i 0)
+read_mapped f [] i x lt e = absurd (omega (arith, lt))
+read_mapped f (n ∷ lower) zero x lt e = e
+read_mapped f (n ∷ lower) (suc i) x lt e = read_mapped f lower i x (omega (arith, lt)) e
+
 with_code_case : (a e m : Bool) → (e ≡ true → m ≡ true) → (not a || m) ≡ (not (a || e) || m)
 with_code_case true e m h = refl
 with_code_case false true m h = sym (h refl)
