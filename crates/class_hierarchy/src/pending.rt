@@ -47,7 +47,12 @@ pub(crate) fn text(classes: &Classes, number: u32) -> &[u16]
 }
 
 /// The field that the class declares of the name and the descriptor of these symbols.
-pub(crate) fn declared_field(classes: &Classes, class: u32, name: u32, descriptor: u32) -> Option<Place>
+pub(crate) fn declared_field(
+    classes: &Classes,
+    class: u32,
+    name: u32,
+    descriptor: u32,
+) -> Option<Place>
     ensures { (s : Signature) → symbol classes.now s.name ≡ Some name → symbol classes.now s.descriptor ≡ Some descriptor → result ≡ declared_field classes.now s class }
 {
     let _ = classes;
@@ -58,7 +63,12 @@ pub(crate) fn declared_field(classes: &Classes, class: u32, name: u32, descripto
 }
 
 /// The method that the class declares of the name and the descriptor of these symbols.
-pub(crate) fn declared_method(classes: &Classes, class: u32, name: u32, descriptor: u32) -> Option<Place>
+pub(crate) fn declared_method(
+    classes: &Classes,
+    class: u32,
+    name: u32,
+    descriptor: u32,
+) -> Option<Place>
     ensures { (s : Signature) → symbol classes.now s.name ≡ Some name → symbol classes.now s.descriptor ≡ Some descriptor → result ≡ declared_method classes.now s class }
 {
     let _ = classes;

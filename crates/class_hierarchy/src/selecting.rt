@@ -40,11 +40,7 @@ pub(crate) fn first_instance(classes: &Classes, list: &[u32], method: &Named) ->
 }
 
 /// The first method in the classes of a list, from a class upwards, that is the resolved one or overrides it.
-pub(crate) fn first_overriding(
-    classes: &Classes,
-    list: &[u32],
-    resolved: &Named,
-) -> Option<Place>
+pub(crate) fn first_overriding(classes: &Classes, list: &[u32], resolved: &Named) -> Option<Place>
     requires { IsNamed classes.now resolved.now }
     ensures { result ≡ head (overriding classes.now resolved.now.place (filter_map (declared_as classes.now resolved.now.place) list.now)) }
 {

@@ -70,7 +70,13 @@ fn unmarked(alloc: Global, lower: &[u32], marks: &[bool]) -> Result<Vec<u32>, No
 }
 
 /// Takes the mark from those of these classes for which nothing with code is selected.
-fn keep_marks(classes: &Classes, lower: &[u32], selected: &[Option<Place>], method: Place, marks: &mut Vec<bool>)
+fn keep_marks(
+    classes: &Classes,
+    lower: &[u32],
+    selected: &[Option<Place>],
+    method: Place,
+    marks: &mut Vec<bool>,
+)
     requires below { (c : ℕ) → IsTrue (is_among lower.now c) → c < length marks.old.items }
     requires selected { selected.now ≡ map (λ c. select classes.now c method) lower.now }
     ensures { AreKept (λ c. not (is_among lower.now c) || is_implemented classes.now c method) marks.old.items marks.new.items }

@@ -130,11 +130,7 @@ impl Search {
 
 /// Ranks of the numbers below `count`, which have these directly above them, as a guess: numbers that are above one another have
 /// the same, those above a number that aren't also below it lower ones. The time is linear in what the lists have.
-pub fn ranks_of(
-    alloc: Global,
-    above: &[Items<u32>],
-    count: u32,
-) -> Result<Vec<u32>, NoMemory> {
+pub fn ranks_of(alloc: Global, above: &[Items<u32>], count: u32) -> Result<Vec<u32>, NoMemory> {
     let mut search = Search::new(alloc, above.len())?;
     for number in 0..count {
         if entry_of(&search.seen, number) == 0 {

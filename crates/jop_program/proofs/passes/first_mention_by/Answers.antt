@@ -4,7 +4,7 @@ use Rattle.class_pool.specs.declared.class.ClassFile.{ClassFile}
 use Rattle.jop_program.specs.Linked.{files_in}
 use Rattle.jop_program.specs.Refusals.{Mentions, causes}
 use Rattle.jop_program.proofs.FileLemmas.{found_file, none_file, no_file}
-use Rattle.jop_program.proofs.passes.first_mention.Goals as goal
+use Rattle.jop_program.proofs.passes.first_mention_by.Goals as goal
 
 pub returns-in-Some : goal.returns-in-Some
 returns-in-Some c =
