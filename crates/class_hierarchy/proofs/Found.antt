@@ -13,7 +13,8 @@ use Rattle.class_lookup.specs.Parts.{Signature, signature_of, same_signature, is
 use Rattle.class_lookup.specs.Hierarchy.{superclass, superclasses, supertypes, with_superinterfaces, all_superinterfaces, is_interface, is_among, is_subclass}
 use Rattle.class_lookup.specs.Lookup.{Place, declared, declared_in, declared_field, declared_method, find_field, find_method, method_search}
 use Rattle.upward_order.specs.Numbers.{IsSameSearch}
-use Rattle.class_hierarchy.specs.Pending.{symbol, MembersHaveSymbols}
+use Rattle.class_lookup.specs.Laws.{MembersHaveSymbols}
+use Rattle.class_lookup.specs.Symbols.{symbol}
 use Rattle.class_hierarchy.specs.Tables.{AreAbove}
 use Rattle.class_hierarchy.specs.declared.above.Above.{Above}
 use Rattle.list_words.proofs.Finding.{all_none, search_append}

@@ -1,14 +1,14 @@
 -- Methods with the symbols of their names and descriptors; and the first that the classes of a list declare.
-use Rattle.std.proofs.Common.{◌≡◌, ℕ, suc, ◌+◌, ◌<◌, List, ◌∷◌, map, length, get_or, drop, drop-cons, arith, Option, Some, None, refl, sym, ap, ◌∙◌}
+use Rattle.std.proofs.Common.{◌≡◌, ℕ, suc, ◌+◌, ◌<◌, List, ◌∷◌, map, length, get_or, drop, drop-cons, arith, Option, Some, None, sym, ap, ◌∙◌}
 use Rattle.std.specs.Prelude.{slice_get}
 use Rattle.class_pool.specs.declared.class.Member.{Member}
 use Rattle.class_pool.specs.declared.class.ClassFile.{ClassFile}
 use Rattle.list_words.specs.Lists.{onto, first_some}
-use Rattle.list_words.specs.Lemmas.{onto_some, some_same, index_found}
-use Rattle.class_lookup.specs.Parts.{Signature, signature_of, same_text, text_at}
-use Rattle.class_lookup.specs.Lookup.{Place, method_at, declared_method}
-use Rattle.class_hierarchy.specs.Pending.{texts, symbol}
-use Rattle.class_hierarchy.specs.Members.{declared_as, IsNamed}
+use Rattle.list_words.specs.Lemmas.{onto_some, index_found}
+use Rattle.class_lookup.specs.Parts.{signature_of, same_text, text_at}
+use Rattle.class_lookup.specs.Lookup.{Place, method_at}
+use Rattle.class_lookup.specs.Symbols.{texts, symbol}
+use Rattle.class_hierarchy.specs.Members.{IsNamed}
 use Rattle.class_hierarchy.proofs.Directly.{text_same}
 
 pub named_is : (cs : List ClassFile) (p : Place) (m : Member) (n d : ℕ) → Some m ≡ method_at cs p → ((c : ClassFile) → slice_get cs p.0 ≡ Some c → symbol cs (text_at c.pool m.name) ≡ Some n)

@@ -1,5 +1,5 @@
 -- What is selected for a class, by what is selected for its superclass; and the table of it.
-use Rattle.std.proofs.Common.{◌≡◌, ℕ, zero, suc, ◌-◌, ◌<◌, ◌≤◌, length, get_or, set, replicate, arith, Bool, true, false, ◌||◌, List, [], ◌∷◌, ◌++◌, Option, Some, None, inl, inr, refl, sym, ap, ap₂, ◌∙◌, subst, append-nil}
+use Rattle.std.proofs.Common.{◌≡◌, ℕ, zero, suc, ◌-◌, ◌<◌, ◌≤◌, length, get_or, set, replicate, arith, Bool, true, false, ◌||◌, List, [], ◌∷◌, Option, Some, None, inl, inr, refl, sym, ap, ap₂, ◌∙◌, subst, append-nil}
 use Rattle.std.specs.Prelude.{is_some, find}
 use Rattle.std.specs.Option.{option_map_or, option_to_list}
 use Rattle.std.specs.List.{list_any, filter_map, flat_map, cons_option}
@@ -12,7 +12,7 @@ use Rattle.class_lookup.specs.Selection.{overrides_directly, overriding, head, i
 use Rattle.class_hierarchy.specs.declared.receivers.Selected.{Selected}
 use Rattle.class_hierarchy.specs.Members.{declared_as}
 use Rattle.class_hierarchy.specs.Selecting.{is_open, is_joining, selected_of, selected_at, selected_above, AreKnown}
-use Rattle.class_hierarchy.proofs.Directly.{upward_step, super_list}
+use Rattle.class_hierarchy.proofs.Directly.{upward_step}
 use Rattle.class_hierarchy.proofs.Filled.{superclass_below}
 use Rattle.class_hierarchy.proofs.Reaching.{AreReached, reached_none, reached_more, joined}
 

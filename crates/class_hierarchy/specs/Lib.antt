@@ -3,4 +3,3 @@ pub mod Members
 pub mod Tables
 pub mod Selecting
 pub mod Cycles
-pub mod Pending

@@ -5,7 +5,7 @@ use Rattle.list_words.specs.Lists.{onto}
 use Rattle.class_lookup.specs.Parts.{Signature}
 use Rattle.class_lookup.specs.Lookup.{Place, declared_method}
 use Rattle.class_lookup.specs.Selection.{signature_at}
-use Rattle.class_hierarchy.specs.Pending.{symbol}
+use Rattle.class_lookup.specs.Symbols.{symbol}
 use Rattle.class_hierarchy.specs.declared.members.Named.{Named}
 
 -- the method that the class declares of the name and the descriptor of this one

@@ -5,14 +5,13 @@ ghost use Rattle.class_lookup.specs.Lookup.{declared_method, find_field, find_me
 ghost use Rattle.class_lookup.specs.Parts.{Signature, is_init};
 ghost use Rattle.class_lookup.specs.Selection.{select, is_of_superclass, special};
 ghost use Rattle.upward_order.specs.Numbers.{IsSameSearch};
-ghost use Rattle.class_hierarchy.specs.Pending.{symbol};
+ghost use Rattle.class_lookup.specs.Symbols.{symbol};
 
 use crate::above::{Above, above_of};
 use crate::members::{first_field, first_method, named_at};
-use crate::pending;
-use crate::pending::members_have_symbols;
 use crate::receivers::{Resolved, places_for};
 use crate::selecting::{first_instance, first_overriding, first_public};
+use class_lookup::laws::members_have_symbols;
 use class_lookup::parts::has_flags;
 use class_lookup::{Classes, Place};
 use descriptors::names::is_instance_initializer;
@@ -87,9 +86,9 @@ impl Hierarchy {
         ensures { result ≡ declared_method self.now (record { name = name.now; descriptor = descriptor.now }) class }
     {
         members_have_symbols();
-        let name = pending::symbol_of(&self.classes, name)?;
-        let descriptor = pending::symbol_of(&self.classes, descriptor)?;
-        pending::declared_method(&self.classes, class, name, descriptor)
+        let name = self.classes.symbol_of(name)?;
+        let descriptor = self.classes.symbol_of(descriptor)?;
+        self.classes.declared_method(class, name, descriptor)
     }
 
     /// Whether the second class is a superclass of the first.
@@ -120,8 +119,8 @@ impl Hierarchy {
         ensures { result ≡ find_field self.now class (record { name = name.now; descriptor = descriptor.now }) }
     {
         members_have_symbols();
-        let name = pending::symbol_of(&self.classes, name)?;
-        let descriptor = pending::symbol_of(&self.classes, descriptor)?;
+        let name = self.classes.symbol_of(name)?;
+        let descriptor = self.classes.symbol_of(descriptor)?;
         self.find_field_by(class, name, descriptor)
     }
 
@@ -129,8 +128,7 @@ impl Hierarchy {
     fn is_initializer(&self, name: u32) -> bool
         ensures { (s : Signature) → symbol self.now s.name ≡ Some name → result ≡ is_init s }
     {
-        name < pending::symbol_count(&self.classes)
-            && is_instance_initializer(pending::text(&self.classes, name))
+        name < self.classes.symbol_count() && is_instance_initializer(self.classes.text(name))
     }
 
     /// The method of the name and the descriptor of these symbols, looked up in a class, its superclasses and superinterfaces.
@@ -155,7 +153,7 @@ impl Hierarchy {
         ensures { (s : Signature) → symbol self.now s.name ≡ Some name → symbol self.now s.descriptor ≡ Some descriptor → result ≡ find_method self.now class s }
     {
         if self.is_initializer(name) {
-            pending::declared_method(&self.classes, class, name, descriptor)
+            self.classes.declared_method(class, name, descriptor)
         } else if self.classes.is_interface(class) {
             let list = self.above.interfaces[class as usize].as_slice();
             first_method(&self.classes, list, name, descriptor)
@@ -170,8 +168,8 @@ impl Hierarchy {
         ensures { result ≡ find_method self.now class (record { name = name.now; descriptor = descriptor.now }) }
     {
         members_have_symbols();
-        let name = pending::symbol_of(&self.classes, name)?;
-        let descriptor = pending::symbol_of(&self.classes, descriptor)?;
+        let name = self.classes.symbol_of(name)?;
+        let descriptor = self.classes.symbol_of(descriptor)?;
         self.find_method_by(class, name, descriptor)
     }
 

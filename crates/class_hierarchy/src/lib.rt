@@ -8,7 +8,6 @@ mod cycles;
 mod hierarchy;
 mod members;
 mod methods;
-mod pending;
 mod receivers;
 mod selecting;
 

@@ -4,11 +4,10 @@ ghost use Rattle.std.specs.Prelude.{◌≡◌, Some, map};
 ghost use Rattle.class_lookup.specs.Lists.{first_some};
 ghost use Rattle.class_lookup.specs.Lookup.{declared_field, declared_method};
 ghost use Rattle.class_lookup.specs.Parts.{Signature};
-ghost use Rattle.class_hierarchy.specs.Pending.{symbol};
+ghost use Rattle.class_lookup.specs.Symbols.{symbol};
 ghost use Rattle.class_hierarchy.specs.Members.{declared_as, IsNamed, IsNamedAt};
 
 use crate::methods::method_at;
-use crate::pending;
 use class_lookup::{Classes, Place};
 
 /// A method with the symbols of its name and of its descriptor.
@@ -26,8 +25,8 @@ pub(crate) fn named_at(classes: &Classes, place: Place) -> Option<Named>
     let method = method_at(classes, place)?;
     Some(Named {
         place,
-        name: pending::symbol(classes, place.class, method.name),
-        descriptor: pending::symbol(classes, place.class, method.descriptor),
+        name: classes.symbol(place.class, method.name),
+        descriptor: classes.symbol(place.class, method.descriptor),
     })
 }
 
@@ -36,7 +35,7 @@ pub(crate) fn declared_as(classes: &Classes, method: &Named, class: u32) -> Opti
     requires { IsNamed classes.now method.now }
     ensures { result ≡ declared_as classes.now method.now.place class }
 {
-    pending::declared_method(classes, class, method.name, method.descriptor)
+    classes.declared_method(class, method.name, method.descriptor)
 }
 
 /// The first field of this name and descriptor that the classes of a list declare.
@@ -49,7 +48,7 @@ pub(crate) fn first_field(
     ensures { (s : Signature) → symbol classes.now s.name ≡ Some name → symbol classes.now s.descriptor ≡ Some descriptor → result ≡ first_some (map (declared_field classes.now s) list.now) }
 {
     for class in list {
-        if let Some(place) = pending::declared_field(classes, *class, name, descriptor) {
+        if let Some(place) = classes.declared_field(*class, name, descriptor) {
             return Some(place);
         }
     }
@@ -66,7 +65,7 @@ pub(crate) fn first_method(
     ensures { (s : Signature) → symbol classes.now s.name ≡ Some name → symbol classes.now s.descriptor ≡ Some descriptor → result ≡ first_some (map (declared_method classes.now s) list.now) }
 {
     for class in list {
-        if let Some(place) = pending::declared_method(classes, *class, name, descriptor) {
+        if let Some(place) = classes.declared_method(*class, name, descriptor) {
             return Some(place);
         }
     }

@@ -5,7 +5,6 @@ ghost use Rattle.class_lookup.specs.Lookup.{method_at};
 ghost use Rattle.class_lookup.specs.Selection.{is_virtual, is_public_instance, is_instance};
 ghost use Rattle.class_hierarchy.specs.Selecting.{is_open, is_near, is_joining};
 
-use crate::pending::are_in_one_package;
 use class_lookup::parts::has_flags;
 use class_lookup::{Classes, Place};
 use class_pool::Member;
@@ -75,7 +74,7 @@ fn is_near(classes: &Classes, place: Place, resolved: Place) -> bool
     match method_at(classes, resolved) {
         Some(method) => {
             !has_flags(method.flags, 0x0007)
-                && are_in_one_package(classes, place.class, resolved.class)
+                && classes.are_in_one_package(place.class, resolved.class)
         }
         None => false,
     }

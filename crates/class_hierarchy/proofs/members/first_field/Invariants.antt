@@ -2,7 +2,7 @@ use Rattle.std.proofs.Common.{◌≡◌, Some, drop, map}
 use Rattle.class_lookup.specs.Lists.{first_some}
 use Rattle.class_lookup.specs.Lookup.{declared_field}
 use Rattle.class_lookup.specs.Parts.{Signature}
-use Rattle.class_hierarchy.specs.Pending.{symbol}
+use Rattle.class_lookup.specs.Symbols.{symbol}
 use Rattle.class_hierarchy.proofs.members.first_field.Given as goal
 
 abbrev pub invariant-loop-class : goal.invariant-loop-class

@@ -1,4 +1,4 @@
-use Rattle.std.proofs.Common.{length, sym, arith}
+use Rattle.std.proofs.Common.{sym, arith}
 use Rattle.class_hierarchy.specs.Selecting.{selected_at}
 use Rattle.class_hierarchy.proofs.Filled.{superclass_below}
 use Rattle.class_hierarchy.proofs.Receiving.{above_some, above_none}

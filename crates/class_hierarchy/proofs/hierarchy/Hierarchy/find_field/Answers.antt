@@ -2,7 +2,7 @@ use Rattle.std.proofs.Common.{List, inl, inr, sym, ap, ◌∙◌}
 use Rattle.class_pool.specs.declared.class.ClassFile.{ClassFile}
 use Rattle.class_lookup.specs.Parts.{Signature}
 use Rattle.class_lookup.specs.Lookup.{find_field}
-use Rattle.class_hierarchy.specs.Pending.{symbol}
+use Rattle.class_lookup.specs.Symbols.{symbol}
 use Rattle.class_hierarchy.proofs.Found.{field_none}
 use Rattle.class_hierarchy.proofs.hierarchy.Hierarchy.find_field.Goals as goal
 

@@ -2,7 +2,7 @@ use Rattle.std.proofs.Common.{◌<◌, List, ℕ, map, length, sym, ap, ◌∙�
 use Rattle.class_pool.specs.declared.class.ClassFile.{ClassFile}
 use Rattle.class_lookup.specs.Lists.{first_some}
 use Rattle.class_lookup.specs.Lookup.{declared_field, find_field}
-use Rattle.class_hierarchy.specs.Pending.{symbol}
+use Rattle.class_lookup.specs.Symbols.{symbol}
 use Rattle.class_hierarchy.proofs.Found.{field_found, supertypes_read}
 use Rattle.class_hierarchy.proofs.hierarchy.Hierarchy.find_field_by.Goals as goal
 

@@ -1,10 +1,9 @@
-use Rattle.std.proofs.Common.{◌≡◌, ◌<◌, ◌++◌, Some, List, ℕ, map, length, sym, ap, ◌∙◌, subst}
+use Rattle.std.proofs.Common.{◌<◌, ◌++◌, List, ℕ, map, length, sym, ap, ◌∙◌, subst}
 use Rattle.class_pool.specs.declared.class.ClassFile.{ClassFile}
 use Rattle.class_lookup.specs.Hierarchy.{superclasses, all_superinterfaces}
 use Rattle.class_lookup.specs.Lists.{first_some}
 use Rattle.class_lookup.specs.Lookup.{declared_method}
-use Rattle.class_lookup.specs.Parts.{Signature}
-use Rattle.class_hierarchy.specs.Pending.{symbol}
+use Rattle.class_lookup.specs.Symbols.{symbol}
 use Rattle.class_hierarchy.proofs.Found.{first_above, then_above, superclasses_read, inherited_read}
 use Rattle.class_hierarchy.proofs.hierarchy.Hierarchy.find_in_class.Goals as goal
 

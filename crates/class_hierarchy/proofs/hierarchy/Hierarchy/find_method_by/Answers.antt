@@ -3,7 +3,7 @@ use Rattle.class_pool.specs.declared.class.ClassFile.{ClassFile}
 use Rattle.class_lookup.specs.Hierarchy.{is_interface}
 use Rattle.class_lookup.specs.Lists.{first_some}
 use Rattle.class_lookup.specs.Lookup.{declared_method, find_method}
-use Rattle.class_hierarchy.specs.Pending.{symbol}
+use Rattle.class_lookup.specs.Symbols.{symbol}
 use Rattle.class_hierarchy.proofs.Found.{init_found, interface_found, class_found, interfaces_read}
 use Rattle.class_hierarchy.proofs.hierarchy.Hierarchy.find_method_by.Goals as goal
 

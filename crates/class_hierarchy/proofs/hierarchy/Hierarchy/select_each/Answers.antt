@@ -1,4 +1,4 @@
-use Rattle.std.proofs.Common.{rules, ℕ, List, None, sym, ap, ◌∙◌}
+use Rattle.std.proofs.Common.{rules, List, sym, ap, ◌∙◌}
 use Rattle.class_pool.specs.declared.class.ClassFile.{ClassFile}
 use Rattle.class_lookup.specs.Hierarchy.{is_interface}
 use Rattle.class_lookup.specs.Lookup.{Place}

@@ -4,7 +4,7 @@ use Rattle.class_pool.specs.declared.class.ClassFile.{ClassFile}
 use Rattle.class_lookup.specs.Lookup.{Place}
 use Rattle.class_lookup.specs.Selection.{signature_at, is_instance, is_of_superclass, special}
 use Rattle.class_hierarchy.specs.Members.{declared_as}
-use Rattle.class_hierarchy.specs.Pending.{symbol}
+use Rattle.class_lookup.specs.Symbols.{symbol}
 use Rattle.class_hierarchy.proofs.Filled.{superclass_below}
 use Rattle.class_hierarchy.proofs.Found.{superclasses_read}
 use Rattle.class_hierarchy.proofs.SelectedLemmas.{special_none, special_other, special_topmost, special_found}
