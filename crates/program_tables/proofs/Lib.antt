@@ -7,3 +7,4 @@ pub mod EntryLemmas
 pub mod TakenLemmas
 pub mod TableLemmas
 pub mod ShapeLemmas
+pub mod TextLemmas

@@ -7,7 +7,7 @@ ghost use Rattle.program_tables.specs.Meanings.{declared_seen, types_seen, field
 ghost use Rattle.program_tables.specs.Numbers.{methods_by_number};
 ghost use Rattle.program_tables.specs.Resolved.{declared_at, method_in};
 
-use crate::kinds::kind_of_type;
+use crate::text_type::{all_declared, declared_of};
 use crate::laws::{members_are_there, methods_stand_by_number};
 use crate::members::Places;
 use crate::operand::{Declared, MethodShape};
@@ -19,68 +19,6 @@ use descriptors::{Element, FieldType, field_type, method_type};
 use items::Items;
 use jop_base::{FormatFault, NoMemory};
 use std::alloc::Global;
-
-/// The declared type of a number; `float` and `double` aren't supported.
-fn number_declared(element: &Element) -> Option<Declared>
-    ensures { option_map declared_seen result ≡ number_declared element.now }
-{
-    match element {
-        Element::Boolean | Element::Byte | Element::Char | Element::Short | Element::Int => {
-            Some(Declared::Int)
-        }
-        Element::Long => Some(Declared::Long),
-        Element::Float | Element::Double | Element::Class(_) => None,
-    }
-}
-
-/// Whether it is a class.
-fn is_of_class(element: &Element) -> bool
-    ensures { result ≡ is_of_class element.now }
-{
-    match element {
-        Element::Class(_) => true,
-        Element::Boolean
-        | Element::Byte
-        | Element::Char
-        | Element::Short
-        | Element::Int
-        | Element::Long
-        | Element::Float
-        | Element::Double => false,
-    }
-}
-
-/// A type as a declared one, where its class is there.
-fn declared_of(classes: &Classes, of: &FieldType) -> Option<Declared>
-    ensures { option_map declared_seen result ≡ declared_of classes.now of.now }
-{
-    if of.dimensions == 0 && !is_of_class(&of.element) {
-        number_declared(&of.element)
-    } else {
-        match kind_of_type(classes, of) {
-            Some(kind) => Some(Declared::Reference(kind)),
-            None => None,
-        }
-    }
-}
-
-/// These types as declared ones.
-fn all_declared(
-    alloc: Global,
-    classes: &Classes,
-    types: &[FieldType],
-) -> Result<Vec<Declared>, NoMemory>
-    ensures { IfOk result (λ all. map declared_seen all.items ≡ filter_map (declared_of classes.now) types.now) }
-{
-    let mut all = Vec::new(alloc);
-    for of in types {
-        match declared_of(classes, of) {
-            Some(declared) => all.push(declared)?,
-            None => {}
-        }
-    }
-    Ok(all)
-}
 
 /// The declared type of a field with this descriptor.
 fn field_declared(

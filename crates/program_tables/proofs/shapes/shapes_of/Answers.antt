@@ -5,8 +5,8 @@ use Rattle.std.proofs.lemmas.Option.{slice_get-get_or}
 use Rattle.class_pool.specs.declared.class.ClassFile.{ClassFile}
 use Rattle.class_lookup.specs.Lookup.{Place}
 use Rattle.program_tables.specs.Meanings.{HasShape}
-use Rattle.program_tables.specs.Resolved.{method_in}
-use Rattle.program_tables.proofs.ShapeLemmas.{within_at, holds_at, shapes_more, shape_at}
+use Rattle.program_tables.specs.Resolved.{method_in, resolved_methods}
+use Rattle.program_tables.proofs.ShapeLemmas.{within_at, holds_at, each_more, shape_at}
 use Rattle.program_tables.proofs.shapes.shapes_of.Goals as goal
 
 pub class-class-requires : goal.class-class-requires
@@ -49,7 +49,7 @@ loop-number-preserved c =
     let two : j ≡ p.1 = ap (λ (q : Place). q.1) c.place.view_is in
     let numbered = ap (λ xs. slice_get xs n) (sym c.requires) ∙ c.at-place.ensures in
     let found = slice_get-get_or list j m (ltb-true j (length list) (sym c.in-Some.ensures.lookup.0)) ∙ ap Some (sym c.in-Some.ensures.lookup.1) in
-    shapes_more cs n c.loop-number.made.items c.push.new.self.items x c.loop-number.invariant c.in_ok-push-in-Some.ensures.items
+    each_more HasShape (resolved_methods cs) n c.loop-number.made.items c.push.new.self.items x c.loop-number.invariant c.in_ok-push-in-Some.ensures.items
     (shape_at c.methods_stand_by_number.ensures cs n p k m x numbered (ap (slice_get cs) (sym one) ∙ c.class-class.ensures)
     (ap (slice_get k.methods) (sym two) ∙ (ap (λ xs. slice_get xs j) (sym c.as_slice.ensures) ∙ found))
     (subst (λ (owner : ℕ). HasShape x (method_in cs owner k m)) one c.in_ok-shape_of-in-Some.ensures))
