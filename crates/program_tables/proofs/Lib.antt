@@ -8,3 +8,4 @@ pub mod TakenLemmas
 pub mod TableLemmas
 pub mod ShapeLemmas
 pub mod TextLemmas
+pub mod MarkLemmas

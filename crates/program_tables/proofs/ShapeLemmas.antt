@@ -60,7 +60,7 @@ seam_get [] x y (suc n) e h = absurd (omega (arith, h))
 seam_get (z ∷ xs) x y zero e h = absurd (omega (arith, h))
 seam_get (z ∷ xs) x y (suc n) e h = seam_get xs x y n e (omega (arith, h))
 
-front_get : {A : Type 0} (xs ys : List A) (i : ℕ) → i < length xs → slice_get (xs ++ ys) i ≡ slice_get xs i
+pub front_get : {A : Type 0} (xs ys : List A) (i : ℕ) → i < length xs → slice_get (xs ++ ys) i ≡ slice_get xs i
 front_get [] ys i lt = absurd (omega (arith, lt))
 front_get (x ∷ xs) ys zero lt = refl
 front_get (x ∷ xs) ys (suc i) lt = front_get xs ys i (omega (arith, lt))
@@ -102,6 +102,12 @@ next_seen {A} {B} {C} seen f xs i x made pushed y h g lt is e =
     ∙ (map-append seen made (y ∷ [])
     ∙ (ap₂ (λ (ys : List C) (z : C). ys ++ z ∷ []) h e
     ∙ sym (ap (map f) front ∙ map-append f (take i xs) (x ∷ []))))
+
+pub next_map : {A C : Type 0} (f : A → C) (xs : List A) (i : ℕ) (x : A) (made pushed : List C) (y : C)
+    → made ≡ map f (take i xs) → pushed ≡ made ++ y ∷ [] → i < length xs → get_or xs i x ≡ x → y ≡ f x → pushed ≡ map f (take (i + 1) xs)
+next_map {A} {C} f xs i x made pushed y h g lt is e =
+    let front : take (i + 1) xs ≡ take i xs ++ x ∷ [] = (take_at_read xs i x lt).1 ∙ ap (λ q. take i xs ++ q ∷ []) is in
+    g ∙ (ap₂ (λ (ys : List C) (z : C). ys ++ z ∷ []) h e ∙ sym (ap (map f) front ∙ map-append f (take i xs) (x ∷ [])))
 
 -- ---- a field's type, read
 

@@ -1,17 +1,20 @@
 -- What is said of all names in the types of a method, and what texts mean by their symbols.
-use Rattle.std.proofs.Common.{◌≡◌, ℕ, ◌<◌, Bool, true, false, ◌&&◌, List, [], ◌∷◌, ◌++◌, get_or, length, inl, inr, Option, Some, None, Bor, refl, sym, ap, ◌∙◌, subst, ltb, arith}
+use Rattle.std.proofs.Common.{◌≡◌, ℕ, zero, suc, ◌<◌, ◌≤◌, Bool, true, false, ◌&&◌, List, [], ◌∷◌, ◌++◌, get_or, length, inl, inr, Option, Some, None, Bor, refl, sym, ap, ◌∙◌, subst, ltb, arith}
 use Rattle.std.specs.Prelude.{slice_get, is_some, IfSome}
-use Rattle.std.specs.Option.{option_copied, IsSomeAnd}
+use Rattle.std.specs.Option.{option_copied, option_map, IsSomeAnd}
 use Rattle.std.specs.List.{list_all, flat_map}
 use Rattle.std.proofs.lemmas.Bool.{ltb-true, ltb-false}
-use Rattle.std.proofs.lemmas.Option.{slice_get-get_or, slice_get_past, slice_get_cases, slice_get_within}
+use Rattle.std.proofs.lemmas.Option.{slice_get-get_or, slice_get-map, slice_get_past, slice_get_cases, slice_get_within}
 use lib.Pointwise.{bytes_decides}
 use Rattle.class_pool.specs.declared.class.ClassFile.{ClassFile}
+use Rattle.bytecode_model.specs.Lists.{onto, index_of}
 use Rattle.class_lookup.specs.Parts.{same_text}
-use Rattle.list_words.specs.Lemmas.{index_found, some_same}
+use Rattle.list_words.specs.Lemmas.{index_found, none≢some, some_same}
 use Rattle.program_tables.specs.declared.text_type.TextType.{TextType}
 use Rattle.program_tables.specs.Symbols.{texts, symbol}
+use Rattle.program_tables.specs.Tables.{numbers_among}
 use Rattle.program_tables.specs.Texts.{IsTextType, AreTextTypes}
+use Rattle.program_tables.proofs.ShapeLemmas.{front_get}
 
 -- ---- all names
 
@@ -63,3 +66,28 @@ within_of cs t (Some u) h = h.within
 pub kinds_within : (cs : List ClassFile) (types : List TextType) → AreTextTypes cs types → (n : ℕ) (o : Option TextType) → slice_get types n ≡ o → IfSome o (λ t. IfSome t.entry.kind (λ k. k.dimensions < 256))
 kinds_within cs types are n None e = tt
 kinds_within cs types are n (Some t) e = within_of cs t (slice_get (texts cs) n) (are.each n t e)
+
+-- the number of a text among strings, by its symbol
+pub number_at : (cs : List ClassFile) (strings : List (List ℕ)) (numbers : List (Option ℕ)) → numbers ≡ numbers_among strings cs → (text : List ℕ) (n : ℕ) → symbol cs text ≡ Some n
+    → onto (slice_get numbers n) (λ number. number) ≡ index_of (same_text text) strings
+number_at cs strings numbers h text n e =
+    let f = λ (t : List ℕ). index_of (same_text t) strings in
+    ap (λ (ns : List (Option ℕ)). onto (slice_get ns n) (λ number. number)) h
+    ∙ ap (λ (o : Option (Option ℕ)). onto o (λ number. number)) (slice_get-map f (texts cs) n ∙ ap (option_map f) (text_there cs text n e))
+
+-- numbers that are all small, with one more
+pub small_more : (most : ℕ) (numbers pushed : List (Option ℕ)) (o : Option ℕ) → ((n k : ℕ) → slice_get numbers n ≡ Some (Some k) → k < most) → IfSome o (λ k. k < most) → pushed ≡ numbers ++ o ∷ []
+    → (n k : ℕ) → slice_get pushed n ≡ Some (Some k) → k < most
+small_more most numbers pushed o h s e n k g = elim ((slice_get_cases numbers n).1) [
+  | inl there ↦ h n k (sym (front_get numbers (o ∷ []) n there.1) ∙ (ap (λ (ns : List (Option ℕ)). slice_get ns n) (sym e) ∙ g))
+  | inr past ↦ last_small o k (last_of numbers o (Some k) n (ap (λ (ns : List (Option ℕ)). slice_get ns n) (sym e) ∙ g) past.0) s
+]
+  where
+    last_of : {A : Type 0} (xs : List A) (x y : A) (n : ℕ) → slice_get (xs ++ x ∷ []) n ≡ Some y → length xs ≤ n → x ≡ y
+    last_of [] x y zero e le = some_same x y e
+    last_of [] x y (suc n) e le = absurd (none≢some y e)
+    last_of (z ∷ xs) x y zero e le = absurd (omega (arith, le))
+    last_of (z ∷ xs) x y (suc n) e le = last_of xs x y n e (omega (arith, le))
+    last_small : (o : Option ℕ) (k : ℕ) → o ≡ Some k → IfSome o (λ j. j < most) → k < most
+    last_small None k e s = absurd (none≢some k e)
+    last_small (Some j) k e s = subst (λ i. i < most) (some_same j k e) s

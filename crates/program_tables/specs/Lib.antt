@@ -18,3 +18,4 @@ pub mod Taken
 pub mod Entries
 pub mod Symbols
 pub mod Texts
+pub mod Marks

@@ -160,7 +160,7 @@ fn is_of_class(element: &Element) -> bool
 }
 
 /// A type as a declared one, where its class is there.
-pub(crate) fn declared_of(classes: &Classes, of: &FieldType) -> Option<Declared>
+fn declared_of(classes: &Classes, of: &FieldType) -> Option<Declared>
     ensures { option_map declared_seen result ≡ declared_of classes.now of.now }
 {
     if of.dimensions == 0 && !is_of_class(&of.element) {
@@ -201,7 +201,7 @@ fn field_meaning(classes: &Classes, of: &Option<FieldType>) -> FieldMeaning
 }
 
 /// These types as declared ones.
-pub(crate) fn all_declared(
+fn all_declared(
     alloc: Global,
     classes: &Classes,
     types: &[FieldType],

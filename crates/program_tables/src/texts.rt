@@ -51,18 +51,6 @@ fn all_text_types(alloc: Global, classes: &Classes) -> Result<Vec<TextType>, NoM
     Ok(made)
 }
 
-/// The symbol of the text that a Class entry of the class gives.
-fn class_symbol(classes: &Classes, class: u32, index: u16) -> u32
-    requires { class < length classes.now }
-    ensures { (c : ClassFile) → slice_get classes.now class ≡ Some c → symbol classes.now (class_text c.pool index) ≡ Some result }
-{
-    match classes.class(class).pool.class_name(index) {
-        Some(name) => symbol(classes, class, name),
-        // No entry has this index.
-        None => symbol(classes, class, 0),
-    }
-}
-
 impl<'a> TextTypes<'a> {
     /// Reads the texts of these classes.
     pub fn new(alloc: Global, classes: &'a Classes) -> Result<Self, NoMemory>
@@ -79,6 +67,18 @@ impl<'a> TextTypes<'a> {
         ensures { result.now ≡ self.now }
     {
         self.classes
+    }
+
+    /// The symbol of the text that a Class entry of the class gives.
+    pub(crate) fn class_symbol(&self, class: u32, index: u16) -> u32
+        requires { class < length self.now }
+        ensures { (c : ClassFile) → slice_get self.now class ≡ Some c → symbol self.now (class_text c.pool index) ≡ Some result }
+    {
+        match self.classes.class(class).pool.class_name(index) {
+            Some(name) => symbol(self.classes, class, name),
+            // No entry has this index.
+            None => symbol(self.classes, class, 0),
+        }
     }
 
     /// What the text of this symbol means.
@@ -106,7 +106,7 @@ impl<'a> TextTypes<'a> {
         ensures kind { (c : ClassFile) → slice_get self.now class ≡ Some c → option_map kind_seen result ≡ kind_of_entry self.now c.pool index }
         ensures within { IfSome result (λ k. k.dimensions < 256) }
     {
-        self.kind(class_symbol(self.classes, class, index))
+        self.kind(self.class_symbol(class, index))
     }
 
     /// The class that the text of this symbol names in a Class entry, or that of its array's elements.
@@ -124,7 +124,7 @@ impl<'a> TextTypes<'a> {
         requires { class < length self.now }
         ensures { (c : ClassFile) → slice_get self.now class ≡ Some c → IsClassOf self.now (class_in_entry c.pool index) result }
     {
-        self.class(class_symbol(self.classes, class, index))
+        self.class(self.class_symbol(class, index))
     }
 
     /// What a field with the descriptor of this symbol holds.

@@ -12,27 +12,27 @@ use Rattle.program_tables.proofs.mentions.mentions_of.Goals as goal
 
 pub loop-number-preserved : goal.loop-number-preserved
 loop-number-preserved c =
-    let cs = c.args.classes.now in
+    let cs = c.args.texts.now in
     let i = c.loop-number.number in
     let k = c.class.result.now in
     let m = c.loop-number.mentions in
-    let lt : i < length cs = omega (arith, c.class_count-number-end.ensures, c.loop-number-test.true) in
-    let is = got_index cs i k c.class.ensures in
+    let lt : i < length cs = omega (arith, c.class_count-number-end.ensures, ap length c.classes-classes.ensures, c.loop-number-test.true) in
+    let is = got_index cs i k (ap (λ (xs : List ClassFile). slice_get xs i) (sym c.classes-classes.ensures) ∙ c.class.ensures) in
     record {
-      types = next_part same_kind (arrays_mentioned_in cs) cs i k (first_types (length cs)) (kinds_of m.types) (kinds_of c.add_class_file.new.self.types) lt is c.loop-number.invariant.types c.in_ok-add_class_file.ensures.types;
-      strings = next_part same_text strings_in cs i k [] (texts_of m.strings) (texts_of c.add_class_file.new.self.strings) lt is c.loop-number.invariant.strings c.in_ok-add_class_file.ensures.strings;
+      types = next_part same_kind (arrays_mentioned_in cs) cs i k (first_types (length cs)) (kinds_of m.arrays.types) (kinds_of c.add_class_file.new.self.arrays.types) lt is c.loop-number.invariant.types c.in_ok-add_class_file.ensures.types;
+      strings = next_part same_text strings_in cs i k [] (texts_of m.literals.strings) (texts_of c.add_class_file.new.self.literals.strings) lt is c.loop-number.invariant.strings c.in_ok-add_class_file.ensures.strings;
     }
 
 pub returns-clause-types : goal.returns-clause-types
 returns-clause-types c =
-    let cs = c.args.classes.now in
-    let past : length cs ≤ c.loop-number.number = omega (arith, c.class_count-number-end.ensures, c.loop-number-test.false) in
+    let cs = c.args.texts.now in
+    let past : length cs ≤ c.loop-number.number = omega (arith, c.class_count-number-end.ensures, ap length c.classes-classes.ensures, c.loop-number-test.false) in
     c.loop-number.invariant.types
     ∙ (ap (λ (xs : List ClassFile). with_items same_kind (first_types (length cs)) (flat_map (arrays_mentioned_in cs) xs)) (take_all c.loop-number.number cs past) ∙ types_are cs)
 
 pub returns-clause-strings : goal.returns-clause-strings
 returns-clause-strings c =
-    let cs = c.args.classes.now in
-    let past : length cs ≤ c.loop-number.number = omega (arith, c.class_count-number-end.ensures, c.loop-number-test.false) in
+    let cs = c.args.texts.now in
+    let past : length cs ≤ c.loop-number.number = omega (arith, c.class_count-number-end.ensures, ap length c.classes-classes.ensures, c.loop-number-test.false) in
     c.loop-number.invariant.strings
     ∙ (ap (λ (xs : List ClassFile). with_items same_text [] (flat_map strings_in xs)) (take_all c.loop-number.number cs past) ∙ strings_are cs)
