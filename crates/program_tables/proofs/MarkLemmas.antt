@@ -1,17 +1,16 @@
 -- Items that are put last once for each symbol.
 use Rattle.std.proofs.Common.{◌≡◌, ℕ, zero, suc, ◌<◌, ◌==◌, Bool, true, false, not, ◌&&◌, ◌||◌, ◌⊎◌, List, [], ◌∷◌, ◌++◌, length, inl, inr, Option, Some, None, refl, sym, ap, ap₂, ◌∙◌, subst, arith}
 use Rattle.std.specs.Prelude.{slice_get, if◌then◌else◌}
-use Rattle.std.proofs.Math.ListN.{set}
+use Rattle.std.proofs.Math.ListN.{set, replicate}
 use Rattle.std.specs.Option.{option_map_or}
 use Rattle.std.specs.List.{list_any, list_all}
 use Rattle.std.proofs.lemmas.Bool.{false≢true, cond-true}
+use Rattle.std.proofs.lemmas.List.{length-replicate, get_or-replicate}
+use Rattle.std.proofs.lemmas.Option.{slice_get_within}
 use Rattle.std.proofs.lemmas.List.Folds.{list_any-append, list_all-append}
-use Rattle.bytecode_model.specs.Lists.{onto}
-use Rattle.class_pool.specs.declared.class.ClassFile.{ClassFile}
-use Rattle.list_words.specs.Lemmas.{some_same, none≢some}
 use Rattle.program_tables.specs.Lists.{with_item, with_items}
 use Rattle.program_tables.specs.Marks.{AreAdded}
-use Rattle.program_tables.proofs.MentionLemmas.{with_items-append}
+use Rattle.program_tables.proofs.ListLemmas.{got_index}
 
 split_and : (a b : Bool) → (a && b) ≡ true → (a ≡ true) × (b ≡ true)
 split_and true b h = (refl, h)
@@ -73,3 +72,9 @@ marked same r items ks xs marks n h e m g = elim (set_there marks n m g) [
 -- no mark
 pub none_added : {A : Type 0} (same : A → A → Bool) (items : ℕ → List A) (ks : List A) (marks : List Bool) → ((n : ℕ) → slice_get marks n ≡ Some true → ⊥) → AreAdded same items ks marks
 none_added same items ks marks h n e = absurd (h n e)
+
+pub no_true : (n m : ℕ) → slice_get (replicate n false) m ≡ Some true → ⊥
+no_true n m e =
+    let within = slice_get_within (replicate n false) m true e in
+    let lt : m < n = let long = length-replicate n false in omega (arith, within, long) in
+    false≢true (sym (get_or-replicate n m false true lt) ∙ sym (got_index (replicate n false) m true e))

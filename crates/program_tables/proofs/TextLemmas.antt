@@ -11,7 +11,7 @@ use Rattle.bytecode_model.specs.Lists.{onto, index_of}
 use Rattle.class_lookup.specs.Parts.{same_text}
 use Rattle.list_words.specs.Lemmas.{index_found, none≢some, some_same}
 use Rattle.program_tables.specs.declared.text_type.TextType.{TextType}
-use Rattle.program_tables.specs.Symbols.{texts, symbol}
+use Rattle.class_lookup.specs.Symbols.{texts, symbol}
 use Rattle.program_tables.specs.Tables.{numbers_among}
 use Rattle.program_tables.specs.Texts.{IsTextType, AreTextTypes}
 use Rattle.program_tables.proofs.ShapeLemmas.{front_get}

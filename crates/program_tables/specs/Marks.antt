@@ -10,7 +10,7 @@ use Rattle.program_tables.specs.declared.mentions.Mentions.{Mentions}
 use Rattle.program_tables.specs.declared.mentions.Arrays.{Arrays}
 use Rattle.program_tables.specs.declared.mentions.Literals.{Literals}
 use Rattle.program_tables.specs.Numbers.{reference_arrays}
-use Rattle.program_tables.specs.Symbols.{texts}
+use Rattle.class_lookup.specs.Symbols.{texts}
 use Rattle.program_tables.specs.Tables.{kinds_of, texts_of}
 use Rattle.program_tables.specs.Texts.{kind_of_text}
 

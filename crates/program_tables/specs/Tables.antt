@@ -15,7 +15,7 @@ use Rattle.class_pool.specs.Found.{code_of}
 use Rattle.bytecode_model.specs.Lists.{index_of}
 use Rattle.bytecode_model.specs.Types.{Kind, OfClass, OfNumbers}
 use Rattle.class_lookup.specs.Parts.{same_text}
-use Rattle.program_tables.specs.Symbols.{texts}
+use Rattle.class_lookup.specs.Symbols.{texts}
 use Rattle.program_tables.specs.declared.named.Named.{Named}
 use Rattle.program_tables.specs.declared.named.Named.TheVariants as found
 use Rattle.program_tables.specs.declared.kinds.Base.{Base}

@@ -10,7 +10,7 @@ use Rattle.program_tables.specs.declared.text_type.EntryClass.TheVariants as var
 use Rattle.program_tables.specs.declared.text_type.TextType.{TextType}
 use Rattle.program_tables.specs.Kinds.{type_named, kind_of_type, class_in_type, classes_in_field_descriptor, classes_in_method_descriptor, field_declared, parameters_declared, result_declared}
 use Rattle.program_tables.specs.Meanings.{declared_seen}
-use Rattle.program_tables.specs.Symbols.{texts}
+use Rattle.class_lookup.specs.Symbols.{texts}
 use Rattle.program_tables.specs.Tables.{kind_seen}
 use Rattle.program_tables.specs.Unresolved.{are_there}
 

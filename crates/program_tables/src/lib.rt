@@ -11,7 +11,6 @@ mod members;
 mod mentions;
 mod named;
 mod operand;
-mod pending;
 mod refusal;
 mod shapes;
 mod strings;

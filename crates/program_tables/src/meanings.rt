@@ -12,7 +12,6 @@ ghost use Rattle.program_tables.specs.Tables.{numbers_among};
 
 use crate::kinds::ObjectKind;
 use crate::operand::Operand;
-use crate::pending::symbol;
 use crate::strings::StringNumbers;
 use crate::texts::TextTypes;
 use class_lookup::parts::has_flags;
@@ -55,7 +54,7 @@ pub fn constant_operand(
     match entry {
         Entry::Integer(n) => Operand::Int(n.cast_signed()),
         Entry::Long(n) => Operand::Long(n.cast_signed()),
-        Entry::Text(units) => match numbers.number(symbol(classes, class, *units)) {
+        Entry::Text(units) => match numbers.number(classes.symbol(class, *units)) {
             // The objects of errors come first, and each string has its array before it.
             Some(number) => Operand::Text(9 + 2 * number + 1),
             None => Operand::Nothing,

@@ -14,7 +14,6 @@ ghost use Rattle.program_tables.specs.Tables.{kind_seen, texts_of, kinds_of, Has
 
 use crate::kinds::{Base, ObjectKind};
 use crate::named::{Named, entry_at, named_in};
-use crate::pending::{symbol, symbol_count, text};
 use crate::strings::Strings;
 use crate::texts::TextTypes;
 use crate::types::Types;
@@ -102,8 +101,8 @@ fn add_constant(
 {
     match entry_at(&class.pool, index) {
         Some(Entry::Text(units)) => {
-            let symbol = symbol(classes, number, *units);
-            add_literal(alloc, literals, symbol, text(classes, symbol))?;
+            let symbol = classes.symbol(number, *units);
+            add_literal(alloc, literals, symbol, classes.text(symbol))?;
             Ok(())
         }
         _ => Ok(()),
@@ -348,7 +347,7 @@ fn no_mentions(alloc: Global, classes: &Classes) -> Result<Mentions, NoMemory>
     ensures strings { IfOk result (λ m. texts_of m.literals.strings ≡ []) }
     ensures added { IfOk result (AreMentions classes.now) }
 {
-    let symbols = symbol_count(classes) as usize;
+    let symbols = classes.symbol_count() as usize;
     Ok(Mentions {
         arrays: Arrays {
             types: first_types(alloc, classes.class_count())?,

@@ -8,7 +8,6 @@ ghost use Rattle.program_tables.specs.Resolved.{declared_at, method_in};
 use crate::laws::{members_are_there, methods_stand_by_number};
 use crate::members::Places;
 use crate::operand::{Declared, MethodShape};
-use crate::pending::symbol;
 use crate::texts::TextTypes;
 use class_lookup::parts::{has_flags, text_at};
 use class_lookup::{ClassFile, Place};
@@ -30,7 +29,7 @@ fn shape_of(
     requires class { slice_get texts.now owner ≡ Some class.now }
     ensures { IfOk result (λ shape. HasShape shape (method_in texts.now owner class.now method.now)) }
 {
-    let descriptor = symbol(texts.classes(), owner, method.descriptor);
+    let descriptor = texts.classes().symbol(owner, method.descriptor);
     let parameters = Vec::from_slice(alloc, texts.parameters(descriptor))?;
     Ok(MethodShape {
         owner,
@@ -78,7 +77,7 @@ fn field_types_in(
 {
     let mut made = Vec::new(alloc);
     for field in class.fields.as_slice() {
-        made.push(texts.field(symbol(texts.classes(), number, field.descriptor)))?;
+        made.push(texts.field(texts.classes().symbol(number, field.descriptor)))?;
     }
     Ok(Items::new(made))
 }

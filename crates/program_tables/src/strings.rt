@@ -3,7 +3,6 @@ ghost use Rattle.bytecode_model.specs.Lists.{onto, index_of};
 ghost use Rattle.class_lookup.specs.Parts.{same_text};
 ghost use Rattle.program_tables.specs.Tables.{texts_of, numbers_among};
 
-use crate::pending::{symbol_count, text};
 use class_lookup::Classes;
 use indexmap::IndexSet;
 use jop_base::NoMemory;
@@ -91,8 +90,8 @@ impl StringNumbers {
         ensures { IfOk result (λ made. made ≡ numbers_among strings.now classes.now) }
     {
         let mut numbers = Vec::new(alloc);
-        for number in 0..symbol_count(classes) {
-            numbers.push(strings.number(text(classes, number)))?;
+        for number in 0..classes.symbol_count() {
+            numbers.push(strings.number(classes.text(number)))?;
         }
         Ok(StringNumbers { numbers })
     }

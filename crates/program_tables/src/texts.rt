@@ -5,14 +5,13 @@ ghost use Rattle.class_pool.specs.declared.class.ClassFile.{ClassFile};
 ghost use Rattle.class_lookup.specs.Parts.{class_text};
 ghost use Rattle.program_tables.specs.Kinds.{class_in_entry, classes_in_field_descriptor, classes_in_method_descriptor, kind_of_entry, field_declared, parameters_declared, result_declared};
 ghost use Rattle.program_tables.specs.Meanings.{declared_seen};
-ghost use Rattle.program_tables.specs.Symbols.{texts, symbol};
+ghost use Rattle.class_lookup.specs.Symbols.{texts, symbol};
 ghost use Rattle.program_tables.specs.Tables.{kind_seen};
 ghost use Rattle.program_tables.specs.Texts.{kind_of_text, class_in_text, IsClassOf, IsTextType, AreTextTypes};
 ghost use Rattle.program_tables.specs.Unresolved.{are_there};
 
 use crate::kinds::ObjectKind;
 use crate::operand::Declared;
-use crate::pending::{symbol, symbol_count, text};
 use crate::text_type::{EntryClass, TextType, text_type};
 use class_lookup::Classes;
 use jop_base::NoMemory;
@@ -29,7 +28,7 @@ pub struct TextTypes<'a> {
 impl<'a> Model for TextTypes<'a> {
     ghost use Rattle.std.specs.Prelude.{◌≡◌, List, length};
     ghost use Rattle.class_pool.specs.declared.class.ClassFile.{ClassFile};
-    ghost use Rattle.program_tables.specs.Symbols.{texts};
+    ghost use Rattle.class_lookup.specs.Symbols.{texts};
     ghost use Rattle.program_tables.specs.Texts.{AreTextTypes};
 
     ghost Value = { List ClassFile };
@@ -45,8 +44,8 @@ fn all_text_types(alloc: Global, classes: &Classes) -> Result<Vec<TextType>, NoM
     ensures each { IfOk result (λ made. AreTextTypes classes.now made.items) }
 {
     let mut made = Vec::new(alloc);
-    for number in 0..symbol_count(classes) {
-        made.push(text_type(alloc, classes, text(classes, number))?)?;
+    for number in 0..classes.symbol_count() {
+        made.push(text_type(alloc, classes, classes.text(number))?)?;
     }
     Ok(made)
 }
@@ -75,9 +74,9 @@ impl<'a> TextTypes<'a> {
         ensures { (c : ClassFile) → slice_get self.now class ≡ Some c → symbol self.now (class_text c.pool index) ≡ Some result }
     {
         match self.classes.class(class).pool.class_name(index) {
-            Some(name) => symbol(self.classes, class, name),
+            Some(name) => self.classes.symbol(class, name),
             // No entry has this index.
-            None => symbol(self.classes, class, 0),
+            None => self.classes.symbol(class, 0),
         }
     }
 

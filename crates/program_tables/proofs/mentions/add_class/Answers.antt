@@ -8,7 +8,7 @@ use Rattle.program_tables.specs.Marks.{arrays_of_text}
 use Rattle.program_tables.specs.Numbers.{reference_arrays, used_by}
 use Rattle.program_tables.specs.Tables.{kinds_of, kind_seen}
 use Rattle.program_tables.specs.Texts.{kind_of_text}
-use Rattle.program_tables.specs.Symbols.{texts}
+use Rattle.class_lookup.specs.Symbols.{texts}
 use Rattle.program_tables.proofs.TextLemmas.{text_there, symbol_within}
 use Rattle.program_tables.proofs.mentions.add_class.Goals as goal
 

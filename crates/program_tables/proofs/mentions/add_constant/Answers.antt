@@ -9,7 +9,7 @@ use Rattle.list_words.specs.Lemmas.{some_same}
 use Rattle.program_tables.specs.Lists.{with_item, with_items}
 use Rattle.program_tables.specs.Marks.{text_of}
 use Rattle.program_tables.specs.Numbers.{string_in}
-use Rattle.program_tables.specs.Symbols.{texts, symbol}
+use Rattle.class_lookup.specs.Symbols.{texts, symbol}
 use Rattle.program_tables.specs.Tables.{texts_of}
 use Rattle.program_tables.proofs.TextLemmas.{text_there, symbol_within}
 use Rattle.program_tables.proofs.mentions.add_constant.Goals as goal

@@ -1,7 +1,7 @@
 use Rattle.std.proofs.Common.{◌≡◌, ℕ, List, Some, sym, subst}
 use Rattle.std.specs.Option.{IsSomeAnd}
 use Rattle.program_tables.specs.declared.text_type.TextType.{TextType}
-use Rattle.program_tables.specs.Symbols.{texts}
+use Rattle.class_lookup.specs.Symbols.{texts}
 use Rattle.program_tables.specs.Texts.{IsTextType}
 use Rattle.program_tables.proofs.ShapeLemmas.{each_more}
 use Rattle.program_tables.proofs.texts.all_text_types.Goals as goal

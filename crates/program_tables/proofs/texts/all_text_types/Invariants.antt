@@ -2,7 +2,7 @@ use Rattle.std.proofs.Common.{◌≡◌, ℕ, length, Some}
 use Rattle.std.specs.Prelude.{slice_get}
 use Rattle.std.specs.Option.{IsSomeAnd}
 use Rattle.program_tables.specs.declared.text_type.TextType.{TextType}
-use Rattle.program_tables.specs.Symbols.{texts}
+use Rattle.class_lookup.specs.Symbols.{texts}
 use Rattle.program_tables.specs.Texts.{IsTextType}
 use Rattle.program_tables.proofs.texts.all_text_types.Given as goal
 

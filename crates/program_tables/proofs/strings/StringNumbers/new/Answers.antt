@@ -1,7 +1,7 @@
 use Rattle.std.proofs.Common.{◌≡◌, ◌<◌, ◌≤◌, ℕ, List, Option, Some, length, map, take_all, refl, sym, ap, ◌∙◌, arith}
 use Rattle.bytecode_model.specs.Lists.{index_of}
 use Rattle.class_lookup.specs.Parts.{same_text}
-use Rattle.program_tables.specs.Symbols.{texts}
+use Rattle.class_lookup.specs.Symbols.{texts}
 use Rattle.program_tables.proofs.ListLemmas.{got_index}
 use Rattle.program_tables.proofs.ShapeLemmas.{next_map}
 use Rattle.program_tables.proofs.TextLemmas.{small_more}

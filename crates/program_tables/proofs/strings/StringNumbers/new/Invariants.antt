@@ -2,7 +2,7 @@ use Rattle.std.proofs.Common.{◌≡◌, ◌<◌, ℕ, List, Some, map, take}
 use Rattle.std.specs.Prelude.{slice_get}
 use Rattle.bytecode_model.specs.Lists.{index_of}
 use Rattle.class_lookup.specs.Parts.{same_text}
-use Rattle.program_tables.specs.Symbols.{texts}
+use Rattle.class_lookup.specs.Symbols.{texts}
 use Rattle.program_tables.proofs.strings.StringNumbers.new.Given as goal
 
 abbrev pub invariant-loop-number : goal.invariant-loop-number

@@ -1,6 +1,6 @@
 use Rattle.std.proofs.Common.{◌≡◌, ◌<◌, List, length, slice_get, Some, refl, sym, ap, ◌∙◌, subst}
 use Rattle.std.specs.Prelude.{IfSome}
-use Rattle.program_tables.specs.Symbols.{symbol}
+use Rattle.class_lookup.specs.Symbols.{symbol}
 use Rattle.std.specs.Option.{IsSomeAnd}
 use Rattle.class_pool.specs.declared.class.ClassFile.{ClassFile}
 use Rattle.program_tables.specs.declared.text_type.TextType.{TextType}

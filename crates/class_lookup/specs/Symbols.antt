@@ -4,9 +4,9 @@ use Rattle.std.specs.List.{filter_map, flat_map}
 use Rattle.class_pool.specs.declared.entry.Entry.{Entry}
 use Rattle.class_pool.specs.declared.class.ClassFile.{ClassFile}
 use Rattle.class_pool.specs.Grammar.{utf8_of}
-use Rattle.bytecode_model.specs.Lists.{index_of}
+use Rattle.list_words.specs.Lists.{index_of}
 use Rattle.class_lookup.specs.Parts.{same_text}
-use Rattle.program_tables.specs.Lists.{distinct}
+use Rattle.class_lookup.specs.Lists.{distinct}
 
 -- the texts of a pool, in order (4.4.7)
 abbrev pub pool_texts : List Entry → List (List ℕ)
