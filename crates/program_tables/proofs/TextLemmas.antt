@@ -88,6 +88,7 @@ small_more most numbers pushed o h s e n k g = elim ((slice_get_cases numbers n)
     last_of [] x y (suc n) e le = absurd (none≢some y e)
     last_of (z ∷ xs) x y zero e le = absurd (omega (arith, le))
     last_of (z ∷ xs) x y (suc n) e le = last_of xs x y n e (omega (arith, le))
+
     last_small : (o : Option ℕ) (k : ℕ) → o ≡ Some k → IfSome o (λ j. j < most) → k < most
     last_small None k e s = absurd (none≢some k e)
     last_small (Some j) k e s = subst (λ i. i < most) (some_same j k e) s

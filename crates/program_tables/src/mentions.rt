@@ -239,7 +239,14 @@ impl Mentions {
                 add_class(&mut self.arrays, texts, number, class, instr.op, index)
             }
             Some(Named::Constant(index)) => {
-                add_constant(alloc, &mut self.literals, texts.classes(), number, class, index)
+                add_constant(
+                    alloc,
+                    &mut self.literals,
+                    texts.classes(),
+                    number,
+                    class,
+                    index,
+                )
             }
             _ => Ok(()),
         }

@@ -261,7 +261,11 @@ fn method_meaning(alloc: Global, classes: &Classes, text: &[u16]) -> Result<Meth
 }
 
 /// What a text means.
-pub(crate) fn text_type(alloc: Global, classes: &Classes, text: &[u16]) -> Result<TextType, NoMemory>
+pub(crate) fn text_type(
+    alloc: Global,
+    classes: &Classes,
+    text: &[u16],
+) -> Result<TextType, NoMemory>
     ensures { IfOk result (IsTextType classes.now text.now) }
 {
     let method = method_meaning(alloc, classes, text)?;

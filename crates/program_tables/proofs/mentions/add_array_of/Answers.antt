@@ -1,4 +1,4 @@
-use Rattle.std.proofs.Common.{◌≡◌, ◌+◌, ap, ◌∙◌, add-one, rules}
+use Rattle.std.proofs.Common.{◌+◌, ap, ◌∙◌, add-one, rules}
 use Rattle.bytecode_model.specs.Types.{same_kind}
 use Rattle.program_tables.specs.contracts.kinds.ObjectKindPartialEq.TheImpl.{eq-value}
 use Rattle.program_tables.specs.Kinds.{arrays_of}

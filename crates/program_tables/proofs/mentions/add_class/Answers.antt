@@ -1,4 +1,4 @@
-use Rattle.std.proofs.Common.{◌≡◌, ◌<◌, ℕ, List, [], length, Option, Some, refl, sym, ap, ◌∙◌, arith}
+use Rattle.std.proofs.Common.{◌≡◌, ℕ, List, [], Option, Some, sym, ap, ◌∙◌, arith}
 use Rattle.std.specs.Option.{option_map, option_map_or}
 use Rattle.bytecode_model.specs.Types.{Kind, same_kind}
 use Rattle.bytecode_model.specs.Lists.{onto}
@@ -8,7 +8,6 @@ use Rattle.program_tables.specs.Marks.{arrays_of_text}
 use Rattle.program_tables.specs.Numbers.{reference_arrays, used_by}
 use Rattle.program_tables.specs.Tables.{kinds_of, kind_seen}
 use Rattle.program_tables.specs.Texts.{kind_of_text}
-use Rattle.class_lookup.specs.Symbols.{texts}
 use Rattle.program_tables.proofs.TextLemmas.{text_there, symbol_within}
 use Rattle.program_tables.proofs.mentions.add_class.Goals as goal
 

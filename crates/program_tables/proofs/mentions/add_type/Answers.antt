@@ -1,4 +1,4 @@
-use Rattle.std.proofs.Common.{◌≡◌, ℕ, List, Some, true, refl, sym, ap, ◌∙◌, subst}
+use Rattle.std.proofs.Common.{◌≡◌, List, Some, true, refl, sym, ap, ◌∙◌, subst}
 use Rattle.std.proofs.Math.ListN.{set}
 use Rattle.std.specs.List.{list_any, list_all}
 use Rattle.std.proofs.lemmas.Option.{slice_get-get_or}
@@ -15,9 +15,11 @@ returns-clause-put c = λ items h e.
     let marks = c.args.arrays.now.added.items in
     let n = c.args.number in
     let xs = reference_arrays (kind_seen c.args.kind) in
-    let put = c.in_ok-add_arrays.ensures in
-    (put, λ m g. subst (λ ks. AreAdded same_kind items ks (set marks n true)) (sym put)
-    (marked same_kind (λ x. (kind_decides x x).1 refl) items (kinds_of c.args.arrays.now.types) xs marks n h e) m g)
+    let put = c.in_ok-add_arrays.ensures in (
+      put,
+      λ m g. subst (λ ks. AreAdded same_kind items ks (set marks n true)) (sym put)
+          (marked same_kind (λ x. (kind_decides x x).1 refl) items (kinds_of c.args.arrays.now.types) xs marks n h e) m g,
+    )
 
 pub returns-then-index-clause-put : goal.returns-then-index-clause-put
 returns-then-index-clause-put c = λ items h e.

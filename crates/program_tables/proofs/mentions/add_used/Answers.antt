@@ -1,4 +1,4 @@
-use Rattle.std.proofs.Common.{◌≡◌, ℕ, List, [], ◌∷◌, Some, sym, ap, ◌∙◌, subst}
+use Rattle.std.proofs.Common.{ℕ, List, [], ◌∷◌, Some, sym, ap, ◌∙◌, subst}
 use Rattle.bytecode_model.specs.Types.{Kind, OfReferences, same_kind}
 use Rattle.program_tables.specs.Lists.{with_item, with_items}
 use Rattle.program_tables.specs.Marks.{AreAdded}
@@ -14,12 +14,11 @@ returns-in_ok-add_array_of-in-189-clause-put c = λ items h e.
     let old = kinds_of c.args.arrays.now.types in
     let first = c.in_ok-add_type-in-189.ensures.put items h e in
     let put = c.in_ok-add_array_of-in-189.ensures in
-    let between = kinds_of c.add_type.new.arrays.types in
-    (
+    let between = kinds_of c.add_type.new.arrays.types in (
       put
-      ∙ (ap (λ (ks : List Kind). with_item same_kind ks (OfReferences k)) first.0
-      ∙ (sym (with_items-append same_kind old (reference_arrays k) (OfReferences k ∷ []))
-      ∙ ap (λ (op : ℕ). with_items same_kind old (used_by op (Some k))) (sym c.in-189.is))),
+          ∙ (ap (λ (ks : List Kind). with_item same_kind ks (OfReferences k)) first.0
+          ∙ (sym (with_items-append same_kind old (reference_arrays k) (OfReferences k ∷ []))
+          ∙ ap (λ (op : ℕ). with_items same_kind old (used_by op (Some k))) (sym c.in-189.is))),
       λ n g. subst (λ ks. AreAdded same_kind items ks c.add_type.new.arrays.added.items) (sym put)
-      (added_more same_kind items between (OfReferences k ∷ []) c.add_type.new.arrays.added.items first.1) n g,
+          (added_more same_kind items between (OfReferences k ∷ []) c.add_type.new.arrays.added.items first.1) n g,
     )

@@ -1,4 +1,4 @@
-use Rattle.std.proofs.Common.{[], ◌<◌, ◌≤◌, List, length, slice_get, take_all, sym, ap, subst, ◌∙◌, arith}
+use Rattle.std.proofs.Common.{[], ◌<◌, ◌≤◌, List, length, slice_get, take_all, sym, ap, ◌∙◌, arith}
 use Rattle.std.specs.List.{flat_map}
 use Rattle.class_pool.specs.declared.class.ClassFile.{ClassFile}
 use Rattle.bytecode_model.specs.Types.{same_kind}

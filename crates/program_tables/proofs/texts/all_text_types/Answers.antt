@@ -1,4 +1,4 @@
-use Rattle.std.proofs.Common.{◌≡◌, ℕ, List, Some, sym, subst}
+use Rattle.std.proofs.Common.{ℕ, List, sym, subst}
 use Rattle.std.specs.Option.{IsSomeAnd}
 use Rattle.program_tables.specs.declared.text_type.TextType.{TextType}
 use Rattle.class_lookup.specs.Symbols.{texts}

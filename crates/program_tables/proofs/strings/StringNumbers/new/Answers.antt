@@ -1,4 +1,4 @@
-use Rattle.std.proofs.Common.{◌≡◌, ◌<◌, ◌≤◌, ℕ, List, Option, Some, length, map, take_all, refl, sym, ap, ◌∙◌, arith}
+use Rattle.std.proofs.Common.{◌<◌, ◌≤◌, ℕ, List, length, map, take_all, sym, ap, ◌∙◌, arith}
 use Rattle.bytecode_model.specs.Lists.{index_of}
 use Rattle.class_lookup.specs.Parts.{same_text}
 use Rattle.class_lookup.specs.Symbols.{texts}
