@@ -1,6 +1,15 @@
--- Tests of all items of lists.
-use Rattle.std.proofs.Common.{◌≡◌, Bool, true, false, ◌&&◌, List, [], ◌∷◌, ◌++◌, refl, ap, ap₂, ◌∙◌}
-use Rattle.std.specs.List.{list_all, flat_map}
+-- Tests of all items of lists, and of the class that a Class entry names.
+use Rattle.std.proofs.Common.{◌≡◌, ℕ, Bool, true, false, ◌&&◌, ◌||◌, List, [], ◌∷◌, ◌++◌, Option, Some, None, refl, sym, ap, ap₂, ◌∙◌}
+use Rattle.std.specs.Prelude.{is_some}
+use Rattle.std.specs.Option.{option_map_or}
+use Rattle.std.specs.List.{list_all}
+use Rattle.class_pool.specs.declared.class.ClassFile.{ClassFile}
+use Rattle.class_lookup.specs.Access.{is_accessible_class}
+use Rattle.class_lookup.specs.Hierarchy.{find_class}
+use Rattle.program_tables.specs.Unresolved.{are_there, is_free, may_name}
+use Rattle.unresolved_names.specs.declared.pending.EntryClass.{EntryClass}
+use Rattle.unresolved_names.specs.declared.pending.EntryClass.TheVariants as entries
+use Rattle.unresolved_names.specs.Pending.{IsClassOf}
 
 pub and_assoc : (a b c : Bool) → (a && (b && c)) ≡ ((a && b) && c)
 and_assoc true b c = refl
@@ -10,13 +19,42 @@ pub all_of_both : {A : Type 0} (p : A → Bool) (xs ys : List A) → list_all p 
 all_of_both p [] ys = refl
 all_of_both p (x ∷ xs) ys = ap (λ b. p x && b) (all_of_both p xs ys) ∙ and_assoc (p x) (list_all p xs) (list_all p ys)
 
-pub all_of_parts : {A B : Type 0} (p : B → Bool) (f : A → List B) (xs : List A) → list_all p (flat_map f xs) ≡ list_all (λ x. list_all p (f x)) xs
-all_of_parts p f [] = refl
-all_of_parts p f (x ∷ xs) = all_of_both p (f x) (flat_map f xs) ∙ ap (λ b. list_all p (f x) && b) (all_of_parts p f xs)
+-- ---- the class of an entry
 
-pub same_all : {A : Type 0} (p q : A → Bool) → ((x : A) → p x ≡ q x) → (xs : List A) → list_all p xs ≡ list_all q xs
-same_all p q h [] = refl
-same_all p q h (x ∷ xs) = ap₂ (λ (a b : Bool). a && b) (h x) (same_all p q h xs)
+abbrev pub there : EntryClass → Bool
+there entries.None = true
+there entries.Missing = false
+there (entries.Class k) = true
 
-pub all_of_list_and : {A B : Type 0} (p : B → Bool) (f : A → List B) (xs : List A) (ys : List B) → list_all p (flat_map f xs ++ ys) ≡ (list_all (λ x. list_all p (f x)) xs && list_all p ys)
-all_of_list_and p f xs ys = all_of_both p (flat_map f xs) ys ∙ ap (λ b. b && list_all p ys) (all_of_parts p f xs)
+pub class_there : (cs : List ClassFile) (names : List (List ℕ)) (class : EntryClass) → IsClassOf cs names class → are_there cs names ≡ there class
+class_there cs names entries.None h = ap (are_there cs) h
+class_there cs names entries.Missing h = ap (are_there cs) h.1 ∙ ap (λ (o : Option ℕ). is_some o && true) h.2
+class_there cs names (entries.Class k) h = ap (are_there cs) h.1 ∙ ap (λ (o : Option ℕ). is_some o && true) h.2
+
+free_all : (cs : List ClassFile) (caller : ℕ) (names : List (List ℕ)) → is_free cs caller ≡ true → list_all (may_name cs caller) names ≡ true
+free_all cs caller [] free = refl
+free_all cs caller (n ∷ names) free = ap₂ (λ (a b : Bool). (a || option_map_or (is_accessible_class cs caller) (find_class cs n) false) && b) free (free_all cs caller names free)
+
+pub free_may : (cs : List ClassFile) (caller : ℕ) (names : List (List ℕ)) → true ≡ is_free cs caller → true ≡ list_all (may_name cs caller) names
+free_may cs caller names free = sym (free_all cs caller names (sym free))
+
+abbrev pub may : List ClassFile → (caller : ℕ) → EntryClass → Bool
+may cs caller entries.None = true
+may cs caller entries.Missing = false
+may cs caller (entries.Class k) = is_accessible_class cs caller k
+
+one_may : (cs : List ClassFile) (caller : ℕ) (names : List (List ℕ)) (n : List ℕ) (o : Option ℕ) → false ≡ is_free cs caller → names ≡ n ∷ [] → find_class cs n ≡ o
+    → option_map_or (is_accessible_class cs caller) o false ≡ list_all (may_name cs caller) names
+one_may cs caller names n o free e is =
+    sym (ap (list_all (may_name cs caller)) e
+    ∙ (ap₂ (λ (a : Bool) (x : Option ℕ). (a || option_map_or (is_accessible_class cs caller) x false) && true) (sym free) is
+    ∙ and_true (option_map_or (is_accessible_class cs caller) o false)))
+  where
+    and_true : (b : Bool) → (b && true) ≡ b
+    and_true true = refl
+    and_true false = refl
+
+pub bound_may : (cs : List ClassFile) (caller : ℕ) (names : List (List ℕ)) (class : EntryClass) → false ≡ is_free cs caller → IsClassOf cs names class → may cs caller class ≡ list_all (may_name cs caller) names
+bound_may cs caller names entries.None free h = sym (ap (list_all (may_name cs caller)) h)
+bound_may cs caller names entries.Missing free h = one_may cs caller names h.0 None free h.1 h.2
+bound_may cs caller names (entries.Class k) free h = one_may cs caller names h.0 (Some k) free h.1 h.2

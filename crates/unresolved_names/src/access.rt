@@ -9,7 +9,8 @@ ghost use Rattle.unresolved_names.specs.Words.{accessible_member};
 
 use class_hierarchy::Hierarchy;
 use class_lookup::Classes;
-use class_lookup::parts::{has_flags, is_in_package_of, name_of};
+use crate::pending::are_in_one_package;
+use class_lookup::parts::{has_flags, name_of};
 use class_pool::Member;
 use descriptors::names::{is_class_initializer, is_instance_initializer};
 use items::is_text;
@@ -21,15 +22,8 @@ pub(crate) fn is_free(classes: &Classes, class: u32) -> bool
     class < classes.class_count() && is_text(name_of(classes.class(class)), b"jop/Boot")
 }
 
-/// Whether both classes are of one package.
-fn are_in_one_package(classes: &Classes, class: u32, other: u32) -> bool
-    ensures { result ≡ are_in_one_package classes.now class other }
-{
-    let count = classes.class_count();
-    class < count && other < count && is_in_package_of(classes.class(class), classes.class(other))
-}
-
 /// Whether the second class is public or of the package of the first.
+#[tactic(auto, using(crate::proofs::PartLemmas::accessible_where))]
 pub(crate) fn is_accessible_class(classes: &Classes, class: u32, other: u32) -> bool
     ensures { result ≡ is_accessible_class classes.now class other }
 {
@@ -37,7 +31,7 @@ pub(crate) fn is_accessible_class(classes: &Classes, class: u32, other: u32) -> 
     class < count
         && other < count
         && (has_flags(classes.class(other).flags, 0x0001)
-            || is_in_package_of(classes.class(class), classes.class(other)))
+            || are_in_one_package(classes, class, other))
 }
 
 /// Whether there is such a class, and it is neither an abstract class nor an interface.

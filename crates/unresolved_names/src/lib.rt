@@ -5,11 +5,11 @@
 mod access;
 mod fields;
 mod frames;
-mod implemented;
 mod mentions;
 mod methods;
 mod names;
 mod parts;
+mod pending;
 mod supertypes;
 
 pub use mentions::first_unresolved;
