@@ -13,9 +13,12 @@ use Rattle.program_tables.specs.declared.refusal.Why.TheVariants.{NoClass}
 use Rattle.program_tables.specs.Kinds.{class_in_entry}
 use Rattle.program_tables.specs.Unresolved.{unless, are_there, why_class, why_named, Mention, mentions_in, entry_of, why}
 
--- the name and the descriptor at these places of a pool
+abbrev pub signature_seen : (name descriptor : List ℕ) → Signature
+signature_seen name descriptor = record { name = name; descriptor = descriptor }
+
+-- the name and the descriptor at these indexes of a pool
 abbrev pub signature_at : List Entry → (name descriptor : ℕ) → Signature
-signature_at pool name descriptor = record { name = text_at pool name; descriptor = text_at pool descriptor }
+signature_at pool name descriptor = signature_seen (text_at pool name) (text_at pool descriptor)
 
 -- an entry with the reason why what it names isn't resolved, if there is one
 abbrev pub refused_entry : (entry : ℕ) → Option Why → List (ℕ × Why)

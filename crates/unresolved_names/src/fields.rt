@@ -100,7 +100,7 @@ fn why_field_found(
     }
 }
 
-/// Why the field isn't resolved that an instruction of the caller's method names through a Class entry, by the places of its
+/// Why the field isn't resolved that an instruction of the caller's method names through a Class entry, by the indexes of its
 /// name and descriptor.
 #[tactic(auto, unfolding(crate::specs::Words::field_reason))]
 pub(crate) fn why_field(

@@ -232,7 +232,7 @@ fn why_method_found(
     }
 }
 
-/// Why the method isn't resolved that an instruction of the caller names through a Class entry, by the places of its name and
+/// Why the method isn't resolved that an instruction of the caller names through a Class entry, by the indexes of its name and
 /// descriptor; `of_interface` says whether it is named as a method of an interface.
 #[tactic(auto, unfolding(crate::specs::Words::method_reason))]
 pub(crate) fn why_method(

@@ -70,7 +70,7 @@ pub(crate) fn may_name_entry(
     may_name(texts.classes(), caller, texts.class_of_entry(caller, index))
 }
 
-/// Whether the class in a field's descriptor is there, by the descriptor's place in the caller's pool.
+/// Whether the class in a field's descriptor is there, by the descriptor's index in the caller's pool.
 pub(crate) fn is_field_there(
     texts: &TextTypes<'_>,
     caller: u32,
@@ -85,7 +85,7 @@ pub(crate) fn is_field_there(
     texts.is_field_there(symbol(texts.classes(), caller, descriptor))
 }
 
-/// Whether the classes in a method's descriptor are there, by the descriptor's place in the caller's pool.
+/// Whether the classes in a method's descriptor are there, by the descriptor's index in the caller's pool.
 pub(crate) fn is_method_there(
     texts: &TextTypes<'_>,
     caller: u32,

@@ -28,7 +28,7 @@ pub(crate) fn class_named(
     pending::class_named(classes, caller, index)
 }
 
-/// The field of the name and descriptor at these places of the caller's pool, looked up from a class.
+/// The field of the name and descriptor at these indexes of the caller's pool, looked up from a class.
 pub(crate) fn field_found(
     classes: &Hierarchy,
     caller: u32,
@@ -48,7 +48,7 @@ pub(crate) fn field_found(
     find_field_by(classes, number, name, symbol(texts, caller, descriptor))
 }
 
-/// The method of the name and descriptor at these places of the caller's pool, looked up from a class.
+/// The method of the name and descriptor at these indexes of the caller's pool, looked up from a class.
 pub(crate) fn method_found(
     classes: &Hierarchy,
     caller: u32,
