@@ -7,9 +7,9 @@ ghost use Rattle.program_tables.specs.Core.{is_boot};
 ghost use Rattle.program_tables.specs.Unresolved.{is_free, same_bool};
 ghost use Rattle.unresolved_names.specs.Words.{accessible_member};
 
+use crate::pending::are_in_one_package;
 use class_hierarchy::Hierarchy;
 use class_lookup::Classes;
-use crate::pending::are_in_one_package;
 use class_lookup::parts::{has_flags, name_of};
 use class_pool::Member;
 use descriptors::names::{is_class_initializer, is_instance_initializer};

@@ -276,8 +276,9 @@ fn first_in_code(
     ensures { IfOk result (λ found. found ≡ first (flat_map (refused_mention classes.now caller class.now) (mentions_in_code class.now method.now code.now))) }
 {
     let bytes = code.code.as_slice();
-    if let Some(found) = first_at_instructions(alloc, classes, texts, caller, class, method, bytes)?
-    {
+    if let Some(found) = first_at_instructions(
+        alloc, classes, texts, caller, class, method, bytes,
+    )? {
         return Ok(Some(found));
     }
     let handlers = code.handlers.as_slice();
@@ -355,11 +356,7 @@ fn refused_field(
 }
 
 /// The first in the descriptors of the fields of a class.
-fn first_in_fields(
-    texts: &TextTypes<'_>,
-    caller: u32,
-    class: &ClassFile,
-) -> Option<(u32, Why)>
+fn first_in_fields(texts: &TextTypes<'_>, caller: u32, class: &ClassFile) -> Option<(u32, Why)>
     requires caller { caller < length texts.now }
     requires own { slice_get texts.now caller ≡ Some class.now }
     ensures { result ≡ first (flat_map (λ f. refused_mention texts.now caller class.now (FieldDescriptor f)) class.now.fields) }

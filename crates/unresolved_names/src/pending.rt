@@ -34,7 +34,12 @@ pub(crate) fn are_in_one_package(classes: &Classes, class: u32, other: u32) -> b
     class == other
 }
 
-pub(crate) fn find_field_by(classes: &Hierarchy, class: u32, name: u32, descriptor: u32) -> Option<Place>
+pub(crate) fn find_field_by(
+    classes: &Hierarchy,
+    class: u32,
+    name: u32,
+    descriptor: u32,
+) -> Option<Place>
     requires { class < length classes.now }
     ensures { (s : Signature) → symbol classes.now s.name ≡ Some name → symbol classes.now s.descriptor ≡ Some descriptor → result ≡ find_field classes.now class s }
 {
@@ -42,7 +47,12 @@ pub(crate) fn find_field_by(classes: &Hierarchy, class: u32, name: u32, descript
     some_place(name == descriptor)
 }
 
-pub(crate) fn find_method_by(classes: &Hierarchy, class: u32, name: u32, descriptor: u32) -> Option<Place>
+pub(crate) fn find_method_by(
+    classes: &Hierarchy,
+    class: u32,
+    name: u32,
+    descriptor: u32,
+) -> Option<Place>
     requires { class < length classes.now }
     ensures { (s : Signature) → symbol classes.now s.name ≡ Some name → symbol classes.now s.descriptor ≡ Some descriptor → result ≡ find_method classes.now class s }
 {
