@@ -7,4 +7,10 @@ pub mod Overriding
 pub mod Selecting
 pub mod SelectionLaws
 pub mod NameLemmas
+pub mod Numbering
+pub mod Mentions
+pub mod SymbolLemmas
+pub mod NamedLemmas
+pub mod MemberLemmas
+pub mod Everywhere
 pub mod PackageLemmas

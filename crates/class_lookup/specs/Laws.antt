@@ -5,7 +5,8 @@ use Rattle.std.specs.List.{flat_map, list_any}
 use Rattle.class_pool.specs.declared.class.Member.{Member}
 use Rattle.class_pool.specs.declared.class.ClassFile.{ClassFile}
 use Rattle.class_lookup.specs.Lists.{first_some}
-use Rattle.class_lookup.specs.Parts.{Signature, signature_of, same_text, same_signature, is_init}
+use Rattle.class_lookup.specs.Parts.{Signature, signature_of, same_text, same_signature, is_init, text_at}
+use Rattle.class_lookup.specs.Symbols.{symbol}
 use Rattle.class_lookup.specs.Hierarchy.{superclass, superinterfaces, direct_supertypes, superclasses, with_superinterfaces, is_interface, is_among, is_subclass, extends, is_on_a_cycle, IsAcyclic}
 use Rattle.class_lookup.specs.Lookup.{Place, same_place, declared_field, declared_method, find_field, find_method}
 use Rattle.class_lookup.specs.Selection.{signature_at, MayOverride, Overrides, overrides, upwards, is_public_instance, select}
@@ -174,3 +175,13 @@ pub record IsSelection (cs : List ClassFile) (receiver : ℕ) (a : Place) (s : S
 
 abbrev pub SelectionLaw : Type 0
 SelectionLaw = (cs : List ClassFile) → IsAcyclic cs → AreDistinct cs → (receiver : ℕ) (a : Place) (s : Signature) → signature_at cs a ≡ Some s → IsSelection cs receiver a s
+
+-- ---- symbols
+
+-- each text of a class has one
+abbrev pub MembersHaveSymbols : Type 0
+MembersHaveSymbols = (cs : List ClassFile) (k : ℕ) (c : ClassFile) (index : ℕ) → slice_get cs k ≡ Some c → (n : ℕ) × (symbol cs (text_at c.pool index) ≡ Some n)
+
+-- two texts of one symbol are one
+abbrev pub SymbolsStandForTexts : Type 0
+SymbolsStandForTexts = (cs : List ClassFile) (t u : List ℕ) (n : ℕ) → symbol cs t ≡ Some n → symbol cs u ≡ Some n → t ≡ u

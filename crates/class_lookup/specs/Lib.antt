@@ -6,3 +6,6 @@ pub mod Access
 pub mod Selection
 pub mod Laws
 pub mod Example
+pub mod Symbols
+pub mod Numbered
+pub mod Tables

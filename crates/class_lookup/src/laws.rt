@@ -2,12 +2,22 @@
 //! an order, lookups go as the standard says, and the tests of overriding and selection are what they are called. The
 //! functions do nothing; a caller whose proof needs a law calls its function.
 
-ghost use Rattle.class_lookup.specs.Laws.{Comparisons, HierarchyLaw, SuperclassesLaw, FieldsAreLookedUp, MethodLookupLaw, FoundFields, FoundMethods, MethodsLaw, OverridingLaw, OverridingNeeds, SelectionLaw};
+ghost use Rattle.class_lookup.specs.Laws.{Comparisons, HierarchyLaw, SuperclassesLaw, FieldsAreLookedUp, MethodLookupLaw, FoundFields, FoundMethods, MembersHaveSymbols, MethodsLaw, OverridingLaw, OverridingNeeds, SelectionLaw, SymbolsStandForTexts};
 ghost use Rattle.class_lookup.specs.Example.{WorkedLookups};
 
 /// The tests of texts, of names with descriptors, and of places say whether both are equal.
 pub fn equals_are_compared()
     ensures { Comparisons }
+{}
+
+/// Each text of a class has a symbol.
+pub fn members_have_symbols()
+    ensures { MembersHaveSymbols }
+{}
+
+/// Two texts of one symbol are one.
+pub fn symbols_stand_for_texts()
+    ensures { SymbolsStandForTexts }
 {}
 
 /// Each class extends itself and what those directly above it extend, and nothing else.

@@ -4,9 +4,12 @@
 
 mod classes;
 pub mod laws;
+mod members;
 mod names;
 pub mod parts;
 mod place;
+mod symbols;
+mod texts;
 
 pub use class_pool::ClassFile;
 pub use classes::Classes;
