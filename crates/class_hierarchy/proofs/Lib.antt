@@ -1,11 +1,11 @@
 pub mod Directly
+pub mod Naming
 pub mod Ranks
 pub mod Filled
-pub mod Numbered
-pub mod Indexed
 pub mod Standing
 pub mod Found
 pub mod Reaching
+pub mod Receiving
 pub mod SelectedLemmas
 pub mod Closure
 pub mod CycleLemmas

@@ -100,7 +100,7 @@ self_over true true false false false false c = refl
 
 -- ---- one step
 
-joined : (cs : List ClassFile) (a x : Place) (ms : List Place) (found : Option Place) (free : Bool) → AreReached cs a ms found free → is_joining cs a (is_some found) free x ≡ true → overriding cs a (x ∷ ms) ≡ x ∷ overriding cs a ms
+pub joined : (cs : List ClassFile) (a x : Place) (ms : List Place) (found : Option Place) (free : Bool) → AreReached cs a ms found free → is_joining cs a (is_some found) free x ≡ true → overriding cs a (x ∷ ms) ≡ x ∷ overriding cs a ms
 joined cs a x ms found free r h =
     cond-true (same_place x a || list_any (overrides_directly cs x) (overriding cs a ms)) (x ∷ overriding cs a ms) (overriding cs a ms) (ap (λ b. same_place x a || b) (r.over x) ∙ h)
 

@@ -1,11 +1,9 @@
--- What the tables of what stands above each class, and of the members, say.
+-- What the tables of what stands above each class say.
 use Rattle.std.specs.Prelude.{◌≡◌, ℕ, ◌<◌, List, length}
 use Rattle.class_pool.specs.declared.class.ClassFile.{ClassFile}
 use Rattle.class_lookup.specs.Hierarchy.{supertypes, superclasses, with_superinterfaces, all_superinterfaces}
 use Rattle.class_hierarchy.specs.declared.above.Above.{Above}
-use Rattle.class_hierarchy.specs.declared.members.Members.{Members}
 use Rattle.upward_order.specs.Numbers.{entry, IsSameSearch}
-use Rattle.class_hierarchy.specs.Members.{has_text, is_mentioned_by, AreFields, AreMethods}
 
 -- for each class a list in which the same is found as in that of the definition; that of its superclasses is the definition's
 pub record AreAbove (cs : List ClassFile) (above : Above) : Type 0 where
@@ -17,9 +15,3 @@ pub record AreAbove (cs : List ClassFile) (above : Above) : Type 0 where
   pub interfaces : (c : ℕ) → c < length cs → IsSameSearch (entry above.interfaces.items c) (with_superinterfaces cs c)
   pub inherited_long : length above.inherited.items ≡ length cs
   pub inherited : (c : ℕ) → c < length cs → IsSameSearch (entry above.inherited.items c) (all_superinterfaces cs c)
-
--- the names and descriptors of all members have numbers, and by these each class's members are found
-pub record AreMembers (cs : List ClassFile) (members : Members) : Type 0 where
-  pub texts : (q : List ℕ) → has_text members.texts q ≡ is_mentioned_by cs q
-  pub fields : AreFields members.texts cs members.fields.items
-  pub methods : AreMethods members.texts cs members.methods.items

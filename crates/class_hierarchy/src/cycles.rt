@@ -8,12 +8,11 @@ ghost use Rattle.upward_order.specs.Numbers.{entry};
 ghost use Rattle.class_hierarchy.specs.Cycles.{Grows};
 
 use crate::acyclic::direct_of;
-use crate::groups::ranks_of;
 use class_lookup::Classes;
 use items::Items;
 use jop_base::NoMemory;
 use std::alloc::Global;
-use upward_order::NumberSet;
+use upward_order::{NumberSet, ranks_of};
 
 /// Adds those of the numbers that aren't among them behind the others.
 fn add_each(found: &mut NumberSet, numbers: &[u32]) -> Result<(), NoMemory>

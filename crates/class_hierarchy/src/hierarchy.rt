@@ -1,13 +1,17 @@
-ghost use Rattle.std.specs.Prelude.{◌≡◌, ℕ, ◌<◌, List, length, IfOk};
-ghost use Rattle.class_lookup.specs.Hierarchy.{is_subclass, extends, supertypes, IsAcyclic};
+ghost use Rattle.std.specs.Prelude.{◌≡◌, ℕ, ◌<◌, List, Some, ◌++◌, length, map, slice_index_or, IfOk};
+ghost use Rattle.class_lookup.specs.Hierarchy.{is_subclass, extends, supertypes, superclasses, all_superinterfaces, IsAcyclic};
+ghost use Rattle.class_lookup.specs.Lists.{first_some};
 ghost use Rattle.class_lookup.specs.Lookup.{declared_method, find_field, find_method};
-ghost use Rattle.class_lookup.specs.Parts.{Signature};
+ghost use Rattle.class_lookup.specs.Parts.{Signature, is_init};
 ghost use Rattle.class_lookup.specs.Selection.{select, is_of_superclass, special};
 ghost use Rattle.upward_order.specs.Numbers.{IsSameSearch};
+ghost use Rattle.class_lookup.specs.Symbols.{symbol};
 
 use crate::above::{Above, above_of};
-use crate::members::{Members, first_declared, members_of, place_in};
-use crate::selecting::{first_instance, first_overriding, first_public, name_at, numbers_at};
+use crate::members::{first_field, first_method, named_at};
+use crate::receivers::{Resolved, places_for};
+use crate::selecting::{first_instance, first_overriding, first_public};
+use class_lookup::laws::members_have_symbols;
 use class_lookup::parts::has_flags;
 use class_lookup::{Classes, Place};
 use descriptors::names::is_instance_initializer;
@@ -15,26 +19,25 @@ use jop_base::NoMemory;
 use std::alloc::Global;
 use std::marker::Model;
 
-/// Classes of which none is its own superclass or superinterface, with tables of what stands above each and of the members by
-/// name. Contracts see it as the list of the classes.
+/// Classes of which none is its own superclass or superinterface, with tables of what stands above each. Contracts see it as the
+/// list of the classes.
 #[derive(Drop)]
 pub struct Hierarchy {
     classes: Classes,
     above: Above,
-    members: Members,
 }
 
 impl Model for Hierarchy {
     ghost use Rattle.std.specs.Prelude.{List};
     ghost use Rattle.class_pool.specs.declared.class.ClassFile.{ClassFile};
     ghost use Rattle.class_lookup.specs.Hierarchy.{IsAcyclic};
-    ghost use Rattle.class_hierarchy.specs.Tables.{AreAbove, AreMembers};
+    ghost use Rattle.class_hierarchy.specs.Tables.{AreAbove};
 
     ghost Value = { List ClassFile };
 
     ghost view = { λ a. a.classes };
 
-    ghost invariant = { λ a. IsAcyclic a.classes × AreAbove a.classes a.above × AreMembers a.classes a.members };
+    ghost invariant = { λ a. IsAcyclic a.classes × AreAbove a.classes a.above };
 }
 
 impl Hierarchy {
@@ -44,12 +47,7 @@ impl Hierarchy {
         ensures { IfOk result (λ made. made ≡ classes) }
     {
         let above = above_of(alloc, &classes)?;
-        let members = members_of(alloc, &classes)?;
-        Ok(Hierarchy {
-            classes,
-            above,
-            members,
-        })
+        Ok(Hierarchy { classes, above })
     }
 
     /// The classes.
@@ -87,8 +85,10 @@ impl Hierarchy {
         requires { class < length self.now }
         ensures { result ≡ declared_method self.now (record { name = name.now; descriptor = descriptor.now }) class }
     {
-        let numbers = self.members.texts.numbers(name, descriptor)?;
-        place_in(&self.members.methods, numbers, class)
+        members_have_symbols();
+        let name = self.classes.symbol_of(name)?;
+        let descriptor = self.classes.symbol_of(descriptor)?;
+        self.classes.declared_method(class, name, descriptor)
     }
 
     /// Whether the second class is a superclass of the first.
@@ -104,14 +104,62 @@ impl Hierarchy {
         }
     }
 
+    /// The field of the name and the descriptor of these symbols, looked up from the class (5.4.3.2).
+    pub fn find_field_by(&self, class: u32, name: u32, descriptor: u32) -> Option<Place>
+        requires { class < length self.now }
+        ensures { (s : Signature) → symbol self.now s.name ≡ Some name → symbol self.now s.descriptor ≡ Some descriptor → result ≡ find_field self.now class s }
+    {
+        let list = self.above.supertypes[class as usize].as_slice();
+        first_field(&self.classes, list, name, descriptor)
+    }
+
     /// The field of this name and descriptor, looked up from the class (5.4.3.2).
     pub fn find_field(&self, class: u32, name: &[u16], descriptor: &[u16]) -> Option<Place>
         requires { class < length self.now }
         ensures { result ≡ find_field self.now class (record { name = name.now; descriptor = descriptor.now }) }
     {
-        let numbers = self.members.texts.numbers(name, descriptor)?;
-        let classes = self.above.supertypes[class as usize].as_slice();
-        first_declared(&self.members.fields, classes, numbers)
+        members_have_symbols();
+        let name = self.classes.symbol_of(name)?;
+        let descriptor = self.classes.symbol_of(descriptor)?;
+        self.find_field_by(class, name, descriptor)
+    }
+
+    /// Whether a symbol is that of the name of instance initialization methods.
+    fn is_initializer(&self, name: u32) -> bool
+        ensures { (s : Signature) → symbol self.now s.name ≡ Some name → result ≡ is_init s }
+    {
+        name < self.classes.symbol_count() && is_instance_initializer(self.classes.text(name))
+    }
+
+    /// The method of the name and the descriptor of these symbols, looked up in a class, its superclasses and superinterfaces.
+    fn find_in_class(&self, class: u32, name: u32, descriptor: u32) -> Option<Place>
+        requires { class < length self.now }
+        ensures { (s : Signature) → symbol self.now s.name ≡ Some name → symbol self.now s.descriptor ≡ Some descriptor → result ≡ first_some (map (declared_method self.now s) (superclasses self.now class ++ all_superinterfaces self.now class)) }
+    {
+        let index = class as usize;
+        let list = self.above.superclasses[index].as_slice();
+        match first_method(&self.classes, list, name, descriptor) {
+            Some(place) => Some(place),
+            None => {
+                let list = self.above.inherited[index].as_slice();
+                first_method(&self.classes, list, name, descriptor)
+            }
+        }
+    }
+
+    /// The method of the name and the descriptor of these symbols, looked up from the class (5.4.3.3, 5.4.3.4).
+    pub fn find_method_by(&self, class: u32, name: u32, descriptor: u32) -> Option<Place>
+        requires { class < length self.now }
+        ensures { (s : Signature) → symbol self.now s.name ≡ Some name → symbol self.now s.descriptor ≡ Some descriptor → result ≡ find_method self.now class s }
+    {
+        if self.is_initializer(name) {
+            self.classes.declared_method(class, name, descriptor)
+        } else if self.classes.is_interface(class) {
+            let list = self.above.interfaces[class as usize].as_slice();
+            first_method(&self.classes, list, name, descriptor)
+        } else {
+            self.find_in_class(class, name, descriptor)
+        }
     }
 
     /// The method of this name and descriptor, looked up from the class (5.4.3.3, 5.4.3.4).
@@ -119,19 +167,10 @@ impl Hierarchy {
         requires { class < length self.now }
         ensures { result ≡ find_method self.now class (record { name = name.now; descriptor = descriptor.now }) }
     {
-        let numbers = self.members.texts.numbers(name, descriptor)?;
-        let index = class as usize;
-        let methods = self.members.methods.as_slice();
-        if is_instance_initializer(name) {
-            first_declared(methods, &[class], numbers)
-        } else if self.classes.is_interface(class) {
-            first_declared(methods, self.above.interfaces[index].as_slice(), numbers)
-        } else {
-            match first_declared(methods, self.above.superclasses[index].as_slice(), numbers) {
-                Some(place) => Some(place),
-                None => first_declared(methods, self.above.inherited[index].as_slice(), numbers),
-            }
-        }
+        members_have_symbols();
+        let name = self.classes.symbol_of(name)?;
+        let descriptor = self.classes.symbol_of(descriptor)?;
+        self.find_method_by(class, name, descriptor)
     }
 
     /// The method that is selected for a receiver of this class and the resolved method (6.5.invokevirtual,
@@ -140,22 +179,46 @@ impl Hierarchy {
         requires { receiver < length self.now }
         ensures { result ≡ select self.now receiver resolved }
     {
-        let numbers = numbers_at(&self.classes, &self.members.texts, resolved)?;
+        let method = named_at(&self.classes, resolved)?;
         let list = self.above.superclasses[receiver as usize].as_slice();
-        let methods = self.members.methods.as_slice();
         if self.classes.is_interface(resolved.class) {
-            first_public(&self.classes, methods, list, numbers)
+            first_public(&self.classes, list, &method)
         } else {
-            first_overriding(&self.classes, methods, list, numbers, resolved)
+            first_overriding(&self.classes, list, &method)
         }
     }
 
-    /// Whether `invokespecial` treats a method of this name specially.
-    fn is_of_superclass(&self, current: u32, named: u32, name: &[u16]) -> bool
-        requires { current < length self.now }
-        ensures { (s : Signature) → s.name ≡ name.now → result ≡ is_of_superclass self.now current named s }
+    /// The methods that are selected for receivers of these classes and the resolved method, in the order of the classes. The
+    /// classes above them are gone through once for all.
+    pub fn select_each(
+        &self,
+        alloc: Global,
+        receivers: &[u32],
+        resolved: Place,
+    ) -> Result<Vec<Option<Place>>, NoMemory>
+        requires { (i : ℕ) → i < length receivers.now → slice_index_or receivers.now i 0 < length self.now }
+        ensures { IfOk result (λ places. places.items ≡ map (λ c. select self.now c resolved) receivers.now) }
     {
-        !is_instance_initializer(name)
+        match named_at(&self.classes, resolved) {
+            Some(method) => {
+                let tables = Resolved {
+                    classes: &self.classes,
+                    superclasses: &self.above.superclasses,
+                    method,
+                    of_interface: self.classes.is_interface(resolved.class),
+                };
+                places_for(alloc, &tables, receivers)
+            }
+            None => Ok(vec![in alloc; None; receivers.len()]?),
+        }
+    }
+
+    /// Whether `invokespecial` treats a method of the name of this symbol specially.
+    fn is_of_superclass(&self, current: u32, named: u32, name: u32) -> bool
+        requires { current < length self.now }
+        ensures { (s : Signature) → symbol self.now s.name ≡ Some name → result ≡ is_of_superclass self.now current named s }
+    {
+        !self.is_initializer(name)
             && has_flags(self.classes.class(current).flags, 0x0020)
             && self.is_subclass(current, named)
     }
@@ -166,13 +229,11 @@ impl Hierarchy {
         requires { current < length self.now }
         ensures { result ≡ special self.now current named resolved }
     {
-        let name = name_at(&self.classes, resolved)?;
-        if self.is_of_superclass(current, named, name) {
-            let numbers = numbers_at(&self.classes, &self.members.texts, resolved)?;
+        let method = named_at(&self.classes, resolved)?;
+        if self.is_of_superclass(current, named, method.name) {
             let upper = self.classes.superclass(current)?;
             let list = self.above.superclasses[upper as usize].as_slice();
-            let methods = self.members.methods.as_slice();
-            first_instance(&self.classes, methods, list, numbers)
+            first_instance(&self.classes, list, &method)
         } else {
             Some(resolved)
         }

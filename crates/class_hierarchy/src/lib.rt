@@ -1,16 +1,15 @@
-//! Classes of which none is above itself, with tables of what stands above each and of the members by name: fields and methods
-//! are looked up (JVM Specification SE 8, 5.4.3) and methods selected (5.4.5, 6.5) without a search over members.
+//! Classes of which none is above itself, with tables of what stands above each: fields and methods are looked up (JVM
+//! Specification SE 8, 5.4.3) and methods selected (5.4.5, 6.5) by the symbols of their names and descriptors.
 #![tactic(auto)]
 
 mod above;
 mod acyclic;
 mod cycles;
-mod groups;
 mod hierarchy;
 mod members;
 mod methods;
+mod receivers;
 mod selecting;
-mod texts;
 
 pub use acyclic::is_acyclic;
 pub use class_lookup::Place;

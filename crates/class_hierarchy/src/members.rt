@@ -1,167 +1,73 @@
-//! The fields and methods that each class declares, by name and descriptor.
+//! Fields and methods by the symbols of their names and descriptors.
 
-ghost use Rattle.std.specs.Prelude.{◌≡◌, ℕ, ◌||◌, List, length, map, IfOk, OnOk};
+ghost use Rattle.std.specs.Prelude.{◌≡◌, Some, map};
 ghost use Rattle.class_lookup.specs.Lists.{first_some};
-ghost use Rattle.class_hierarchy.specs.Members.{has_text, is_mentioned, is_mentioned_by, found_at, place_in, IsIndexed, AreFields, AreMethods};
-ghost use Rattle.class_hierarchy.specs.Tables.{AreMembers};
+ghost use Rattle.class_lookup.specs.Lookup.{declared_field, declared_method};
+ghost use Rattle.class_lookup.specs.Parts.{Signature};
+ghost use Rattle.class_lookup.specs.Symbols.{symbol};
+ghost use Rattle.class_hierarchy.specs.Members.{declared_as, IsNamed, IsNamedAt};
 
-use crate::texts::Texts;
-use class_lookup::parts::text_at;
-use class_lookup::{ClassFile, Classes, Place};
-use class_pool::Member;
-use indexmap::IndexMap;
-use jop_base::NoMemory;
-use std::alloc::Global;
-use std::marker::Model;
+use crate::methods::method_at;
+use class_lookup::{Classes, Place};
 
-/// Places in a class's list of members by the numbers of a name and of a descriptor. Contracts see it as the list of its
-/// entries.
-#[derive(Drop)]
-pub(crate) struct Index {
-    places: IndexMap<(usize, usize), usize>,
+/// A method with the symbols of its name and of its descriptor.
+#[derive(Clone, Copy)]
+pub(crate) struct Named {
+    pub(crate) place: Place,
+    pub(crate) name: u32,
+    pub(crate) descriptor: u32,
 }
 
-impl Model for Index {
-    ghost use Rattle.std.specs.Prelude.{ℕ, List};
-
-    ghost Value = { List ((ℕ × ℕ) × ℕ) };
-
-    ghost view = { λ a. a.places.entries };
-}
-
-impl Index {
-    /// The place that it has for these numbers.
-    pub(crate) fn place(&self, numbers: (usize, usize)) -> Option<usize>
-        ensures { result ≡ found_at numbers self.now }
-    {
-        self.places.get(&numbers).copied()
-    }
-}
-
-/// The members of all classes by name and descriptor.
-#[derive(Drop)]
-pub(crate) struct Members {
-    pub(crate) texts: Texts,
-    pub(crate) fields: Vec<Index>,
-    pub(crate) methods: Vec<Index>,
-}
-
-/// Numbers the names and descriptors of these members of the class.
-fn number_members(
-    alloc: Global,
-    texts: &mut Texts,
-    class: &ClassFile,
-    members: &[Member],
-) -> Result<(), NoMemory>
-    ensures { OnOk result ((q : List ℕ) → has_text texts.new q ≡ (has_text texts.old q || is_mentioned class.now members.now q)) }
+/// The method of this place with its symbols.
+pub(crate) fn named_at(classes: &Classes, place: Place) -> Option<Named>
+    ensures { IsNamedAt classes.now place result }
 {
-    for member in members {
-        texts.insert(alloc, text_at(&class.pool, member.name))?;
-        texts.insert(alloc, text_at(&class.pool, member.descriptor))?;
-    }
-    Ok(())
+    let method = method_at(classes, place)?;
+    Some(Named {
+        place,
+        name: classes.symbol(place.class, method.name),
+        descriptor: classes.symbol(place.class, method.descriptor),
+    })
 }
 
-/// Numbers the names and descriptors of all fields and methods.
-fn texts_of(alloc: Global, classes: &Classes) -> Result<Texts, NoMemory>
-    ensures { IfOk result (λ texts. (q : List ℕ) → has_text texts q ≡ is_mentioned_by classes.now q) }
+/// The method of the same name and descriptor that a class declares.
+pub(crate) fn declared_as(classes: &Classes, method: &Named, class: u32) -> Option<Place>
+    requires { IsNamed classes.now method.now }
+    ensures { result ≡ declared_as classes.now method.now.place class }
 {
-    let mut texts = Texts::new(alloc);
-    for number in 0..classes.class_count() {
-        let class = classes.class(number);
-        number_members(alloc, &mut texts, class, class.fields.as_slice())?;
-        number_members(alloc, &mut texts, class, class.methods.as_slice())?;
-    }
-    Ok(texts)
+    classes.declared_method(class, method.name, method.descriptor)
 }
 
-/// The first of these members of the class with each name and descriptor.
-fn index_members(
-    alloc: Global,
-    texts: &Texts,
-    class: &ClassFile,
-    members: &[Member],
-) -> Result<Index, NoMemory>
-    ensures { IfOk result (λ index. IsIndexed texts.now class.now members.now index) }
-{
-    let mut index = IndexMap::new(alloc);
-    for (i, member) in members.iter().enumerate() {
-        let numbers = texts.numbers(
-            text_at(&class.pool, member.name),
-            text_at(&class.pool, member.descriptor),
-        );
-        if let Some(key) = numbers {
-            if index.get(&key).is_none() {
-                index.insert(key, i)?;
-            }
-        }
-    }
-    Ok(Index { places: index })
-}
-
-/// The fields of each class.
-fn index_fields(alloc: Global, classes: &Classes, texts: &Texts) -> Result<Vec<Index>, NoMemory>
-    ensures { IfOk result (λ table. AreFields texts.now classes.now table.items) }
-{
-    let mut table = Vec::new(alloc);
-    for number in 0..classes.class_count() {
-        let class = classes.class(number);
-        table.push(index_members(alloc, texts, class, class.fields.as_slice())?)?;
-    }
-    Ok(table)
-}
-
-/// The methods of each class.
-fn index_methods(alloc: Global, classes: &Classes, texts: &Texts) -> Result<Vec<Index>, NoMemory>
-    ensures { IfOk result (λ table. AreMethods texts.now classes.now table.items) }
-{
-    let mut table = Vec::new(alloc);
-    for number in 0..classes.class_count() {
-        let class = classes.class(number);
-        table.push(index_members(alloc, texts, class, class.methods.as_slice())?)?;
-    }
-    Ok(table)
-}
-
-/// The member of a class with these numbers.
-pub(crate) fn place_in(table: &[Index], numbers: (usize, usize), class: u32) -> Option<Place>
-    ensures { result ≡ place_in table.now numbers class }
-{
-    let number = class as usize;
-    if number < table.len() {
-        let index = table[number].place(numbers)?;
-        Some(Place { class, index })
-    } else {
-        None
-    }
-}
-
-/// The first member with these numbers in the classes of a list.
-pub(crate) fn first_declared(
-    table: &[Index],
-    classes: &[u32],
-    numbers: (usize, usize),
+/// The first field of this name and descriptor that the classes of a list declare.
+pub(crate) fn first_field(
+    classes: &Classes,
+    list: &[u32],
+    name: u32,
+    descriptor: u32,
 ) -> Option<Place>
-    ensures { result ≡ first_some (map (place_in table.now numbers) classes.now) }
+    ensures { (s : Signature) → symbol classes.now s.name ≡ Some name → symbol classes.now s.descriptor ≡ Some descriptor → result ≡ first_some (map (declared_field classes.now s) list.now) }
 {
-    for class in classes {
-        if let Some(place) = place_in(table, numbers, *class) {
+    for class in list {
+        if let Some(place) = classes.declared_field(*class, name, descriptor) {
             return Some(place);
         }
     }
     None
 }
 
-/// The members of all classes.
-pub(crate) fn members_of(alloc: Global, classes: &Classes) -> Result<Members, NoMemory>
-    ensures { IfOk result (λ members. AreMembers classes.now members) }
+/// The first method of this name and descriptor that the classes of a list declare.
+pub(crate) fn first_method(
+    classes: &Classes,
+    list: &[u32],
+    name: u32,
+    descriptor: u32,
+) -> Option<Place>
+    ensures { (s : Signature) → symbol classes.now s.name ≡ Some name → symbol classes.now s.descriptor ≡ Some descriptor → result ≡ first_some (map (declared_method classes.now s) list.now) }
 {
-    let texts = texts_of(alloc, classes)?;
-    let fields = index_fields(alloc, classes, &texts)?;
-    let methods = index_methods(alloc, classes, &texts)?;
-    Ok(Members {
-        texts,
-        fields,
-        methods,
-    })
+    for class in list {
+        if let Some(place) = classes.declared_method(*class, name, descriptor) {
+            return Some(place);
+        }
+    }
+    None
 }

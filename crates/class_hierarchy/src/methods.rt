@@ -2,11 +2,10 @@
 
 ghost use Rattle.std.specs.Prelude.{◌≡◌, option_copied};
 ghost use Rattle.class_lookup.specs.Lookup.{method_at};
-ghost use Rattle.class_lookup.specs.Access.{are_in_one_package};
 ghost use Rattle.class_lookup.specs.Selection.{is_virtual, is_public_instance, is_instance};
 ghost use Rattle.class_hierarchy.specs.Selecting.{is_open, is_near, is_joining};
 
-use class_lookup::parts::{has_flags, is_in_package_of};
+use class_lookup::parts::has_flags;
 use class_lookup::{Classes, Place};
 use class_pool::Member;
 
@@ -68,14 +67,6 @@ pub(crate) fn is_open(classes: &Classes, place: Place) -> bool
     }
 }
 
-/// Whether both classes are of one package.
-fn are_in_one_package(classes: &Classes, class: u32, other: u32) -> bool
-    ensures { result ≡ are_in_one_package classes.now class other }
-{
-    let count = classes.class_count();
-    class < count && other < count && is_in_package_of(classes.class(class), classes.class(other))
-}
-
 /// Whether the second method is package-private, and the first belongs to its package.
 fn is_near(classes: &Classes, place: Place, resolved: Place) -> bool
     ensures { result ≡ is_near classes.now place resolved }
@@ -83,7 +74,7 @@ fn is_near(classes: &Classes, place: Place, resolved: Place) -> bool
     match method_at(classes, resolved) {
         Some(method) => {
             !has_flags(method.flags, 0x0007)
-                && are_in_one_package(classes, place.class, resolved.class)
+                && classes.are_in_one_package(place.class, resolved.class)
         }
         None => false,
     }

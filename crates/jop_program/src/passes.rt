@@ -1,10 +1,11 @@
 //! The passes over the classes, one after the other, each file by file.
-ghost use Rattle.std.specs.Prelude.{◌≡◌, ◌+◌, ◌<◌, ◌≤◌, length, IfOk, IfSome, Some, find, slice_get};
+ghost use Rattle.std.specs.Prelude.{◌≡◌, ◌+◌, ◌<◌, ◌≤◌, length, IfOk, IfSome, Some, false, find, slice_get, slice_index_or, ℕ};
 ghost use Rattle.std.specs.List.{AllByRecursion, range_with_len};
 ghost use Rattle.first_found.specs.Lists.{first as first_of};
 ghost use Rattle.class_rules.specs.Grammar.{IsClass};
 ghost use Rattle.program_tables.specs.Tables.{HasBounds};
 ghost use Rattle.program_tables.specs.Placed.{duplicate_of};
+ghost use Rattle.program_tables.specs.Unresolved.{implements_all as implements_each};
 ghost use Rattle.class_lookup.specs.Hierarchy.{is_on_a_cycle};
 ghost use Rattle.jop_program.specs.Linked.{files_in, number_of};
 ghost use Rattle.jop_program.specs.Refusals.{Names, Support, Supertypes, Places, Mentions, causes, causes_in};
@@ -18,6 +19,7 @@ use class_pool::ClassFile;
 use class_refusals::first_unsupported;
 use items::is_text;
 use jop_base::NoMemory;
+use open_methods::implementing_classes;
 use std::alloc::Global;
 use unresolved_names::{first_unresolved, first_unresolved_supertype};
 
@@ -220,16 +222,52 @@ fn refused_mention(
     classes: &Hierarchy,
     file: u32,
     class: &ClassFile,
+    implements_all: bool,
 ) -> Result<Option<LinkRefusal>, NoMemory>
     requires there { number_of file < length classes.now }
     requires bounds { HasBounds class.now }
+    requires implements { implements_all ≡ implements_each classes.now (number_of file) }
     ensures { IfOk result (λ found. found ≡ first_of (causes classes.now Mentions file class.now)) }
 {
     let _ = classes.classes().class_count();
-    match first_unresolved(alloc, classes, CORE + file, class)? {
+    match first_unresolved(alloc, classes, CORE + file, class, implements_all)? {
         Some((entry, why)) => Ok(Some(LinkRefusal::Unresolved(file, entry, why))),
         None => Ok(None),
     }
+}
+
+/// Whether a file's class leaves no abstract method without code, by the table for all classes.
+fn implements_all(classes: &Hierarchy, implementing: &[bool], file: u32) -> bool
+    requires there { number_of file < length classes.now }
+    requires long { length implementing.now ≡ length classes.now }
+    requires each { (c : ℕ) → c < length classes.now → slice_index_or implementing.now c false ≡ implements_each classes.now c }
+    ensures { result ≡ implements_each classes.now (number_of file) }
+{
+    let _ = classes.classes().class_count();
+    implementing[(CORE + file) as usize]
+}
+
+/// The first of all else that isn't resolved, by the table of the classes that leave no abstract method without code.
+fn first_mention_by(
+    alloc: Global,
+    classes: &Hierarchy,
+    files: u32,
+    implementing: &[bool],
+) -> Result<Option<LinkRefusal>, NoMemory>
+    requires there { 23 + files ≤ length classes.now }
+    requires bounds { AllByRecursion HasBounds (files_in classes.now files) }
+    requires long { length implementing.now ≡ length classes.now }
+    requires each { (c : ℕ) → c < length classes.now → slice_index_or implementing.now c false ≡ implements_each classes.now c }
+    ensures { IfOk result (λ found. found ≡ first_of (causes_in classes.now Mentions (files_in classes.now files))) }
+{
+    for file in 0..files {
+        let class = class_of_file(classes.classes(), files, file);
+        let implements = implements_all(classes, implementing, file);
+        if let Some(refusal) = refused_mention(alloc, classes, file, class, implements)? {
+            return Ok(Some(refusal));
+        }
+    }
+    Ok(None)
 }
 
 /// The first of all else that isn't resolved.
@@ -242,11 +280,6 @@ pub(crate) fn first_mention(
     requires bounds { AllByRecursion HasBounds (files_in classes.now files) }
     ensures { IfOk result (λ found. found ≡ first_of (causes_in classes.now Mentions (files_in classes.now files))) }
 {
-    for file in 0..files {
-        let class = class_of_file(classes.classes(), files, file);
-        if let Some(refusal) = refused_mention(alloc, classes, file, class)? {
-            return Ok(Some(refusal));
-        }
-    }
-    Ok(None)
+    let implementing = implementing_classes(alloc, classes)?;
+    first_mention_by(alloc, classes, files, &implementing)
 }

@@ -2,11 +2,13 @@
 //! what stands directly above.
 #![tactic(auto)]
 
+mod groups;
 mod hint;
 mod number_set;
 mod peel;
 mod upward;
 
+pub use groups::ranks_of;
 pub use number_set::NumberSet;
 pub use peel::{has_all, order_of};
 pub use upward::{empty_sets, insert_lists, upward_lists};

@@ -1,8 +1,8 @@
 use Rattle.std.proofs.Common.{◌≡◌, drop}
 use Rattle.std.specs.List.{filter_map, find}
 use Rattle.class_lookup.specs.Selection.{is_instance}
-use Rattle.class_hierarchy.specs.Members.{place_in}
+use Rattle.class_hierarchy.specs.Members.{declared_as}
 use Rattle.class_hierarchy.proofs.selecting.first_instance.Given as goal
 
 abbrev pub invariant-loop-class : goal.invariant-loop-class
-invariant-loop-class l = find (is_instance l.classes) (filter_map (place_in l.table l.numbers) (drop l.class-index l.list)) ≡ find (is_instance l.classes) (filter_map (place_in l.table l.numbers) l.list)
+invariant-loop-class l = find (is_instance l.classes) (filter_map (declared_as l.classes l.method.place) (drop l.class-index l.list)) ≡ find (is_instance l.classes) (filter_map (declared_as l.classes l.method.place) l.list)
