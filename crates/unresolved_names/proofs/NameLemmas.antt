@@ -7,9 +7,9 @@ use Rattle.class_pool.specs.declared.class.ClassFile.{ClassFile}
 use Rattle.class_lookup.specs.Access.{is_accessible_class}
 use Rattle.class_lookup.specs.Hierarchy.{find_class}
 use Rattle.program_tables.specs.Unresolved.{are_there, is_free, may_name}
-use Rattle.unresolved_names.specs.declared.pending.EntryClass.{EntryClass}
-use Rattle.unresolved_names.specs.declared.pending.EntryClass.TheVariants as entries
-use Rattle.unresolved_names.specs.Pending.{IsClassOf}
+use Rattle.program_tables.specs.declared.text_type.EntryClass.{EntryClass}
+use Rattle.program_tables.specs.declared.text_type.EntryClass.TheVariants as entries
+use Rattle.program_tables.specs.Texts.{IsClassOf}
 
 pub and_assoc : (a b c : Bool) → (a && (b && c)) ≡ ((a && b) && c)
 and_assoc true b c = refl

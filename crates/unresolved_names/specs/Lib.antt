@@ -1,5 +1,3 @@
-pub mod Symbols
-pub mod Pending
 pub mod Frames
 pub mod Words
 pub mod Causes

@@ -7,7 +7,6 @@ ghost use Rattle.program_tables.specs.Core.{is_boot};
 ghost use Rattle.program_tables.specs.Unresolved.{is_free, same_bool};
 ghost use Rattle.unresolved_names.specs.Words.{accessible_member};
 
-use crate::pending::are_in_one_package;
 use class_hierarchy::Hierarchy;
 use class_lookup::Classes;
 use class_lookup::parts::{has_flags, name_of};
@@ -31,7 +30,7 @@ pub(crate) fn is_accessible_class(classes: &Classes, class: u32, other: u32) -> 
     class < count
         && other < count
         && (has_flags(classes.class(other).flags, 0x0001)
-            || are_in_one_package(classes, class, other))
+            || classes.are_in_one_package(class, other))
 }
 
 /// Whether there is such a class, and it is neither an abstract class nor an interface.
@@ -68,11 +67,11 @@ pub(crate) fn is_accessible_member(
     } else if has_flags(member.flags, 0x0002) {
         caller == owner
     } else if has_flags(member.flags, 0x0004) {
-        are_in_one_package(classes.classes(), caller, owner)
+        classes.classes().are_in_one_package(caller, owner)
             || (classes.is_subclass(caller, owner)
                 && (has_flags(member.flags, 0x0008) || is_related(classes, caller, named)))
     } else {
-        are_in_one_package(classes.classes(), caller, owner)
+        classes.classes().are_in_one_package(caller, owner)
     }
 }
 

@@ -10,11 +10,10 @@ ghost use Rattle.unresolved_names.specs.Words.{field_reason, found_field_reason,
 use crate::access::{is_accessible_member, is_as_needed, is_free, is_writable_field};
 use crate::names::{is_entry_there, is_field_there, may_name_entry};
 use crate::parts::{Through, class_named, field_at, field_found};
-use crate::pending::TextTypes;
 use class_hierarchy::{Hierarchy, Place};
 use class_lookup::parts::{has_flags, text_at};
 use class_pool::{ClassFile, Member};
-use program_tables::Why;
+use program_tables::{TextTypes, Why};
 
 fn needs_static_field(op: u8) -> bool
     ensures { result ≡ needs_static_field op }

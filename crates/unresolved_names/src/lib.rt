@@ -9,7 +9,6 @@ mod mentions;
 mod methods;
 mod names;
 mod parts;
-mod pending;
 mod supertypes;
 
 pub use mentions::first_unresolved;

@@ -18,7 +18,6 @@ use crate::frames::classes_in_frames;
 use crate::methods::why_method;
 use crate::names::{is_entry_there, is_field_there, is_method_there, why_class};
 use crate::parts::class_named;
-use crate::pending::TextTypes;
 use crate::supertypes::refused_class;
 use class_hierarchy::Hierarchy;
 use class_lookup::Classes;
@@ -26,7 +25,7 @@ use class_pool::{ClassFile, Code, Member};
 use jop_base::NoMemory;
 use jop_opcodes::laws::starts_follow_one_another;
 use jop_opcodes::{Instr, decode, starts};
-use program_tables::{Named, Why, named_in};
+use program_tables::{Named, TextTypes, Why, named_in};
 use std::alloc::Global;
 
 /// Whether an object of the class of a Class entry of the caller may be made.

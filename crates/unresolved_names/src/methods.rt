@@ -11,13 +11,12 @@ ghost use Rattle.unresolved_names.specs.Words.{found_method_reason, method_reaso
 use crate::access::{is_accessible_member, is_as_needed, is_free};
 use crate::names::{is_entry_there, is_method_there, may_name_entry};
 use crate::parts::{Through, class_named, method_at, method_found};
-use crate::pending::TextTypes;
 use class_hierarchy::{Hierarchy, Place};
 use class_lookup::Classes;
 use class_lookup::parts::{has_flags, text_at};
 use class_pool::{ClassFile, Member};
 use descriptors::names::{is_class_initializer, is_instance_initializer};
-use program_tables::Why;
+use program_tables::{TextTypes, Why};
 
 /// Whether there is such a method, and it isn't abstract.
 fn is_not_abstract(classes: &Classes, place: Place) -> bool

@@ -5,14 +5,13 @@ ghost use Rattle.std.specs.List.{list_all};
 ghost use Rattle.class_lookup.specs.Parts.{text_at};
 ghost use Rattle.program_tables.specs.Kinds.{class_in_entry, classes_in_field_descriptor, classes_in_method_descriptor};
 ghost use Rattle.program_tables.specs.Unresolved.{are_there, may_name};
-ghost use Rattle.unresolved_names.specs.Pending.{IsClassOf};
+ghost use Rattle.program_tables.specs.Texts.{IsClassOf};
 ghost use Rattle.unresolved_names.specs.Words.{class_reason, nameable_entry};
 
 use crate::access::{is_accessible_class, is_free};
-use crate::pending::{EntryClass, TextTypes, symbol};
 use class_lookup::Classes;
 use class_pool::ClassFile;
-use program_tables::Why;
+use program_tables::{EntryClass, TextTypes, Why};
 
 /// Whether the class of a Class entry is there, if there is one.
 #[tactic(auto, using(crate::proofs::NameLemmas::class_there))]
@@ -82,7 +81,7 @@ pub(crate) fn is_field_there(
     ensures { result ≡ are_there texts.now (classes_in_field_descriptor (text_at class.now.pool descriptor)) }
 {
     let _ = class;
-    texts.is_field_there(symbol(texts.classes(), caller, descriptor))
+    texts.is_field_there(texts.classes().symbol(caller, descriptor))
 }
 
 /// Whether the classes in a method's descriptor are there, by the descriptor's index in the caller's pool.
@@ -97,7 +96,7 @@ pub(crate) fn is_method_there(
     ensures { result ≡ are_there texts.now (classes_in_method_descriptor (text_at class.now.pool descriptor)) }
 {
     let _ = class;
-    texts.is_method_there(symbol(texts.classes(), caller, descriptor))
+    texts.is_method_there(texts.classes().symbol(caller, descriptor))
 }
 
 /// Why the class of a Class entry isn't resolved that a superclass or superinterface list, an instruction or an exception table

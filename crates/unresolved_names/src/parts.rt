@@ -5,8 +5,6 @@ ghost use Rattle.class_lookup.specs.Lookup.{field_at, find_field, find_method, m
 ghost use Rattle.program_tables.specs.Operands.{class_named};
 ghost use Rattle.unresolved_names.specs.Causes.{signature_at};
 
-use crate::pending;
-use crate::pending::{find_field_by, find_method_by, symbol};
 use class_hierarchy::Hierarchy;
 use class_lookup::{Classes, Place};
 use class_pool::{ClassFile, Member};
@@ -25,7 +23,7 @@ pub(crate) fn class_named(
     ensures below { IfSome result (λ n. n < length classes.now) }
 {
     let _ = class;
-    pending::class_named(classes, caller, index)
+    classes.class_named(caller, index)
 }
 
 /// The field of the name and descriptor at these indexes of the caller's pool, looked up from a class.
@@ -44,8 +42,8 @@ pub(crate) fn field_found(
 {
     let _ = class;
     let texts = classes.classes();
-    let name = symbol(texts, caller, name);
-    find_field_by(classes, number, name, symbol(texts, caller, descriptor))
+    let name = texts.symbol(caller, name);
+    classes.find_field_by(number, name, texts.symbol(caller, descriptor))
 }
 
 /// The method of the name and descriptor at these indexes of the caller's pool, looked up from a class.
@@ -64,8 +62,8 @@ pub(crate) fn method_found(
 {
     let _ = class;
     let texts = classes.classes();
-    let name = symbol(texts, caller, name);
-    find_method_by(classes, number, name, symbol(texts, caller, descriptor))
+    let name = texts.symbol(caller, name);
+    classes.find_method_by(number, name, texts.symbol(caller, descriptor))
 }
 
 /// The field of this place.

@@ -5,9 +5,8 @@ ghost use Rattle.first_found.specs.Lists.{first};
 ghost use Rattle.unresolved_names.specs.Causes.{refused_class, unresolved_supertypes};
 
 use crate::names::why_class;
-use crate::pending::TextTypes;
 use class_pool::ClassFile;
-use program_tables::Why;
+use program_tables::{TextTypes, Why};
 
 /// The Class entry, if its class isn't resolved.
 #[tactic(auto, unfolding(crate::specs::Causes::refused_class, crate::specs::Words::class_reason))]

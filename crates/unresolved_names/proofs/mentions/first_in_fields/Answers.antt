@@ -1,4 +1,4 @@
-use Rattle.std.proofs.Common.{◌≡◌, ◌<◌, ◌≤◌, List, length, get_or, sym, ◌∙◌, subst}
+use Rattle.std.proofs.Common.{◌≡◌, ◌<◌, ◌≤◌, List, length, get_or, sym, subst}
 use Rattle.class_pool.specs.declared.class.Member.{Member}
 use Rattle.first_found.specs.Lemmas.{found_here, still_none, none_first}
 use Rattle.program_tables.specs.Unresolved.{FieldDescriptor}

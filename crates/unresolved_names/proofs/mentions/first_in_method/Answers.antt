@@ -1,4 +1,4 @@
-use Rattle.std.proofs.Common.{ℕ, Some, true, false, ◌∙◌, sym, ap}
+use Rattle.std.proofs.Common.{ℕ, Some, ◌∙◌, sym, ap}
 use Rattle.class_lookup.specs.Parts.{text_at}
 use Rattle.first_found.specs.Lemmas.{ok_same}
 use Rattle.program_tables.specs.declared.refusal.Why.TheVariants as reasons
