@@ -22,7 +22,6 @@ pub(crate) fn is_free(classes: &Classes, class: u32) -> bool
 }
 
 /// Whether the second class is public or of the package of the first.
-#[tactic(auto, using(crate::proofs::PartLemmas::accessible_where))]
 pub(crate) fn is_accessible_class(classes: &Classes, class: u32, other: u32) -> bool
     ensures { result ≡ is_accessible_class classes.now class other }
 {

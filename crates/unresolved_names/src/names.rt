@@ -14,7 +14,6 @@ use class_pool::ClassFile;
 use program_tables::{EntryClass, TextTypes, Why};
 
 /// Whether the class of a Class entry is there, if there is one.
-#[tactic(auto, using(crate::proofs::NameLemmas::class_there))]
 fn is_there(class: EntryClass) -> bool
     ensures { (cs : List ClassFile) (names : List (List ℕ)) → IsClassOf cs names class → result ≡ are_there cs names }
 {
