@@ -59,7 +59,7 @@ pub fn show_trace_faults(rt: &HostRuntime) -> io::Result<()> {
 fn is_cut(answer: &Answer, text: &[u8], least: usize) -> bool {
     let out = answer.out.held();
     matches!(answer.outcome, Outcome::WriteFault)
-        && answer.err.held() == b"write fault\n"
+        && answer.err.held() == b"write fault\n".as_slice()
         && text.starts_with(out)
         && out.len() < text.len()
         && out.len() >= least
