@@ -11,6 +11,10 @@ const LEAST: &[u8] = b"JOPB\x00\x01\x00\x00\x00\x00\x00\x00\x00\x01\xb1";
 const TRACE: [&str; 2] = ["trace", "b"];
 const MICRO: [&str; 3] = ["trace", "--micro", "b"];
 
+// The same with a memory that is quickly made.
+const SMALL: [&str; 4] = ["trace", "--memory", "16", "b"];
+const SMALL_MICRO: [&str; 5] = ["trace", "--memory", "16", "--micro", "b"];
+
 /// Images that run to their end.
 pub fn show_steps(rt: &HostRuntime) -> io::Result<()> {
     for image in [LEAST, HELLO] {
@@ -26,7 +30,7 @@ pub fn show_steps(rt: &HostRuntime) -> io::Result<()> {
 /// A limit of cycles. The boundary that it comes to has no line.
 pub fn show_limited_steps(rt: &HostRuntime) -> io::Result<()> {
     for cycles in ["0", "1", "2", "3", "4"] {
-        let words = ["trace", "--micro", "--cycles", cycles, "b"];
+        let words = ["trace", "--micro", "--memory", "16", "--cycles", cycles, "b"];
         show_text(rt, &words, Some(HELLO), &[], &[])?;
     }
     Ok(())
@@ -44,15 +48,15 @@ pub fn show_untraced(rt: &HostRuntime) -> io::Result<()> {
 /// Sides that fail. A line of a boundary is put in twelve pieces, and so is one of a cycle; one of a byte in three.
 pub fn show_trace_faults(rt: &HostRuntime) -> io::Result<()> {
     for piece in [0, 3, 11, 12, 24, 25, 26, 27, 38] {
-        show_text(rt, &TRACE, Some(HELLO), &[piece], &[])?;
+        show_text(rt, &SMALL, Some(HELLO), &[piece], &[])?;
     }
     for piece in [11, 12, 14, 35, 36, 60, 61, 63, 75, 86] {
-        show_text(rt, &MICRO, Some(HELLO), &[piece], &[])?;
+        show_text(rt, &SMALL_MICRO, Some(HELLO), &[piece], &[])?;
     }
-    show_text(rt, &TRACE, Some(HELLO), &[39], &[])?;
-    show_text(rt, &MICRO, Some(HELLO), &[87], &[])?;
-    show_text(rt, &TRACE, Some(HELLO), &[], &[0])?;
-    show_text(rt, &TRACE, Some(HELLO), &[5], &[0])
+    show_text(rt, &SMALL, Some(HELLO), &[39], &[])?;
+    show_text(rt, &SMALL_MICRO, Some(HELLO), &[87], &[])?;
+    show_text(rt, &SMALL, Some(HELLO), &[], &[0])?;
+    show_text(rt, &SMALL, Some(HELLO), &[5], &[0])
 }
 
 // Whether a call ended with a fault of its output, which holds a front of a text, but for its end, with so many bytes or more.
@@ -104,6 +108,6 @@ fn show_cuts(rt: &HostRuntime, words: &[&str], image: &[u8]) -> io::Result<()> {
 
 /// Each piece of a trace fails in turn.
 pub fn show_all_cuts(rt: &HostRuntime) -> io::Result<()> {
-    show_cuts(rt, &TRACE, HELLO)?;
-    show_cuts(rt, &MICRO, HELLO)
+    show_cuts(rt, &SMALL, HELLO)?;
+    show_cuts(rt, &SMALL_MICRO, HELLO)
 }
