@@ -9,6 +9,7 @@ mod links;
 mod machine;
 mod rows;
 mod texts;
+mod traces;
 mod watches;
 
 use std::io;
@@ -30,6 +31,11 @@ fn main(rt: HostRuntime) -> io::Result<()> {
     texts::show_text_faults(&rt)?;
     texts::show_longest_listing(&rt)?;
     texts::show_long_text(&rt)?;
+    traces::show_steps(&rt)?;
+    traces::show_limited_steps(&rt)?;
+    traces::show_untraced(&rt)?;
+    traces::show_trace_faults(&rt)?;
+    traces::show_all_cuts(&rt)?;
     watches::show_states(&rt)?;
     watches::show_long_watches(&rt)?;
     machine::show_reset(&rt)?;

@@ -75,7 +75,6 @@ pub fn show_machines(rt: &HostRuntime) -> io::Result<()> {
 
 /// Commands that aren't built yet. No file is asked for: each would be a fault.
 pub fn show_others(rt: &HostRuntime) -> io::Result<()> {
-    show(rt, &["trace", "--micro", "b"], None, &[], &[])?;
     show(
         rt,
         &["bound", "--method", "A.a()V", "i", "b"],

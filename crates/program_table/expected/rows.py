@@ -64,6 +64,26 @@ def out_text(data):
     return '%d bytes, sum %08x' % (len(data), sum_of(data)) if len(data) > 64 else data.hex() + '.'
 
 
+def lines_shown(data):
+    """the lines of a trace that are printed: of a long one the first eight and the last eight"""
+    lines = data.decode().splitlines()
+    return lines if len(lines) <= 24 else lines[:8] + lines[-8:]
+
+
+def pieces(text):
+    """what is put of the lines of a trace, call by call"""
+    for line in text.decode().splitlines():
+        words = line.split()
+        if words[0] == 'write':
+            yield from ('write ', words[1], '\n')
+        elif 'frames=' in line:
+            frames, operands = words[4].split('='), words[5].split('=')
+            yield from (words[0], ' ', words[1], ' ', words[2], ' ', words[3], ' frames=', frames[1], ' operands=', operands[1], '\n')
+        else:
+            for word, behind in zip(words, '     \n'):
+                yield from (word, behind)
+
+
 def image_of(main, files):
     image = expected_image.link(main.encode(), files)
     words = [expected_image.word(w) for _, region in image.regions() for w in region]
@@ -79,7 +99,7 @@ class Table:
         self.given, self.wanted = [], []
 
     def call(self, items, status, out, line):
-        """a call; an item is a word, or a word and its file's bytes ('@' for those that were put out last), or the input"""
+        """a call; an item is a word, or a word and its file's bytes ('@' for those that `link` put out last), or the input"""
         texts, words = [], []
         for item in items:
             if isinstance(item, bytes):
@@ -91,8 +111,10 @@ class Table:
                 texts.append(item)
                 words += [item] if item[0] not in '!^' else []
         self.given.append(' '.join(texts))
+        shown = lines_shown(out) if words[0] == 'trace' else []
         self.wanted.append(' '.join(words) + ' -> %d, out %s' % (status, out_text(out)))
         self.wanted.append('"' + line + '\\n"')
+        self.wanted += ['  ' + each for each in shown]
 
     def refused(self, line, *files, main='A'):
         names = ['%c.class' % (ord('a') + i) for i in range(len(files))]
@@ -157,11 +179,34 @@ def read(folder, name):
         return file.read()
 
 
-def run_plainly(simulator, microcode, data, given, stack=1024, memory=262144):
+def run_plainly(simulator, microcode, data, given, stack=1024, memory=262144, cycles=10**9, show=()):
     with open('/tmp/rows.jopi', 'wb') as file:
         file.write(data)
-    ran = subprocess.run([simulator, microcode, '/tmp/rows.jopi', str(stack), str(memory)], input=given, capture_output=True)
+    settings = [str(n) for n in (stack, memory, 16, 64, 1, 2, cycles)]
+    ran = subprocess.run([simulator, *show, microcode, '/tmp/rows.jopi', *settings], input=given, capture_output=True)
     return ran.returncode, ran.stdout, ran.stderr.decode().strip()
+
+
+def trace_plainly(runner, data, given, micro=False, **settings):
+    """the lines of a run, which ends as it does without them and writes the same"""
+    ran = run_plainly(*runner, data, given, **settings)
+    status, text, line = run_plainly(*runner, data, given, show=['--micro' if micro else '--trace'], **settings)
+    lines = text.decode().splitlines()
+    assert (status, line) == (ran[0], ran[2])
+    assert bytes(int(each[6:], 16) for each in lines if each.startswith('write ')) == ran[1]
+    cycles = int(line.split('cycles=')[1].split()[0])
+    states = [each.split()[0] for each in lines if not each.startswith('write ') and 'frames=' not in each]
+    assert states == [str(n) for n in range(cycles if micro else 0)]
+    return status, text, line
+
+
+def show_trace(table, runner, main, files, given, data, micro=False, **settings):
+    """a call of `trace` on the image that was linked last"""
+    options = ['--micro'] if micro else []
+    options += [word for name, value in settings.items() for word in ('--' + name, str(value))]
+    status, text, line = trace_plainly(runner, data, given, micro, **settings)
+    table.call([given, 'trace'] + options + [('image', '@')], status, text, with_name(line, main, files))
+    return text
 
 
 def with_name(line, main, files):
@@ -186,8 +231,13 @@ def programs(table, classes, controller, runner):
             continue
         status, out, line = run_plainly(*runner, data, given)
         assert out == run_by_java(folder + os.pathsep + classes, main, given), main
-        line = with_name(line, main, [read(folder, n) for n in names])
-        table.call([given, 'run', ('image', '@')], status, out, line)
+        files = [read(folder, n) for n in names]
+        table.call([given, 'run', ('image', '@')], status, out, with_name(line, main, files))
+        if main in ('Main', 'Unwinding'):
+            text = show_trace(table, runner, main, files, given, data)
+            show_trace(table, runner, main, files, given, data, micro=True)
+            raised = text.decode().splitlines()[[' raise ' in each for each in text.decode().splitlines()].index(True)]
+            show_trace(table, runner, main, files, given, data, cycles=int(raised.split()[0]) + 1)
 
 
 def image_bytes(main, words, files):
@@ -232,6 +282,15 @@ def failing(table, classes, runner):
     status, out, line = run_plainly(*runner, data, b'')
     assert out == b'\0\xff'
     table.call(['run', ('image', data)], status, out, line)
+    for micro, number in ((False, 0), (False, 3), (True, 0), (True, 3)):
+        table.call(['!%d' % number, INPUT, 'trace'] + ['--micro'] * micro + [('image', '@')], 4, until_taken(trace_plainly(runner, data, INPUT, micro)[1], number, micro), 'read fault')
+
+
+def until_taken(text, number, micro):
+    """the lines up to those of the step that takes the byte of this number, whose state is shown too"""
+    lines = text.splitlines(keepends=True)
+    taking = [i for i, line in enumerate(lines) if b' impdep1 ' in line][number]
+    return b''.join(lines[:taking + 1 + micro])
 
 
 def by_hand(table, runner):
@@ -247,7 +306,31 @@ def by_hand(table, runner):
     def words_of(files):
         return int(image_of('A', files)[1].split('words=')[1].split()[0])
 
+    def show(files, micro=False):
+        return show_trace(table, runner, 'A', files, b'', image_of('A', files)[0], micro)
+
+    def fail(files, micro, *found):
+        """the call that puts the last of these pieces, each the first one behind the one before, fails"""
+        text = trace_plainly(runner, image_of('A', files)[0], b'', micro)[1]
+        parts, at = list(pieces(text)), -1
+        for piece in found:
+            at = parts.index(piece, at + 1)
+        table.call(['^%d' % at, 'trace'] + ['--micro'] * micro + [('image', '@')], 4, ''.join(parts[:at]).encode(), 'write fault')
+
     run([worked.division(Made)], b'\x80\0\0\0', 1)
+    show([worked.division(Made)])
+    across = [worked.across(Made)]
+    run(across, b'\x07')
+    steps = [line if line.startswith('write') else line.split(' ', 1)[1] for line in show(across).decode().splitlines()]
+    assert steps == worked.ACROSS.splitlines(), steps
+    show(across, True)
+    fail(across, False, 'raise', 'A.f()V')
+    fail(across, False, 'impdep2', 'write ')
+    fail(across, False, 'impdep2', 'write ', '07')
+    fail(across, False, 'impdep2', 'write ', 'jop/Io.write(I)V', '\n')
+    fail(across, True, 'iconst_0', '\n', '\n')
+    fail(across, True, 'raise', '\n', '054')
+    fail(across, True, 'impdep2', 'write ', '07')
     run([worked.handlers(Made)], b'\x02')
     run([worked.depth(Made, 2)], b'\x17', stack=256)
     run([worked.depth(Made, 3)], b'\x16', stack=256)

@@ -36,6 +36,43 @@ def handlers(Made):
     return k.main(code, table=table, frames=frames, count=3).bytes()
 
 
+def across(Made):
+    """calls f, which pushes 3 and 1 and calls g, which divides by 0; main catches that and writes 7"""
+    k = Made('A')
+    error = 'java/lang/ArithmeticException'
+    code = b'\xb8' + u2(k.member(10, 'A', 'f', '()V')) + b'\xb1' + b'\x57\x10\x07' + write(k) + b'\xb1'
+    k.main(code, table=[(0, 3, 4, k.cls(error))], frames=same_locals_one(k, 4, error), count=1)
+    k.code(10, 'f', '()V', b'\x06\x04\xb8' + u2(k.member(10, 'A', 'g', '(I)I')) + b'\x60\x57\xb1', local=0)
+    return k.code(10, 'g', '(I)I', b'\x1a\x03\x6c\xac').bytes()
+
+
+# The steps of its run: the method, the place, what stands there or that an object is raised, the frames and the words of operands; or the byte that is written.
+ACROSS = """\
+jop/Boot.boot()V 0 iconst_0 frames=1 operands=0
+jop/Boot.boot()V 1 anewarray frames=1 operands=1
+jop/Boot.boot()V 4 invokestatic frames=1 operands=1
+A.main([Ljava/lang/String;)V 0 invokestatic frames=2 operands=0
+A.f()V 0 iconst_3 frames=3 operands=0
+A.f()V 1 iconst_1 frames=3 operands=1
+A.f()V 2 invokestatic frames=3 operands=2
+A.g(I)I 0 iload_0 frames=4 operands=0
+A.g(I)I 1 iconst_0 frames=4 operands=1
+A.g(I)I 2 idiv frames=4 operands=2
+A.g(I)I 2 raise frames=4 operands=0
+A.f()V 2 raise frames=3 operands=0
+A.main([Ljava/lang/String;)V 0 raise frames=2 operands=0
+A.main([Ljava/lang/String;)V 4 pop frames=2 operands=1
+A.main([Ljava/lang/String;)V 5 bipush frames=2 operands=0
+A.main([Ljava/lang/String;)V 7 invokestatic frames=2 operands=1
+jop/Io.write(I)V 0 iload_0 frames=3 operands=0
+jop/Io.write(I)V 1 impdep2 frames=3 operands=1
+write 07
+jop/Io.write(I)V 2 return frames=3 operands=0
+A.main([Ljava/lang/String;)V 10 return frames=2 operands=0
+jop/Boot.boot()V 7 return frames=1 operands=0
+"""
+
+
 def depth(Made, stack):
     """counts the frames of 7 words that fit the stack behind those of boot, of 6 words, and of main, of 7 words and `stack` more"""
     k = Made('A')

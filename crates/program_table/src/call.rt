@@ -43,6 +43,17 @@ fn print_out(rt: &HostRuntime, out: &[u8]) -> io::Result<()> {
     println!(rt; ".")
 }
 
+// Prints the lines of a trace: of one with more than 24 lines the first eight and the last eight.
+fn print_lines(rt: &HostRuntime, text: &str) -> io::Result<()> {
+    let count = text.lines().count();
+    for (number, line) in text.lines().enumerate() {
+        if count <= 24 || number < 8 || count - number <= 8 {
+            println!(rt; "  {line}")?;
+        }
+    }
+    Ok(())
+}
+
 // Prints words, what came of their call, and what `out` and `err` hold.
 fn print_call(
     rt: &HostRuntime,
@@ -57,7 +68,11 @@ fn print_call(
     print!(rt; "-> {}, out ", outcome.status())?;
     print_out(rt, out)?;
     let line = std::str::from_utf8(err).unwrap_or("no text");
-    println!(rt; "{line:?}")
+    println!(rt; "{line:?}")?;
+    if let ["trace", ..] = words {
+        print_lines(rt, std::str::from_utf8(out).unwrap_or("no text"))?;
+    }
+    Ok(())
 }
 
 /// Makes the call of a line, prints what comes of it, and gives what was put out.
@@ -65,8 +80,8 @@ pub fn show(rt: &HostRuntime, line: &str, last: &[u8]) -> io::Result<Vec<u8>> {
     let alloc = rt.alloc();
     let words = words_of(alloc, line)?;
     let files = files_of(alloc, line, last)?;
-    let input = MemSource::new(input_of(alloc, line)?, numbers_of(alloc, line, b'!')?);
-    let mut out = MemSink::new(alloc, numbers_of(alloc, line, b'^')?);
+    let input = MemSource::new(input_of(alloc, line)?, numbers_of(alloc, line, '!')?);
+    let mut out = MemSink::new(alloc, numbers_of(alloc, line, '^')?);
     let mut err = MemSink::new(alloc, Vec::new(alloc));
     match called(alloc, &words, files, input, &mut out, &mut err) {
         Some(outcome) => print_call(rt, &words, outcome, out.held(), err.held())?,

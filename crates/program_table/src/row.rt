@@ -85,13 +85,13 @@ pub fn input_of(alloc: Global, line: &str) -> Result<Vec<u8>, AllocError> {
     Ok(Vec::new(alloc))
 }
 
-/// The numbers behind this mark, each a digit.
-pub fn numbers_of(alloc: Global, line: &str, mark: u8) -> Result<Vec<u64>, AllocError> {
+/// The numbers behind this mark.
+pub fn numbers_of(alloc: Global, line: &str, mark: char) -> Result<Vec<u64>, AllocError> {
     let mut numbers = Vec::new(alloc);
     for item in line.split(' ') {
-        if let [first, digit @ b'0'..=b'9'] = item.as_bytes() {
-            if *first == mark {
-                numbers.push((*digit - b'0') as u64)?;
+        if let Some(digits) = item.strip_prefix(mark) {
+            if let Ok(number) = digits.parse::<u64>() {
+                numbers.push(number)?;
             }
         }
     }
