@@ -10,15 +10,18 @@ use Rattle.jop_cli.specs.declared.outcome.Ending.TheVariants as endings
 use Rattle.jop_cli.specs.Leaving.{FailsRisen}
 use Rattle.jop_cli.specs.Assembling.{Assembles}
 use Rattle.jop_cli.specs.Linking.{LinksFiles}
-use Rattle.jop_cli.specs.Run.{Outside}
-use Rattle.jop_cli.specs.Phase.{HasSettings, blocks_of_code, Ran, RanWith}
+use Rattle.jop_core.specs.Reset.{bare_reset}
+use Rattle.boundary.specs.Setting.{bare_setting}
+use Rattle.lent_devices.specs.Lent.{Lent}
+use Rattle.jop_cli.specs.Phase.{HasSettings}
+use Rattle.jop_cli.specs.BareFile.{blocks_of_code, Ran, RanWith}
 use Rattle.jop_cli.specs.World.{World}
 use Rattle.jop_cli.specs.Answer.{Does}
 
-pub with_settings : (settings : Settings) (n : ℕ) (image : Image) (config : Config) (old new : Outside) (ending : Ending) → settings.stack ≡ n → blocks_of_code settings image ≤ settings.blocks → HasSettings settings config
-    → Ran n image config settings.cycles old new ending → RanWith settings image old new ending
+pub with_settings : (settings : Settings) (n : ℕ) (image : Image) (config : Config) (old new : Lent) (ending : Ending) → settings.stack ≡ n → blocks_of_code settings image ≤ settings.blocks → HasSettings settings config
+    → Ran (bare_setting image n config.memory) (bare_reset n image config) settings.cycles old new ending → RanWith settings image old new ending
 with_settings settings n image config old new ending is few has ran =
-    let P : ℕ → Type 0 = λ k. Ran k image config settings.cycles old new ending in
+    let P : ℕ → Type 0 = λ k. Ran (bare_setting image k config.memory) (bare_reset k image config) settings.cycles old new ending in
     record { blocks = few; config = config; has = has; ran = subst P (sym is) ran }
 
 pub does_by : (words : List (List ℕ)) (r q : Result Command ℕ) (old new : World) (ending : Ending) → q ≡ r → Does words q old new ending → Does words r old new ending

@@ -6,13 +6,14 @@ use Rattle.jop_words.specs.declared.command.Settings.{Settings}
 use Rattle.class_pool.specs.declared.class.ClassFile.{ClassFile}
 use Rattle.word_lists.specs.Laid.{Laid}
 use Rattle.jopizer.specs.Linked.{Parts}
-use Rattle.jop_cli.specs.declared.linked_end.LinkedEnd.{LinkedEnd}
+use Rattle.jop_cli.specs.declared.program_end.ProgramEnd.{ProgramEnd}
 use Rattle.jop_cli.specs.LinkedSettings.{CodesFit, RanWith}
 use Rattle.jop_cli.specs.Phase.{HasSettings}
-use Rattle.jop_cli.specs.Lent.{Lent}
-use Rattle.jop_cli.specs.LinkedRun.{Ran, HasClass, linked_setting}
+use Rattle.lent_devices.specs.Lent.{Lent}
+use Rattle.jop_cli.specs.Run.{Ran}
+use Rattle.jop_cli.specs.LinkedRun.{HasClass, linked_setting}
 
-pub with_settings : (settings : Settings) (l : Parts) (cs : List ClassFile) (laid : Laid) (n : ℕ) (config : Config) (old new : Lent) (end : LinkedEnd) → CodesFit settings l → length l.laid.words ≤ settings.memory → cs ≡ l.classes → laid ≡ l.laid
+pub with_settings : (settings : Settings) (l : Parts) (cs : List ClassFile) (laid : Laid) (n : ℕ) (config : Config) (old new : Lent) (end : ProgramEnd) → CodesFit settings l → length l.laid.words ≤ settings.memory → cs ≡ l.classes → laid ≡ l.laid
     → settings.stack ≡ n → HasSettings settings config → Ran (linked_setting cs n config.memory) (linked_reset n laid.words config) settings.cycles old new end → HasClass cs end → RanWith settings l old new end
 with_settings settings l cs laid n config old new end codes memory classes laid_is stack has ran class =
     let a = subst (λ (xs : List ClassFile). Ran (linked_setting xs n config.memory) (linked_reset n laid.words config) settings.cycles old new end) classes ran in

@@ -4,6 +4,5 @@ pub mod Words
 pub mod Fitting
 mod Starting
 mod Ended
-mod Taken
 mod Held
 mod Endings

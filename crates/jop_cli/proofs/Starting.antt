@@ -22,7 +22,8 @@ use Rattle.boundary.specs.Linked.{IsHeld, AreLinked, BeginsEach}
 use Rattle.boundary.specs.Session.{Session, Begins}
 use Rattle.linked_methods.specs.Fitting.{code_blocks}
 use Rattle.linked_start.specs.Start.{IsTold, VerifiedProgramsAreTold, BootTakesSixWords}
-use Rattle.jop_cli.specs.LinkedRun.{CanRun, Started, linked_setting}
+use Rattle.jop_cli.specs.Run.{Started}
+use Rattle.jop_cli.specs.LinkedRun.{CanRun, linked_setting}
 
 -- ---- what fits
 

@@ -1,5 +1,5 @@
 -- What the top call answers.
-use Rattle.std.specs.Prelude.{◌≡◌, ℕ, ◌≤◌, true, false, ◌⊎◌, List, Ok, Err}
+use Rattle.std.specs.Prelude.{◌≡◌, ℕ, ◌≤◌, true, false, ◌⊎◌, List, [], Some, Ok, Err}
 use Rattle.std.specs.declared.option.Option.{Option}
 use Rattle.std.specs.declared.result.Result.{Result}
 use Rattle.jop_outside.specs.Outside.{Grew, Rose}
@@ -14,19 +14,21 @@ use Rattle.jop_cli.specs.declared.outcome.Ending.TheVariants.{Ended, Written, Li
 use Rattle.jop_cli.specs.declared.outcome.Outcome.{Outcome}
 use Rattle.jop_cli.specs.declared.outcome.Outcome.TheVariants as outcomes
 use Rattle.jop_cli.specs.Line.{text_at, line_of, is_fault}
-use Rattle.jop_cli.specs.Run.{Outside, outside}
-use Rattle.jop_cli.specs.Phase.{is_linked, RunsBareBytes}
-use Rattle.jop_cli.specs.Lent.{Lent, lent}
+use Rattle.jop_cli.specs.Phase.{is_linked}
+use Rattle.jop_cli.specs.BareFile.{RunsBareBytes}
+use Rattle.lent_devices.specs.Lent.{Lent, lent}
 use Rattle.jop_cli.specs.LinkedFile.{RunsLinkedBytes}
 use Rattle.jop_cli.specs.World.{World, IsQuiet, IsUntaken, FilesStayBut, IsUnchanged, Reads, IsTooBig}
 use Rattle.jop_cli.specs.Assembling.{Assembles}
 use Rattle.jop_cli.specs.Linking.{LinksFiles}
 
-abbrev pub outside_of : World → Outside
-outside_of w = outside w.out w.watch w.out_faults
-
+-- what a run is lent
 abbrev pub lent_of : World → Lent
 lent_of w = lent w.left w.read_faults w.out w.out_faults w.watch
+
+-- the same with an input that has ended
+abbrev pub lent_without_input : World → Lent
+lent_without_input w = lent (Some []) 0 w.out w.out_faults w.watch
 
 -- ---- `run`
 
@@ -42,7 +44,7 @@ pub record RunsBare (settings : Settings) (word : ℕ) (old new : World) (ending
   pub bytes : List ℕ
   pub reads : Reads word bytes old new
   pub bare : is_linked bytes ≡ false
-  pub runs : RunsBareBytes settings bytes (outside_of old) (outside_of new) ending
+  pub runs : RunsBareBytes settings bytes (lent_without_input old) (lent_without_input new) ending
   pub input : IsUntaken old new
 
 -- The file of a word was read, and its bytes begin as those of a linked image.

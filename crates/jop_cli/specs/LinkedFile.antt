@@ -10,14 +10,14 @@ use Rattle.linked_image.specs.Linked.{Image}
 use Rattle.jop_words.specs.declared.command.Settings.{Settings}
 use Rattle.jopizer.specs.Linked.{Parts, IsLinked, image_of}
 use Rattle.jopizer.specs.Images.{DiffersFirst}
-use Rattle.jop_cli.specs.declared.linked_end.LinkedEnd.{LinkedEnd}
-use Rattle.jop_cli.specs.declared.linked_end.LinkedEnd.TheVariants as runs
-use Rattle.jop_cli.specs.declared.linked_end.ImageEnd.TheVariants as ends
+use Rattle.jop_cli.specs.declared.program_end.ProgramEnd.{ProgramEnd}
+use Rattle.jop_cli.specs.declared.program_end.ProgramEnd.TheVariants as runs
+use Rattle.jop_cli.specs.declared.program_end.ImageEnd.TheVariants as ends
 use Rattle.jop_cli.specs.declared.outcome.Refusal.TheVariants.{BadImage, Differs, MemoryTooSmall}
 use Rattle.jop_cli.specs.declared.outcome.Ending.{Ending}
 use Rattle.jop_cli.specs.declared.outcome.Ending.TheVariants.{Ended, Uncaught, Refused, TooLong, NotLinked, Spent, InputFault, WriteFault, NoMemory}
 use Rattle.jop_cli.specs.Linking.{Refuses, HasName}
-use Rattle.jop_cli.specs.Lent.{Lent}
+use Rattle.lent_devices.specs.Lent.{Lent}
 use Rattle.jop_cli.specs.LinkedSettings.{RunsLinked}
 
 -- ---- the bytes
@@ -47,7 +47,7 @@ IsTooLongAs cs method blocks limit NoMemory = Unit {0}
 IsTooLongAs cs method blocks limit ending = ⊥
 
 -- this ending says how a run ended
-abbrev pub SaysEnd : List ClassFile → LinkedEnd → Ending → Type 0
+abbrev pub SaysEnd : List ClassFile → ProgramEnd → Ending → Type 0
 SaysEnd cs (runs.Ended counts) ending = ending ≡ Ended counts
 SaysEnd cs (runs.Uncaught class counts) (Uncaught number name said) = (number ≡ class) × (said ≡ counts) × NamesClass cs class name.items
 SaysEnd cs (runs.Uncaught class counts) ending = ⊥

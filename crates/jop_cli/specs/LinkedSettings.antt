@@ -6,13 +6,13 @@ use Rattle.jop_words.specs.declared.command.Settings.{Settings}
 use Rattle.program_tables.specs.Resolved.{resolved}
 use Rattle.jopizer.specs.Linked.{Parts}
 use Rattle.linked_methods.specs.Fitting.{Fits, IsFirst}
-use Rattle.jop_cli.specs.declared.linked_end.LinkedEnd.{LinkedEnd}
-use Rattle.jop_cli.specs.declared.linked_end.LinkedEnd.TheVariants as runs
-use Rattle.jop_cli.specs.declared.linked_end.ImageEnd.{ImageEnd}
-use Rattle.jop_cli.specs.declared.linked_end.ImageEnd.TheVariants.{MethodTooLong, MemoryTooSmall, Ran}
+use Rattle.jop_cli.specs.declared.program_end.ProgramEnd.{ProgramEnd}
+use Rattle.jop_cli.specs.declared.program_end.ProgramEnd.TheVariants as runs
+use Rattle.jop_cli.specs.declared.program_end.ImageEnd.{ImageEnd}
+use Rattle.jop_cli.specs.declared.program_end.ImageEnd.TheVariants.{MethodTooLong, MemoryTooSmall, Ran}
 use Rattle.jop_cli.specs.Phase.{HasSettings}
-use Rattle.jop_cli.specs.Lent.{Lent}
-use Rattle.jop_cli.specs.LinkedRun as run
+use Rattle.lent_devices.specs.Lent.{Lent}
+use Rattle.jop_cli.specs.Run as run
 use Rattle.jop_cli.specs.LinkedRun.{HasClass, linked_setting}
 
 -- each code fits the method cache
@@ -20,7 +20,7 @@ abbrev pub CodesFit : Settings → Parts → Type 0
 CodesFit settings l = (m : ℕ) → Fits (resolved l.classes) settings.blocks settings.block_words m
 
 -- A machine with the settings holds the image, and it was run from reset.
-pub record RanWith (settings : Settings) (l : Parts) (old new : Lent) (end : LinkedEnd) : Type 0 where
+pub record RanWith (settings : Settings) (l : Parts) (old new : Lent) (end : ProgramEnd) : Type 0 where
   pub codes : CodesFit settings l
   pub memory : length l.laid.words ≤ settings.memory
   pub config : Config

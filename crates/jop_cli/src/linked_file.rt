@@ -9,13 +9,13 @@ ghost use Rattle.jopizer.specs.Images.{IsWrong};
 ghost use Rattle.jopizer.specs.Refused.{IsRefusal};
 ghost use Rattle.class_names.specs.Room.{HasRoom};
 ghost use Rattle.jop_words.specs.Range.{AreSettings};
-ghost use Rattle.jop_cli.specs.declared.linked_end.ImageEnd.TheVariants as ends;
-ghost use Rattle.jop_cli.specs.Lent.{lent};
+ghost use Rattle.jop_cli.specs.declared.program_end.ImageEnd.TheVariants as ends;
+ghost use Rattle.lent_devices.specs.Lent.{lent};
 ghost use Rattle.jop_cli.specs.Leaving.{Leaves, FailsRisen};
 ghost use Rattle.jop_cli.specs.LinkedRun.{HasClass};
 ghost use Rattle.jop_cli.specs.LinkedFile.{BytesFault, IsTooLongAs, SaysEnd, EndsAs, RunsLinkedBytes};
 
-use crate::linked_end::{ImageEnd, LinkedEnd};
+use crate::program_end::{ImageEnd, ProgramEnd};
 use crate::linked_settings::run_with_settings;
 use crate::linking::not_linked;
 use crate::outcome::{Ending, Refusal};
@@ -82,23 +82,23 @@ fn too_long(alloc: Global, program: &Program, method: u32, blocks: u32, limit: u
 }
 
 // The ending where the program ended so, with room for the name of any class.
-fn said(program: &Program, room: Vec<u8>, end: LinkedEnd) -> Ending
+fn said(program: &Program, room: Vec<u8>, end: ProgramEnd) -> Ending
     requires empty { room.items ≡ [] }
     requires room { HasRoom program.now (vec_capacity room) }
     requires class { HasClass program.now end }
     ensures { SaysEnd program.now end result }
 {
     match end {
-        LinkedEnd::Ended(counts) => Ending::Ended(counts),
-        LinkedEnd::Uncaught(class, counts) => {
+        ProgramEnd::Ended(counts) => Ending::Ended(counts),
+        ProgramEnd::Uncaught(class, counts) => {
             let mut name = room;
             tell_name(&mut name, program, class);
             Ending::Uncaught(class, name, counts)
         }
-        LinkedEnd::Spent(counts) => Ending::Spent(counts),
-        LinkedEnd::ReadFault => Ending::InputFault,
-        LinkedEnd::WriteFault => Ending::WriteFault,
-        LinkedEnd::NoMemory => Ending::NoMemory,
+        ProgramEnd::Spent(counts) => Ending::Spent(counts),
+        ProgramEnd::ReadFault => Ending::InputFault,
+        ProgramEnd::WriteFault => Ending::WriteFault,
+        ProgramEnd::NoMemory => Ending::NoMemory,
     }
 }
 

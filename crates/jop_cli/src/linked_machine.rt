@@ -1,18 +1,18 @@
 //! The run of a linked program, from reset.
-ghost use Rattle.std.specs.Prelude.{◌≡◌, ◌≢◌, ◌<◌, ◌^◌, IfOk};
+ghost use Rattle.std.specs.Prelude.{◌≡◌, ◌<◌, ◌^◌, IfOk};
 ghost use Rattle.stack_cache.specs.Size.{IsSize};
+ghost use Rattle.lent_devices.specs.Lent.{lent};
 ghost use Rattle.coded_methods.specs.Methods.{AreMethods};
 ghost use Rattle.program_tables.specs.Resolved.{resolved};
 ghost use Rattle.image_words.specs.Regions.{places_of};
 ghost use Rattle.jop_core.specs.Reset.{linked_reset};
-ghost use Rattle.jop_cli.specs.declared.linked_end.LinkedEnd.TheVariants as ends;
-ghost use Rattle.jop_cli.specs.Lent.{lent};
-ghost use Rattle.jop_cli.specs.LinkedRun.{CanRun, Started, Ran, HasClass, linked_setting};
+ghost use Rattle.jop_cli.specs.declared.program_end.ProgramEnd.TheVariants as ends;
+ghost use Rattle.jop_cli.specs.Run.{Started, Ran};
+ghost use Rattle.jop_cli.specs.LinkedRun.{CanRun, HasClass, linked_setting};
 
-use crate::linked_end::LinkedEnd;
-use crate::linked_run::run;
-use crate::run::counts_of;
-use boundary::{CodedMethod, RunEnd, Running};
+use crate::program_end::ProgramEnd;
+use crate::run::run_to_end;
+use boundary::{CodedMethod, Running};
 use bytecode_verifier::Verified;
 use jop_base::NoMemory;
 use jop_core::{Config, Watch};
@@ -43,33 +43,36 @@ fn start_linked<'a, const N: usize>(
     Running::<N>::start(alloc, layout.words(), methods, config)
 }
 
-/// Runs a machine of a linked program to its end.
-fn run_started<const N: usize, S: Source, O: Sink, V: Watch>(
+/// Runs it with these methods, up to a limit of cycles.
+fn run_methods<const N: usize, S: Source, O: Sink, V: Watch>(
+    alloc: Global,
     program: &Verified,
+    layout: &Layout,
+    methods: &[CodedMethod<'_>],
     config: Config,
-    running: &mut Running<'_, N>,
     input: &mut S,
     out: &mut O,
     watch: &mut V,
     limit: u64,
-) -> LinkedEnd
-    requires started { Started (linked_setting program.now N config.memory) running.old.machine running.old }
+) -> ProgramEnd
+    requires size { IsSize N }
+    requires held { CanRun program.now layout.now config }
+    requires methods { AreMethods (resolved program.now) (places_of program.now) methods.now }
     requires few { limit < 2 ^ 63 }
-    ensures ran { Ran (linked_setting program.now N config.memory) running.old.machine limit
+    ensures ran { Ran (linked_setting program.now N config.memory) (linked_reset N layout.now.words config) limit
         (lent (S.left input.old) (S.faults input.old) (O.held out.old) (O.faults out.old) (V.held watch.old))
         (lent (S.left input.new) (S.faults input.new) (O.held out.new) (O.faults out.new) (V.held watch.new)) result }
     ensures class { HasClass program.now result }
-    ensures made { result ≢ ends.NoMemory }
+    ensures leaves { result ≡ ends.NoMemory → (input.new ≡ input.old) × (out.new ≡ out.old) × (watch.new ≡ watch.old) }
 {
     // The law is for the proof.
     uncaught_classes_are_there();
-    match run(running, input, out, watch, limit) {
-        RunEnd::Ended => LinkedEnd::Ended(counts_of(running.machine())),
-        RunEnd::Uncaught(class) => LinkedEnd::Uncaught(class, counts_of(running.machine())),
-        RunEnd::Spent => LinkedEnd::Spent(counts_of(running.machine())),
-        RunEnd::ReadFault => LinkedEnd::ReadFault,
-        RunEnd::WriteFault => LinkedEnd::WriteFault,
-        RunEnd::SeenFault => unreachable!(),
+    match start_linked::<N>(alloc, program, layout, methods, config) {
+        Ok(running) => {
+            let mut running = running;
+            run_to_end(&mut running, input, out, watch, limit)
+        }
+        Err(NoMemory) => ProgramEnd::NoMemory,
     }
 }
 
@@ -83,7 +86,7 @@ pub(crate) fn run_linked<const N: usize, S: Source, O: Sink, V: Watch>(
     out: &mut O,
     watch: &mut V,
     limit: u64,
-) -> LinkedEnd
+) -> ProgramEnd
     requires size { IsSize N }
     requires held { CanRun program.now layout.now config }
     requires few { limit < 2 ^ 63 }
@@ -93,14 +96,10 @@ pub(crate) fn run_linked<const N: usize, S: Source, O: Sink, V: Watch>(
     ensures class { HasClass program.now result }
     ensures leaves { result ≡ ends.NoMemory → (input.new ≡ input.old) × (out.new ≡ out.old) × (watch.new ≡ watch.old) }
 {
-    let Ok(methods) = methods_of(alloc, program.program(), layout) else {
-        return LinkedEnd::NoMemory;
-    };
-    match start_linked::<N>(alloc, program, layout, &methods, config) {
-        Ok(running) => {
-            let mut running = running;
-            run_started(program, config, &mut running, input, out, watch, limit)
-        }
-        Err(NoMemory) => LinkedEnd::NoMemory,
+    match methods_of(alloc, program.program(), layout) {
+        Ok(methods) => run_methods::<N, S, O, V>(
+            alloc, program, layout, &methods, config, input, out, watch, limit,
+        ),
+        Err(NoMemory) => ProgramEnd::NoMemory,
     }
 }

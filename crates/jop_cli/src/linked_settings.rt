@@ -3,11 +3,11 @@ ghost use Rattle.std.specs.Prelude.{◌≡◌, ◌≤◌, ℕ, length};
 ghost use Rattle.jop_words.specs.Range.{AreSettings};
 ghost use Rattle.program_tables.specs.Resolved.{resolved};
 ghost use Rattle.linked_methods.specs.Fitting.{Fits};
-ghost use Rattle.jop_cli.specs.declared.linked_end.ImageEnd.TheVariants as ends;
-ghost use Rattle.jop_cli.specs.Lent.{lent};
+ghost use Rattle.jop_cli.specs.declared.program_end.ImageEnd.TheVariants as ends;
+ghost use Rattle.lent_devices.specs.Lent.{lent};
 ghost use Rattle.jop_cli.specs.LinkedSettings.{LeavesDevices, RanWith, RunsLinked};
 
-use crate::linked_end::{ImageEnd, LinkedEnd};
+use crate::program_end::{ImageEnd, ProgramEnd};
 use crate::linked_machine::run_linked;
 use crate::settings::config_of;
 use jop_core::Watch;
@@ -38,7 +38,7 @@ fn run_held<S: Source, O: Sink, V: Watch>(
     input: &mut S,
     out: &mut O,
     watch: &mut V,
-) -> LinkedEnd
+) -> ProgramEnd
     requires settings { AreSettings settings.now }
     requires codes { (m : ℕ) → Fits (resolved linked.now.classes) settings.now.blocks settings.now.block_words m }
     requires memory { length linked.now.laid.words ≤ settings.now.memory }

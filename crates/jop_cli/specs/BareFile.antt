@@ -1,0 +1,58 @@
+-- What `run` does with the bytes of a file that don't begin as those of a linked image.
+use Rattle.std.specs.Prelude.{◌≡◌, ℕ, ◌<◌, ◌≤◌, ◌⊎◌, List, length, Some}
+use Rattle.bare_image.specs.Bare.{Image, IsBare}
+use Rattle.memory_timing.specs.declared.Config.{Config}
+use Rattle.method_cache.specs.Contents.{blocks_for}
+use Rattle.jop_core.specs.State as machine
+use Rattle.jop_core.specs.Reset.{words_for, bare_reset}
+use Rattle.jop_words.specs.declared.command.Settings.{Settings}
+use Rattle.boundary.specs.Setting.{Setting, bare_setting}
+use Rattle.boundary.specs.BareLaws.{opcode_of}
+use Rattle.lent_devices.specs.Lent.{Lent}
+use Rattle.jop_cli.specs.declared.program_end.ProgramEnd.TheVariants as runs
+use Rattle.jop_cli.specs.declared.outcome.Refusal.TheVariants.{BadImage, MethodTooLong}
+use Rattle.jop_cli.specs.declared.outcome.Ending.{Ending}
+use Rattle.jop_cli.specs.declared.outcome.Ending.TheVariants.{Ended, Refused, Spent, WriteFault, NoMemory}
+use Rattle.jop_cli.specs.Phase.{HasSettings}
+use Rattle.jop_cli.specs.Run as run
+
+-- why the bytes weren't run
+abbrev pub ImageFault : List ℕ → Ending → Type 0
+ImageFault bytes (Refused BadImage) = (image : Image) → IsBare bytes image → ⊥
+ImageFault bytes NoMemory = Unit {0}
+ImageFault bytes ending = ⊥
+
+-- how many blocks of the method cache the code of an image takes
+abbrev pub blocks_of_code : Settings → Image → ℕ
+blocks_of_code settings image = blocks_for settings.block_words (words_for (length image.code))
+
+-- How the run of a bare image ends: no class is uncaught, and the input isn't asked. The output fails at an impdep2.
+abbrev pub Ran : (g : Setting) → (reset : machine.State) → (limit : ℕ) → (old new : Lent) → Ending → Type 0
+Ran g reset limit old new (Ended counts) = run.Ran g reset limit old new (runs.Ended counts)
+Ran g reset limit old new (Spent counts) = run.Ran g reset limit old new (runs.Spent counts)
+Ran g reset limit old new WriteFault = (r : run.Ran g reset limit old new runs.WriteFault) × (opcode_of g.program r.0.runs.last.state ≡ Some 255)
+Ran g reset limit old new NoMemory = run.Ran g reset limit old new runs.NoMemory
+Ran g reset limit old new ending = ⊥
+
+-- The code of the image takes more blocks than the method cache has, and nothing was done.
+pub record IsTooLong (settings : Settings) (image : Image) (old new : Lent) (ending : Ending) : Type 0 where
+  pub blocks : settings.blocks < blocks_of_code settings image
+  pub ending_is : ending ≡ Refused (MethodTooLong 0 (blocks_of_code settings image) settings.blocks)
+  pub same : new ≡ old
+
+-- The code fits the method cache, and the image was run by a machine with the settings.
+pub record RanWith (settings : Settings) (image : Image) (old new : Lent) (ending : Ending) : Type 0 where
+  pub blocks : blocks_of_code settings image ≤ settings.blocks
+  pub config : Config
+  pub has : HasSettings settings config
+  pub ran : Ran (bare_setting image settings.stack config.memory) (bare_reset settings.stack image config) settings.cycles old new ending
+
+-- The bytes are those of an image, and its code takes more blocks than the method cache has, or it was run.
+pub record RunsImage (settings : Settings) (bytes : List ℕ) (old new : Lent) (ending : Ending) : Type 0 where
+  pub image : Image
+  pub bare : IsBare bytes image
+  pub ran : IsTooLong settings image old new ending ⊎ RanWith settings image old new ending
+
+-- how the run of the bytes ends
+abbrev pub RunsBareBytes : Settings → (bytes : List ℕ) → (old new : Lent) → Ending → Type 0
+RunsBareBytes settings bytes old new ending = (ImageFault bytes ending × (new ≡ old)) ⊎ RunsImage settings bytes old new ending
