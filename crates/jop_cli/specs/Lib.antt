@@ -1,3 +1,5 @@
+pub mod Traces
+pub mod Show
 pub mod Run
 pub mod Line
 pub mod Phase

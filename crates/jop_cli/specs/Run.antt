@@ -1,17 +1,22 @@
 -- The run of a program on the clocked machine, from reset.
-use Rattle.std.specs.Prelude.{◌≡◌, ℕ, ◌≤◌, Some}
+use Rattle.std.specs.Prelude.{◌≡◌, ℕ, ◌≤◌, Bool, List, Some}
 use Rattle.jop_core.specs.State as machine
 use Rattle.jop_outside.specs.Outside.{Rose}
+use Rattle.trace_lines.specs.Traced.{traced}
 use Rattle.bytecode_model.specs.State.{State}
 use Rattle.bytecode_model.specs.Steps.{boot_state}
+use Rattle.coded_methods.specs.Methods.{AreMethods}
 use Rattle.boundary.specs.declared.answer.Boundary.TheVariants.{Bytecode}
 use Rattle.boundary.specs.declared.runs.RunEnd.{RunEnd}
 use Rattle.boundary.specs.declared.runs.RunEnd.TheVariants as ends
 use Rattle.boundary.specs.Setting.{Setting, IsSetting}
-use Rattle.boundary.specs.Session.{Session, Begins}
+use Rattle.boundary.specs.Session.{Session, IsStateOf, Begins}
+use Rattle.boundary.specs.Activations.{Stage}
 use Rattle.boundary.specs.Runs as whole
+use Rattle.jop_cli.specs.Traces.{TracesTo}
 use Rattle.command_lines.specs.declared.line.Counts.{Counts}
 use Rattle.lent_devices.specs.Lent.{Lent, wired}
+use Rattle.jop_cli.specs.Show.{Shown, Output, Trace}
 use Rattle.jop_cli.specs.declared.program_end.ProgramEnd.{ProgramEnd}
 use Rattle.jop_cli.specs.declared.program_end.ProgramEnd.TheVariants.{Ended, Uncaught, Spent, ReadFault, WriteFault, NoMemory}
 
@@ -20,6 +25,7 @@ use Rattle.jop_cli.specs.declared.program_end.ProgramEnd.TheVariants.{Ended, Unc
 -- a run that begins at this state of the machine
 pub record Started (g : Setting) (reset : machine.State) (r : Session) : Type 0 where
   pub is_setting : IsSetting g
+  pub methods : AreMethods g.program g.places r.methods
   pub machine_is : r.machine ≡ reset
   pub mode : r.mode ≡ Bytecode
   pub begins : Begins g reset
@@ -27,6 +33,26 @@ pub record Started (g : Setting) (reset : machine.State) (r : Session) : Type 0 
 -- a run that begins where the machine is, over some program
 abbrev pub HasStarted : Session → Type 0
 HasStarted r = (g : Setting) × Started g r.machine r
+
+-- ---- what it shows
+
+-- The traced run. Its devices are the input and the output, which is given the lines and has failed no less often than they; the watch is as it was.
+pub record Traced (cycles : Bool) (names : List (List ℕ)) (g : Setting) (limit : ℕ) (a : Stage) (now : machine.State) (old new : Lent) (end : RunEnd) : Type 0 where
+  pub writes : ℕ
+  pub sees : ℕ
+  pub few_writes : writes ≤ new.write_faults
+  pub few_sees : sees ≤ new.write_faults
+  pub traces : TracesTo cycles names g limit a now (traced cycles old.left old.read_faults old.held old.write_faults old.write_faults) (traced cycles new.left new.read_faults new.held writes sees) end
+  pub watch : new.handed ≡ old.handed
+
+-- from a, the machine and the program ran to this end
+abbrev pub RunsAs : Shown → (g : Setting) → (limit : ℕ) → (a : Stage) → (now : machine.State) → (old new : Lent) → RunEnd → Type 0
+RunsAs Output g limit a now old new end = whole.RunsTo g limit a now (wired old) (wired new) end
+RunsAs (Trace cycles names) g limit a now old new end = Traced cycles names g limit a now old new end
+
+-- so it is from each state for which the machine stood, of a program with these methods
+abbrev pub RunsAsAll : Shown → (limit : ℕ) → (r : Session) → (now : machine.State) → (old new : Lent) → RunEnd → Type 0
+RunsAsAll shown limit r now old new end = (g : Setting) (s : State) → IsStateOf g r.methods r.machine s → RunsAs shown g limit (record { machine = r.machine; state = s }) now old new end
 
 -- ---- how it ends
 
@@ -37,20 +63,20 @@ pub record AreCounts (counts : Counts) (s : machine.State) : Type 0 where
   pub misses : counts.misses ≡ s.misses
 
 -- From reset, and from the boot state, the machine and the program ran to this end, and the machine is at `now`.
-pub record RunsTo (g : Setting) (reset : machine.State) (limit : ℕ) (end : RunEnd) (old new : Lent) : Type 0 where
+pub record RunsTo (shown : Shown) (g : Setting) (reset : machine.State) (limit : ℕ) (end : RunEnd) (old new : Lent) : Type 0 where
   pub boot : State
   pub is_boot : boot_state g.program ≡ Some boot
   pub now : machine.State
-  pub runs : whole.RunsTo g limit (record { machine = reset; state = boot }) now (wired old) (wired new) end
+  pub runs : RunsAs shown g limit (record { machine = reset; state = boot }) now old new end
 
 -- and these are its counts there
-abbrev pub RunsCounted : (g : Setting) → (reset : machine.State) → (limit : ℕ) → RunEnd → (old new : Lent) → Counts → Type 0
-RunsCounted g reset limit end old new counts = (r : RunsTo g reset limit end old new) × AreCounts counts r.now
+abbrev pub RunsCounted : Shown → (g : Setting) → (reset : machine.State) → (limit : ℕ) → RunEnd → (old new : Lent) → Counts → Type 0
+RunsCounted shown g reset limit end old new counts = (r : RunsTo shown g reset limit end old new) × AreCounts counts r.now
 
-abbrev pub Ran : (g : Setting) → (reset : machine.State) → (limit : ℕ) → (old new : Lent) → ProgramEnd → Type 0
-Ran g reset limit old new (Ended counts) = RunsCounted g reset limit ends.Ended old new counts
-Ran g reset limit old new (Uncaught class counts) = RunsCounted g reset limit (ends.Uncaught class) old new counts
-Ran g reset limit old new (Spent counts) = RunsCounted g reset limit ends.Spent old new counts × (limit ≤ counts.clock)
-Ran g reset limit old new ReadFault = RunsTo g reset limit ends.ReadFault old new × Rose old.read_faults new.read_faults
-Ran g reset limit old new WriteFault = RunsTo g reset limit ends.WriteFault old new × Rose old.write_faults new.write_faults
-Ran g reset limit old new NoMemory = new ≡ old
+abbrev pub Ran : Shown → (g : Setting) → (reset : machine.State) → (limit : ℕ) → (old new : Lent) → ProgramEnd → Type 0
+Ran shown g reset limit old new (Ended counts) = RunsCounted shown g reset limit ends.Ended old new counts
+Ran shown g reset limit old new (Uncaught class counts) = RunsCounted shown g reset limit (ends.Uncaught class) old new counts
+Ran shown g reset limit old new (Spent counts) = RunsCounted shown g reset limit ends.Spent old new counts × (limit ≤ counts.clock)
+Ran shown g reset limit old new ReadFault = RunsTo shown g reset limit ends.ReadFault old new × Rose old.read_faults new.read_faults
+Ran shown g reset limit old new WriteFault = RunsTo shown g reset limit ends.WriteFault old new × Rose old.write_faults new.write_faults
+Ran shown g reset limit old new NoMemory = new ≡ old

@@ -7,13 +7,15 @@ ghost use Rattle.boundary.specs.Setting.{bare_setting};
 ghost use Rattle.lent_devices.specs.Lent.{lent};
 ghost use Rattle.jop_words.specs.Range.{AreSettings};
 ghost use Rattle.jop_cli.specs.Leaving.{Leaves};
+ghost use Rattle.jop_cli.specs.Show.{AreNamed, IsNamed, bare_shown, shown_by};
 ghost use Rattle.jop_cli.specs.Run.{Started};
 ghost use Rattle.jop_cli.specs.BareFile.{ImageFault, blocks_of_code, Ran, RanWith, RunsImage, RunsBareBytes};
 
 use crate::outcome::{Ending, Refusal};
 use crate::program_end::ProgramEnd;
 use crate::run::run_to_end;
-use crate::settings::{blocks_of, config_of};
+use crate::settings::{Plan, blocks_of, plan_of};
+use crate::show::{NamedShow, Show, bare_show};
 use boundary::Running;
 use boundary::laws::{bare_images_are_programs, bare_images_step};
 use jop_base::NoMemory;
@@ -44,33 +46,35 @@ fn start<const N: usize>(
     requires size { IsSize N }
     requires room { CanStartBare bare.now config }
     requires grammar { IsImage bare.now }
-    ensures { IfOk result (Started (bare_setting bare.now N config.memory) (bare_reset N bare.now config)) }
+    ensures started { IfOk result (Started (bare_setting bare.now N config.memory) (bare_reset N bare.now config)) }
+    ensures one { IfOk result (λ r. length r.methods ≡ 1) }
 {
     // The law is for the proof.
     bare_images_are_programs();
     Running::<N>::start_bare(alloc, bare, config)
 }
 
-// Runs a machine over an image from reset, up to a limit of cycles.
+// Runs a machine over an image from reset, and shows what is to be shown.
 fn run_started<const N: usize, O: Sink, V: Watch>(
     bare: &Bare,
-    config: Config,
+    plan: Plan,
+    shown: &NamedShow,
     running: &mut Running<'_, N>,
     out: &mut O,
     watch: &mut V,
-    limit: u64,
 ) -> Ending
-    requires started { Started (bare_setting bare.now N config.memory) (bare_reset N bare.now config) running.old }
+    requires started { Started (bare_setting bare.now N plan.config.memory) (bare_reset N bare.now plan.config) running.old }
     requires grammar { IsImage bare.now }
-    requires few { limit < 2 ^ 63 }
-    ensures ran { Ran (bare_setting bare.now N config.memory) (bare_reset N bare.now config) limit
+    requires named { AreNamed (shown_by shown.now) running.old.methods }
+    requires few { plan.limit < 2 ^ 63 }
+    ensures ran { Ran (shown_by shown.now) (bare_setting bare.now N plan.config.memory) (bare_reset N bare.now plan.config) plan.limit
         (lent (Some []) 0 (O.held out.old) (O.faults out.old) (V.held watch.old))
         (lent (Some []) 0 (O.held out.new) (O.faults out.new) (V.held watch.new)) result }
     ensures done { Leaves result → ⊥ }
 {
     // The law is for the proof.
     bare_images_step();
-    match run_to_end(running, &mut NoSource, out, watch, limit) {
+    match run_to_end(running, shown, &mut NoSource, out, watch, plan.limit) {
         ProgramEnd::Ended(counts) => Ending::Ended(counts),
         ProgramEnd::Spent(counts) => Ending::Spent(counts),
         ProgramEnd::WriteFault => Ending::WriteFault,
@@ -80,29 +84,53 @@ fn run_started<const N: usize, O: Sink, V: Watch>(
     }
 }
 
-// Runs an image from reset, up to a limit of cycles.
+// Runs an image from reset, and shows what is to be shown.
 fn run_image<const N: usize, O: Sink, V: Watch>(
     alloc: Global,
     bare: &Bare,
-    config: Config,
+    plan: Plan,
+    shown: &NamedShow,
     out: &mut O,
     watch: &mut V,
-    limit: u64,
 ) -> Ending
     requires size { IsSize N }
-    requires room { CanStartBare bare.now config }
+    requires room { CanStartBare bare.now plan.config }
     requires grammar { IsImage bare.now }
-    requires few { limit < 2 ^ 63 }
-    ensures ran { Ran (bare_setting bare.now N config.memory) (bare_reset N bare.now config) limit
+    requires named { IsNamed (shown_by shown.now) }
+    requires few { plan.limit < 2 ^ 63 }
+    ensures ran { Ran (shown_by shown.now) (bare_setting bare.now N plan.config.memory) (bare_reset N bare.now plan.config) plan.limit
         (lent (Some []) 0 (O.held out.old) (O.faults out.old) (V.held watch.old))
         (lent (Some []) 0 (O.held out.new) (O.faults out.new) (V.held watch.new)) result }
     ensures leaves { Leaves result → (out.new ≡ out.old) × (watch.new ≡ watch.old) }
 {
-    match start::<N>(alloc, bare, config) {
+    match start::<N>(alloc, bare, plan.config) {
         Ok(running) => {
             let mut running = running;
-            run_started(bare, config, &mut running, out, watch, limit)
+            run_started(bare, plan, shown, &mut running, out, watch)
         }
+        Err(NoMemory) => Ending::NoMemory,
+    }
+}
+
+// Runs an image from reset, and shows what is to be shown. After the machine is made no memory is asked for.
+fn run_shown<const N: usize, O: Sink, V: Watch>(
+    alloc: Global,
+    bare: &Bare,
+    plan: Plan,
+    out: &mut O,
+    watch: &mut V,
+) -> Ending
+    requires size { IsSize N }
+    requires room { CanStartBare bare.now plan.config }
+    requires grammar { IsImage bare.now }
+    requires few { plan.limit < 2 ^ 63 }
+    ensures ran { Ran (bare_shown plan.show) (bare_setting bare.now N plan.config.memory) (bare_reset N bare.now plan.config) plan.limit
+        (lent (Some []) 0 (O.held out.old) (O.faults out.old) (V.held watch.old))
+        (lent (Some []) 0 (O.held out.new) (O.faults out.new) (V.held watch.new)) result }
+    ensures leaves { Leaves result → (out.new ≡ out.old) × (watch.new ≡ watch.old) }
+{
+    match bare_show(alloc, plan.show) {
+        Ok(shown) => run_image::<N, O, V>(alloc, bare, plan, &shown, out, watch),
         Err(NoMemory) => Ending::NoMemory,
     }
 }
@@ -112,23 +140,23 @@ fn run_with<O: Sink, V: Watch>(
     alloc: Global,
     bare: &Bare,
     settings: &Settings,
+    show: Show,
     out: &mut O,
     watch: &mut V,
 ) -> Ending
     requires settings { AreSettings settings.now }
     requires grammar { IsImage bare.now }
     requires room { blocks_of_code settings.now bare.now ≤ settings.now.blocks }
-    ensures ran { RanWith settings.now bare.now
+    ensures ran { RanWith settings.now show bare.now
         (lent (Some []) 0 (O.held out.old) (O.faults out.old) (V.held watch.old))
         (lent (Some []) 0 (O.held out.new) (O.faults out.new) (V.held watch.new)) result }
     ensures leaves { Leaves result → (out.new ≡ out.old) × (watch.new ≡ watch.old) }
 {
-    let config = config_of(settings);
-    let limit = settings.cycles;
+    let plan = plan_of(settings, show);
     match settings.stack {
-        256 => run_image::<256, O, V>(alloc, bare, config, out, watch, limit),
-        512 => run_image::<512, O, V>(alloc, bare, config, out, watch, limit),
-        _ => run_image::<1024, O, V>(alloc, bare, config, out, watch, limit),
+        256 => run_shown::<256, O, V>(alloc, bare, plan, out, watch),
+        512 => run_shown::<512, O, V>(alloc, bare, plan, out, watch),
+        _ => run_shown::<1024, O, V>(alloc, bare, plan, out, watch),
     }
 }
 
@@ -137,6 +165,7 @@ fn run_fitting<O: Sink, V: Watch>(
     alloc: Global,
     bare: &Bare,
     settings: &Settings,
+    show: Show,
     out: &mut O,
     watch: &mut V,
 ) -> Ending
@@ -145,7 +174,7 @@ fn run_fitting<O: Sink, V: Watch>(
     ensures ran { IsTooLong settings.now bare.now
         (lent (Some []) 0 (O.held out.old) (O.faults out.old) (V.held watch.old))
         (lent (Some []) 0 (O.held out.new) (O.faults out.new) (V.held watch.new)) result
-        ⊎ RanWith settings.now bare.now
+        ⊎ RanWith settings.now show bare.now
         (lent (Some []) 0 (O.held out.old) (O.faults out.old) (V.held watch.old))
         (lent (Some []) 0 (O.held out.new) (O.faults out.new) (V.held watch.new)) result }
     ensures leaves { Leaves result → (out.new ≡ out.old) × (watch.new ≡ watch.old) }
@@ -154,7 +183,7 @@ fn run_fitting<O: Sink, V: Watch>(
     if blocks > settings.blocks {
         return Ending::Refused(Refusal::MethodTooLong(0, blocks, settings.blocks));
     }
-    run_with(alloc, bare, settings, out, watch)
+    run_with(alloc, bare, settings, show, out, watch)
 }
 
 /// Runs the bare image of whose file these are the bytes.
@@ -162,17 +191,18 @@ pub(crate) fn run_bare_bytes<O: Sink, V: Watch>(
     alloc: Global,
     bytes: &[u8],
     settings: &Settings,
+    show: Show,
     out: &mut O,
     watch: &mut V,
 ) -> Ending
     requires settings { AreSettings settings.now }
-    ensures runs { RunsBareBytes settings.now bytes.now
+    ensures runs { RunsBareBytes settings.now show bytes.now
         (lent (Some []) 0 (O.held out.old) (O.faults out.old) (V.held watch.old))
         (lent (Some []) 0 (O.held out.new) (O.faults out.new) (V.held watch.new)) result }
     ensures leaves { Leaves result → (out.new ≡ out.old) × (watch.new ≡ watch.old) }
 {
     match image_of(alloc, bytes) {
-        Ok(bare) => run_fitting(alloc, &bare, settings, out, watch),
+        Ok(bare) => run_fitting(alloc, &bare, settings, show, out, watch),
         Err(ending) => ending,
     }
 }

@@ -11,9 +11,11 @@ mod linked_settings;
 mod linking;
 mod load;
 mod outcome;
+mod pending;
 mod program_end;
 mod run;
 mod settings;
+mod show;
 mod top;
 
 pub use outcome::{AsmRefusal, Outcome, Refusal};

@@ -19,6 +19,7 @@ use crate::program_end::{ImageEnd, ProgramEnd};
 use crate::linked_settings::run_with_settings;
 use crate::linking::not_linked;
 use crate::outcome::{Ending, Refusal};
+use crate::show::Show;
 use class_names::{name_room, tell_name};
 use jop_core::Watch;
 use jop_outside::{Sink, Source};
@@ -107,12 +108,13 @@ fn run_program<S: Source, O: Sink, V: Watch>(
     alloc: Global,
     linked: &Linked,
     settings: &Settings,
+    show: Show,
     input: &mut S,
     out: &mut O,
     watch: &mut V,
 ) -> Ending
     requires { AreSettings settings.now }
-    ensures ends { EndsAs settings.now linked.now
+    ensures ends { EndsAs settings.now show linked.now
         (lent (S.left input.old) (S.faults input.old) (O.held out.old) (O.faults out.old) (V.held watch.old))
         (lent (S.left input.new) (S.faults input.new) (O.held out.new) (O.faults out.new) (V.held watch.new)) result }
     ensures leaves { Leaves result → (input.new ≡ input.old) × (out.new ≡ out.old) × (watch.new ≡ watch.old) }
@@ -124,7 +126,7 @@ fn run_program<S: Source, O: Sink, V: Watch>(
     let Ok(room) = name_room(alloc, program) else {
         return Ending::NoMemory;
     };
-    match run_with_settings(alloc, linked, settings, input, out, watch) {
+    match run_with_settings(alloc, linked, settings, show, input, out, watch) {
         ImageEnd::MethodTooLong(method, blocks) => {
             too_long(alloc, program, method, blocks, settings.blocks)
         }
@@ -140,18 +142,19 @@ pub(crate) fn run_linked_bytes<S: Source, O: Sink, V: Watch>(
     alloc: Global,
     bytes: &[u8],
     settings: &Settings,
+    show: Show,
     input: &mut S,
     out: &mut O,
     watch: &mut V,
 ) -> Ending
     requires { AreSettings settings.now }
-    ensures runs { RunsLinkedBytes settings.now bytes.now
+    ensures runs { RunsLinkedBytes settings.now show bytes.now
         (lent (S.left input.old) (S.faults input.old) (O.held out.old) (O.faults out.old) (V.held watch.old))
         (lent (S.left input.new) (S.faults input.new) (O.held out.new) (O.faults out.new) (V.held watch.new)) result }
     ensures leaves { Leaves result → (input.new ≡ input.old) × (out.new ≡ out.old) × (watch.new ≡ watch.old) }
 {
     match linked_of(alloc, bytes) {
-        Ok(linked) => run_program(alloc, &linked, settings, input, out, watch),
+        Ok(linked) => run_program(alloc, &linked, settings, show, input, out, watch),
         Err(ending) => ending,
     }
 }

@@ -17,6 +17,7 @@ use crate::linked_file::run_linked_bytes;
 use crate::linking::link_files;
 use crate::load::load;
 use crate::outcome::{Ending, Outcome, Refusal};
+use crate::show::Show;
 use jop_core::Watch;
 use jop_outside::{Files, Sink, Source};
 use jop_words::{Command, Settings, read_words};
@@ -27,15 +28,16 @@ fn run_bytes<S: Source, O: Sink, V: Watch>(
     alloc: Global,
     bytes: &[u8],
     settings: &Settings,
+    show: Show,
     input: &mut S,
     out: &mut O,
     watch: &mut V,
 ) -> Ending
     requires { AreSettings settings.now }
-    ensures bare { is_linked bytes.now ≡ false → RunsBareBytes settings.now bytes.now
+    ensures bare { is_linked bytes.now ≡ false → RunsBareBytes settings.now show bytes.now
         (lent (Some []) 0 (O.held out.old) (O.faults out.old) (V.held watch.old))
         (lent (Some []) 0 (O.held out.new) (O.faults out.new) (V.held watch.new)) result }
-    ensures linked { is_linked bytes.now ≡ true → RunsLinkedBytes settings.now bytes.now
+    ensures linked { is_linked bytes.now ≡ true → RunsLinkedBytes settings.now show bytes.now
         (lent (S.left input.old) (S.faults input.old) (O.held out.old) (O.faults out.old) (V.held watch.old))
         (lent (S.left input.new) (S.faults input.new) (O.held out.new) (O.faults out.new) (V.held watch.new)) result }
     ensures leaves { Leaves result → (input.new ≡ input.old) × (out.new ≡ out.old) × (watch.new ≡ watch.old) }
@@ -43,9 +45,9 @@ fn run_bytes<S: Source, O: Sink, V: Watch>(
     ensures rose { FailsRisen result (S.faults input.old) (S.faults input.new) }
 {
     if bytes.starts_with(b"JOPI") {
-        run_linked_bytes(alloc, bytes, settings, input, out, watch)
+        run_linked_bytes(alloc, bytes, settings, show, input, out, watch)
     } else {
-        run_bare_bytes(alloc, bytes, settings, out, watch)
+        run_bare_bytes(alloc, bytes, settings, show, out, watch)
     }
 }
 
@@ -53,6 +55,7 @@ fn run_bytes<S: Source, O: Sink, V: Watch>(
 fn run_file<F: Files, S: Source, O: Sink, V: Watch>(
     alloc: Global,
     settings: &Settings,
+    show: Show,
     word: u32,
     files: &mut F,
     input: &mut S,
@@ -61,7 +64,7 @@ fn run_file<F: Files, S: Source, O: Sink, V: Watch>(
 ) -> Ending
     requires settings { AreSettings settings.now }
     requires there { word < F.words files.old }
-    ensures runs { RunsFile settings.now word
+    ensures runs { RunsFile settings.now show word
         (world (F.words files.old) (F.told files.old) (F.faults files.old) (S.left input.old) (S.faults input.old) (O.held out.old) (O.faults out.old) (V.held watch.old))
         (world (F.words files.new) (F.told files.new) (F.faults files.new) (S.left input.new) (S.faults input.new) (O.held out.new) (O.faults out.new) (V.held watch.new)) result }
     ensures leaves { Leaves result → (input.new ≡ input.old) × (out.new ≡ out.old) × (watch.new ≡ watch.old) }
@@ -71,7 +74,7 @@ fn run_file<F: Files, S: Source, O: Sink, V: Watch>(
     ensures rose { FailsRisen result (S.faults input.old) (S.faults input.new) }
 {
     match load(alloc, files, word) {
-        Ok(bytes) => run_bytes(alloc, &bytes, settings, input, out, watch),
+        Ok(bytes) => run_bytes(alloc, &bytes, settings, show, input, out, watch),
         Err(ending) => ending,
     }
 }
@@ -102,7 +105,15 @@ fn execute<F: Files, S: Source, O: Sink, V: Watch>(
     };
     match command {
         Command::Run { settings, image } => {
-            run_file(alloc, &settings, image, files, input, out, watch)
+            run_file(alloc, &settings, Show::Output, image, files, input, out, watch)
+        }
+        Command::Trace {
+            settings,
+            micro,
+            image,
+        } => {
+            let show = Show::Trace { cycles: micro };
+            run_file(alloc, &settings, show, image, files, input, out, watch)
         }
         Command::Asm { text } => assemble_file(alloc, text, files, out),
         Command::Link { main, first } => link_files(alloc, words, main, first, files, out),
@@ -161,8 +172,10 @@ fn outcome_for(ending: &Ending) -> Outcome
 /// Does all that the program does, and puts one line that says how it ended into `err`, unless it is `Written`.
 ///
 /// Word k names file k. `run` of an image takes the program's input from `input`, puts its output into `out`, and hands the
-/// registers of each state of the machine, from reset on, from which a cycle was done or tried to `watch`. `asm` puts the
-/// words of the text's microprogram into `out`, a line for each, and `link` the file of the image of the class files.
+/// registers of each state of the machine, from reset on, from which a cycle was done or tried to `watch`. `trace` is the same
+/// run, and puts its lines into `out`: one before each step, one for each byte of the output and, if asked to, one before each
+/// cycle. `asm` puts the words of the text's microprogram into `out`, a line for each, and `link` the file of the image of the
+/// class files.
 pub fn jop<F: Files, S: Source, O: Sink, E: Sink, V: Watch>(
     alloc: Global,
     words: &[&str],

@@ -1,7 +1,7 @@
 -- The lines of a trace.
-use Rattle.std.specs.Prelude.{ℕ, Bool, true, false, List, [], ◌∷◌, ◌++◌, codes, decimal, drop, Some, None}
+use Rattle.std.specs.Prelude.{ℕ, Bool, true, false, List, [], ◌∷◌, codes, decimal, drop, Some, None}
 use Rattle.std.specs.declared.option.Option.{Option}
-use Rattle.std.specs.List.{concat, flat_map}
+use Rattle.std.specs.List.{concat}
 use Rattle.jop_opcodes.specs.Row.{row_of}
 use Rattle.jop_device.specs.declared.seen.Seen.{Seen}
 use Rattle.jop_device.specs.Told.{Note, Wrote, Saw}
@@ -32,14 +32,10 @@ registers_line clock mpc a b sp vp = concat (decimal clock ∷ codes " " ∷ mpc
 abbrev pub cycle_line : Seen → List ℕ
 cycle_line at = registers_line at.clock (short_hex at.mpc) (hex 8 at.a) (hex 8 at.b) (short_hex at.sp) (short_hex at.vp)
 
--- ---- of the steps of a run
+-- ---- of what the devices note
 
 -- what a trace has of the bytes that a step writes and, with its cycles, of the states from which these are done
 abbrev pub note_line : (cycles : Bool) → Note → List ℕ
 note_line cycles (Wrote byte) = write_line byte
 note_line true (Saw at) = cycle_line at
 note_line false (Saw at) = []
-
--- the lines of a step
-abbrev pub step_lines : (cycles : Bool) → AtBoundary → List Note → List ℕ
-step_lines cycles at notes = boundary_line at ++ flat_map (note_line cycles) notes

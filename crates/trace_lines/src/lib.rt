@@ -1,10 +1,12 @@
 //! The lines of a trace: of a boundary from which a step is begun, of a byte that the program writes, and of a cycle. Their
-//! texts stand in `specs/Lines.antt`. No memory is taken.
+//! texts stand in `specs/Lines.antt`. A [`TraceDevice`] puts those of a run. No memory is taken.
 #![tactic(auto)]
 
+mod device;
 mod hex;
 mod lines;
 mod pieces;
 
+pub use device::TraceDevice;
 pub use hex::hex as hex_digits;
 pub use lines::{AtBoundary, put_boundary, put_cycle, put_write};
