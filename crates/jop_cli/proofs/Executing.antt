@@ -2,7 +2,9 @@
 use Rattle.std.proofs.Common.{◌≡◌, ℕ, ◌≤◌, List, refl, sym, subst, ⊎_elim}
 use Rattle.std.specs.declared.result.Result.{Result}
 use Rattle.bare_image.specs.Bare.{Image}
-use Rattle.memory_timing.specs.declared.Config.{Config}
+use Rattle.jop_cli.specs.declared.settings.Plan.{Plan}
+use Rattle.jop_cli.specs.declared.show.Show.{Show}
+use Rattle.jop_cli.specs.Show.{bare_shown}
 use Rattle.jop_words.specs.declared.command.Settings.{Settings}
 use Rattle.jop_words.specs.declared.command.Command.{Command}
 use Rattle.jop_cli.specs.declared.outcome.Ending.{Ending}
@@ -18,11 +20,13 @@ use Rattle.jop_cli.specs.BareFile.{blocks_of_code, Ran, RanWith}
 use Rattle.jop_cli.specs.World.{World}
 use Rattle.jop_cli.specs.Answer.{Does}
 
-pub with_settings : (settings : Settings) (n : ℕ) (image : Image) (config : Config) (old new : Lent) (ending : Ending) → settings.stack ≡ n → blocks_of_code settings image ≤ settings.blocks → HasSettings settings config
-    → Ran (bare_setting image n config.memory) (bare_reset n image config) settings.cycles old new ending → RanWith settings image old new ending
-with_settings settings n image config old new ending is few has ran =
-    let P : ℕ → Type 0 = λ k. Ran (bare_setting image k config.memory) (bare_reset k image config) settings.cycles old new ending in
-    record { blocks = few; config = config; has = has; ran = subst P (sym is) ran }
+pub with_settings : (settings : Settings) (show : Show) (n : ℕ) (image : Image) (plan : Plan) (old new : Lent) (ending : Ending) → settings.stack ≡ n → blocks_of_code settings image ≤ settings.blocks → HasSettings settings plan.config
+    → plan.limit ≡ settings.cycles → plan.show ≡ show → Ran (bare_shown plan.show) (bare_setting image n plan.config.memory) (bare_reset n image plan.config) plan.limit old new ending → RanWith settings show image old new ending
+with_settings settings show n image plan old new ending is few has limit shows ran =
+    let config = plan.config in
+    let a = subst (λ (x : Show). Ran (bare_shown x) (bare_setting image n config.memory) (bare_reset n image config) plan.limit old new ending) shows ran in
+    let b = subst (λ (k : ℕ). Ran (bare_shown show) (bare_setting image n config.memory) (bare_reset n image config) k old new ending) limit a in
+    record { blocks = few; config = config; has = has; ran = subst (λ (k : ℕ). Ran (bare_shown show) (bare_setting image k config.memory) (bare_reset k image config) settings.cycles old new ending) (sym is) b }
 
 pub does_by : (words : List (List ℕ)) (r q : Result Command ℕ) (old new : World) (ending : Ending) → q ≡ r → Does words q old new ending → Does words r old new ending
 does_by words r q old new ending is does = let P : Result Command ℕ → Type 0 = λ x. Does words x old new ending in subst P is does

@@ -6,3 +6,4 @@ mod Starting
 mod Ended
 mod Held
 mod Endings
+mod Named

@@ -38,7 +38,8 @@ fn start_linked<'a, const N: usize>(
     requires size { IsSize N }
     requires held { CanRun program.now layout.now config }
     requires methods { AreMethods (resolved program.now) (places_of program.now) methods.now }
-    ensures { IfOk result (Started (linked_setting program.now N config.memory) (linked_reset N layout.now.words config)) }
+    ensures started { IfOk result (Started (linked_setting program.now N config.memory) (linked_reset N layout.now.words config)) }
+    ensures methods { IfOk result (λ r. r.methods ≡ methods.now) }
 {
     // The laws are for the proof.
     verified_programs_are_told();
