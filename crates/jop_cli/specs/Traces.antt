@@ -11,6 +11,7 @@ use Rattle.trace_lines.specs.Lines.{step_line, step_name, note_line}
 use Rattle.trace_lines.specs.Traced.{LineIsPut, LineFails}
 use Rattle.bytecode_model.specs.declared.Ending.TheVariants as modes
 use Rattle.bytecode_model.specs.State.{State}
+use Rattle.bytecode_model.specs.Program.{Program}
 use Rattle.bytecode_model.specs.Sizes.{value_words}
 use Rattle.bytecode_typing.specs.Fits.{IsGoing}
 use Rattle.machine_frames.specs.Shows.{top_frame}
@@ -18,7 +19,8 @@ use Rattle.boundary.specs.declared.answer.Boundary.{Boundary}
 use Rattle.boundary.specs.declared.answer.Boundary.TheVariants as answers
 use Rattle.boundary.specs.declared.runs.RunEnd.{RunEnd}
 use Rattle.boundary.specs.declared.runs.RunEnd.TheVariants as ends
-use Rattle.boundary.specs.Opcodes.{next_opcode}
+use Rattle.boundary.specs.BareLaws.{opcode_of}
+use Rattle.bytecode_model.specs.declared.Ending.{Ending}
 use Rattle.boundary.specs.Setting.{Setting}
 use Rattle.boundary.specs.Session.{Session, IsStateOf}
 use Rattle.boundary.specs.Activations.{Stage, Follows}
@@ -34,6 +36,14 @@ texts names = map (λ (name : Vec ℕ Global). name.items) names
 -- the name of the method of this number; past the last one it is empty
 abbrev pub name_of : (names : List (List ℕ)) → (method : ℕ) → List ℕ
 name_of names method = elim (slice_get names method) [ None ↦ [] | Some name ↦ name ]
+
+abbrev pub opcode_in : Program → State → Ending → Option ℕ
+opcode_in P s modes.Running = opcode_of P s
+opcode_in P s mode = None
+
+-- the opcode of the instruction that is about to run; there is none while an object is raised
+abbrev pub next_opcode : Program → State → Option ℕ
+next_opcode P s = opcode_in P s s.mode
 
 -- the line of a boundary: the cycles so far, and of the top frame the method's name, the place of the instruction, what is about to run, how many frames there are
 -- and how many words its operands take

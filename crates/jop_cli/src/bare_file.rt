@@ -113,7 +113,7 @@ fn run_image<const N: usize, O: Sink, V: Watch>(
 }
 
 // Runs an image from reset, and shows what is to be shown. After the machine is made no memory is asked for.
-fn run_shown<const N: usize, O: Sink, V: Watch>(
+fn run_bare<const N: usize, O: Sink, V: Watch>(
     alloc: Global,
     bare: &Bare,
     plan: Plan,
@@ -154,9 +154,9 @@ fn run_with<O: Sink, V: Watch>(
 {
     let plan = plan_of(settings, show);
     match settings.stack {
-        256 => run_shown::<256, O, V>(alloc, bare, plan, out, watch),
-        512 => run_shown::<512, O, V>(alloc, bare, plan, out, watch),
-        _ => run_shown::<1024, O, V>(alloc, bare, plan, out, watch),
+        256 => run_bare::<256, O, V>(alloc, bare, plan, out, watch),
+        512 => run_bare::<512, O, V>(alloc, bare, plan, out, watch),
+        _ => run_bare::<1024, O, V>(alloc, bare, plan, out, watch),
     }
 }
 
