@@ -18,3 +18,4 @@ pub mod Reading
 pub mod Lasting
 pub mod Answered
 pub mod Whole
+pub mod Tracing

@@ -1,19 +1,25 @@
 -- What a run's machine shows.
 use Rattle.std.proofs.Common.{◌≡◌, ℕ, List, [], length, true, ◌∙◌, sym, ap, subst, refl, ⊎_elim}
-use Rattle.std.specs.Prelude.{sum_by, IsSomeAnd}
+use Rattle.std.specs.Prelude.{sum_by, IsSomeAnd, Some, None}
+use Rattle.jop_opcodes.specs.Bytes.{u1}
 use Rattle.coded_methods.specs.declared.method.CodedMethod.{CodedMethod}
 use Rattle.jop_core.specs.State as machine
 use Rattle.bytecode_model.specs.declared.Ending.{Ending}
 use Rattle.bytecode_model.specs.declared.Ending.TheVariants.{Running, Raising, Ended, Uncaught}
+use Rattle.bytecode_model.specs.Lists.{onto}
 use Rattle.bytecode_model.specs.State.{Frame, State}
+use Rattle.bytecode_model.specs.Program.{Program, body_of}
 use Rattle.bytecode_model.specs.Sizes.{value_words}
 use Rattle.bytecode_model.specs.WellFormed.{ModeFits, top_operands}
 use Rattle.bytecode_typing.specs.Laws.{FittingStatesAreWellFormed}
+use Rattle.image_facts.specs.Places.{Places}
+use Rattle.machine_stands.specs.StandsFor.{StandsFor, IsAt}
 use Rattle.machine_frames.specs.Shows as frames
 use Rattle.machine_frames.specs.Shows.{Shows, IsShown, IsRunning, EachRunning, IsRaising, EachRaising, top_frame}
 use Rattle.boundary.specs.declared.answer.Boundary.{Boundary}
 use Rattle.boundary.specs.declared.answer.Boundary.TheVariants as answers
 use Rattle.boundary.specs.Answers.{answer_of, is_going, IsGoing}
+use Rattle.boundary.specs.Opcodes.{next_opcode, opcode_in}
 use Rattle.boundary.specs.Setting.{Setting, limits}
 use Rattle.boundary.specs.Session.{Session, IsStateOf, IsInStep, KeepsStep, EachState, EachTop}
 use Rattle.boundary.specs.StageLaws.{StagesAgree}
@@ -56,6 +62,15 @@ is_raising (Raising p) e = (p, refl)
 is_raising Ended e = absurd (cc)
 is_raising (Uncaught c) e = absurd (cc)
 
+-- the opcode that the machine is about to run is that of the state's instruction
+opcode_stands : (P : Program) (pl : Places) (n size : ℕ) (m : machine.State) (s : State) → StandsFor P pl n size m s → s.mode ≡ Running → next_opcode P s ≡ Some m.opcode
+opcode_stands P pl n size m s st mode =
+    let at = subst (IsAt P pl m s st.top st.body) mode st.at in
+    ap (opcode_in P s) mode
+    ∙ ap (λ o. onto o (λ f. onto (body_of P f.method) (λ b. Some (u1 b.code f.pc)))) (ap top_frame st.frames)
+    ∙ ap (λ o. onto o (λ b. Some (u1 b.code st.top.pc))) st.is_body
+    ∙ ap (λ (k : ℕ). Some k) (sym at.opcode)
+
 -- ---- what is answered
 
 -- the session as it is seen, and the methods as they are lent
@@ -75,6 +90,9 @@ module _ (well : FittingStatesAreWellFormed) (agree : StagesAgree) (n : ℕ) (r 
   each_with : (K : State → Type 0) → ((g : Setting) (s : State) → IsStateOf g r.methods r.machine s → K s) → EachState now K
   each_with K each = subst (λ (z : Session). EachState z K) is each
 
+  each_of : (K : Setting → State → Type 0) → ((g : Setting) (s : State) → IsStateOf g r.methods r.machine s → K g s) → (g : Setting) (s : State) → IsStateOf g now.methods now.machine s → K g s
+  each_of K each = subst (λ (z : Session). (g : Setting) (s : State) → IsStateOf g z.methods z.machine s → K g s) is each
+
   -- ---- where it runs
 
   module _ (not_raising : r.mode ≡ answers.Raise → ⊥) where
@@ -87,6 +105,10 @@ module _ (well : FittingStatesAreWellFormed) (agree : StagesAgree) (n : ℕ) (r 
     pub each_running : (K : Frame → Type 0) → EachRunning methods r.machine K → EachTop now K
     each_running K each = each_with (λ s. IsSomeAnd (top_frame s.frames) K) (λ g s h.
         each g.program g.places g.chip g.memory s (shows well g methods r.machine s (subst (λ zs. IsStateOf g zs r.machine s) (sym same) h)) (is_running s.mode (each_mode well n r goes_on kept agree g s h ∙ bytecode)))
+
+    pub opcode_read : (g : Setting) (s : State) → IsStateOf g now.methods now.machine s → next_opcode g.program s ≡ Some r.machine.opcode
+    opcode_read = each_of (λ g s. next_opcode g.program s ≡ Some r.machine.opcode) (λ g s h.
+        opcode_stands g.program g.places g.chip g.memory r.machine s h.stands.stands (is_running s.mode (each_mode well n r goes_on kept agree g s h ∙ bytecode)))
 
   -- ---- where an object is raised
 
@@ -110,3 +132,7 @@ module _ (well : FittingStatesAreWellFormed) (agree : StagesAgree) (n : ℕ) (r 
         let none : top_operands s.frames ≡ [] = (subst (λ md. ModeFits (length s.objects) s.frames md) mode formed.mode).1 in
         let st = h.stands.stands in
         some_in (top_frame s.frames) st.top (λ f. sum_by value_words f.operands ≡ 0) (ap top_frame st.frames) (ap (sum_by value_words) (sym (ap top_operands st.frames) ∙ none)))
+
+    -- none of an instruction
+    pub no_opcode : (g : Setting) (s : State) → IsStateOf g now.methods now.machine s → next_opcode g.program s ≡ None
+    no_opcode = each_of (λ g s. next_opcode g.program s ≡ None) (λ g s h. let (p, mode) = is_raising s.mode (each_mode well n r goes_on kept agree g s h ∙ raise) in ap (opcode_in g.program s) mode)

@@ -1,5 +1,5 @@
 -- A run that begins.
-use Rattle.std.proofs.Common.{◌≡◌, ℕ, List, Option, Some, None, map, refl, sym, ap, subst}
+use Rattle.std.proofs.Common.{◌≡◌, ℕ, List, Option, Some, map, refl, sym, ap, subst}
 use Rattle.std.specs.Prelude.{slice_get}
 use Rattle.stack_cache.specs.Size.{IsSize}
 use Rattle.memory_timing.specs.declared.Config.{Config}

@@ -67,7 +67,7 @@ Far g limit a now told told' = RunsOn g limit a now told told' (λ s. IsGoing s.
 
 module _ (laws : AreRunLaws) (keep : CyclesKeep) where
   -- what two runs, one behind the other, put out
-  output_adds : (m n : ℕ) (old mid : machine.State) (t0 t1 : Told) (earlier later : List (Option ℕ)) → Ran m old mid t0 t1 earlier
+  pub output_adds : (m n : ℕ) (old mid : machine.State) (t0 t1 : Told) (earlier later : List (Option ℕ)) → Ran m old mid t0 t1 earlier
       → output_during (m + n) (begun old (earlier ++ later)) ≡ output_during m (begun old earlier) ++ output_during n (begun mid later)
   output_adds m n old mid t0 t1 earlier later ran =
       let c = begun old (earlier ++ later) in
@@ -77,7 +77,7 @@ module _ (laws : AreRunLaws) (keep : CyclesKeep) where
       ∙ ap (λ (d : Scene). output_during m (begun old earlier) ++ output_during n d) (scene_is (run m c) mid later (ran.state later) (ran.left later))
       ∙ ap (λ (out : List ℕ). output_during m (begun old earlier) ++ out) (laws.output_after_output n (run m c).output (begun mid later))
 
-  pub run_none : (g : Setting) (limit : ℕ) (a : Stage) (told : Told) → Stands g a.machine a.state → IsRun g limit a a told told
+  unfoldable pub run_none : (g : Setting) (limit : ℕ) (a : Stage) (told : Told) → Stands g a.machine a.state → IsRun g limit a a told told
   unfolding run_from
   run_none g limit a told stage = record {
     steps = 0;
@@ -93,7 +93,7 @@ module _ (laws : AreRunLaws) (keep : CyclesKeep) where
   }
 
   -- one step more
-  pub run_more : (g : Setting) (limit : ℕ) (a b : Stage) (new : machine.State) (t0 t1 t2 : Told) → IsRun g limit a b t0 t1 → IsGoing b.state.mode → b.machine.clock < limit → (v : Advances g b.state b.machine new t1 t2)
+  unfoldable pub run_more : (g : Setting) (limit : ℕ) (a b : Stage) (new : machine.State) (t0 t1 t2 : Told) → IsRun g limit a b t0 t1 → IsGoing b.state.mode → b.machine.clock < limit → (v : Advances g b.state b.machine new t1 t2)
       → IsRun g limit a (record { machine = new; state = v.next }) t0 t2
   run_more g limit a b new t0 t1 t2 r going below v =
       let c : Stage = record { machine = new; state = v.next } in

@@ -6,22 +6,17 @@ use Rattle.jop_opcodes.specs.Start.{IsStart}
 use Rattle.bare_image.specs.Bare.{Image, IsImage}
 use Rattle.jop_core.specs.State as machine
 use Rattle.bytecode_model.specs.declared.Ending.TheVariants.{Running, Ended}
-use Rattle.bytecode_model.specs.Lists.{onto}
-use Rattle.bytecode_model.specs.State.{Frame, State}
-use Rattle.bytecode_model.specs.Program.{Program, body_of}
+use Rattle.bytecode_model.specs.State.{State}
+use Rattle.bytecode_model.specs.Program.{Program}
 use Rattle.bytecode_model.specs.Steps.{step}
 use Rattle.bytecode_model.specs.WellFormed.{IsAnswer}
 use Rattle.machine_stands.specs.Simulates.{is_bare}
-use Rattle.machine_frames.specs.Shows.{top_frame}
+pub use Rattle.boundary.specs.Opcodes.{opcode_of}
 use Rattle.boundary.specs.Setting.{limits, Stands, bare_setting}
 
 -- each of its instructions has one of the opcodes that a bare image may have
 abbrev pub BareOpcodes : Type 0
 BareOpcodes = (image : Image) → IsImage image → (pc : ℕ) → IsStart image.code pc → is_bare (u1 image.code pc) ≡ true
-
--- the opcode of the instruction at which a state stands
-abbrev pub opcode_of : Program → State → Option ℕ
-opcode_of P s = onto (top_frame s.frames) (λ f. onto (body_of P f.method) (λ b. Some (u1 b.code f.pc)))
 
 -- A step takes nothing from the input, goes on or ends, and puts something out at impdep2 alone.
 pub record IsBareStep (P : Program) (s t : State) : Type 0 where

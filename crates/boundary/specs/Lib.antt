@@ -4,9 +4,11 @@ pub mod Families
 pub mod Advances
 pub mod Session
 pub mod Meaning
+pub mod Opcodes
 pub mod BareLaws
 pub mod StageLaws
 pub mod Laws
 pub mod Linked
 pub mod Activations
 pub mod Runs
+pub mod Traces

@@ -8,8 +8,10 @@ pub mod laws;
 mod methods;
 mod running;
 mod runs;
+mod traces;
 
 pub use answer::Boundary;
 pub use coded_methods::CodedMethod;
 pub use running::Running;
 pub use runs::{RunEnd, run};
+pub use traces::trace;

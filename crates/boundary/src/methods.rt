@@ -1,5 +1,5 @@
 //! The methods that a run knows.
-ghost use Rattle.std.specs.Prelude.{◌≡◌};
+ghost use Rattle.std.specs.Prelude.{◌≡◌, length};
 ghost use Rattle.bare_image.specs.Bare.{IsImage};
 ghost use Rattle.coded_methods.specs.Methods.{AreMethods};
 ghost use Rattle.image_facts.specs.Places.{bare_places};
@@ -24,6 +24,7 @@ impl<'a> Methods<'a> {
     pub fn of_bare(image: &'a Bare) -> Self
         ensures methods { AreMethods (program_of image.now) bare_places (methods_of result) }
         ensures image { IsImage image.now }
+        ensures one { length (methods_of result) ≡ 1 }
     {
         Methods::One(CodedMethod {
             place: 0,

@@ -1,5 +1,5 @@
 //! A run of the machine.
-ghost use Rattle.std.specs.Prelude.{◌≡◌, ◌≢◌, ◌<◌, ◌^◌, true, false, IfOk};
+ghost use Rattle.std.specs.Prelude.{◌≡◌, ◌≢◌, ◌<◌, ◌^◌, true, false, length, IfOk};
 ghost use Rattle.stack_cache.specs.Size.{IsSize};
 ghost use Rattle.jop_core.specs.Reset.{CanStartBare, bare_reset, linked_reset};
 ghost use Rattle.coded_methods.specs.Methods.{AreMethods};
@@ -60,6 +60,7 @@ impl<'a, const N: usize> Running<'a, N> {
         ensures machine { IfOk result (λ r. r.machine ≡ bare_reset N image.now config) }
         ensures mode { IfOk result (λ r. r.mode ≡ Boundary.Bytecode) }
         ensures methods { let g = bare_setting image.now N config.memory in IfOk result (λ r. AreMethods g.program g.places r.methods) }
+        ensures one { IfOk result (λ r. length r.methods ≡ 1) }
         ensures begins { IfOk result (λ r. Begins (bare_setting image.now N config.memory) r.machine) }
     {
         // The laws are for the proof.

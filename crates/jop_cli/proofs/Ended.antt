@@ -15,7 +15,7 @@ use Rattle.boundary.specs.Runs.{RunsAll}
 use Rattle.command_lines.specs.declared.line.Counts.{Counts}
 use Rattle.linked_start.specs.Start.{UncaughtClassesAreThere}
 use Rattle.lent_devices.specs.Lent.{Lent, wired}
-use Rattle.jop_cli.specs.Traces.{OutputFails, AtBoundary, AtWrite, AtCycle, TracesAll}
+use Rattle.boundary.specs.Traces.{OutputFails, AtBoundary, AtWrite, AtCycle, TracesAll}
 use Rattle.jop_cli.specs.Show.{Shown, Output, Trace}
 use Rattle.jop_cli.specs.Run.{AreCounts, Started, HasStarted, RunsAsAll, RunsTo, RunsCounted, Ran}
 use Rattle.jop_cli.specs.LinkedRun.{HasClass, linked_setting}

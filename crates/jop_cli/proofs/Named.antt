@@ -16,7 +16,7 @@ use Rattle.image_words.specs.Regions.{places_of}
 use Rattle.bytecode_model.specs.Program.{body_of}
 use Rattle.jop_cli.specs.declared.show.Show.{Show}
 use Rattle.jop_cli.specs.declared.show.Show.TheVariants as shows
-use Rattle.jop_cli.specs.Traces.{texts}
+use Rattle.boundary.specs.Traces.{texts}
 use Rattle.jop_cli.specs.Show.{Shown, Output, Trace, AreNamed, linked_shown}
 use Rattle.jop_cli.proofs.Endings.{method_there}
 

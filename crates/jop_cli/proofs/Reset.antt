@@ -35,7 +35,7 @@ use Rattle.lent_devices.specs.Lent.{Lent, wired}
 use Rattle.jop_cli.specs.declared.program_end.ProgramEnd.{ProgramEnd}
 use Rattle.jop_cli.specs.declared.program_end.ProgramEnd.TheVariants as ways
 use Rattle.jop_cli.specs.declared.outcome.Ending.TheVariants as endings
-use Rattle.jop_cli.specs.Traces.{OutputFails, AtBoundary, AtWrite, AtCycle}
+use Rattle.boundary.specs.Traces.{OutputFails, AtBoundary, AtWrite, AtCycle}
 use Rattle.jop_cli.specs.Show.{Shown, Output, Trace}
 use Rattle.jop_cli.specs.Run as run
 use Rattle.jop_cli.specs.Run.{Started, RunsAs}

@@ -11,7 +11,7 @@ use Rattle.boundary.specs.BareLaws.{opcode_of}
 use Rattle.boundary.specs.declared.runs.RunEnd.TheVariants as ends
 use Rattle.boundary.specs.Activations.{Stage}
 use Rattle.jop_device.specs.Told.{Told}
-use Rattle.jop_cli.specs.Traces.{OutputFails, AtBoundary, AtWrite, AtCycle}
+use Rattle.boundary.specs.Traces.{OutputFails, AtBoundary, AtWrite, AtCycle}
 use Rattle.jop_cli.specs.declared.show.Show.{Show}
 use Rattle.jop_cli.specs.Show.{Shown, Output, Trace, bare_shown}
 use Rattle.lent_devices.specs.Lent.{Lent}

@@ -1,4 +1,3 @@
-pub mod Traces
 pub mod Show
 pub mod Run
 pub mod Line

@@ -13,7 +13,7 @@ use Rattle.boundary.specs.Setting.{Setting, IsSetting}
 use Rattle.boundary.specs.Session.{Session, IsStateOf, Begins}
 use Rattle.boundary.specs.Activations.{Stage}
 use Rattle.boundary.specs.Runs as whole
-use Rattle.jop_cli.specs.Traces.{TracesTo}
+use Rattle.boundary.specs.Traces.{TracesTo}
 use Rattle.command_lines.specs.declared.line.Counts.{Counts}
 use Rattle.lent_devices.specs.Lent.{Lent, wired}
 use Rattle.jop_cli.specs.Show.{Shown, Output, Trace}

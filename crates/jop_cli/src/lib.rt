@@ -11,7 +11,6 @@ mod linked_settings;
 mod linking;
 mod load;
 mod outcome;
-mod pending;
 mod program_end;
 mod run;
 mod settings;

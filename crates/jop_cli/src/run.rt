@@ -5,15 +5,14 @@ ghost use Rattle.lent_devices.specs.Lent.{lent, wired};
 ghost use Rattle.boundary.specs.Answers.{IsUnbroken};
 ghost use Rattle.boundary.specs.Setting.{Setting};
 ghost use Rattle.boundary.specs.Runs.{RunsAll};
-ghost use Rattle.jop_cli.specs.Traces.{texts};
+ghost use Rattle.boundary.specs.Traces.{texts};
 ghost use Rattle.jop_cli.specs.declared.program_end.ProgramEnd.TheVariants as ends;
 ghost use Rattle.jop_cli.specs.Show.{Trace, shown_by, AreNamed};
 ghost use Rattle.jop_cli.specs.Run.{AreCounts, Started, HasStarted, RunsAsAll, Ran};
 
-use crate::pending::trace;
 use crate::program_end::ProgramEnd;
 use crate::show::NamedShow;
-use boundary::{RunEnd, Running};
+use boundary::{RunEnd, Running, trace};
 use command_lines::Counts;
 use jop_core::{Machine, Watch};
 use jop_outside::{Sink, Source};

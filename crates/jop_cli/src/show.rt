@@ -1,6 +1,6 @@
 //! What a run shows.
 ghost use Rattle.std.specs.Prelude.{◌≡◌, [], ◌∷◌, codes, IfOk};
-ghost use Rattle.jop_cli.specs.Traces.{texts};
+ghost use Rattle.boundary.specs.Traces.{texts};
 ghost use Rattle.jop_cli.specs.Show.{bare_shown, linked_shown, method_names, shown_by};
 
 use jop_base::NoMemory;

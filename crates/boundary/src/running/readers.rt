@@ -1,8 +1,11 @@
 //! What is read of the state for which a run's machine stands: its top frame, and how many frames there are.
 ghost use Rattle.std.specs.Prelude.{◌≡◌, ◌<◌, length, sum_by};
+ghost use Rattle.bytecode_model.specs.State.{State};
 ghost use Rattle.bytecode_model.specs.Sizes.{value_words};
 ghost use Rattle.boundary.specs.Answers.{IsGoing};
-ghost use Rattle.boundary.specs.Session.{EachState, EachTop};
+ghost use Rattle.boundary.specs.Setting.{Setting};
+ghost use Rattle.boundary.specs.Session.{IsStateOf, EachState, EachTop};
+ghost use Rattle.boundary.specs.Opcodes.{next_opcode};
 
 use crate::answer::Boundary;
 use crate::laws::stages_agree;
@@ -35,6 +38,20 @@ impl<'a, const N: usize> Running<'a, N> {
         match self.mode {
             Boundary::Raise => raising_pc(&self.machine, self.methods.as_slice()),
             _ => running_pc(&self.machine, self.methods.as_slice()),
+        }
+    }
+
+    /// The opcode of its instruction. There is none while an object is raised.
+    pub fn opcode(&self) -> Option<u8>
+        requires { IsGoing self.now.mode }
+        ensures { (g : Setting) (s : State) → IsStateOf g self.now.methods self.now.machine s → next_opcode g.program s ≡ result }
+    {
+        // The laws are for the proof.
+        fitting_states_are_well_formed();
+        stages_agree();
+        match self.mode {
+            Boundary::Raise => None,
+            _ => Some(self.machine.opcode()),
         }
     }
 

@@ -1,7 +1,6 @@
 -- The run of the machine with its trace: at each boundary from which a step is begun a line, and then the lines of what the device notes in the step.
 use Rattle.std.specs.Prelude.{◌≡◌, ℕ, zero, suc, ◌<◌, ◌≤◌, Bool, List, [], ◌++◌, length, map, sum_by, slice_get, Some, None, Vec}
 use Rattle.std.specs.List.{flat_map}
-use Rattle.std.specs.declared.option.Option.{Option}
 use Rattle.std.specs.declared.alloc.Global.{Global}
 use Rattle.jop_outside.specs.Outside.{Grew}
 use Rattle.jop_core.specs.State as machine
@@ -11,7 +10,6 @@ use Rattle.trace_lines.specs.Lines.{step_line, step_name, note_line}
 use Rattle.trace_lines.specs.Traced.{LineIsPut, LineFails}
 use Rattle.bytecode_model.specs.declared.Ending.TheVariants as modes
 use Rattle.bytecode_model.specs.State.{State}
-use Rattle.bytecode_model.specs.Program.{Program}
 use Rattle.bytecode_model.specs.Sizes.{value_words}
 use Rattle.bytecode_typing.specs.Fits.{IsGoing}
 use Rattle.machine_frames.specs.Shows.{top_frame}
@@ -19,8 +17,7 @@ use Rattle.boundary.specs.declared.answer.Boundary.{Boundary}
 use Rattle.boundary.specs.declared.answer.Boundary.TheVariants as answers
 use Rattle.boundary.specs.declared.runs.RunEnd.{RunEnd}
 use Rattle.boundary.specs.declared.runs.RunEnd.TheVariants as ends
-use Rattle.boundary.specs.BareLaws.{opcode_of}
-use Rattle.bytecode_model.specs.declared.Ending.{Ending}
+use Rattle.boundary.specs.Opcodes.{next_opcode}
 use Rattle.boundary.specs.Setting.{Setting}
 use Rattle.boundary.specs.Session.{Session, IsStateOf}
 use Rattle.boundary.specs.Activations.{Stage, Follows}
@@ -37,21 +34,13 @@ texts names = map (λ (name : Vec ℕ Global). name.items) names
 abbrev pub name_of : (names : List (List ℕ)) → (method : ℕ) → List ℕ
 name_of names method = elim (slice_get names method) [ None ↦ [] | Some name ↦ name ]
 
-abbrev pub opcode_in : Program → State → Ending → Option ℕ
-opcode_in P s modes.Running = opcode_of P s
-opcode_in P s mode = None
-
--- the opcode of the instruction that is about to run; there is none while an object is raised
-abbrev pub next_opcode : Program → State → Option ℕ
-next_opcode P s = opcode_in P s s.mode
-
 -- the line of a boundary: the cycles so far, and of the top frame the method's name, the place of the instruction, what is about to run, how many frames there are
 -- and how many words its operands take
 abbrev pub stage_line : (names : List (List ℕ)) → Setting → Stage → List ℕ
 stage_line names g a =
     elim (top_frame a.state.frames) [
-      None ↦ []
-    | Some f ↦ step_line a.machine.clock (name_of names f.method) f.pc (step_name (next_opcode g.program a.state)) (length a.state.frames) (sum_by value_words f.operands)
+      | None ↦ []
+      | Some f ↦ step_line a.machine.clock (name_of names f.method) f.pc (step_name (next_opcode g.program a.state)) (length a.state.frames) (sum_by value_words f.operands)
     ]
 
 -- the lines of a step: that of its boundary, and then those of what the device notes in its cycles

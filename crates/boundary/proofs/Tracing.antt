@@ -1,0 +1,171 @@
+-- A traced run, boundary by boundary.
+use Rattle.std.proofs.Common.{◌≡◌, ◌≢◌, ℕ, ◌<◌, Bool, List, [], ◌++◌, Option, None, refl, sym, ◌∙◌, ap, subst, arith, ◌⊎◌, ⊎_elim}
+use Rattle.std.specs.List.{flat_map}
+use Rattle.jop_outside.specs.Outside.{Grew}
+use Rattle.jop_outside.specs.Growing.{Grew-refl, Grew-trans}
+use Rattle.jop_core.specs.State as machine
+use Rattle.jop_core.specs.Keeps.{CyclesKeep}
+use Rattle.jop_core.specs.Scene.{begun, notes_during}
+use Rattle.jop_device.specs.declared.seen.Seen.{Seen}
+use Rattle.jop_device.specs.Told.{Told, Note, silent, Attended, GivesEach}
+use Rattle.micro_sketch.specs.Step.{Ran}
+use Rattle.micro_sketch.specs.StepLaws.{AreRunLaws}
+use Rattle.trace_lines.specs.Lines.{note_line}
+use Rattle.trace_lines.specs.Traced.{LineIsPut}
+use Rattle.bytecode_model.specs.declared.Ending.TheVariants as modes
+use Rattle.bytecode_model.specs.State.{State}
+use Rattle.bytecode_typing.specs.Fits as states
+use Rattle.boundary.specs.declared.answer.Boundary.{Boundary}
+use Rattle.boundary.specs.declared.answer.Boundary.TheVariants as answers
+use Rattle.boundary.specs.Answers.{answer_of, mode_after, IsGoing}
+use Rattle.coded_methods.specs.Methods.{AreMethods}
+use Rattle.boundary.specs.Setting.{Setting, Stands}
+use Rattle.boundary.specs.Session.{Session, IsStateOf}
+use Rattle.boundary.specs.Activations.{Stage}
+use Rattle.boundary.specs.Advances.{Advances, Reaches, StepsTo}
+use Rattle.boundary.specs.Traces.{unnoted, run_text, stage_line, IsTraced, TracesOn, AfterLine, AtWrite, StepTraces, StepTracesAll, TraceBreaks}
+use Rattle.boundary.proofs.Keeping.{going_mode}
+use Rattle.boundary.proofs.Whole.{goes_so, ended_mode, uncaught_mode, run_none, run_more}
+
+-- ---- a step on a device that writes nothing of what it notes
+
+untold : {A : Type 0} (more : List A) → Grew {A = A} None None more
+untold more = record { grown = λ ys e. absurd (cc) }
+
+attended_unnoted : (t0 t1 t2 : Told) (line : List ℕ) (answers : List (Option ℕ)) (out : List ℕ) (seen : List Seen) (notes : List Note) → LineIsPut t0 t1 line → Attended t1 t2 answers out seen notes → Attended (unnoted t0) (unnoted t2) answers out seen notes
+attended_unnoted t0 t1 t2 line answers out seen notes put h = record {
+  left = subst (λ (left : Option (List ℕ)). GivesEach left t2.left answers) put.rests.left h.left;
+  held = Grew-trans t0.held t1.held t2.held [] out out put.rests.held h.held refl;
+  noted = record { line = refl; written = untold (flat_map silent notes) };
+  handed = Grew-trans t0.handed t1.handed t2.handed [] seen seen put.rests.handed h.handed refl;
+  counts = record {
+    reads = omega (arith, put.rests.counts.reads, h.counts.reads);
+    writes = omega (arith, put.rests.counts.writes, h.counts.writes);
+    sees = omega (arith, put.rests.counts.sees, h.counts.sees);
+  };
+}
+
+ran_unnoted : (cycles : ℕ) (old new : machine.State) (t0 t1 t2 : Told) (line : List ℕ) (answers : List (Option ℕ)) → LineIsPut t0 t1 line → Ran cycles old new t1 t2 answers → Ran cycles old new (unnoted t0) (unnoted t2) answers
+ran_unnoted cycles old new t0 t1 t2 line answers put ran = record { state = ran.state; left = ran.left; device = attended_unnoted t0 t1 t2 line answers _ _ _ put ran.device }
+
+abbrev advances_unnoted : (g : Setting) (s : State) (old new : machine.State) (t0 t1 t2 : Told) (line : List ℕ) → LineIsPut t0 t1 line → Advances g s old new t1 t2 → Advances g s old new (unnoted t0) (unnoted t2)
+advances_unnoted g s old new t0 t1 t2 line put v = record {
+  answer = v.answer;
+  byte = v.byte;
+  next = v.next;
+  is_next = v.is_next;
+  fits = v.fits;
+  comes = v.comes;
+  answer_is = v.answer_is;
+  new_is = v.new_is;
+  ran = ran_unnoted v.comes.cycles old new t0 t1 t2 line v.comes.answers put v.ran;
+}
+
+-- ---- the run
+
+-- a boundary with its machine by another name
+stage_is : (b : Stage) (now : machine.State) → b.machine ≡ now → b ≡ record { machine = now; state = b.state }
+stage_is b now e = ap (λ (m : machine.State). let c : Stage = record { machine = m; state = b.state } in c) e
+
+-- the traced run goes on
+abbrev pub Far : (cycles : Bool) → (names : List (List ℕ)) → (g : Setting) → (limit : ℕ) → (a : Stage) → (now : machine.State) → (told told' : Told) → Type 0
+Far cycles names g limit a now told told' = TracesOn cycles names g limit a now told told' (λ s. states.IsGoing s.mode)
+
+-- the step reached a boundary at which the machine goes on
+went_on : (names : List (List ℕ)) (g : Setting) (a : Stage) (now : machine.State) (t0 t1 : Told) (answer : Boundary) → (answer ≡ answers.Bytecode) ⊎ (answer ≡ answers.Raise) → StepTraces names g a now t0 t1 answer
+    → AfterLine names g a now t0 t1 (λ s old new before after. Reaches g s old new before after answer)
+went_on names g a now t0 t1 answer going =
+    let K : Boundary → Type 0 = λ b. StepTraces names g a now t0 t1 b → AfterLine names g a now t0 t1 (λ s old new before after. Reaches g s old new before after b) in
+    ⊎_elim (λ e. subst K (sym e) (λ h. h)) (λ e. subst K (sym e) (λ h. h)) going
+
+module _ (laws : AreRunLaws) (keep : CyclesKeep) (cycles : Bool) (names : List (List ℕ)) (g : Setting) (limit : ℕ) where
+  pub traced_none : (a : Stage) (told : Told) → Stands g a.machine a.state → IsTraced cycles names g limit a a told told
+  unfolding run_none
+  traced_none a told stage = record { run = run_none laws keep g limit a (unnoted told) stage; line = refl; text = Grew-refl told.noted }
+
+  -- one step more, with its line
+  traced_more : (a b : Stage) (new : machine.State) (t0 t1 t2 t3 : Told) → IsTraced cycles names g limit a b t0 t1 → t1.line ≡ note_line cycles → states.IsGoing b.state.mode → b.machine.clock < limit → LineIsPut t1 t2 (stage_line names g b) → (v : Advances g b.state b.machine new t2 t3)
+      → IsTraced cycles names g limit a (record { machine = new; state = v.next }) t0 t3
+  unfolding run_more
+  traced_more a b new t0 t1 t2 t3 r shown going below put v =
+      let notes = notes_during v.comes.cycles (begun b.machine v.comes.answers) in
+      let before = run_text cycles names g limit a r.run.steps b r.run.stages in
+      let lines : t2.line ≡ note_line cycles = put.rests.line ∙ shown in
+      let written : Grew t2.noted t3.noted (flat_map (note_line cycles) notes) = subst (λ (line : Note → List ℕ). Grew t2.noted t3.noted (flat_map line notes)) lines v.ran.device.noted.written in
+      let step : Grew t1.noted t3.noted (stage_line names g b ++ flat_map (note_line cycles) notes) = Grew-trans t1.noted t2.noted t3.noted _ _ _ put.noted written refl in
+      record {
+        run = run_more laws keep g limit a b new (unnoted t0) (unnoted t1) (unnoted t3) r.run going below (advances_unnoted g b.state b.machine new t1 t2 t3 (stage_line names g b) put v);
+        line = v.ran.device.noted.line ∙ put.rests.line ∙ r.line;
+        text = Grew-trans t0.noted t1.noted t3.noted before _ _ r.text step refl;
+      }
+
+  pub far_none : (a : Stage) (told : Told) → Stands g a.machine a.state → states.IsGoing a.state.mode → Far cycles names g limit a a.machine told told
+  far_none a told stage going = record { last = a; now_is = refl; traced = traced_none a told stage; holds = going }
+
+  module _ (a : Stage) (now new : machine.State) (t0 t1 t2 : Told) (shown : t0.line ≡ note_line cycles) (far : Far cycles names g limit a now t0 t1) (below : now.clock < limit) where
+    here : Stands g now far.last.state
+    here = subst (λ m. Stands g m far.last.state) far.now_is far.traced.run.stands
+
+    under : far.last.machine.clock < limit
+    under = omega (arith, below, ap (λ (m : machine.State). m.clock) far.now_is)
+
+    -- by what is said of a step from each state for which the machine stands
+    abbrev AllSteps : Boundary → Type 0
+    AllSteps answer = (s : State) → Stands g now s → StepTraces names g (record { machine = now; state = s }) new t1 t2 answer
+
+    from_last : (answer : Boundary) → AllSteps answer → StepTraces names g far.last new t1 t2 answer
+    from_last answer steps = subst (λ (b : Stage). StepTraces names g b new t1 t2 answer) (sym (stage_is far.last now far.now_is)) (steps far.last.state here)
+
+    reach : (K : State → Type 0) (answer : Boundary) (w : AfterLine names g far.last new t1 t2 (λ s old m before after. Reaches g s old m before after answer)) → K w.holds.0.next → TracesOn cycles names g limit a new t0 t2 K
+    reach K answer w holds = record {
+      last = record { machine = new; state = w.holds.0.next };
+      now_is = refl;
+      traced = traced_more a far.last new t0 t1 w.begun t2 far.traced (far.traced.line ∙ shown) far.holds under w.line w.holds.0;
+      holds = holds;
+    }
+
+    pub far_on : (answer : Boundary) → (answer ≡ answers.Bytecode) ⊎ (answer ≡ answers.Raise) → AllSteps answer → Far cycles names g limit a new t0 t2
+    far_on answer on steps =
+        let w = went_on names g far.last new t1 t2 answer on (from_last answer steps) in
+        reach (λ s. states.IsGoing s.mode) answer w (going_mode w.holds.0.next.mode answer w.holds.1 (goes_so answer on))
+
+    pub far_ended : AllSteps answers.Halted → TracesOn cycles names g limit a new t0 t2 (λ s. s.mode ≡ modes.Ended)
+    far_ended steps = let w = from_last answers.Halted steps in reach (λ s. s.mode ≡ modes.Ended) answers.Halted w (ended_mode w.holds.0.next.mode w.holds.1)
+
+    pub far_uncaught : (class : ℕ) → AllSteps (answers.Uncaught class) → TracesOn cycles names g limit a new t0 t2 (λ s. s.mode ≡ modes.Uncaught class)
+    far_uncaught class steps = let w = from_last (answers.Uncaught class) steps in reach (λ s. s.mode ≡ modes.Uncaught class) (answers.Uncaught class) w (uncaught_mode w.holds.0.next.mode class w.holds.1)
+
+    pub far_broken : (fault : Boundary) → AllSteps fault → TraceBreaks cycles names g limit a new t0 t2 fault
+    far_broken fault steps = record { last = far.last; before = t1; traced = far.traced; going = far.holds; below = under; fails = from_last fault steps }
+
+  -- ---- a machine that has halted
+
+  pub ended_at_once : (a : Stage) (told : Told) → Stands g a.machine a.state → answer_of a.state.mode ≡ answers.Halted → TracesOn cycles names g limit a a.machine told told (λ s. s.mode ≡ modes.Ended)
+  ended_at_once a told stage is = record { last = a; now_is = refl; traced = traced_none a told stage; holds = ended_mode a.state.mode is }
+
+  pub uncaught_at_once : (a : Stage) (told : Told) (class : ℕ) → Stands g a.machine a.state → answer_of a.state.mode ≡ answers.Uncaught class → TracesOn cycles names g limit a a.machine told told (λ s. s.mode ≡ modes.Uncaught class)
+  uncaught_at_once a told class stage is = record { last = a; now_is = refl; traced = traced_none a told stage; holds = uncaught_mode a.state.mode class is }
+
+-- ---- one step
+
+-- a step behind its line, where no state was refused
+pub step_traced : (names : List (List ℕ)) (g : Setting) (a : Stage) (now : machine.State) (t0 t1 t2 : Told) (answer : Boundary) → answer ≢ answers.SeenFault → LineIsPut t0 t1 (stage_line names g a) → StepsTo g a.state a.machine now t1 t2 answer
+    → StepTraces names g a now t0 t2 answer
+step_traced names g a now t0 t1 t2 answers.Bytecode h line step = record { begun = t1; line = line; holds = step }
+step_traced names g a now t0 t1 t2 answers.Raise h line step = record { begun = t1; line = line; holds = step }
+step_traced names g a now t0 t1 t2 answers.Halted h line step = record { begun = t1; line = line; holds = step }
+step_traced names g a now t0 t1 t2 (answers.Uncaught c) h line step = record { begun = t1; line = line; holds = step }
+step_traced names g a now t0 t1 t2 answers.ReadFault h line step = record { begun = t1; line = line; holds = step }
+step_traced names g a now t0 t1 t2 answers.WriteFault h line step = AtWrite (record { begun = t1; line = line; holds = step })
+step_traced names g a now t0 t1 t2 answers.SeenFault h line step = absurd (h refl)
+step_traced names g a now t0 t1 t2 answers.Stopped h line step = step
+
+pub mode_stays : (answer mode : Boundary) → IsGoing answer → mode ≡ mode_after answer → mode ≡ answer
+mode_stays answer mode going is = is ∙ ⊎_elim (λ e. ap mode_after e ∙ sym e) (λ e. ap mode_after e ∙ sym e) going
+
+-- what is said of a step, at a state for which a run's machine stands
+pub all_steps : (names : List (List ℕ)) (g : Setting) (s : State) (first r : Session) (new : machine.State) (t0 t1 : Told) (answer : Boundary) → r.methods ≡ first.methods → IsStateOf g first.methods first.machine s → StepTracesAll names r new t0 t1 answer
+    → (t : State) → Stands g r.machine t → StepTraces names g (record { machine = r.machine; state = t }) new t0 t1 answer
+unfolding StepTracesAll
+all_steps names g s first r new t0 t1 answer same is steps t stands =
+    steps g t (record { is_setting = is.is_setting; methods_are = subst (λ methods. AreMethods g.program g.places methods) (sym same) is.methods_are; stands = stands })
