@@ -1,8 +1,9 @@
 -- How the run of a program ends.
-use Rattle.std.proofs.Common.{◌≡◌, ℕ, ◌<◌, ◌≤◌, Bool, List, length, refl, sym, subst, arith, ◌⊎◌, inl, inr, ⊎_elim}
+use Rattle.std.proofs.Common.{◌≡◌, ℕ, ◌<◌, ◌≤◌, Bool, List, length, Option, refl, sym, subst, arith, ◌⊎◌, inl, inr, ⊎_elim}
 use Rattle.jop_core.specs.State as machine
 use Rattle.jop_outside.specs.Outside.{Rose}
 use Rattle.class_pool.specs.declared.class.ClassFile.{ClassFile}
+use Rattle.jop_device.specs.declared.seen.Seen.{Seen}
 use Rattle.jop_device.specs.Told.{Told}
 use Rattle.trace_lines.specs.Traced.{traced}
 use Rattle.boundary.specs.Activations.{Stage}
@@ -14,9 +15,11 @@ use Rattle.boundary.specs.Session.{Session, Begins}
 use Rattle.boundary.specs.Runs.{RunsAll}
 use Rattle.command_lines.specs.declared.line.Counts.{Counts}
 use Rattle.linked_start.specs.Start.{UncaughtClassesAreThere}
-use Rattle.lent_devices.specs.Lent.{Lent, wired}
+use Rattle.lent_devices.specs.Lent.{Lent, lent, wired}
 use Rattle.boundary.specs.Traces.{OutputFails, AtBoundary, AtWrite, AtCycle, TracesAll}
-use Rattle.jop_cli.specs.Show.{Shown, Output, Trace}
+use Rattle.jop_cli.specs.declared.show.NamedShow.{NamedShow}
+use Rattle.jop_cli.specs.declared.show.NamedShow.TheVariants as shows
+use Rattle.jop_cli.specs.Show.{Shown, Output, Trace, shown_by}
 use Rattle.jop_cli.specs.Run.{AreCounts, Started, HasStarted, RunsAsAll, RunsTo, RunsCounted, Ran}
 use Rattle.jop_cli.specs.LinkedRun.{HasClass, linked_setting}
 use Rattle.jop_cli.specs.declared.program_end.ProgramEnd.{ProgramEnd}
@@ -31,11 +34,22 @@ pub as_output : (limit : ℕ) (r : Session) (now : machine.State) (old new : Len
 unfolding RunsAll
 as_output limit r now old new end all g s is = all g s is.is_setting is.stands
 
-pub as_trace : (cycles : Bool) (names : List (List ℕ)) (limit : ℕ) (r : Session) (now : machine.State) (old new : Lent) (end : RunEnd) (writes sees : ℕ) → writes ≤ new.write_faults → sees ≤ new.write_faults → new.handed ≡ old.handed
-    → TracesAll cycles names limit r now (traced cycles old.left old.read_faults old.held old.write_faults old.write_faults) (traced cycles new.left new.read_faults new.held writes sees) end → RunsAsAll (Trace cycles names) limit r now old new end
+pub as_shown : (show : NamedShow) (limit : ℕ) (r : Session) (now : machine.State) (old new : Lent) (end : RunEnd) → show ≡ shows.Output → RunsAll limit r.machine now (wired old) (wired new) end → RunsAsAll (shown_by show) limit r now old new end
+as_shown show limit r now old new end is all = subst (λ (x : NamedShow). RunsAsAll (shown_by x) limit r now old new end) (sym is) (as_output limit r now old new end all)
+
+-- so many faults were counted at the start, and these things told
+pub as_trace : (names : List (List ℕ)) (limit : ℕ) (r : Session) (now : machine.State) (cycles k : Bool) (left l : Option (List ℕ)) (reads rd : ℕ) (held h : Option (List ℕ)) (faults w s : ℕ) (watch : Option (List Seen)) (after : Told) (new : Lent) (end : RunEnd)
+    → k ≡ cycles → l ≡ left → rd ≡ reads → h ≡ held → w ≡ faults → s ≡ faults → after.left ≡ new.left → after.read_faults ≡ new.read_faults → after.noted ≡ new.held → after.write_faults ≤ new.write_faults
+    → after.seen_faults ≤ new.write_faults → new.handed ≡ watch → TracesAll k names limit r now (traced k l rd h w s) after end → RunsAsAll (Trace cycles names) limit r now (lent left reads held faults watch) new end
 unfolding TracesAll
-as_trace cycles names limit r now old new end writes sees few_writes few_sees watch all g s is =
-    record { writes = writes; sees = sees; few_writes = few_writes; few_sees = few_sees; traces = all g s is; watch = watch }
+as_trace names limit r now cycles k left l reads rd held h faults w s watch after new end ek el er eh ew es left_is reads_is noted_is writes sees handed all =
+    let A = subst (λ (x : Bool). TracesAll x names limit r now (traced x l rd h w s) after end) ek all in
+    let B = subst (λ (x : Option (List ℕ)). TracesAll cycles names limit r now (traced cycles x rd h w s) after end) el A in
+    let C = subst (λ (x : ℕ). TracesAll cycles names limit r now (traced cycles left x h w s) after end) er B in
+    let D = subst (λ (x : Option (List ℕ)). TracesAll cycles names limit r now (traced cycles left reads x w s) after end) eh C in
+    let E = subst (λ (x : ℕ). TracesAll cycles names limit r now (traced cycles left reads held x s) after end) ew D in
+    let F = subst (λ (x : ℕ). TracesAll cycles names limit r now (traced cycles left reads held faults x) after end) es E in
+    λ g st is. record { after = after; traces = F g st is; left = left_is; reads = reads_is; noted = noted_is; writes = writes; sees = sees; watch = handed }
 
 -- ---- the run
 
@@ -61,7 +75,7 @@ reads_rose Output g reset limit old new r =
     omega (arith, x.fails.broke.tried.5, x.fails.broke.ran.device.counts.reads, x.run.ran.device.counts.reads)
 reads_rose (Trace cycles names) g reset limit old new r =
     let x = r.runs.traces in
-    omega (arith, x.fails.holds.broke.tried.5, x.fails.holds.broke.ran.device.counts.reads, x.fails.line.rests.counts.reads, x.traced.run.ran.device.counts.reads)
+    omega (arith, x.fails.holds.broke.tried.5, x.fails.holds.broke.ran.device.counts.reads, x.fails.line.rests.counts.reads, x.traced.run.ran.device.counts.reads, r.runs.reads)
 
 -- a line that fails was counted as a byte's or as a cycle's
 fails_rose : (names : List (List ℕ)) (g : Setting) (a : Stage) (now : machine.State) (told told' : Told) → OutputFails names g a now told told' → Rose told.write_faults told'.write_faults ⊎ Rose told.seen_faults told'.seen_faults
@@ -76,9 +90,9 @@ writes_rose Output g reset limit old new r =
 writes_rose (Trace cycles names) g reset limit old new r =
     let x = r.runs.traces in
     ⊎_elim
-    (λ rose. omega (arith, rose, x.traced.run.ran.device.counts.writes, r.runs.few_writes))
-    (λ rose. omega (arith, rose, x.traced.run.ran.device.counts.sees, r.runs.few_sees))
-    (fails_rose names g x.last r.now x.before (traced cycles new.left new.read_faults new.held r.runs.writes r.runs.sees) x.fails)
+    (λ rose. omega (arith, rose, x.traced.run.ran.device.counts.writes, r.runs.writes))
+    (λ rose. omega (arith, rose, x.traced.run.ran.device.counts.sees, r.runs.sees))
+    (fails_rose names g x.last r.now x.before r.runs.after x.fails)
 
 -- a watch doesn't fail
 shows_not : (shown : Shown) (g : Setting) (reset : machine.State) (limit : ℕ) (old new : Lent) → RunsTo shown g reset limit ends.SeenFault old new → ⊥

@@ -12,7 +12,6 @@ use Rattle.jop_core.specs.Cycle.{output_of}
 use Rattle.jop_core.specs.Reset.{words_for, bare_reset}
 use Rattle.jop_device.specs.Told.{Told}
 use Rattle.coded_methods.specs.Methods.{AreMethods}
-use Rattle.trace_lines.specs.Traced.{traced}
 use Rattle.bytecode_model.specs.declared.Ending.{Ending}
 use Rattle.bytecode_model.specs.declared.Ending.TheVariants.{Running, Ended, Uncaught}
 use Rattle.bytecode_model.specs.Lists.{onto}
@@ -118,7 +117,7 @@ module _ (stepping : BareImagesStep) (image : Image) (grammar : IsImage image) (
   at_stage Output now old new r = opcode_is r.run.steps r.last now r.before (wired new) r.run.stages r.going r.run.stands r.fails
   at_stage (Trace cycles names) now old new r =
       let x = r.traces in
-      line_fails names x.traced.run.steps x.last now x.before (traced cycles new.left new.read_faults new.held r.writes r.sees) x.traced.run.stages x.going x.traced.run.stands x.fails
+      line_fails names x.traced.run.steps x.last now x.before r.after x.traced.run.stages x.going x.traced.run.stands x.fails
 
   uncaught_not : (shown : Shown) (now : machine.State) (old new : Lent) (class : ℕ) → RunsAs shown g limit a now old new (ends.Uncaught class) → ⊥
   uncaught_not Output now old new class r = never_uncaught r.run.steps r.last class r.run.stages r.holds

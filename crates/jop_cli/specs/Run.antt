@@ -2,6 +2,7 @@
 use Rattle.std.specs.Prelude.{◌≡◌, ℕ, ◌≤◌, Bool, List, Some}
 use Rattle.jop_core.specs.State as machine
 use Rattle.jop_outside.specs.Outside.{Rose}
+use Rattle.jop_device.specs.Told.{Told}
 use Rattle.trace_lines.specs.Traced.{traced}
 use Rattle.bytecode_model.specs.State.{State}
 use Rattle.bytecode_model.specs.Steps.{boot_state}
@@ -36,13 +37,15 @@ HasStarted r = (g : Setting) × Started g r.machine r
 
 -- ---- what it shows
 
--- The traced run. Its devices are the input and the output, which is given the lines and has failed no less often than they; the watch is as it was.
+-- The traced run. Its devices are the input, and the output, which is given the lines and has failed at least as often as they; the watch is as it was.
 pub record Traced (cycles : Bool) (names : List (List ℕ)) (g : Setting) (limit : ℕ) (a : Stage) (now : machine.State) (old new : Lent) (end : RunEnd) : Type 0 where
-  pub writes : ℕ
-  pub sees : ℕ
-  pub few_writes : writes ≤ new.write_faults
-  pub few_sees : sees ≤ new.write_faults
-  pub traces : TracesTo cycles names g limit a now (traced cycles old.left old.read_faults old.held old.write_faults old.write_faults) (traced cycles new.left new.read_faults new.held writes sees) end
+  pub after : Told
+  pub traces : TracesTo cycles names g limit a now (traced cycles old.left old.read_faults old.held old.write_faults old.write_faults) after end
+  pub left : after.left ≡ new.left
+  pub reads : after.read_faults ≡ new.read_faults
+  pub noted : after.noted ≡ new.held
+  pub writes : after.write_faults ≤ new.write_faults
+  pub sees : after.seen_faults ≤ new.write_faults
   pub watch : new.handed ≡ old.handed
 
 -- from a, the machine and the program ran to this end

@@ -1,5 +1,5 @@
 //! The run of a bare image, of whose file these are the bytes.
-ghost use Rattle.std.specs.Prelude.{◌≡◌, ◌<◌, ◌≤◌, ◌^◌, [], Some, IfOk, IfErr};
+ghost use Rattle.std.specs.Prelude.{◌≡◌, ◌<◌, ◌≤◌, ◌^◌, ◌⊎◌, [], length, Some, IfOk, IfErr};
 ghost use Rattle.bare_image.specs.Bare.{Image, IsImage, IsBare};
 ghost use Rattle.stack_cache.specs.Size.{IsSize};
 ghost use Rattle.jop_core.specs.Reset.{CanStartBare, bare_reset};
@@ -9,7 +9,7 @@ ghost use Rattle.jop_words.specs.Range.{AreSettings};
 ghost use Rattle.jop_cli.specs.Leaving.{Leaves};
 ghost use Rattle.jop_cli.specs.Show.{AreNamed, IsNamed, bare_shown, shown_by};
 ghost use Rattle.jop_cli.specs.Run.{Started};
-ghost use Rattle.jop_cli.specs.BareFile.{ImageFault, blocks_of_code, Ran, RanWith, RunsImage, RunsBareBytes};
+ghost use Rattle.jop_cli.specs.BareFile.{ImageFault, blocks_of_code, IsTooLong, Ran, RanWith, RunsBareBytes};
 
 use crate::outcome::{Ending, Refusal};
 use crate::program_end::ProgramEnd;

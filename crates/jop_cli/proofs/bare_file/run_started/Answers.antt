@@ -8,7 +8,7 @@ use Rattle.jop_cli.proofs.Reset.{at_impdep2, no_other}
 use Rattle.jop_cli.proofs.bare_file.run_started.Goals as goal
 
 pub run_to_end-requires : goal.run_to_end-requires
-run_to_end-requires g c = (omega arith, (has_restarted (bare_setting c.args.bare.now g.row.N c.args.plan.config.memory) (bare_reset g.row.N c.args.bare.now c.args.plan.config) c.args.running.now c.requires.started, c.requires.few, c.requires.named))
+run_to_end-requires g c = (omega arith, (has_restarted (bare_setting c.args.bare.now g.row.N c.args.plan.config.memory) (bare_reset g.row.N c.args.bare.now c.args.plan.config) c.args.running.now c.requires.started, (c.requires.few, c.requires.named)))
 
 pub returns-in-Ended-clause-ran : goal.returns-in-Ended-clause-ran
 returns-in-Ended-clause-ran g c =

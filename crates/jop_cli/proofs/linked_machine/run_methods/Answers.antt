@@ -9,7 +9,7 @@ use Rattle.jop_cli.proofs.linked_machine.run_methods.Goals as goal
 pub run_to_end-requires : goal.run_to_end-requires
 run_to_end-requires g c = (
   omega arith,
-  (has_restarted (linked_setting c.args.program.now g.row.N c.args.plan.config.memory) (linked_reset g.row.N c.args.layout.now.words c.args.plan.config) c.in-Ok.running c.in-Ok.ensures.started, c.requires.few, named_by (shown_by c.args.shown.now) c.args.methods.now c.in-Ok.running.methods c.in-Ok.ensures.methods c.requires.named),
+  (has_restarted (linked_setting c.args.program.now g.row.N c.args.plan.config.memory) (linked_reset g.row.N c.args.layout.now.words c.args.plan.config) c.in-Ok.running c.in-Ok.ensures.started, (c.requires.few, named_by (shown_by c.args.shown.now) c.args.methods.now c.in-Ok.running.methods c.in-Ok.ensures.methods c.requires.named)),
 )
 
 pub returns-in-Ok-clause-ran : goal.returns-in-Ok-clause-ran

@@ -5,7 +5,7 @@ use Rattle.jop_cli.proofs.Ended.{unbroken, runs_to, counted, late, reads_rose, w
 use Rattle.jop_cli.proofs.run.run_to_end.Goals as goal
 
 pub run_shown-requires : goal.run_shown-requires
-run_shown-requires g c = (omega arith, (unbroken c.args.running.now c.requires.started, c.requires.few, c.requires.named))
+run_shown-requires g c = (omega arith, (unbroken c.args.running.now c.requires.started, (c.requires.few, c.requires.named)))
 
 pub returns-in-Ended-clause-ran : goal.returns-in-Ended-clause-ran
 returns-in-Ended-clause-ran g c =
