@@ -1,6 +1,6 @@
 -- The names of methods.
 use Rattle.std.proofs.Common.{◌≡◌, ℕ, ◌+◌, ◌<◌, ◌≤◌, List, [], ◌∷◌, ◌++◌, length, map, take, Option, sym, ◌∙◌, ap, subst, arith}
-use Rattle.std.specs.Prelude.{slice_get, IfSome, IsSomeAnd, Vec}
+use Rattle.std.specs.Prelude.{IfSome, IsSomeAnd, Vec}
 use Rattle.std.specs.Option.{option_map_or}
 use Rattle.std.specs.declared.alloc.Global.{Global}
 use Rattle.std.proofs.lemmas.Option.{slice_get-get_or}
@@ -17,7 +17,7 @@ use Rattle.bytecode_model.specs.Program.{body_of}
 use Rattle.jop_cli.specs.declared.show.Show.{Show}
 use Rattle.jop_cli.specs.declared.show.Show.TheVariants as shows
 use Rattle.boundary.specs.Traces.{texts}
-use Rattle.jop_cli.specs.Show.{Shown, Output, Trace, AreNamed, linked_shown}
+use Rattle.jop_cli.specs.Show.{Shown, AreNamed, linked_shown}
 use Rattle.jop_cli.proofs.Endings.{method_there}
 
 pub named_by : (shown : Shown) (methods others : List CodedMethod) → others ≡ methods → AreNamed shown methods → AreNamed shown others

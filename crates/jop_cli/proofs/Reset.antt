@@ -139,7 +139,7 @@ no_other stepping image grammar shown n memory reset limit old new end none ran 
     let E : ProgramEnd → Type 0 = λ e. run.Ran shown g reset limit old new e in
     ⊎_elim
     (λ (c, counts, e).
-        let r = subst E e ran in
-        uncaught_not stepping image grammar n memory limit (record { machine = reset; state = r.0.boot }) (boot_runs g.program r.0.boot r.0.is_boot) shown r.0.now old new c r.0.runs)
+    let r = subst E e ran in
+    uncaught_not stepping image grammar n memory limit (record { machine = reset; state = r.0.boot }) (boot_runs g.program r.0.boot r.0.is_boot) shown r.0.now old new c r.0.runs)
     (λ rest. ⊎_elim (λ e. let r = subst E e ran in omega (arith, none, r.1)) (λ e. made e) rest)
     other

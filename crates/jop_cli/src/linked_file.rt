@@ -15,10 +15,10 @@ ghost use Rattle.jop_cli.specs.Leaving.{Leaves, FailsRisen};
 ghost use Rattle.jop_cli.specs.LinkedRun.{HasClass};
 ghost use Rattle.jop_cli.specs.LinkedFile.{BytesFault, IsTooLongAs, SaysEnd, EndsAs, RunsLinkedBytes};
 
-use crate::program_end::{ImageEnd, ProgramEnd};
 use crate::linked_settings::run_with_settings;
 use crate::linking::not_linked;
 use crate::outcome::{Ending, Refusal};
+use crate::program_end::{ImageEnd, ProgramEnd};
 use crate::show::Show;
 use class_names::{name_room, tell_name};
 use jop_core::Watch;

@@ -7,8 +7,8 @@ ghost use Rattle.jop_cli.specs.declared.program_end.ImageEnd.TheVariants as ends
 ghost use Rattle.lent_devices.specs.Lent.{lent};
 ghost use Rattle.jop_cli.specs.LinkedSettings.{LeavesDevices, RanWith, RunsLinked};
 
-use crate::program_end::{ImageEnd, ProgramEnd};
 use crate::linked_machine::run_linked;
+use crate::program_end::{ImageEnd, ProgramEnd};
 use crate::settings::plan_of;
 use crate::show::Show;
 use jop_core::Watch;

@@ -13,19 +13,14 @@ pub(crate) enum Show {
     /// What the program puts out.
     Output,
     /// The lines of its trace, with those of the cycles or without.
-    Trace {
-        cycles: bool,
-    },
+    Trace { cycles: bool },
 }
 
 /// The same, with the names of the program's methods by number.
 #[derive(Drop)]
 pub(crate) enum NamedShow {
     Output,
-    Trace {
-        cycles: bool,
-        names: Vec<Vec<u8>>,
-    },
+    Trace { cycles: bool, names: Vec<Vec<u8>> },
 }
 
 // The name of the one method of a bare image.

@@ -105,7 +105,16 @@ fn execute<F: Files, S: Source, O: Sink, V: Watch>(
     };
     match command {
         Command::Run { settings, image } => {
-            run_file(alloc, &settings, Show::Output, image, files, input, out, watch)
+            run_file(
+                alloc,
+                &settings,
+                Show::Output,
+                image,
+                files,
+                input,
+                out,
+                watch,
+            )
         }
         Command::Trace {
             settings,

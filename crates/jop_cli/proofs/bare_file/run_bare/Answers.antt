@@ -10,5 +10,5 @@ pub returns-in-Ok-clause-ran : goal.returns-in-Ok-clause-ran
 returns-in-Ok-clause-ran g c =
     subst
     (λ (shown : Shown). Ran shown (bare_setting c.args.bare.now g.row.N c.args.plan.config.memory) (bare_reset g.row.N c.args.bare.now c.args.plan.config) c.args.plan.limit (lent (Some []) 0 (g.O.Sink.held c.args.out.now) (g.O.Sink.faults c.args.out.now) (g.V.Watch.held c.args.watch.now))
-        (lent (Some []) 0 (g.O.Sink.held c.run_image.new.out) (g.O.Sink.faults c.run_image.new.out) (g.V.Watch.held c.run_image.new.watch)) c.run_image.result)
+    (lent (Some []) 0 (g.O.Sink.held c.run_image.new.out) (g.O.Sink.faults c.run_image.new.out) (g.V.Watch.held c.run_image.new.watch)) c.run_image.result)
     c.in-Ok.ensures c.run_image.ensures.ran

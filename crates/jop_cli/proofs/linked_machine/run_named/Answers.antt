@@ -20,6 +20,6 @@ pub returns-in-Ok-clause-ran : goal.returns-in-Ok-clause-ran
 returns-in-Ok-clause-ran g c =
     subst
     (λ (x : Shown). Ran x (linked_setting c.args.program.now g.row.N c.args.plan.config.memory) (linked_reset g.row.N c.args.layout.now.words c.args.plan.config) c.args.plan.limit
-        (lent (g.S.Source.left c.args.input.now) (g.S.Source.faults c.args.input.now) (g.O.Sink.held c.args.out.now) (g.O.Sink.faults c.args.out.now) (g.V.Watch.held c.args.watch.now))
-        (lent (g.S.Source.left c.run_methods.new.input) (g.S.Source.faults c.run_methods.new.input) (g.O.Sink.held c.run_methods.new.out) (g.O.Sink.faults c.run_methods.new.out) (g.V.Watch.held c.run_methods.new.watch)) c.run_methods.result)
+    (lent (g.S.Source.left c.args.input.now) (g.S.Source.faults c.args.input.now) (g.O.Sink.held c.args.out.now) (g.O.Sink.faults c.args.out.now) (g.V.Watch.held c.args.watch.now))
+    (lent (g.S.Source.left c.run_methods.new.input) (g.S.Source.faults c.run_methods.new.input) (g.O.Sink.held c.run_methods.new.out) (g.O.Sink.faults c.run_methods.new.out) (g.V.Watch.held c.run_methods.new.watch)) c.run_methods.result)
     c.requires.shown c.run_methods.ensures.ran
