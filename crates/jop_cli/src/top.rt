@@ -126,7 +126,9 @@ fn execute<F: Files, S: Source, O: Sink, V: Watch>(
         }
         Command::Asm { text } => assemble_file(alloc, text, files, out),
         Command::Link { main, first } => link_files(alloc, words, main, first, files, out),
-        _ => Ending::Refused(Refusal::NotBuilt),
+        Command::Bound { .. } | Command::Check { .. } | Command::Work { .. } => {
+            Ending::Refused(Refusal::NotBuilt)
+        }
     }
 }
 
