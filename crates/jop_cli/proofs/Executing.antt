@@ -1,8 +1,10 @@
 -- The run of an image, as an answer of the call.
-use Rattle.std.proofs.Common.{◌≡◌, ℕ, ◌≤◌, List, refl, sym, subst, ⊎_elim}
+use Rattle.std.proofs.Common.{◌≡◌, ℕ, ◌≤◌, Bool, true, false, List, refl, sym, subst, inl, inr, ⊎_elim}
 use Rattle.std.specs.declared.result.Result.{Result}
 use Rattle.bare_image.specs.Bare.{Image}
-use Rattle.memory_timing.specs.declared.Config.{Config}
+use Rattle.jop_cli.specs.declared.settings.Plan.{Plan}
+use Rattle.jop_cli.specs.declared.show.Show.{Show}
+use Rattle.jop_cli.specs.Show.{bare_shown}
 use Rattle.jop_words.specs.declared.command.Settings.{Settings}
 use Rattle.jop_words.specs.declared.command.Command.{Command}
 use Rattle.jop_cli.specs.declared.outcome.Ending.{Ending}
@@ -10,16 +12,34 @@ use Rattle.jop_cli.specs.declared.outcome.Ending.TheVariants as endings
 use Rattle.jop_cli.specs.Leaving.{FailsRisen}
 use Rattle.jop_cli.specs.Assembling.{Assembles}
 use Rattle.jop_cli.specs.Linking.{LinksFiles}
-use Rattle.jop_cli.specs.Run.{Outside}
-use Rattle.jop_cli.specs.Phase.{HasSettings, blocks_of_code, Ran, RanWith}
-use Rattle.jop_cli.specs.World.{World}
-use Rattle.jop_cli.specs.Answer.{Does}
+use Rattle.jop_core.specs.Reset.{bare_reset}
+use Rattle.boundary.specs.Setting.{bare_setting}
+use Rattle.lent_devices.specs.Lent.{Lent}
+use Rattle.jop_cli.specs.Phase.{HasSettings, is_linked}
+use Rattle.jop_cli.specs.BareFile.{blocks_of_code, Ran, RanWith, RunsBareBytes}
+use Rattle.jop_cli.specs.LinkedFile.{RunsLinkedBytes}
+use Rattle.jop_cli.specs.World.{World, IsUntaken, Reads}
+use Rattle.jop_cli.specs.Answer.{Does, RunsFile, lent_of, lent_without_input}
 
-pub with_settings : (settings : Settings) (n : ℕ) (image : Image) (config : Config) (old new : Outside) (ending : Ending) → settings.stack ≡ n → blocks_of_code settings image ≤ settings.blocks → HasSettings settings config
-    → Ran n image config settings.cycles old new ending → RanWith settings image old new ending
-with_settings settings n image config old new ending is few has ran =
-    let P : ℕ → Type 0 = λ k. Ran k image config settings.cycles old new ending in
-    record { blocks = few; config = config; has = has; ran = subst P (sym is) ran }
+pub with_settings : (settings : Settings) (show : Show) (n : ℕ) (image : Image) (plan : Plan) (old new : Lent) (ending : Ending) → settings.stack ≡ n → blocks_of_code settings image ≤ settings.blocks → HasSettings settings plan.config
+    → plan.limit ≡ settings.cycles → plan.show ≡ show → Ran (bare_shown plan.show) (bare_setting image n plan.config.memory) (bare_reset n image plan.config) plan.limit old new ending → RanWith settings show image old new ending
+with_settings settings show n image plan old new ending is few has limit shows ran =
+    let config = plan.config in
+    let a = subst (λ (x : Show). Ran (bare_shown x) (bare_setting image n config.memory) (bare_reset n image config) plan.limit old new ending) shows ran in
+    let b = subst (λ (k : ℕ). Ran (bare_shown show) (bare_setting image n config.memory) (bare_reset n image config) k old new ending) limit a in
+    record { blocks = few; config = config; has = has; ran = subst (λ (k : ℕ). Ran (bare_shown show) (bare_setting image k config.memory) (bare_reset k image config) settings.cycles old new ending) (sym is) b }
+
+-- the file was read, and its bytes were run as those of a bare image or of a linked one
+pub runs_read : (settings : Settings) (show : Show) (word : ℕ) (whole bytes : List ℕ) (old new : World) (ending : Ending) → bytes ≡ whole → Reads word whole old new
+    → (is_linked bytes ≡ false → RunsBareBytes settings show bytes (lent_without_input old) (lent_without_input new) ending) → (is_linked bytes ≡ true → RunsLinkedBytes settings show bytes (lent_of old) (lent_of new) ending)
+    → (is_linked bytes ≡ false → IsUntaken old new) → RunsFile settings show word old new ending
+runs_read settings show word whole bytes old new ending same all bare linked untaken =
+    let reads = subst (λ (b : List ℕ). Reads word b old new) (sym same) all in
+    by_form reads (is_linked bytes) refl
+  where
+    by_form : Reads word bytes old new → (b : Bool) → is_linked bytes ≡ b → RunsFile settings show word old new ending
+    by_form reads true e = inr (inr (record { bytes = bytes; reads = record { reads = reads; linked = e }; runs = linked e }))
+    by_form reads false e = inr (inl (record { bytes = bytes; reads = reads; bare = e; runs = bare e; input = untaken e }))
 
 pub does_by : (words : List (List ℕ)) (r q : Result Command ℕ) (old new : World) (ending : Ending) → q ≡ r → Does words q old new ending → Does words r old new ending
 does_by words r q old new ending is does = let P : Result Command ℕ → Type 0 = λ x. Does words x old new ending in subst P is does

@@ -4,6 +4,6 @@ pub mod Words
 pub mod Fitting
 mod Starting
 mod Ended
-mod Taken
 mod Held
 mod Endings
+mod Named

@@ -1,17 +1,17 @@
 -- A run of a bare image from reset.
-use Rattle.std.proofs.Common.{◌≡◌, ℕ, zero, suc, ◌<◌, ◌≤◌, true, [], ◌∷◌, ◌++◌, Some, None, map, length, refl, sym, ◌∙◌, ap, subst, arith, ◌⊎◌, inl, ⊎_elim, le-leb, lt-ltb, length-append, append-nil}
-use Rattle.std.specs.Prelude.{IsSomeAnd, slice_get}
+use Rattle.std.proofs.Common.{◌≡◌, ◌≢◌, ℕ, zero, suc, ◌<◌, ◌≤◌, true, List, [], ◌∷◌, ◌++◌, Some, None, map, length, refl, sym, ◌∙◌, ap, subst, arith, ◌⊎◌, inl, ⊎_elim, le-leb, lt-ltb, length-append, append-nil}
+use Rattle.std.specs.Prelude.{IsSomeAnd, slice_get, IfOk, Result, Ok, Err}
 use Rattle.std.specs.declared.option.Option.{Option}
 use Rattle.std.proofs.lemmas.List.{append_cancel_left}
 use Rattle.memory_timing.specs.declared.Config.{Config}
 use Rattle.jop_words.specs.declared.command.Settings.{Settings}
 use Rattle.method_cache.specs.Contents.{can_load, empty}
 use Rattle.bare_image.specs.Bare.{Image, IsImage, spelled, return_code}
-use Rattle.jop_outside.specs.Outside.{Rose}
 use Rattle.jop_core.specs.State as machine
 use Rattle.jop_core.specs.Cycle.{output_of}
-use Rattle.jop_core.specs.Reset.{bare_reset, words_for}
+use Rattle.jop_core.specs.Reset.{words_for, bare_reset}
 use Rattle.jop_device.specs.Told.{Told}
+use Rattle.coded_methods.specs.Methods.{AreMethods}
 use Rattle.bytecode_model.specs.declared.Ending.{Ending}
 use Rattle.bytecode_model.specs.declared.Ending.TheVariants.{Running, Ended, Uncaught}
 use Rattle.bytecode_model.specs.Lists.{onto}
@@ -20,21 +20,26 @@ use Rattle.bytecode_model.specs.State.{State}
 use Rattle.bytecode_model.specs.Program.{Program}
 use Rattle.bytecode_model.specs.Steps.{step, boot_state, first_frame}
 use Rattle.bytecode_typing.specs.Fits.{IsGoing}
-use Rattle.boundary.specs.declared.answer.Boundary.TheVariants as answers
-use Rattle.boundary.specs.declared.runs.RunEnd.{RunEnd}
 use Rattle.boundary.specs.declared.runs.RunEnd.TheVariants as ends
-use Rattle.boundary.specs.Answers.{IsUnbroken}
+use Rattle.boundary.specs.declared.answer.Boundary.TheVariants.{Bytecode}
 use Rattle.boundary.specs.Laws.{BareImagesArePrograms}
-use Rattle.boundary.specs.BareLaws.{opcode_of, BareImagesStep}
-use Rattle.boundary.specs.Setting.{Setting, limits, bare_setting}
 use Rattle.boundary.specs.Session.{Session, Begins}
+use Rattle.boundary.specs.BareLaws.{opcode_of, BareImagesStep}
+use Rattle.boundary.specs.Setting.{Setting, limits, Stands, bare_setting}
+use Rattle.boundary.specs.Advances.{FailsToWrite}
 use Rattle.boundary.specs.Activations.{Stage}
-use Rattle.boundary.specs.Runs as whole
-use Rattle.boundary.specs.Runs.{Goes, RunsAll}
+use Rattle.boundary.specs.Runs.{Goes}
 use Rattle.command_lines.specs.declared.line.Counts.{Counts}
-use Rattle.jop_cli.specs.Phase.{HasSettings, blocks_of_code}
-use Rattle.jop_cli.specs.Run.{Outside, EndsIn, at_reset, AreCounts, RunsTo, RunsInPart}
-use Rattle.jop_cli.specs.Wired.{wired}
+use Rattle.lent_devices.specs.Lent.{Lent, wired}
+use Rattle.jop_cli.specs.declared.program_end.ProgramEnd.{ProgramEnd}
+use Rattle.jop_cli.specs.declared.program_end.ProgramEnd.TheVariants as ways
+use Rattle.jop_cli.specs.declared.outcome.Ending.TheVariants as endings
+use Rattle.boundary.specs.Traces.{OutputFails, AtBoundary, AtWrite, AtCycle}
+use Rattle.jop_cli.specs.Show.{Shown, Output, Trace}
+use Rattle.jop_cli.specs.Run as run
+use Rattle.jop_cli.specs.Run.{Started, RunsAs}
+use Rattle.jop_cli.specs.Phase.{HasSettings}
+use Rattle.jop_cli.specs.BareFile.{blocks_of_code, WritesAtImpdep2, FailsAtImpdep2, Ran}
 
 -- the code fits the cache of the settings
 pub fits_cache : (settings : Settings) (image : Image) (config : Config) → HasSettings settings config → IsImage image → blocks_of_code settings image ≤ settings.blocks
@@ -46,8 +51,13 @@ fits_cache settings image config has grammar few =
     ∙ ap (λ w. can_load (words_for (length image.code)) (empty settings.blocks w)) has.block_words
     ∙ rw (lt-ltb 0 (words_for (length image.code)) words, le-leb (blocks_of_code settings image) settings.blocks few) refl
 
-pub unbroken_at : (r : Session) → r.mode ≡ answers.Bytecode → IsUnbroken r.mode
-unbroken_at r is = subst IsUnbroken (sym is) tt
+-- ---- where it begins
+
+pub started : BareImagesArePrograms → (image : Image) → IsImage image → (n : ℕ) (config : Config) {E : Type 0} (s : Result Session E) → IfOk s (λ r. r.machine ≡ bare_reset n image config) → IfOk s (λ r. r.mode ≡ Bytecode)
+    → (let g = bare_setting image n config.memory in IfOk s (λ r. AreMethods g.program g.places r.methods)) → IfOk s (λ r. Begins (bare_setting image n config.memory) r.machine) → IfOk s (Started (bare_setting image n config.memory) (bare_reset n image config))
+started programs image grammar n config (Ok r) is mode methods begins =
+    record { is_setting = programs image n config.memory grammar; methods = methods; machine_is = is; mode = mode; begins = subst (Begins (bare_setting image n config.memory)) is begins }
+started programs image grammar n config (Err e) is mode methods begins = tt
 
 -- ---- the states of a bare image's run
 
@@ -78,88 +88,58 @@ module _ (stepping : BareImagesStep) (image : Image) (grammar : IsImage image) (
   calm (suc steps) b (mid, goes, going, below, follows) =
       (stepping image n memory mid.machine follows.answer mid.state b.state grammar follows.stands (on mid.state.mode (calm steps mid goes) going) follows.byte follows.is_next).mode
 
-  pub never_uncaught : (now : machine.State) (t0 t1 : Told) (class : ℕ) → whole.RunsTo g limit a now t0 t1 (ends.Uncaught class) → ⊥
-  never_uncaught now t0 t1 class r =
-      ⊎_elim (λ e. let clash : Running ≡ Uncaught class = sym e ∙ r.holds in cc) (λ e. let clash : Ended ≡ Uncaught class = sym e ∙ r.holds in cc) (calm r.run.steps r.last r.run.stages)
+  never_uncaught : (steps : ℕ) (b : Stage) (class : ℕ) → Goes g limit a steps b → b.state.mode ≡ Uncaught class → ⊥
+  never_uncaught steps b class goes holds =
+      ⊎_elim (λ e. let clash : Running ≡ Uncaught class = sym e ∙ holds in cc) (λ e. let clash : Ended ≡ Uncaught class = sym e ∙ holds in cc) (calm steps b goes)
 
   -- the byte that couldn't be put out is that of an impdep2
-  pub opcode_is : (now : machine.State) (t0 t1 : Told) → (r : whole.RunsTo g limit a now t0 t1 ends.WriteFault) → opcode_of g.program r.last.state ≡ Some 255
-  opcode_is now t0 t1 r = by_step (step g.program (limits g) None r.last.state) refl (r.fails.puts None tt)
+  opcode_is : (steps : ℕ) (b : Stage) (now : machine.State) (t0 t1 : Told) → Goes g limit a steps b → IsGoing b.state.mode → Stands g b.machine b.state → FailsToWrite g b.state b.machine now t0 t1 → opcode_of g.program b.state ≡ Some 255
+  opcode_is steps b now t0 t1 goes going stands fails = by_step (step g.program (limits g) None b.state) refl (fails.puts None tt)
     where
-      by_step : (o : Option State) → step g.program (limits g) None r.last.state ≡ o → IsSomeAnd o (λ t. t.output ≡ r.last.state.output ++ output_of now) → opcode_of g.program r.last.state ≡ Some 255
+      by_step : (o : Option State) → step g.program (limits g) None b.state ≡ o → IsSomeAnd o (λ t. t.output ≡ b.state.output ++ output_of now) → opcode_of g.program b.state ≡ Some 255
       by_step None e h = absurd h
       by_step (Some t) e h =
-          let s = r.last.state in
-          let running = on s.mode (calm r.run.steps r.last r.run.stages) r.going in
-          let did = stepping image n memory r.last.machine None s t grammar r.run.stands running tt e in
+          let s = b.state in
+          let running = on s.mode (calm steps b goes) going in
+          let did = stepping image n memory b.machine None s t grammar stands running tt e in
           ⊎_elim
-          (λ same. absurd (r.fails.broke.tried.4 (append_cancel_left s.output (output_of now) [] (sym h ∙ same ∙ sym (append-nil s.output)))))
+          (λ same. absurd (fails.broke.tried.4 (append_cancel_left s.output (output_of now) [] (sym h ∙ same ∙ sym (append-nil s.output)))))
           (λ op. op)
           did.output
 
--- ---- counts of faults
+  line_fails : (names : List (List ℕ)) (steps : ℕ) (b : Stage) (now : machine.State) (t0 t1 : Told) → Goes g limit a steps b → IsGoing b.state.mode → Stands g b.machine b.state → (fails : OutputFails names g b now t0 t1)
+      → WritesAtImpdep2 names g b now t0 t1 fails
+  line_fails names steps b now t0 t1 goes going stands (AtBoundary same line) = tt
+  line_fails names steps b now t0 t1 goes going stands (AtWrite after) = opcode_is steps b now after.begun t1 goes going stands after.holds
+  line_fails names steps b now t0 t1 goes going stands (AtCycle after) = tt
 
-pub writes_rise : (g : Setting) (limit : ℕ) (a : Stage) (now : machine.State) (t0 t1 : Told) (K : State → Type 0) → whole.RunsOn g limit a now t0 t1 K → t0.write_faults ≤ t1.write_faults
-writes_rise g limit a now t0 t1 K r = r.run.ran.device.counts.writes
+  at_stage : (shown : Shown) (now : machine.State) (old new : Lent) → (r : RunsAs shown g limit a now old new ends.WriteFault) → FailsAtImpdep2 shown g limit a now old new r
+  at_stage Output now old new r = opcode_is r.run.steps r.last now r.before (wired new) r.run.stages r.going r.run.stands r.fails
+  at_stage (Trace cycles names) now old new r =
+      let x = r.traces in
+      line_fails names x.traced.run.steps x.last now x.before r.after x.traced.run.stages x.going x.traced.run.stands x.fails
 
-pub writes_rose : (g : Setting) (limit : ℕ) (a : Stage) (now : machine.State) (t0 t1 : Told) → whole.RunsTo g limit a now t0 t1 ends.WriteFault → Rose t0.write_faults t1.write_faults
-writes_rose g limit a now t0 t1 r = omega (arith, r.fails.broke.tried.5, r.fails.broke.ran.device.counts.writes, r.run.ran.device.counts.writes)
+  uncaught_not : (shown : Shown) (now : machine.State) (old new : Lent) (class : ℕ) → RunsAs shown g limit a now old new (ends.Uncaught class) → ⊥
+  uncaught_not Output now old new class r = never_uncaught r.run.steps r.last class r.run.stages r.holds
+  uncaught_not (Trace cycles names) now old new class r = let x = r.traces in never_uncaught x.traced.run.steps x.last class x.traced.run.stages x.holds
 
-never_reads : (g : Setting) (limit : ℕ) (a : Stage) (now : machine.State) (t0 t1 : Told) → whole.RunsTo g limit a now t0 t1 ends.ReadFault → Rose t0.read_faults t1.read_faults
-never_reads g limit a now t0 t1 r = omega (arith, r.fails.broke.tried.5, r.fails.broke.ran.device.counts.reads, r.run.ran.device.counts.reads)
+-- ---- how it ends
 
-never_shows : (g : Setting) (limit : ℕ) (a : Stage) (now : machine.State) (t0 t1 : Told) → whole.RunsTo g limit a now t0 t1 ends.SeenFault → Rose t0.seen_faults t1.seen_faults
-never_shows g limit a now t0 t1 r = omega (arith, r.fails.broke.tried.4, r.fails.broke.ran.device.counts.sees, r.run.ran.device.counts.sees)
+-- the byte that couldn't be put out is that of an impdep2
+pub at_impdep2 : BareImagesStep → (image : Image) → IsImage image → (shown : Shown) (n memory : ℕ) (reset : machine.State) (limit : ℕ) (old new : Lent) → (r : run.Ran shown (bare_setting image n memory) reset limit old new ways.WriteFault)
+    → Ran shown (bare_setting image n memory) reset limit old new endings.WriteFault
+at_impdep2 stepping image grammar shown n memory reset limit old new r =
+    (r, at_stage stepping image grammar n memory limit (record { machine = reset; state = r.0.boot }) (boot_runs (bare_setting image n memory).program r.0.boot r.0.is_boot) shown r.0.now old new r.0.runs)
 
--- ---- the run from reset
-
--- where a run begins that begins with an image
-pub record Started (n : ℕ) (image : Image) (config : Config) (m : machine.State) : Type 0 where
-  pub grammar : IsImage image
-  pub is : m ≡ bare_reset n image config
-  pub begins : Begins (bare_setting image n config.memory) m
-
--- the run is one from reset
-pub from_reset : BareImagesArePrograms → (n : ℕ) (image : Image) (config : Config) (m now : machine.State) (limit : ℕ) (old new : Outside) (end : RunEnd) → (s : Started n image config m)
-    → RunsAll limit m now (wired old.held old.faults old.handed) (wired new.held new.faults new.handed) end → EndsIn n image config s.begins.boot limit now old new end
-unfolding RunsAll
-from_reset programs n image config m now limit old new end s all =
-    let g = bare_setting image n config.memory in
-    let E : machine.State → Type 0 = λ z. whole.RunsTo g limit (record { machine = z; state = s.begins.boot }) now (wired old.held old.faults old.handed) (wired new.held new.faults new.handed) end in
-    subst E s.is (all g s.begins.boot (programs image n config.memory s.grammar) s.begins.stands)
-
-pub runs_to : BareImagesArePrograms → (n : ℕ) (image : Image) (config : Config) (m now : machine.State) (limit : ℕ) (old new : Outside) (end : RunEnd) (counts : Counts) → Started n image config m
-    → RunsAll limit m now (wired old.held old.faults old.handed) (wired new.held new.faults new.handed) end → AreCounts counts now → RunsTo n image config limit end old new counts
-runs_to programs n image config m now limit old new end counts s all counted =
-    record { boot = s.begins.boot; is_boot = s.begins.is_boot; now = now; runs = from_reset programs n image config m now limit old new end s all; counted = counted }
-
-pub runs_in_part : BareImagesArePrograms → BareImagesStep → (n : ℕ) (image : Image) (config : Config) (m now : machine.State) (limit : ℕ) (old new : Outside) → Started n image config m
-    → RunsAll limit m now (wired old.held old.faults old.handed) (wired new.held new.faults new.handed) ends.WriteFault → RunsInPart n image config limit old new
-runs_in_part programs stepping n image config m now limit old new s all =
-    let runs = from_reset programs n image config m now limit old new ends.WriteFault s all in
-    record {
-      boot = s.begins.boot;
-      is_boot = s.begins.is_boot;
-      now = now;
-      runs = runs;
-      opcode = opcode_is stepping image s.grammar n config.memory limit (at_reset n image config s.begins.boot) (boot_runs (bare_setting image n config.memory).program s.begins.boot s.begins.is_boot) now _ _ runs;
-    }
-
--- the ends that don't come
-pub no_other : BareImagesArePrograms → BareImagesStep → (n : ℕ) (image : Image) (config : Config) (m now : machine.State) (limit : ℕ) (old new : Outside) (end : RunEnd) → Started n image config m
-    → RunsAll limit m now (wired old.held old.faults old.handed) (wired new.held new.faults new.handed) end → ((c : ℕ) × (end ≡ ends.Uncaught c)) ⊎ ((end ≡ ends.ReadFault) ⊎ (end ≡ ends.SeenFault)) → ⊥
-no_other programs stepping n image config m now limit old new end s all other =
-    let g = bare_setting image n config.memory in
-    let a = at_reset n image config s.begins.boot in
-    let runs = from_reset programs n image config m now limit old new end s all in
-    let E : RunEnd → Type 0 = λ e. whole.RunsTo g limit a now (wired old.held old.faults old.handed) (wired new.held new.faults new.handed) e in
+-- the ends that don't come, where the input has ended
+pub no_other : BareImagesStep → (image : Image) → IsImage image → (shown : Shown) (n memory : ℕ) (reset : machine.State) (limit : ℕ) (old new : Lent) (end : ProgramEnd) → new.read_faults ≡ 0
+    → run.Ran shown (bare_setting image n memory) reset limit old new end → end ≢ ways.NoMemory → ((c : ℕ) × (counts : Counts) × (end ≡ ways.Uncaught c counts)) ⊎ ((end ≡ ways.ReadFault) ⊎ (end ≡ ways.NoMemory)) → ⊥
+no_other stepping image grammar shown n memory reset limit old new end none ran made other =
+    let g = bare_setting image n memory in
+    let E : ProgramEnd → Type 0 = λ e. run.Ran shown g reset limit old new e in
     ⊎_elim
-    (λ (c, e). never_uncaught stepping image s.grammar n config.memory limit a (boot_runs (bare_setting image n config.memory).program s.begins.boot s.begins.is_boot) now _ _ c (subst E e runs))
-    (λ rest. ⊎_elim
-    (λ e. let rose : Rose 0 0 = never_reads g limit a now _ _ (subst E e runs) in omega (arith, rose))
-    (λ e. let rose : Rose 0 0 = never_shows g limit a now _ _ (subst E e runs) in omega (arith, rose))
-    rest)
+    (λ (c, counts, e).
+    let r = subst E e ran in
+    uncaught_not stepping image grammar n memory limit (record { machine = reset; state = r.0.boot }) (boot_runs g.program r.0.boot r.0.is_boot) shown r.0.now old new c r.0.runs)
+    (λ rest. ⊎_elim (λ e. let r = subst E e ran in omega (arith, none, r.1)) (λ e. made e) rest)
     other
-
-pub counts_are : (counts : Counts) (read now : machine.State) → read ≡ now → AreCounts counts read → AreCounts counts now
-counts_are counts read now e h = subst (AreCounts counts) e h

@@ -22,7 +22,8 @@ use Rattle.boundary.specs.Linked.{IsHeld, AreLinked, BeginsEach}
 use Rattle.boundary.specs.Session.{Session, Begins}
 use Rattle.linked_methods.specs.Fitting.{code_blocks}
 use Rattle.linked_start.specs.Start.{IsTold, VerifiedProgramsAreTold, BootTakesSixWords}
-use Rattle.jop_cli.specs.LinkedRun.{CanRun, Started, linked_setting}
+use Rattle.jop_cli.specs.Run.{Started}
+use Rattle.jop_cli.specs.LinkedRun.{CanRun, linked_setting}
 
 -- ---- what fits
 
@@ -63,19 +64,24 @@ module _ (told : VerifiedProgramsAreTold) (boots : BootTakesSixWords) (cs : List
   pub linked : (words : List ℕ) (methods : List CodedMethod) → words ≡ laid.words → AreMethods (resolved cs) (places_of cs) methods → AreLinked n words methods config
   linked words methods same are = record { setting = linked_setting cs n config.memory; held = held; chip = refl; words_are = same ∙ is_told.words; methods_are = are }
 
-  started : (s : Session) (words : List ℕ) (methods : List CodedMethod) → words ≡ laid.words → s ≡ record { machine = linked_reset n words config; methods = methods; mode = Bytecode } → BeginsEach n words config s.machine
+  started : (s : Session) (words : List ℕ) (methods : List CodedMethod) → words ≡ laid.words → AreMethods (resolved cs) (places_of cs) methods → s ≡ record { machine = linked_reset n words config; methods = methods; mode = Bytecode } → BeginsEach n words config s.machine
       → Started (linked_setting cs n config.memory) (linked_reset n laid.words config) s
-  started s words methods same is begins =
+  started s words methods same are is begins =
       let machine_is : s.machine ≡ linked_reset n laid.words config = ap (λ (x : Session). x.machine) is ∙ ap (λ (ws : List ℕ). linked_reset n ws config) same in
       record {
         is_setting = held.is_setting;
+        methods = subst (AreMethods (resolved cs) (places_of cs)) (sym (ap (λ (x : Session). x.methods) is)) are;
         machine_is = machine_is;
         mode = ap (λ (x : Session). x.mode) is;
         begins = subst (Begins (linked_setting cs n config.memory)) machine_is (begins (linked_setting cs n config.memory) held refl (same ∙ is_told.words));
       }
 
-  pub start_case : {E : Type 0} (s : Result Session E) (words : List ℕ) (methods : List CodedMethod) → words ≡ laid.words
+  pub start_case : {E : Type 0} (s : Result Session E) (words : List ℕ) (methods : List CodedMethod) → words ≡ laid.words → AreMethods (resolved cs) (places_of cs) methods
       → IfOk s (λ r. r ≡ record { machine = linked_reset n words config; methods = methods; mode = Bytecode }) → IfOk s (λ r. BeginsEach n words config r.machine)
       → IfOk s (Started (linked_setting cs n config.memory) (linked_reset n laid.words config))
-  start_case (Ok r) words methods same is begins = started r words methods same is begins
-  start_case (Err e) words methods same is begins = tt
+  start_case (Ok r) words methods same are is begins = started r words methods same are is begins
+  start_case (Err e) words methods same are is begins = tt
+
+  pub same_methods : {E : Type 0} (s : Result Session E) (words : List ℕ) (methods : List CodedMethod) → IfOk s (λ r. r ≡ record { machine = linked_reset n words config; methods = methods; mode = Bytecode }) → IfOk s (λ r. r.methods ≡ methods)
+  same_methods (Ok r) words methods is = ap (λ (x : Session). x.methods) is
+  same_methods (Err e) words methods is = tt

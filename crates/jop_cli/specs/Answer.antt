@@ -1,11 +1,11 @@
 -- What the top call answers.
-use Rattle.std.specs.Prelude.{◌≡◌, ℕ, ◌≤◌, true, false, ◌⊎◌, List, Ok, Err}
+use Rattle.std.specs.Prelude.{◌≡◌, ℕ, ◌≤◌, Bool, true, false, ◌⊎◌, List, [], Some, Ok, Err}
 use Rattle.std.specs.declared.option.Option.{Option}
 use Rattle.std.specs.declared.result.Result.{Result}
 use Rattle.jop_outside.specs.Outside.{Grew, Rose}
 use Rattle.jop_words.specs.declared.command.Settings.{Settings}
 use Rattle.jop_words.specs.declared.command.Command.{Command}
-use Rattle.jop_words.specs.declared.command.Command.TheVariants.{Run, Asm as Assemble, Link as LinkTo}
+use Rattle.jop_words.specs.declared.command.Command.TheVariants.{Run, Trace, Asm as Assemble, Link as LinkTo}
 use Rattle.jop_words.specs.Command.{command_of}
 use Rattle.command_lines.specs.Said.{SaidLess}
 use Rattle.jop_cli.specs.declared.outcome.Refusal.TheVariants.{Usage, TooBig, NotBuilt, MethodTooLong, Link}
@@ -13,22 +13,26 @@ use Rattle.jop_cli.specs.declared.outcome.Ending.{Ending}
 use Rattle.jop_cli.specs.declared.outcome.Ending.TheVariants.{Ended, Written, Linked, Uncaught, Refused, TooLong, NotLinked, Spent, ReadFault, InputFault, WriteFault, NoMemory}
 use Rattle.jop_cli.specs.declared.outcome.Outcome.{Outcome}
 use Rattle.jop_cli.specs.declared.outcome.Outcome.TheVariants as outcomes
+use Rattle.jop_cli.specs.declared.show.Show.{Show}
+use Rattle.jop_cli.specs.declared.show.Show.TheVariants as shows
 use Rattle.jop_cli.specs.Line.{text_at, line_of, is_fault}
-use Rattle.jop_cli.specs.Run.{Outside, outside}
-use Rattle.jop_cli.specs.Phase.{is_linked, RunsBareBytes}
-use Rattle.jop_cli.specs.Lent.{Lent, lent}
+use Rattle.jop_cli.specs.Phase.{is_linked}
+use Rattle.jop_cli.specs.BareFile.{RunsBareBytes}
+use Rattle.lent_devices.specs.Lent.{Lent, lent}
 use Rattle.jop_cli.specs.LinkedFile.{RunsLinkedBytes}
 use Rattle.jop_cli.specs.World.{World, IsQuiet, IsUntaken, FilesStayBut, IsUnchanged, Reads, IsTooBig}
 use Rattle.jop_cli.specs.Assembling.{Assembles}
 use Rattle.jop_cli.specs.Linking.{LinksFiles}
 
-abbrev pub outside_of : World → Outside
-outside_of w = outside w.out w.watch w.out_faults
-
+-- what a run is lent
 abbrev pub lent_of : World → Lent
 lent_of w = lent w.left w.read_faults w.out w.out_faults w.watch
 
--- ---- `run`
+-- the same with an input that has ended
+abbrev pub lent_without_input : World → Lent
+lent_without_input w = lent (Some []) 0 w.out w.out_faults w.watch
+
+-- ---- `run` and `trace`
 
 -- why the file of a word wasn't read
 abbrev pub FileFault : (word : ℕ) → World → World → Ending → Type 0
@@ -38,11 +42,11 @@ FileFault word old new NoMemory = FilesStayBut word old new
 FileFault word old new ending = ⊥
 
 -- The file of a word was read, and its bytes are those of a bare image that was run, or of none. The input isn't asked.
-pub record RunsBare (settings : Settings) (word : ℕ) (old new : World) (ending : Ending) : Type 0 where
+pub record RunsBare (settings : Settings) (show : Show) (word : ℕ) (old new : World) (ending : Ending) : Type 0 where
   pub bytes : List ℕ
   pub reads : Reads word bytes old new
   pub bare : is_linked bytes ≡ false
-  pub runs : RunsBareBytes settings bytes (outside_of old) (outside_of new) ending
+  pub runs : RunsBareBytes settings show bytes (lent_without_input old) (lent_without_input new) ending
   pub input : IsUntaken old new
 
 -- The file of a word was read, and its bytes begin as those of a linked image.
@@ -51,21 +55,22 @@ pub record ReadsLinked (word : ℕ) (bytes : List ℕ) (old new : World) : Type 
   pub linked : is_linked bytes ≡ true
 
 -- They were run, or are no such image.
-pub record RunsLinked (settings : Settings) (word : ℕ) (old new : World) (ending : Ending) : Type 0 where
+pub record RunsLinked (settings : Settings) (show : Show) (word : ℕ) (old new : World) (ending : Ending) : Type 0 where
   pub bytes : List ℕ
   pub reads : ReadsLinked word bytes old new
-  pub runs : RunsLinkedBytes settings bytes (lent_of old) (lent_of new) ending
+  pub runs : RunsLinkedBytes settings show bytes (lent_of old) (lent_of new) ending
 
--- How the run of the image of a word ends, each ending with its cause.
-abbrev pub RunsFile : Settings → (word : ℕ) → World → World → Ending → Type 0
-RunsFile settings word old new ending = (FileFault word old new ending × IsQuiet old new) ⊎ (RunsBare settings word old new ending ⊎ RunsLinked settings word old new ending)
+-- How the run of the image of a word ends, and the traced run, each ending with its cause.
+abbrev pub RunsFile : Settings → Show → (word : ℕ) → World → World → Ending → Type 0
+RunsFile settings show word old new ending = (FileFault word old new ending × IsQuiet old new) ⊎ (RunsBare settings show word old new ending ⊎ RunsLinked settings show word old new ending)
 
 -- ---- all commands
 
 -- how what was read of the words ends: a command, or the number of a word
 abbrev pub Does : (words : List (List ℕ)) → Result Command ℕ → World → World → Ending → Type 0
 Does words (Err k) old new ending = (ending ≡ Refused (Usage k)) × IsUnchanged old new
-Does words (Ok (Run settings image)) old new ending = RunsFile settings image old new ending
+Does words (Ok (Run settings image)) old new ending = RunsFile settings shows.Output image old new ending
+Does words (Ok (Trace settings micro image)) old new ending = RunsFile settings (shows.Trace micro) image old new ending
 Does words (Ok (Assemble text)) old new ending = Assembles text old new ending
 Does words (Ok (LinkTo main first)) old new ending = LinksFiles (text_at words main) first old new ending
 Does words (Ok command) old new ending = (ending ≡ Refused NotBuilt) × IsUnchanged old new
@@ -102,11 +107,14 @@ outcome_unsaid InputFault = outcomes.ReadFault
 outcome_unsaid WriteFault = outcomes.WriteFault
 outcome_unsaid NoMemory = outcomes.NoMemory
 
--- the words say `run`, and the bytes of the image begin as those of a linked one
+-- the words say `run` or `trace` of an image
+abbrev pub RunsImage : (words : List (List ℕ)) → (image : ℕ) → Type 0
+RunsImage words image = (settings : Settings) × ((command_of words ≡ Ok (Run settings image)) ⊎ ((micro : Bool) × (command_of words ≡ Ok (Trace settings micro image))))
+
+-- and the bytes of the image begin as those of a linked one
 pub record RunsLinkedFile (words : List (List ℕ)) (old new : World) : Type 0 where
-  pub settings : Settings
   pub image : ℕ
-  pub command : command_of words ≡ Ok (Run settings image)
+  pub command : RunsImage words image
   pub bytes : List ℕ
   pub reads : ReadsLinked image bytes old new
 

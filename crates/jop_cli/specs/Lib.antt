@@ -1,12 +1,12 @@
-pub mod Wired
+pub mod Show
 pub mod Run
 pub mod Line
 pub mod Phase
+pub mod BareFile
 pub mod World
 pub mod Leaving
 pub mod Assembling
 pub mod Linking
-pub mod Lent
 pub mod LinkedRun
 pub mod LinkedSettings
 pub mod LinkedFile

@@ -1,4 +1,4 @@
--- What `run` does with the bytes of the file of a linked image.
+-- What `run` and `trace` do with the bytes of the file of a linked image.
 use Rattle.std.specs.Prelude.{◌≡◌, ℕ, ◌⊎◌, List, [], slice_get, IsSomeAnd}
 use Rattle.class_pool.specs.Utf8.{utf8_bytes}
 use Rattle.class_pool.specs.declared.class.ClassFile.{ClassFile}
@@ -10,14 +10,15 @@ use Rattle.linked_image.specs.Linked.{Image}
 use Rattle.jop_words.specs.declared.command.Settings.{Settings}
 use Rattle.jopizer.specs.Linked.{Parts, IsLinked, image_of}
 use Rattle.jopizer.specs.Images.{DiffersFirst}
-use Rattle.jop_cli.specs.declared.linked_end.LinkedEnd.{LinkedEnd}
-use Rattle.jop_cli.specs.declared.linked_end.LinkedEnd.TheVariants as runs
-use Rattle.jop_cli.specs.declared.linked_end.ImageEnd.TheVariants as ends
+use Rattle.jop_cli.specs.declared.program_end.ProgramEnd.{ProgramEnd}
+use Rattle.jop_cli.specs.declared.program_end.ProgramEnd.TheVariants as runs
+use Rattle.jop_cli.specs.declared.program_end.ImageEnd.TheVariants as ends
 use Rattle.jop_cli.specs.declared.outcome.Refusal.TheVariants.{BadImage, Differs, MemoryTooSmall}
 use Rattle.jop_cli.specs.declared.outcome.Ending.{Ending}
 use Rattle.jop_cli.specs.declared.outcome.Ending.TheVariants.{Ended, Uncaught, Refused, TooLong, NotLinked, Spent, InputFault, WriteFault, NoMemory}
+use Rattle.jop_cli.specs.declared.show.Show.{Show}
 use Rattle.jop_cli.specs.Linking.{Refuses, HasName}
-use Rattle.jop_cli.specs.Lent.{Lent}
+use Rattle.lent_devices.specs.Lent.{Lent}
 use Rattle.jop_cli.specs.LinkedSettings.{RunsLinked}
 
 -- ---- the bytes
@@ -47,7 +48,7 @@ IsTooLongAs cs method blocks limit NoMemory = Unit {0}
 IsTooLongAs cs method blocks limit ending = ⊥
 
 -- this ending says how a run ended
-abbrev pub SaysEnd : List ClassFile → LinkedEnd → Ending → Type 0
+abbrev pub SaysEnd : List ClassFile → ProgramEnd → Ending → Type 0
 SaysEnd cs (runs.Ended counts) ending = ending ≡ Ended counts
 SaysEnd cs (runs.Uncaught class counts) (Uncaught number name said) = (number ≡ class) × (said ≡ counts) × NamesClass cs class name.items
 SaysEnd cs (runs.Uncaught class counts) ending = ⊥
@@ -57,24 +58,24 @@ SaysEnd cs runs.WriteFault ending = ending ≡ WriteFault
 SaysEnd cs runs.NoMemory ending = ending ≡ NoMemory
 
 -- how the run of what was linked ends, with what its line shows
-abbrev pub EndsAs : Settings → Parts → (old new : Lent) → Ending → Type 0
-EndsAs settings l old new (TooLong method name blocks limit) = RunsLinked settings l old new (ends.MethodTooLong method blocks) × (limit ≡ settings.blocks) × NamesMethod l.classes method name.items
-EndsAs settings l old new (Refused (MemoryTooSmall words given)) = RunsLinked settings l old new (ends.MemoryTooSmall words) × (given ≡ settings.memory)
-EndsAs settings l old new (Ended counts) = RunsLinked settings l old new (ends.Ran (runs.Ended counts))
-EndsAs settings l old new (Uncaught class name counts) = RunsLinked settings l old new (ends.Ran (runs.Uncaught class counts)) × NamesClass l.classes class name.items
-EndsAs settings l old new (Spent counts) = RunsLinked settings l old new (ends.Ran (runs.Spent counts))
-EndsAs settings l old new InputFault = RunsLinked settings l old new (ends.Ran runs.ReadFault)
-EndsAs settings l old new WriteFault = RunsLinked settings l old new (ends.Ran runs.WriteFault)
-EndsAs settings l old new NoMemory = new ≡ old
-EndsAs settings l old new ending = ⊥
+abbrev pub EndsAs : Settings → Show → Parts → (old new : Lent) → Ending → Type 0
+EndsAs settings show l old new (TooLong method name blocks limit) = RunsLinked settings show l old new (ends.MethodTooLong method blocks) × (limit ≡ settings.blocks) × NamesMethod l.classes method name.items
+EndsAs settings show l old new (Refused (MemoryTooSmall words given)) = RunsLinked settings show l old new (ends.MemoryTooSmall words) × (given ≡ settings.memory)
+EndsAs settings show l old new (Ended counts) = RunsLinked settings show l old new (ends.Ran (runs.Ended counts))
+EndsAs settings show l old new (Uncaught class name counts) = RunsLinked settings show l old new (ends.Ran (runs.Uncaught class counts)) × NamesClass l.classes class name.items
+EndsAs settings show l old new (Spent counts) = RunsLinked settings show l old new (ends.Ran (runs.Spent counts))
+EndsAs settings show l old new InputFault = RunsLinked settings show l old new (ends.Ran runs.ReadFault)
+EndsAs settings show l old new WriteFault = RunsLinked settings show l old new (ends.Ran runs.WriteFault)
+EndsAs settings show l old new NoMemory = new ≡ old
+EndsAs settings show l old new ending = ⊥
 
 -- the bytes are the file of what was linked, and it was run
-pub record RunsProgram (settings : Settings) (bytes : List ℕ) (old new : Lent) (ending : Ending) : Type 0 where
+pub record RunsProgram (settings : Settings) (show : Show) (bytes : List ℕ) (old new : Lent) (ending : Ending) : Type 0 where
   pub linked : Parts
   pub is_linked : IsLinked linked
   pub is_file : file.IsLinked bytes (image_of linked)
-  pub ends_as : EndsAs settings linked old new ending
+  pub ends_as : EndsAs settings show linked old new ending
 
 -- how the run of the bytes ends
-abbrev pub RunsLinkedBytes : Settings → (bytes : List ℕ) → (old new : Lent) → Ending → Type 0
-RunsLinkedBytes settings bytes old new ending = (BytesFault bytes ending × (new ≡ old)) ⊎ RunsProgram settings bytes old new ending
+abbrev pub RunsLinkedBytes : Settings → Show → (bytes : List ℕ) → (old new : Lent) → Ending → Type 0
+RunsLinkedBytes settings show bytes old new ending = (BytesFault bytes ending × (new ≡ old)) ⊎ RunsProgram settings show bytes old new ending

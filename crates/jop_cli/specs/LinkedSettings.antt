@@ -6,13 +6,15 @@ use Rattle.jop_words.specs.declared.command.Settings.{Settings}
 use Rattle.program_tables.specs.Resolved.{resolved}
 use Rattle.jopizer.specs.Linked.{Parts}
 use Rattle.linked_methods.specs.Fitting.{Fits, IsFirst}
-use Rattle.jop_cli.specs.declared.linked_end.LinkedEnd.{LinkedEnd}
-use Rattle.jop_cli.specs.declared.linked_end.LinkedEnd.TheVariants as runs
-use Rattle.jop_cli.specs.declared.linked_end.ImageEnd.{ImageEnd}
-use Rattle.jop_cli.specs.declared.linked_end.ImageEnd.TheVariants.{MethodTooLong, MemoryTooSmall, Ran}
+use Rattle.jop_cli.specs.declared.program_end.ProgramEnd.{ProgramEnd}
+use Rattle.jop_cli.specs.declared.program_end.ProgramEnd.TheVariants as runs
+use Rattle.jop_cli.specs.declared.program_end.ImageEnd.{ImageEnd}
+use Rattle.jop_cli.specs.declared.program_end.ImageEnd.TheVariants.{MethodTooLong, MemoryTooSmall, Ran}
+use Rattle.jop_cli.specs.declared.show.Show.{Show}
+use Rattle.jop_cli.specs.Show.{linked_shown}
 use Rattle.jop_cli.specs.Phase.{HasSettings}
-use Rattle.jop_cli.specs.Lent.{Lent}
-use Rattle.jop_cli.specs.LinkedRun as run
+use Rattle.lent_devices.specs.Lent.{Lent}
+use Rattle.jop_cli.specs.Run as run
 use Rattle.jop_cli.specs.LinkedRun.{HasClass, linked_setting}
 
 -- each code fits the method cache
@@ -20,12 +22,12 @@ abbrev pub CodesFit : Settings → Parts → Type 0
 CodesFit settings l = (m : ℕ) → Fits (resolved l.classes) settings.blocks settings.block_words m
 
 -- A machine with the settings holds the image, and it was run from reset.
-pub record RanWith (settings : Settings) (l : Parts) (old new : Lent) (end : LinkedEnd) : Type 0 where
+pub record RanWith (settings : Settings) (show : Show) (l : Parts) (old new : Lent) (end : ProgramEnd) : Type 0 where
   pub codes : CodesFit settings l
   pub memory : length l.laid.words ≤ settings.memory
   pub config : Config
   pub has : HasSettings settings config
-  pub ran : run.Ran (linked_setting l.classes settings.stack config.memory) (linked_reset settings.stack l.laid.words config) settings.cycles old new end
+  pub ran : run.Ran (linked_shown l.classes show) (linked_setting l.classes settings.stack config.memory) (linked_reset settings.stack l.laid.words config) settings.cycles old new end
   pub class : HasClass l.classes end
 
 -- The words of the image pass the memory, and each code fits the method cache; nothing was done.
@@ -36,10 +38,10 @@ pub record IsTooLarge (settings : Settings) (l : Parts) (old new : Lent) (words 
   pub same : new ≡ old
 
 -- how the run ends
-abbrev pub RunsLinked : Settings → Parts → (old new : Lent) → ImageEnd → Type 0
-RunsLinked settings l old new (MethodTooLong method blocks) = IsFirst (resolved l.classes) settings.blocks settings.block_words (record { method = method; blocks = blocks }) × (new ≡ old)
-RunsLinked settings l old new (MemoryTooSmall words) = IsTooLarge settings l old new words
-RunsLinked settings l old new (Ran end) = RanWith settings l old new end
+abbrev pub RunsLinked : Settings → Show → Parts → (old new : Lent) → ImageEnd → Type 0
+RunsLinked settings show l old new (MethodTooLong method blocks) = IsFirst (resolved l.classes) settings.blocks settings.block_words (record { method = method; blocks = blocks }) × (new ≡ old)
+RunsLinked settings show l old new (MemoryTooSmall words) = IsTooLarge settings l old new words
+RunsLinked settings show l old new (Ran end) = RanWith settings show l old new end
 
 -- the endings after which nothing was done
 abbrev pub LeavesDevices : ImageEnd → Type 0

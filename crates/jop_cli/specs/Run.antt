@@ -1,21 +1,63 @@
--- The run of a bare image on the clocked machine, from reset.
-use Rattle.std.specs.Prelude.{◌≡◌, ℕ, List, Some}
-use Rattle.std.specs.declared.option.Option.{Option}
-use Rattle.memory_timing.specs.declared.Config.{Config}
-use Rattle.jop_device.specs.declared.seen.Seen.{Seen}
-use Rattle.bare_image.specs.Bare.{Image}
-use Rattle.jop_core.specs.Reset.{bare_reset}
+-- The run of a program on the clocked machine, from reset.
+use Rattle.std.specs.Prelude.{◌≡◌, ℕ, ◌≤◌, Bool, List, Some}
 use Rattle.jop_core.specs.State as machine
+use Rattle.jop_outside.specs.Outside.{Rose}
+use Rattle.jop_device.specs.Told.{Told}
+use Rattle.trace_lines.specs.Traced.{traced}
 use Rattle.bytecode_model.specs.State.{State}
 use Rattle.bytecode_model.specs.Steps.{boot_state}
+use Rattle.coded_methods.specs.Methods.{AreMethods}
+use Rattle.boundary.specs.declared.answer.Boundary.TheVariants.{Bytecode}
 use Rattle.boundary.specs.declared.runs.RunEnd.{RunEnd}
 use Rattle.boundary.specs.declared.runs.RunEnd.TheVariants as ends
-use Rattle.boundary.specs.Setting.{bare_setting}
-use Rattle.boundary.specs.BareLaws.{opcode_of}
+use Rattle.boundary.specs.Setting.{Setting, IsSetting}
+use Rattle.boundary.specs.Session.{Session, IsStateOf, Begins}
 use Rattle.boundary.specs.Activations.{Stage}
 use Rattle.boundary.specs.Runs as whole
+use Rattle.boundary.specs.Traces.{TracesTo}
 use Rattle.command_lines.specs.declared.line.Counts.{Counts}
-use Rattle.jop_cli.specs.Wired.{wired}
+use Rattle.lent_devices.specs.Lent.{Lent, wired}
+use Rattle.jop_cli.specs.Show.{Shown, Output, Trace}
+use Rattle.jop_cli.specs.declared.program_end.ProgramEnd.{ProgramEnd}
+use Rattle.jop_cli.specs.declared.program_end.ProgramEnd.TheVariants.{Ended, Uncaught, Spent, ReadFault, WriteFault, NoMemory}
+
+-- ---- where it begins
+
+-- a run that begins at this state of the machine
+pub record Started (g : Setting) (reset : machine.State) (r : Session) : Type 0 where
+  pub is_setting : IsSetting g
+  pub methods : AreMethods g.program g.places r.methods
+  pub machine_is : r.machine ≡ reset
+  pub mode : r.mode ≡ Bytecode
+  pub begins : Begins g reset
+
+-- a run that begins where the machine is, over some program
+abbrev pub HasStarted : Session → Type 0
+HasStarted r = (g : Setting) × Started g r.machine r
+
+-- ---- what it shows
+
+-- The traced run. Its devices are the input, and the output, which is given the lines and has failed at least as often as they; the watch is as it was.
+pub record Traced (cycles : Bool) (names : List (List ℕ)) (g : Setting) (limit : ℕ) (a : Stage) (now : machine.State) (old new : Lent) (end : RunEnd) : Type 0 where
+  pub after : Told
+  pub traces : TracesTo cycles names g limit a now (traced cycles old.left old.read_faults old.held old.write_faults old.write_faults) after end
+  pub left : after.left ≡ new.left
+  pub reads : after.read_faults ≡ new.read_faults
+  pub noted : after.noted ≡ new.held
+  pub writes : after.write_faults ≤ new.write_faults
+  pub sees : after.seen_faults ≤ new.write_faults
+  pub watch : new.handed ≡ old.handed
+
+-- from a, the machine and the program ran to this end
+abbrev pub RunsAs : Shown → (g : Setting) → (limit : ℕ) → (a : Stage) → (now : machine.State) → (old new : Lent) → RunEnd → Type 0
+RunsAs Output g limit a now old new end = whole.RunsTo g limit a now (wired old) (wired new) end
+RunsAs (Trace cycles names) g limit a now old new end = Traced cycles names g limit a now old new end
+
+-- so it is from each state for which the machine stood, of a program with these methods
+abbrev pub RunsAsAll : Shown → (limit : ℕ) → (r : Session) → (now : machine.State) → (old new : Lent) → RunEnd → Type 0
+RunsAsAll shown limit r now old new end = (g : Setting) (s : State) → IsStateOf g r.methods r.machine s → RunsAs shown g limit (record { machine = r.machine; state = s }) now old new end
+
+-- ---- how it ends
 
 -- the counts of a state
 pub record AreCounts (counts : Counts) (s : machine.State) : Type 0 where
@@ -23,37 +65,21 @@ pub record AreCounts (counts : Counts) (s : machine.State) : Type 0 where
   pub hits : counts.hits ≡ s.hits
   pub misses : counts.misses ≡ s.misses
 
--- what an output and a watch tell before and after: what they hold, and the output's count of faults
-pub record Outside : Type 0 where
-  pub held : Option (List ℕ)
-  pub handed : Option (List Seen)
-  pub faults : ℕ
-
-abbrev pub outside : (held : Option (List ℕ)) → (handed : Option (List Seen)) → (faults : ℕ) → Outside
-outside held handed faults = record { held = held; handed = handed; faults = faults }
-
--- the machine at reset over an image, and the boot state of its program
-abbrev pub at_reset : (n : ℕ) → Image → Config → (boot : State) → Stage
-at_reset n image config boot = record { machine = bare_reset n image config; state = boot }
-
--- From reset the machine and the image's program ran to this end, and the machine is at `now`.
-abbrev pub EndsIn : (n : ℕ) → Image → Config → (boot : State) → (limit : ℕ) → (now : machine.State) → (old new : Outside) → RunEnd → Type 0
-EndsIn n image config boot limit now old new end =
-    whole.RunsTo (bare_setting image n config.memory) limit (at_reset n image config boot) now (wired old.held old.faults old.handed) (wired new.held new.faults new.handed) end
-
--- The machine over the image, with n words on chip and these settings, ran from reset to this end, and has these counts there.
-pub record RunsTo (n : ℕ) (image : Image) (config : Config) (limit : ℕ) (end : RunEnd) (old new : Outside) (counts : Counts) : Type 0 where
+-- From reset, and from the boot state, the machine and the program ran to this end, and the machine is at `now`.
+pub record RunsTo (shown : Shown) (g : Setting) (reset : machine.State) (limit : ℕ) (end : RunEnd) (old new : Lent) : Type 0 where
   pub boot : State
-  pub is_boot : boot_state (bare_setting image n config.memory).program ≡ Some boot
+  pub is_boot : boot_state g.program ≡ Some boot
   pub now : machine.State
-  pub runs : EndsIn n image config boot limit now old new end
-  pub counted : AreCounts counts now
+  pub runs : RunsAs shown g limit (record { machine = reset; state = boot }) now old new end
 
--- The machine over the image, with n words on chip and these settings, ran from reset to an impdep2, and on to the cycle that puts its byte out, where the
--- output failed.
-pub record RunsInPart (n : ℕ) (image : Image) (config : Config) (limit : ℕ) (old new : Outside) : Type 0 where
-  pub boot : State
-  pub is_boot : boot_state (bare_setting image n config.memory).program ≡ Some boot
-  pub now : machine.State
-  pub runs : EndsIn n image config boot limit now old new ends.WriteFault
-  pub opcode : opcode_of (bare_setting image n config.memory).program runs.last.state ≡ Some 255
+-- and these are its counts there
+abbrev pub RunsCounted : Shown → (g : Setting) → (reset : machine.State) → (limit : ℕ) → RunEnd → (old new : Lent) → Counts → Type 0
+RunsCounted shown g reset limit end old new counts = (r : RunsTo shown g reset limit end old new) × AreCounts counts r.now
+
+abbrev pub Ran : Shown → (g : Setting) → (reset : machine.State) → (limit : ℕ) → (old new : Lent) → ProgramEnd → Type 0
+Ran shown g reset limit old new (Ended counts) = RunsCounted shown g reset limit ends.Ended old new counts
+Ran shown g reset limit old new (Uncaught class counts) = RunsCounted shown g reset limit (ends.Uncaught class) old new counts
+Ran shown g reset limit old new (Spent counts) = RunsCounted shown g reset limit ends.Spent old new counts × (limit ≤ counts.clock)
+Ran shown g reset limit old new ReadFault = RunsTo shown g reset limit ends.ReadFault old new × Rose old.read_faults new.read_faults
+Ran shown g reset limit old new WriteFault = RunsTo shown g reset limit ends.WriteFault old new × Rose old.write_faults new.write_faults
+Ran shown g reset limit old new NoMemory = new ≡ old

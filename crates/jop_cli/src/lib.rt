@@ -2,20 +2,19 @@
 #![tactic(auto)]
 
 mod assembling;
-mod devices;
+mod bare_file;
 pub mod host;
 mod lines;
-mod linked_devices;
-mod linked_end;
 mod linked_file;
 mod linked_machine;
-mod linked_run;
 mod linked_settings;
 mod linking;
 mod load;
 mod outcome;
+mod program_end;
 mod run;
 mod settings;
+mod show;
 mod top;
 
 pub use outcome::{AsmRefusal, Outcome, Refusal};

@@ -9,16 +9,17 @@ ghost use Rattle.jopizer.specs.Images.{IsWrong};
 ghost use Rattle.jopizer.specs.Refused.{IsRefusal};
 ghost use Rattle.class_names.specs.Room.{HasRoom};
 ghost use Rattle.jop_words.specs.Range.{AreSettings};
-ghost use Rattle.jop_cli.specs.declared.linked_end.ImageEnd.TheVariants as ends;
-ghost use Rattle.jop_cli.specs.Lent.{lent};
+ghost use Rattle.jop_cli.specs.declared.program_end.ImageEnd.TheVariants as ends;
+ghost use Rattle.lent_devices.specs.Lent.{lent};
 ghost use Rattle.jop_cli.specs.Leaving.{Leaves, FailsRisen};
 ghost use Rattle.jop_cli.specs.LinkedRun.{HasClass};
 ghost use Rattle.jop_cli.specs.LinkedFile.{BytesFault, IsTooLongAs, SaysEnd, EndsAs, RunsLinkedBytes};
 
-use crate::linked_end::{ImageEnd, LinkedEnd};
 use crate::linked_settings::run_with_settings;
 use crate::linking::not_linked;
 use crate::outcome::{Ending, Refusal};
+use crate::program_end::{ImageEnd, ProgramEnd};
+use crate::show::Show;
 use class_names::{name_room, tell_name};
 use jop_core::Watch;
 use jop_outside::{Sink, Source};
@@ -82,23 +83,23 @@ fn too_long(alloc: Global, program: &Program, method: u32, blocks: u32, limit: u
 }
 
 // The ending where the program ended so, with room for the name of any class.
-fn said(program: &Program, room: Vec<u8>, end: LinkedEnd) -> Ending
+fn said(program: &Program, room: Vec<u8>, end: ProgramEnd) -> Ending
     requires empty { room.items ≡ [] }
     requires room { HasRoom program.now (vec_capacity room) }
     requires class { HasClass program.now end }
     ensures { SaysEnd program.now end result }
 {
     match end {
-        LinkedEnd::Ended(counts) => Ending::Ended(counts),
-        LinkedEnd::Uncaught(class, counts) => {
+        ProgramEnd::Ended(counts) => Ending::Ended(counts),
+        ProgramEnd::Uncaught(class, counts) => {
             let mut name = room;
             tell_name(&mut name, program, class);
             Ending::Uncaught(class, name, counts)
         }
-        LinkedEnd::Spent(counts) => Ending::Spent(counts),
-        LinkedEnd::ReadFault => Ending::InputFault,
-        LinkedEnd::WriteFault => Ending::WriteFault,
-        LinkedEnd::NoMemory => Ending::NoMemory,
+        ProgramEnd::Spent(counts) => Ending::Spent(counts),
+        ProgramEnd::ReadFault => Ending::InputFault,
+        ProgramEnd::WriteFault => Ending::WriteFault,
+        ProgramEnd::NoMemory => Ending::NoMemory,
     }
 }
 
@@ -107,12 +108,13 @@ fn run_program<S: Source, O: Sink, V: Watch>(
     alloc: Global,
     linked: &Linked,
     settings: &Settings,
+    show: Show,
     input: &mut S,
     out: &mut O,
     watch: &mut V,
 ) -> Ending
     requires { AreSettings settings.now }
-    ensures ends { EndsAs settings.now linked.now
+    ensures ends { EndsAs settings.now show linked.now
         (lent (S.left input.old) (S.faults input.old) (O.held out.old) (O.faults out.old) (V.held watch.old))
         (lent (S.left input.new) (S.faults input.new) (O.held out.new) (O.faults out.new) (V.held watch.new)) result }
     ensures leaves { Leaves result → (input.new ≡ input.old) × (out.new ≡ out.old) × (watch.new ≡ watch.old) }
@@ -124,7 +126,7 @@ fn run_program<S: Source, O: Sink, V: Watch>(
     let Ok(room) = name_room(alloc, program) else {
         return Ending::NoMemory;
     };
-    match run_with_settings(alloc, linked, settings, input, out, watch) {
+    match run_with_settings(alloc, linked, settings, show, input, out, watch) {
         ImageEnd::MethodTooLong(method, blocks) => {
             too_long(alloc, program, method, blocks, settings.blocks)
         }
@@ -140,18 +142,19 @@ pub(crate) fn run_linked_bytes<S: Source, O: Sink, V: Watch>(
     alloc: Global,
     bytes: &[u8],
     settings: &Settings,
+    show: Show,
     input: &mut S,
     out: &mut O,
     watch: &mut V,
 ) -> Ending
     requires { AreSettings settings.now }
-    ensures runs { RunsLinkedBytes settings.now bytes.now
+    ensures runs { RunsLinkedBytes settings.now show bytes.now
         (lent (S.left input.old) (S.faults input.old) (O.held out.old) (O.faults out.old) (V.held watch.old))
         (lent (S.left input.new) (S.faults input.new) (O.held out.new) (O.faults out.new) (V.held watch.new)) result }
     ensures leaves { Leaves result → (input.new ≡ input.old) × (out.new ≡ out.old) × (watch.new ≡ watch.old) }
 {
     match linked_of(alloc, bytes) {
-        Ok(linked) => run_program(alloc, &linked, settings, input, out, watch),
+        Ok(linked) => run_program(alloc, &linked, settings, show, input, out, watch),
         Err(ending) => ending,
     }
 }

@@ -1,24 +1,28 @@
 //! The run of a linked program, from reset.
-ghost use Rattle.std.specs.Prelude.{◌≡◌, ◌≢◌, ◌<◌, ◌^◌, IfOk};
+ghost use Rattle.std.specs.Prelude.{◌≡◌, ◌<◌, ◌^◌, IfOk};
 ghost use Rattle.stack_cache.specs.Size.{IsSize};
+ghost use Rattle.lent_devices.specs.Lent.{lent};
 ghost use Rattle.coded_methods.specs.Methods.{AreMethods};
 ghost use Rattle.program_tables.specs.Resolved.{resolved};
 ghost use Rattle.image_words.specs.Regions.{places_of};
 ghost use Rattle.jop_core.specs.Reset.{linked_reset};
-ghost use Rattle.jop_cli.specs.declared.linked_end.LinkedEnd.TheVariants as ends;
-ghost use Rattle.jop_cli.specs.Lent.{lent};
-ghost use Rattle.jop_cli.specs.LinkedRun.{CanRun, Started, Ran, HasClass, linked_setting};
+ghost use Rattle.jop_cli.specs.declared.program_end.ProgramEnd.TheVariants as ends;
+ghost use Rattle.jop_cli.specs.Show.{AreNamed, linked_shown, shown_by};
+ghost use Rattle.jop_cli.specs.Run.{Started, Ran};
+ghost use Rattle.jop_cli.specs.LinkedRun.{CanRun, HasClass, linked_setting};
 
-use crate::linked_end::LinkedEnd;
-use crate::linked_run::run;
-use crate::run::counts_of;
-use boundary::{CodedMethod, RunEnd, Running};
+use crate::program_end::ProgramEnd;
+use crate::run::run_to_end;
+use crate::settings::Plan;
+use crate::show::{NamedShow, linked_show};
+use boundary::{CodedMethod, Running};
 use bytecode_verifier::Verified;
 use jop_base::NoMemory;
 use jop_core::{Config, Watch};
 use jop_outside::{Sink, Source};
 use linked_methods::methods_of;
 use linked_start::{boot_takes_six_words, uncaught_classes_are_there, verified_programs_are_told};
+use program_tables::laws::methods_stand_by_number;
 use std::alloc::Global;
 use word_lists::Layout;
 
@@ -34,7 +38,8 @@ fn start_linked<'a, const N: usize>(
     requires size { IsSize N }
     requires held { CanRun program.now layout.now config }
     requires methods { AreMethods (resolved program.now) (places_of program.now) methods.now }
-    ensures { IfOk result (Started (linked_setting program.now N config.memory) (linked_reset N layout.now.words config)) }
+    ensures started { IfOk result (Started (linked_setting program.now N config.memory) (linked_reset N layout.now.words config)) }
+    ensures methods { IfOk result (λ r. r.methods ≡ methods.now) }
 {
     // The laws are for the proof.
     verified_programs_are_told();
@@ -43,64 +48,94 @@ fn start_linked<'a, const N: usize>(
     Running::<N>::start(alloc, layout.words(), methods, config)
 }
 
-/// Runs a machine of a linked program to its end.
-fn run_started<const N: usize, S: Source, O: Sink, V: Watch>(
-    program: &Verified,
-    config: Config,
-    running: &mut Running<'_, N>,
-    input: &mut S,
-    out: &mut O,
-    watch: &mut V,
-    limit: u64,
-) -> LinkedEnd
-    requires started { Started (linked_setting program.now N config.memory) running.old.machine running.old }
-    requires few { limit < 2 ^ 63 }
-    ensures ran { Ran (linked_setting program.now N config.memory) running.old.machine limit
-        (lent (S.left input.old) (S.faults input.old) (O.held out.old) (O.faults out.old) (V.held watch.old))
-        (lent (S.left input.new) (S.faults input.new) (O.held out.new) (O.faults out.new) (V.held watch.new)) result }
-    ensures class { HasClass program.now result }
-    ensures made { result ≢ ends.NoMemory }
-{
-    // The law is for the proof.
-    uncaught_classes_are_there();
-    match run(running, input, out, watch, limit) {
-        RunEnd::Ended => LinkedEnd::Ended(counts_of(running.machine())),
-        RunEnd::Uncaught(class) => LinkedEnd::Uncaught(class, counts_of(running.machine())),
-        RunEnd::Spent => LinkedEnd::Spent(counts_of(running.machine())),
-        RunEnd::ReadFault => LinkedEnd::ReadFault,
-        RunEnd::WriteFault => LinkedEnd::WriteFault,
-        RunEnd::SeenFault => unreachable!(),
-    }
-}
-
-/// Runs a verified program that is laid out from reset, up to a limit of cycles.
-pub(crate) fn run_linked<const N: usize, S: Source, O: Sink, V: Watch>(
+/// Runs it with these methods, and shows what is to be shown.
+fn run_methods<const N: usize, S: Source, O: Sink, V: Watch>(
     alloc: Global,
     program: &Verified,
     layout: &Layout,
-    config: Config,
+    methods: &[CodedMethod<'_>],
+    plan: Plan,
+    shown: &NamedShow,
     input: &mut S,
     out: &mut O,
     watch: &mut V,
-    limit: u64,
-) -> LinkedEnd
+) -> ProgramEnd
     requires size { IsSize N }
-    requires held { CanRun program.now layout.now config }
-    requires few { limit < 2 ^ 63 }
-    ensures ran { Ran (linked_setting program.now N config.memory) (linked_reset N layout.now.words config) limit
+    requires held { CanRun program.now layout.now plan.config }
+    requires methods { AreMethods (resolved program.now) (places_of program.now) methods.now }
+    requires named { AreNamed (shown_by shown.now) methods.now }
+    requires few { plan.limit < 2 ^ 63 }
+    ensures ran { Ran (shown_by shown.now) (linked_setting program.now N plan.config.memory) (linked_reset N layout.now.words plan.config) plan.limit
         (lent (S.left input.old) (S.faults input.old) (O.held out.old) (O.faults out.old) (V.held watch.old))
         (lent (S.left input.new) (S.faults input.new) (O.held out.new) (O.faults out.new) (V.held watch.new)) result }
     ensures class { HasClass program.now result }
     ensures leaves { result ≡ ends.NoMemory → (input.new ≡ input.old) × (out.new ≡ out.old) × (watch.new ≡ watch.old) }
 {
-    let Ok(methods) = methods_of(alloc, program.program(), layout) else {
-        return LinkedEnd::NoMemory;
-    };
-    match start_linked::<N>(alloc, program, layout, &methods, config) {
+    // The law is for the proof.
+    uncaught_classes_are_there();
+    match start_linked::<N>(alloc, program, layout, methods, plan.config) {
         Ok(running) => {
             let mut running = running;
-            run_started(program, config, &mut running, input, out, watch, limit)
+            run_to_end(&mut running, shown, input, out, watch, plan.limit)
         }
-        Err(NoMemory) => LinkedEnd::NoMemory,
+        Err(NoMemory) => ProgramEnd::NoMemory,
+    }
+}
+
+/// Runs it, and shows what is to be shown.
+fn run_named<const N: usize, S: Source, O: Sink, V: Watch>(
+    alloc: Global,
+    program: &Verified,
+    layout: &Layout,
+    plan: Plan,
+    shown: &NamedShow,
+    input: &mut S,
+    out: &mut O,
+    watch: &mut V,
+) -> ProgramEnd
+    requires size { IsSize N }
+    requires held { CanRun program.now layout.now plan.config }
+    requires shown { shown_by shown.now ≡ linked_shown program.now plan.show }
+    requires few { plan.limit < 2 ^ 63 }
+    ensures ran { Ran (linked_shown program.now plan.show) (linked_setting program.now N plan.config.memory) (linked_reset N layout.now.words plan.config) plan.limit
+        (lent (S.left input.old) (S.faults input.old) (O.held out.old) (O.faults out.old) (V.held watch.old))
+        (lent (S.left input.new) (S.faults input.new) (O.held out.new) (O.faults out.new) (V.held watch.new)) result }
+    ensures class { HasClass program.now result }
+    ensures leaves { result ≡ ends.NoMemory → (input.new ≡ input.old) × (out.new ≡ out.old) × (watch.new ≡ watch.old) }
+{
+    // The law is for the proof.
+    methods_stand_by_number();
+    match methods_of(alloc, program.program(), layout) {
+        Ok(methods) => run_methods::<N, S, O, V>(
+            alloc, program, layout, &methods, plan, shown, input, out, watch,
+        ),
+        Err(NoMemory) => ProgramEnd::NoMemory,
+    }
+}
+
+/// Runs a verified program that is laid out from reset. After the machine is made no memory is asked for.
+pub(crate) fn run_linked<const N: usize, S: Source, O: Sink, V: Watch>(
+    alloc: Global,
+    program: &Verified,
+    layout: &Layout,
+    plan: Plan,
+    input: &mut S,
+    out: &mut O,
+    watch: &mut V,
+) -> ProgramEnd
+    requires size { IsSize N }
+    requires held { CanRun program.now layout.now plan.config }
+    requires few { plan.limit < 2 ^ 63 }
+    ensures ran { Ran (linked_shown program.now plan.show) (linked_setting program.now N plan.config.memory) (linked_reset N layout.now.words plan.config) plan.limit
+        (lent (S.left input.old) (S.faults input.old) (O.held out.old) (O.faults out.old) (V.held watch.old))
+        (lent (S.left input.new) (S.faults input.new) (O.held out.new) (O.faults out.new) (V.held watch.new)) result }
+    ensures class { HasClass program.now result }
+    ensures leaves { result ≡ ends.NoMemory → (input.new ≡ input.old) × (out.new ≡ out.old) × (watch.new ≡ watch.old) }
+{
+    match linked_show(alloc, plan.show, program.program()) {
+        Ok(shown) => {
+            run_named::<N, S, O, V>(alloc, program, layout, plan, &shown, input, out, watch)
+        }
+        Err(NoMemory) => ProgramEnd::NoMemory,
     }
 }

@@ -3,13 +3,14 @@ ghost use Rattle.std.specs.Prelude.{◌≡◌, ◌≤◌, ℕ, length};
 ghost use Rattle.jop_words.specs.Range.{AreSettings};
 ghost use Rattle.program_tables.specs.Resolved.{resolved};
 ghost use Rattle.linked_methods.specs.Fitting.{Fits};
-ghost use Rattle.jop_cli.specs.declared.linked_end.ImageEnd.TheVariants as ends;
-ghost use Rattle.jop_cli.specs.Lent.{lent};
+ghost use Rattle.jop_cli.specs.declared.program_end.ImageEnd.TheVariants as ends;
+ghost use Rattle.lent_devices.specs.Lent.{lent};
 ghost use Rattle.jop_cli.specs.LinkedSettings.{LeavesDevices, RanWith, RunsLinked};
 
-use crate::linked_end::{ImageEnd, LinkedEnd};
 use crate::linked_machine::run_linked;
-use crate::settings::config_of;
+use crate::program_end::{ImageEnd, ProgramEnd};
+use crate::settings::plan_of;
+use crate::show::Show;
 use jop_core::Watch;
 use jop_outside::{Sink, Source};
 use jop_words::Settings;
@@ -35,26 +36,26 @@ fn run_held<S: Source, O: Sink, V: Watch>(
     alloc: Global,
     linked: &Linked,
     settings: &Settings,
+    show: Show,
     input: &mut S,
     out: &mut O,
     watch: &mut V,
-) -> LinkedEnd
+) -> ProgramEnd
     requires settings { AreSettings settings.now }
     requires codes { (m : ℕ) → Fits (resolved linked.now.classes) settings.now.blocks settings.now.block_words m }
     requires memory { length linked.now.laid.words ≤ settings.now.memory }
-    ensures ran { RanWith settings.now linked.now
+    ensures ran { RanWith settings.now show linked.now
         (lent (S.left input.old) (S.faults input.old) (O.held out.old) (O.faults out.old) (V.held watch.old))
         (lent (S.left input.new) (S.faults input.new) (O.held out.new) (O.faults out.new) (V.held watch.new)) result }
     ensures leaves { LeavesDevices (ends.Ran result) → (input.new ≡ input.old) × (out.new ≡ out.old) × (watch.new ≡ watch.old) }
 {
     let program = linked.program();
     let layout = linked.layout();
-    let config = config_of(settings);
-    let limit = settings.cycles;
+    let plan = plan_of(settings, show);
     match settings.stack {
-        256 => run_linked::<256, S, O, V>(alloc, program, layout, config, input, out, watch, limit),
-        512 => run_linked::<512, S, O, V>(alloc, program, layout, config, input, out, watch, limit),
-        _ => run_linked::<1024, S, O, V>(alloc, program, layout, config, input, out, watch, limit),
+        256 => run_linked::<256, S, O, V>(alloc, program, layout, plan, input, out, watch),
+        512 => run_linked::<512, S, O, V>(alloc, program, layout, plan, input, out, watch),
+        _ => run_linked::<1024, S, O, V>(alloc, program, layout, plan, input, out, watch),
     }
 }
 
@@ -64,12 +65,13 @@ pub(crate) fn run_with_settings<S: Source, O: Sink, V: Watch>(
     alloc: Global,
     linked: &Linked,
     settings: &Settings,
+    show: Show,
     input: &mut S,
     out: &mut O,
     watch: &mut V,
 ) -> ImageEnd
     requires { AreSettings settings.now }
-    ensures runs { RunsLinked settings.now linked.now
+    ensures runs { RunsLinked settings.now show linked.now
         (lent (S.left input.old) (S.faults input.old) (O.held out.old) (O.faults out.old) (V.held watch.old))
         (lent (S.left input.new) (S.faults input.new) (O.held out.new) (O.faults out.new) (V.held watch.new)) result }
     ensures leaves { LeavesDevices result → (input.new ≡ input.old) × (out.new ≡ out.old) × (watch.new ≡ watch.old) }
@@ -82,5 +84,5 @@ pub(crate) fn run_with_settings<S: Source, O: Sink, V: Watch>(
     if words > settings.memory {
         return ImageEnd::MemoryTooSmall(words);
     }
-    ImageEnd::Ran(run_held(alloc, linked, settings, input, out, watch))
+    ImageEnd::Ran(run_held(alloc, linked, settings, show, input, out, watch))
 }

@@ -17,6 +17,7 @@ use command_lines::Sizes;
 use image_layout::coded_methods;
 use jop_base::NoMemory;
 use jop_outside::{Files, Sink, put_all};
+use jop_program::LinkRefusal as Unresolved;
 use jopizer::{LinkRefusal, Linked, link, write_image};
 use operand_files::{FilesFault, read_files};
 use refusal_lines::name_in;
@@ -60,17 +61,26 @@ fn read_operands<F: Files>(
     }
 }
 
+// The ending where this refuses the resolving of the files.
+fn not_resolved(alloc: Global, files: &[Vec<u8>], unresolved: Unresolved) -> Ending
+    ensures { (main : List ℕ) → IsRefusal (contents files.now) main (LinkRefusal.Resolving unresolved) → LinkFault (contents files.now) main result }
+{
+    match name_in(alloc, files, unresolved) {
+        Ok(name) => Ending::NotLinked(LinkRefusal::Resolving(unresolved), name),
+        Err(_) => Ending::NoMemory,
+    }
+}
+
 /// The ending where this refuses the files.
 pub(crate) fn not_linked(alloc: Global, files: &[Vec<u8>], refusal: LinkRefusal) -> Ending
     ensures { (main : List ℕ) → IsRefusal (contents files.now) main refusal → LinkFault (contents files.now) main result }
 {
     match refusal {
+        LinkRefusal::Resolving(unresolved) => not_resolved(alloc, files, unresolved),
+        LinkRefusal::NotVerified(_, _, _, _)
+        | LinkRefusal::TooLarge(_, _, _)
+        | LinkRefusal::FileTooLarge(_, _) => Ending::NotLinked(refusal, Vec::new(alloc)),
         LinkRefusal::NoMemory => Ending::NoMemory,
-        LinkRefusal::Resolving(unresolved) => match name_in(alloc, files, unresolved) {
-            Ok(name) => Ending::NotLinked(refusal, name),
-            Err(_) => Ending::NoMemory,
-        },
-        _ => Ending::NotLinked(refusal, Vec::new(alloc)),
     }
 }
 

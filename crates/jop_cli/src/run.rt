@@ -1,20 +1,29 @@
-//! A run of a machine with an output and a watch.
-ghost use Rattle.std.specs.Prelude.{◌≡◌, ◌<◌, ◌^◌};
+//! A run of a machine with an input, an output and a watch.
+ghost use Rattle.std.specs.Prelude.{◌≡◌, ◌≢◌, ◌<◌, ◌≤◌, ◌^◌, List, Option, length};
+ghost use Rattle.jop_device.specs.declared.seen.Seen.{Seen};
+ghost use Rattle.lent_devices.specs.Lent.{lent, wired};
 ghost use Rattle.boundary.specs.Answers.{IsUnbroken};
+ghost use Rattle.boundary.specs.Setting.{Setting};
 ghost use Rattle.boundary.specs.Runs.{RunsAll};
-ghost use Rattle.jop_cli.specs.Run.{AreCounts};
-ghost use Rattle.jop_cli.specs.Wired.{wired};
+ghost use Rattle.boundary.specs.Traces.{texts};
+ghost use Rattle.jop_cli.specs.declared.program_end.ProgramEnd.TheVariants as ends;
+ghost use Rattle.jop_cli.specs.Show.{Trace, shown_by, AreNamed};
+ghost use Rattle.jop_cli.specs.Run.{AreCounts, Started, HasStarted, RunsAsAll, Ran};
 
-use crate::devices::RunDevice;
-use boundary::{RunEnd, Running};
+use crate::program_end::ProgramEnd;
+use crate::show::NamedShow;
+use boundary::{RunEnd, Running, trace};
 use command_lines::Counts;
 use jop_core::{Machine, Watch};
-use jop_outside::Sink;
+use jop_outside::{Sink, Source};
+use lent_devices::RunDevice;
+use trace_lines::TraceDevice;
 
-/// Runs a machine until its program has ended, its clock is at least the limit at a boundary, or `out` fails. The watch
-/// is handed each state from which a cycle is done or tried.
-pub(crate) fn run<const N: usize, O: Sink, V: Watch>(
+/// Runs a machine until its program has ended, its clock is at least the limit at a boundary, or `input` or `out` fails. The
+/// watch is handed each state from which a cycle is done or tried.
+fn run<const N: usize, S: Source, O: Sink, V: Watch>(
     running: &mut Running<'_, N>,
+    input: &mut S,
     out: &mut O,
     watch: &mut V,
     limit: u64,
@@ -22,20 +31,92 @@ pub(crate) fn run<const N: usize, O: Sink, V: Watch>(
     requires unbroken { IsUnbroken running.old.mode }
     requires few { limit < 2 ^ 63 }
     ensures { RunsAll limit running.old.machine running.new.machine
-        (wired (O.held out.old) (O.faults out.old) (V.held watch.old))
-        (wired (O.held out.new) (O.faults out.new) (V.held watch.new)) result }
+        (wired (lent (S.left input.old) (S.faults input.old) (O.held out.old) (O.faults out.old) (V.held watch.old)))
+        (wired (lent (S.left input.new) (S.faults input.new) (O.held out.new) (O.faults out.new) (V.held watch.new))) result }
 {
-    let mut device = RunDevice { out, watch };
+    let mut device = RunDevice { input, out, watch };
     boundary::run(running, &mut device, limit)
 }
 
+/// The same run, of which the lines are put into `out`, with those of its cycles or without. A line that fails is an output
+/// that fails.
+fn run_traced<const N: usize, S: Source, O: Sink>(
+    running: &mut Running<'_, N>,
+    cycles: bool,
+    names: &[Vec<u8>],
+    input: &mut S,
+    out: &mut O,
+    limit: u64,
+) -> RunEnd
+    requires unbroken { IsUnbroken running.old.mode }
+    requires few { limit < 2 ^ 63 }
+    requires named { length running.old.methods ≤ length names.now }
+    ensures { (watch : Option (List Seen)) → RunsAsAll (Trace cycles (texts names.now)) limit running.old running.new.machine
+        (lent (S.left input.old) (S.faults input.old) (O.held out.old) (O.faults out.old) watch)
+        (lent (S.left input.new) (S.faults input.new) (O.held out.new) (O.faults out.new) watch) result }
+{
+    let mut device = TraceDevice::new(input, out, cycles);
+    trace(running, names, &mut device, limit)
+}
+
+/// Runs it, and shows what is to be shown. A watch is handed no state of a traced run.
+fn run_shown<const N: usize, S: Source, O: Sink, V: Watch>(
+    running: &mut Running<'_, N>,
+    shown: &NamedShow,
+    input: &mut S,
+    out: &mut O,
+    watch: &mut V,
+    limit: u64,
+) -> RunEnd
+    requires unbroken { IsUnbroken running.old.mode }
+    requires few { limit < 2 ^ 63 }
+    requires named { AreNamed (shown_by shown.now) running.old.methods }
+    ensures { RunsAsAll (shown_by shown.now) limit running.old running.new.machine
+        (lent (S.left input.old) (S.faults input.old) (O.held out.old) (O.faults out.old) (V.held watch.old))
+        (lent (S.left input.new) (S.faults input.new) (O.held out.new) (O.faults out.new) (V.held watch.new)) result }
+{
+    match shown {
+        NamedShow::Output => run(running, input, out, watch, limit),
+        NamedShow::Trace { cycles, names } => {
+            run_traced(running, *cycles, names, input, out, limit)
+        }
+    }
+}
+
 /// The counts of a machine.
-pub(crate) fn counts_of<const N: usize>(machine: &Machine<N>) -> Counts
+fn counts_of<const N: usize>(machine: &Machine<N>) -> Counts
     ensures { AreCounts result machine.now }
 {
     Counts {
         clock: machine.clock(),
         hits: machine.hits(),
         misses: machine.misses(),
+    }
+}
+
+/// Runs a machine from reset to its end, and tells how its program ended.
+pub(crate) fn run_to_end<const N: usize, S: Source, O: Sink, V: Watch>(
+    running: &mut Running<'_, N>,
+    shown: &NamedShow,
+    input: &mut S,
+    out: &mut O,
+    watch: &mut V,
+    limit: u64,
+) -> ProgramEnd
+    requires started { HasStarted running.old }
+    requires few { limit < 2 ^ 63 }
+    requires named { AreNamed (shown_by shown.now) running.old.methods }
+    ensures ran { (g : Setting) → Started g running.old.machine running.old → Ran (shown_by shown.now) g running.old.machine limit
+        (lent (S.left input.old) (S.faults input.old) (O.held out.old) (O.faults out.old) (V.held watch.old))
+        (lent (S.left input.new) (S.faults input.new) (O.held out.new) (O.faults out.new) (V.held watch.new)) result }
+    ensures made { result ≢ ends.NoMemory }
+{
+    match run_shown(running, shown, input, out, watch, limit) {
+        RunEnd::Ended => ProgramEnd::Ended(counts_of(running.machine())),
+        RunEnd::Uncaught(class) => ProgramEnd::Uncaught(class, counts_of(running.machine())),
+        RunEnd::Spent => ProgramEnd::Spent(counts_of(running.machine())),
+        RunEnd::ReadFault => ProgramEnd::ReadFault,
+        RunEnd::WriteFault => ProgramEnd::WriteFault,
+        RunEnd::SeenFault => unreachable!(),
     }
 }

@@ -5,11 +5,20 @@ ghost use Rattle.jop_core.specs.Reset.{words_for};
 ghost use Rattle.jop_words.specs.Range.{AreSettings};
 ghost use Rattle.jop_cli.specs.Phase.{HasSettings};
 
+use crate::show::Show;
 use jop_core::{Bare, Config};
 use jop_words::Settings;
 
-/// The machine that these settings give.
-pub(crate) fn config_of(settings: &Settings) -> Config
+/// The machine of a run, the cycles after which it is stopped, and what it shows.
+#[derive(Clone, Copy)]
+pub(crate) struct Plan {
+    pub config: Config,
+    pub limit: u64,
+    pub show: Show,
+}
+
+// The machine that these settings give.
+fn config_of(settings: &Settings) -> Config
     requires { AreSettings settings.now }
     ensures { HasSettings settings.now result }
 {
@@ -19,6 +28,20 @@ pub(crate) fn config_of(settings: &Settings) -> Config
         write: settings.write,
         blocks: settings.blocks,
         block_words: settings.block_words,
+    }
+}
+
+/// The run that these settings give.
+pub(crate) fn plan_of(settings: &Settings, show: Show) -> Plan
+    requires { AreSettings settings.now }
+    ensures config { HasSettings settings.now result.config }
+    ensures limit { result.limit ≡ settings.now.cycles }
+    ensures show { result.show ≡ show }
+{
+    Plan {
+        config: config_of(settings),
+        limit: settings.cycles,
+        show,
     }
 }
 

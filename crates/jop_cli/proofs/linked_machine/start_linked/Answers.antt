@@ -10,7 +10,7 @@ start-requires g c = (
       c.requires.held c.words.result.now c.args.methods.now c.words.ensures c.requires.methods,
 )
 
-pub returns : goal.returns
-returns g c =
+pub returns-clause-started : goal.returns-clause-started
+returns-clause-started g c =
     start_case c.verified_programs_are_told.ensures c.boot_takes_six_words.ensures c.args.program.now (subst IsResolved c.program.ensures.program c.is_resolved.ensures) c.program.ensures.verified c.args.layout.now c.args.config g.row.N c.requires.size
-    c.requires.held c.start.result c.words.result.now c.args.methods.now c.words.ensures c.start.ensures.starts c.start.ensures.begins
+    c.requires.held c.start.result c.words.result.now c.args.methods.now c.words.ensures c.requires.methods c.start.ensures.starts c.start.ensures.begins

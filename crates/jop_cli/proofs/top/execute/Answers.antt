@@ -1,7 +1,7 @@
-use Rattle.std.proofs.Common.{◌≡◌, ℕ, Ok}
+use Rattle.std.proofs.Common.{◌≡◌, ℕ, Ok, inr}
 use Rattle.std.specs.declared.result.Result.{Result}
 use Rattle.jop_words.specs.declared.command.Command.{Command}
-use Rattle.jop_words.specs.declared.command.Command.TheVariants.{Asm, Link}
+use Rattle.jop_words.specs.declared.command.Command.TheVariants.{Trace, Asm, Link}
 use Rattle.jop_words.specs.Command.{texts, command_of}
 use Rattle.jop_cli.specs.World.{world}
 use Rattle.jop_cli.proofs.Executing.{does_by, assembles_risen, links_risen}
@@ -32,3 +32,8 @@ pub returns-in-Link-clause-rose : goal.returns-in-Link-clause-rose
 returns-in-Link-clause-rose g c =
     links_risen _ c.in-Link.first _ _ c.link_files.result (g.S.Source.faults c.args.input.now) (g.S.Source.faults c.args.input.now)
     (c.link_files.ensures.links (g.S.Source.left c.args.input.now) (g.S.Source.faults c.args.input.now) (g.V.Watch.held c.args.watch.now))
+
+pub returns-in-Trace-clause-input : goal.returns-in-Trace-clause-input
+returns-in-Trace-clause-input g c none =
+    let is : ◌≡◌ {A = Result Command ℕ} (command_of (texts c.args.words.now)) (Ok (Trace c.in-Trace.settings c.in-Trace.micro c.in-Trace.image)) = cc (c.in-Ok.is, c.in-Trace.is, c.read_words.ensures.exact) in
+    c.run_file-in-Trace.ensures.input (λ bytes reads. none (record { image = c.in-Trace.image; command = (c.in-Trace.settings, inr (c.in-Trace.micro, is)); bytes = bytes; reads = reads }))

@@ -1,13 +1,13 @@
 //! The devices of a run.
 ghost use Rattle.std.specs.Prelude.{◌≡◌, ◌<◌, ◌^◌, ◌∷◌, [], Some};
-ghost use Rattle.jop_cli.specs.Lent.{lent, wired};
+ghost use Rattle.lent_devices.specs.Lent.{lent, wired};
 
-use jop_core::{DeviceFault, Devices, Seen, Watch};
+use jop_device::{DeviceFault, Devices, Seen, Watch};
 use jop_outside::{Sink, Source, put_all};
 
 /// An input, an output and a watch that are lent.
 #[derive(Drop)]
-pub(crate) struct LinkedDevices<'i, 'o, 'w, S: Source, O: Sink, V: Watch> {
+pub struct RunDevice<'i, 'o, 'w, S: Source, O: Sink, V: Watch> {
     pub input: &'i mut S,
     pub out: &'o mut O,
     pub watch: &'w mut V,
@@ -21,7 +21,7 @@ fn given(byte: u8) -> Option<u8>
     Some(byte)
 }
 
-impl<'i, 'o, 'w, S: Source, O: Sink, V: Watch> Devices for LinkedDevices<'i, 'o, 'w, S, O, V> {
+impl<'i, 'o, 'w, S: Source, O: Sink, V: Watch> Devices for RunDevice<'i, 'o, 'w, S, O, V> {
     ghost told = { λ d. wired (lent (S.left d.input.now) (S.faults d.input.now) (O.held d.out.now) (O.faults d.out.now) (V.held d.watch.now)) };
 
     ghost names = { λ d. d.input.ghost_name ∷ d.out.ghost_name ∷ d.watch.ghost_name ∷ [] };

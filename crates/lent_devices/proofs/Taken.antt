@@ -2,7 +2,7 @@
 use Rattle.std.proofs.Common.{◌≡◌, ℕ, ◌<◌, ◌≤◌, ◌^◌, List, [], ◌∷◌, length, get_or, Option, Some, None, refl, sym, subst, arith, append-nil}
 use Rattle.jop_outside.specs.Outside.{Gave, GaveWhereTold, Grew}
 use Rattle.jop_device.specs.Told.{GivesFirst, TookByte, OnlyReads}
-use Rattle.jop_cli.specs.Lent.{Lent, lent, wired}
+use Rattle.lent_devices.specs.Lent.{Lent, lent, wired}
 
 gave_one : (old new : List ℕ) (piece : List ℕ) → 0 < length piece → Gave old new 1 piece → GivesFirst (Some old) (Some new) (Some (get_or piece 0 0))
 gave_one old new [] long gave = absurd (omega (arith, long))

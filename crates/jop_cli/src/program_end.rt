@@ -1,10 +1,10 @@
-//! How a run of a linked program ends.
+//! How a run ends.
 
 use command_lines::Counts;
 
-/// How a run of a linked program ends.
+/// How the run of a program ends.
 #[derive(Clone, Copy)]
-pub(crate) enum LinkedEnd {
+pub(crate) enum ProgramEnd {
     /// The program returned from boot.
     Ended(Counts),
     /// An object of the class of this number had no handler.
@@ -27,5 +27,5 @@ pub(crate) enum ImageEnd {
     /// The image has so many words, and the memory has fewer.
     MemoryTooSmall(u32),
     /// It was run.
-    Ran(LinkedEnd),
+    Ran(ProgramEnd),
 }

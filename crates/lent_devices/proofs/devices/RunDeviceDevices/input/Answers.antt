@@ -1,7 +1,7 @@
 use Rattle.std.proofs.Common.{arith}
-use Rattle.jop_cli.specs.Lent.{lent}
-use Rattle.jop_cli.proofs.Taken.{took}
-use Rattle.jop_cli.proofs.linked_devices.LinkedDevicesDevices.input.Goals as goal
+use Rattle.lent_devices.specs.Lent.{lent}
+use Rattle.lent_devices.proofs.Taken.{took}
+use Rattle.lent_devices.proofs.devices.RunDeviceDevices.input.Goals as goal
 
 pub returns-in-Ok-clause-told : goal.returns-in-Ok-clause-told
 returns-in-Ok-clause-told g c =

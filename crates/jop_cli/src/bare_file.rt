@@ -1,0 +1,208 @@
+//! The run of a bare image, of whose file these are the bytes.
+ghost use Rattle.std.specs.Prelude.{◌≡◌, ◌<◌, ◌≤◌, ◌^◌, ◌⊎◌, [], length, Some, IfOk, IfErr};
+ghost use Rattle.bare_image.specs.Bare.{Image, IsImage, IsBare};
+ghost use Rattle.stack_cache.specs.Size.{IsSize};
+ghost use Rattle.jop_core.specs.Reset.{CanStartBare, bare_reset};
+ghost use Rattle.boundary.specs.Setting.{bare_setting};
+ghost use Rattle.lent_devices.specs.Lent.{lent};
+ghost use Rattle.jop_words.specs.Range.{AreSettings};
+ghost use Rattle.jop_cli.specs.Leaving.{Leaves};
+ghost use Rattle.jop_cli.specs.Show.{AreNamed, IsNamed, bare_shown, shown_by};
+ghost use Rattle.jop_cli.specs.Run.{Started};
+ghost use Rattle.jop_cli.specs.BareFile.{ImageFault, blocks_of_code, IsTooLong, Ran, RanWith, RunsBareBytes};
+
+use crate::outcome::{Ending, Refusal};
+use crate::program_end::ProgramEnd;
+use crate::run::run_to_end;
+use crate::settings::{Plan, blocks_of, plan_of};
+use crate::show::{NamedShow, Show, bare_show};
+use boundary::Running;
+use boundary::laws::{bare_images_are_programs, bare_images_step};
+use jop_base::NoMemory;
+use jop_core::{Bare, BareFault, Config, Watch, read_bare};
+use jop_outside::Sink;
+use jop_words::Settings;
+use lent_devices::NoSource;
+use std::alloc::Global;
+
+// The image that the bytes are.
+fn image_of(alloc: Global, bytes: &[u8]) -> Result<Bare, Ending>
+    ensures bare { IfOk result (IsBare bytes.now) }
+    ensures fault { IfErr result (ImageFault bytes.now) }
+{
+    match read_bare(alloc, bytes) {
+        Ok(bare) => Ok(bare),
+        Err(BareFault::Bad) => Err(Ending::Refused(Refusal::BadImage)),
+        Err(BareFault::NoMemory) => Err(Ending::NoMemory),
+    }
+}
+
+// A machine at reset over an image. The only error is that there was no memory.
+fn start<const N: usize>(
+    alloc: Global,
+    bare: &Bare,
+    config: Config,
+) -> Result<Running<'_, N>, NoMemory>
+    requires size { IsSize N }
+    requires room { CanStartBare bare.now config }
+    requires grammar { IsImage bare.now }
+    ensures started { IfOk result (Started (bare_setting bare.now N config.memory) (bare_reset N bare.now config)) }
+    ensures one { IfOk result (λ r. length r.methods ≡ 1) }
+{
+    // The law is for the proof.
+    bare_images_are_programs();
+    Running::<N>::start_bare(alloc, bare, config)
+}
+
+// Runs a machine over an image from reset, and shows what is to be shown.
+fn run_started<const N: usize, O: Sink, V: Watch>(
+    bare: &Bare,
+    plan: Plan,
+    shown: &NamedShow,
+    running: &mut Running<'_, N>,
+    out: &mut O,
+    watch: &mut V,
+) -> Ending
+    requires started { Started (bare_setting bare.now N plan.config.memory) (bare_reset N bare.now plan.config) running.old }
+    requires grammar { IsImage bare.now }
+    requires named { AreNamed (shown_by shown.now) running.old.methods }
+    requires few { plan.limit < 2 ^ 63 }
+    ensures ran { Ran (shown_by shown.now) (bare_setting bare.now N plan.config.memory) (bare_reset N bare.now plan.config) plan.limit
+        (lent (Some []) 0 (O.held out.old) (O.faults out.old) (V.held watch.old))
+        (lent (Some []) 0 (O.held out.new) (O.faults out.new) (V.held watch.new)) result }
+    ensures done { Leaves result → ⊥ }
+{
+    // The law is for the proof.
+    bare_images_step();
+    match run_to_end(running, shown, &mut NoSource, out, watch, plan.limit) {
+        ProgramEnd::Ended(counts) => Ending::Ended(counts),
+        ProgramEnd::Spent(counts) => Ending::Spent(counts),
+        ProgramEnd::WriteFault => Ending::WriteFault,
+        ProgramEnd::Uncaught(_, _) | ProgramEnd::ReadFault | ProgramEnd::NoMemory => {
+            unreachable!()
+        }
+    }
+}
+
+// Runs an image from reset, and shows what is to be shown.
+fn run_image<const N: usize, O: Sink, V: Watch>(
+    alloc: Global,
+    bare: &Bare,
+    plan: Plan,
+    shown: &NamedShow,
+    out: &mut O,
+    watch: &mut V,
+) -> Ending
+    requires size { IsSize N }
+    requires room { CanStartBare bare.now plan.config }
+    requires grammar { IsImage bare.now }
+    requires named { IsNamed (shown_by shown.now) }
+    requires few { plan.limit < 2 ^ 63 }
+    ensures ran { Ran (shown_by shown.now) (bare_setting bare.now N plan.config.memory) (bare_reset N bare.now plan.config) plan.limit
+        (lent (Some []) 0 (O.held out.old) (O.faults out.old) (V.held watch.old))
+        (lent (Some []) 0 (O.held out.new) (O.faults out.new) (V.held watch.new)) result }
+    ensures leaves { Leaves result → (out.new ≡ out.old) × (watch.new ≡ watch.old) }
+{
+    match start::<N>(alloc, bare, plan.config) {
+        Ok(running) => {
+            let mut running = running;
+            run_started(bare, plan, shown, &mut running, out, watch)
+        }
+        Err(NoMemory) => Ending::NoMemory,
+    }
+}
+
+// Runs an image from reset, and shows what is to be shown. After the machine is made no memory is asked for.
+fn run_bare<const N: usize, O: Sink, V: Watch>(
+    alloc: Global,
+    bare: &Bare,
+    plan: Plan,
+    out: &mut O,
+    watch: &mut V,
+) -> Ending
+    requires size { IsSize N }
+    requires room { CanStartBare bare.now plan.config }
+    requires grammar { IsImage bare.now }
+    requires few { plan.limit < 2 ^ 63 }
+    ensures ran { Ran (bare_shown plan.show) (bare_setting bare.now N plan.config.memory) (bare_reset N bare.now plan.config) plan.limit
+        (lent (Some []) 0 (O.held out.old) (O.faults out.old) (V.held watch.old))
+        (lent (Some []) 0 (O.held out.new) (O.faults out.new) (V.held watch.new)) result }
+    ensures leaves { Leaves result → (out.new ≡ out.old) × (watch.new ≡ watch.old) }
+{
+    match bare_show(alloc, plan.show) {
+        Ok(shown) => run_image::<N, O, V>(alloc, bare, plan, &shown, out, watch),
+        Err(NoMemory) => Ending::NoMemory,
+    }
+}
+
+// Runs an image with settings, where its code fits the method cache.
+fn run_with<O: Sink, V: Watch>(
+    alloc: Global,
+    bare: &Bare,
+    settings: &Settings,
+    show: Show,
+    out: &mut O,
+    watch: &mut V,
+) -> Ending
+    requires settings { AreSettings settings.now }
+    requires grammar { IsImage bare.now }
+    requires room { blocks_of_code settings.now bare.now ≤ settings.now.blocks }
+    ensures ran { RanWith settings.now show bare.now
+        (lent (Some []) 0 (O.held out.old) (O.faults out.old) (V.held watch.old))
+        (lent (Some []) 0 (O.held out.new) (O.faults out.new) (V.held watch.new)) result }
+    ensures leaves { Leaves result → (out.new ≡ out.old) × (watch.new ≡ watch.old) }
+{
+    let plan = plan_of(settings, show);
+    match settings.stack {
+        256 => run_bare::<256, O, V>(alloc, bare, plan, out, watch),
+        512 => run_bare::<512, O, V>(alloc, bare, plan, out, watch),
+        _ => run_bare::<1024, O, V>(alloc, bare, plan, out, watch),
+    }
+}
+
+// Runs an image with settings.
+fn run_fitting<O: Sink, V: Watch>(
+    alloc: Global,
+    bare: &Bare,
+    settings: &Settings,
+    show: Show,
+    out: &mut O,
+    watch: &mut V,
+) -> Ending
+    requires settings { AreSettings settings.now }
+    requires grammar { IsImage bare.now }
+    ensures ran { IsTooLong settings.now bare.now
+        (lent (Some []) 0 (O.held out.old) (O.faults out.old) (V.held watch.old))
+        (lent (Some []) 0 (O.held out.new) (O.faults out.new) (V.held watch.new)) result
+        ⊎ RanWith settings.now show bare.now
+        (lent (Some []) 0 (O.held out.old) (O.faults out.old) (V.held watch.old))
+        (lent (Some []) 0 (O.held out.new) (O.faults out.new) (V.held watch.new)) result }
+    ensures leaves { Leaves result → (out.new ≡ out.old) × (watch.new ≡ watch.old) }
+{
+    let blocks = blocks_of(bare, settings.block_words);
+    if blocks > settings.blocks {
+        return Ending::Refused(Refusal::MethodTooLong(0, blocks, settings.blocks));
+    }
+    run_with(alloc, bare, settings, show, out, watch)
+}
+
+/// Runs the bare image of whose file these are the bytes.
+pub(crate) fn run_bare_bytes<O: Sink, V: Watch>(
+    alloc: Global,
+    bytes: &[u8],
+    settings: &Settings,
+    show: Show,
+    out: &mut O,
+    watch: &mut V,
+) -> Ending
+    requires settings { AreSettings settings.now }
+    ensures runs { RunsBareBytes settings.now show bytes.now
+        (lent (Some []) 0 (O.held out.old) (O.faults out.old) (V.held watch.old))
+        (lent (Some []) 0 (O.held out.new) (O.faults out.new) (V.held watch.new)) result }
+    ensures leaves { Leaves result → (out.new ≡ out.old) × (watch.new ≡ watch.old) }
+{
+    match image_of(alloc, bytes) {
+        Ok(bare) => run_fitting(alloc, &bare, settings, show, out, watch),
+        Err(ending) => ending,
+    }
+}
