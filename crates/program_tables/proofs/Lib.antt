@@ -7,3 +7,5 @@ pub mod EntryLemmas
 pub mod TakenLemmas
 pub mod TableLemmas
 pub mod ShapeLemmas
+pub mod TextLemmas
+pub mod MarkLemmas

@@ -60,18 +60,18 @@ seam_get [] x y (suc n) e h = absurd (omega (arith, h))
 seam_get (z ∷ xs) x y zero e h = absurd (omega (arith, h))
 seam_get (z ∷ xs) x y (suc n) e h = seam_get xs x y n e (omega (arith, h))
 
-front_get : {A : Type 0} (xs ys : List A) (i : ℕ) → i < length xs → slice_get (xs ++ ys) i ≡ slice_get xs i
+pub front_get : {A : Type 0} (xs ys : List A) (i : ℕ) → i < length xs → slice_get (xs ++ ys) i ≡ slice_get xs i
 front_get [] ys i lt = absurd (omega (arith, lt))
 front_get (x ∷ xs) ys zero lt = refl
 front_get (x ∷ xs) ys (suc i) lt = front_get xs ys i (omega (arith, lt))
 
-abbrev pub ShapesTo : List ClassFile → (many : ℕ) → List MethodShape → Type 0
-ShapesTo cs i made = (length made ≡ i) × ((n : ℕ) (s : MethodShape) → slice_get made n ≡ Some s → IsSomeAnd (slice_get (resolved_methods cs) n) (HasShape s))
+abbrev pub EachIs : {A B : Type 0} → (A → B → Type 0) → List B → (many : ℕ) → List A → Type 0
+EachIs Is ys i made = (length made ≡ i) × ((n : ℕ) (s : _) → slice_get made n ≡ Some s → IsSomeAnd (slice_get ys n) (Is s))
 
-pub shapes_more : (cs : List ClassFile) (i : ℕ) (made pushed : List MethodShape) (x : MethodShape) → ShapesTo cs i made → pushed ≡ made ++ x ∷ [] → IsSomeAnd (slice_get (resolved_methods cs) i) (HasShape x)
-    → ShapesTo cs (i + 1) pushed
-shapes_more cs i made pushed x h g at =
-    subst (λ (ys : List MethodShape). ShapesTo cs (i + 1) ys) (sym g) (
+pub each_more : {A B : Type 0} (Is : A → B → Type 0) (ys : List B) (i : ℕ) (made pushed : List A) (x : A) → EachIs Is ys i made → pushed ≡ made ++ x ∷ [] → IsSomeAnd (slice_get ys i) (Is x)
+    → EachIs Is ys (i + 1) pushed
+each_more {A} {B} Is ys i made pushed x h g at =
+    subst (λ (zs : List A). EachIs Is ys (i + 1) zs) (sym g) (
       let long = length-append made (x ∷ []) in let old = h.0 in omega (arith, long, old),
       λ n s e. elim (cases_lt n i) [
         | inl l ↦ let lt : n < length made = let old = h.0 in omega (arith, l, old) in h.1 n s (sym (front_get made (x ∷ []) n lt) ∙ e)
@@ -81,7 +81,7 @@ shapes_more cs i made pushed x h g at =
             let old = h.0 in
             let last : length made ≡ n = omega (arith, within, long, old, o) in
             let same = seam_get made x s n e last in
-            subst (λ k. IsSomeAnd (slice_get (resolved_methods cs) k) (HasShape s)) (sym old ∙ last) (subst (λ y. IsSomeAnd (slice_get (resolved_methods cs) i) (HasShape y)) same at)
+            subst (λ k. IsSomeAnd (slice_get ys k) (Is s)) (sym old ∙ last) (subst (λ y. IsSomeAnd (slice_get ys i) (Is y)) same at)
       ],
     )
 
@@ -102,6 +102,12 @@ next_seen {A} {B} {C} seen f xs i x made pushed y h g lt is e =
     ∙ (map-append seen made (y ∷ [])
     ∙ (ap₂ (λ (ys : List C) (z : C). ys ++ z ∷ []) h e
     ∙ sym (ap (map f) front ∙ map-append f (take i xs) (x ∷ []))))
+
+pub next_map : {A C : Type 0} (f : A → C) (xs : List A) (i : ℕ) (x : A) (made pushed : List C) (y : C)
+    → made ≡ map f (take i xs) → pushed ≡ made ++ y ∷ [] → i < length xs → get_or xs i x ≡ x → y ≡ f x → pushed ≡ map f (take (i + 1) xs)
+next_map {A} {C} f xs i x made pushed y h g lt is e =
+    let front : take (i + 1) xs ≡ take i xs ++ x ∷ [] = (take_at_read xs i x lt).1 ∙ ap (λ q. take i xs ++ q ∷ []) is in
+    g ∙ (ap₂ (λ (ys : List C) (z : C). ys ++ z ∷ []) h e ∙ sym (ap (map f) front ∙ map-append f (take i xs) (x ∷ [])))
 
 -- ---- a field's type, read
 

@@ -16,3 +16,5 @@ pub mod Laws
 pub mod Meanings
 pub mod Taken
 pub mod Entries
+pub mod Texts
+pub mod Marks

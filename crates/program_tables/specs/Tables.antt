@@ -12,7 +12,10 @@ use Rattle.class_pool.specs.declared.entry.Entry.{Entry}
 use Rattle.class_pool.specs.Grammar.{entry_at}
 use Rattle.class_pool.specs.declared.class.ClassFile.{ClassFile}
 use Rattle.class_pool.specs.Found.{code_of}
+use Rattle.bytecode_model.specs.Lists.{index_of}
 use Rattle.bytecode_model.specs.Types.{Kind, OfClass, OfNumbers}
+use Rattle.class_lookup.specs.Parts.{same_text}
+use Rattle.class_lookup.specs.Symbols.{texts}
 use Rattle.program_tables.specs.declared.named.Named.{Named}
 use Rattle.program_tables.specs.declared.named.Named.TheVariants as found
 use Rattle.program_tables.specs.declared.kinds.Base.{Base}
@@ -50,6 +53,10 @@ kinds_of set = map kind_seen set.keys
 
 abbrev pub texts_of : Texts → List (List ℕ)
 texts_of set = map (λ v. v.items) set.keys
+
+-- the number of each text of the classes among strings, by symbol
+abbrev pub numbers_among : (strings : List (List ℕ)) → List ClassFile → List (Option ℕ)
+numbers_among strings cs = map (λ text. index_of (same_text text) strings) (texts cs)
 
 -- a class's pool and its code have as many entries and bytes as a class file's (4.1, 4.7.3)
 pub record HasBounds (c : ClassFile) : Type 0 where

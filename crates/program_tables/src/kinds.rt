@@ -1,15 +1,13 @@
 //! What objects of the types are that Class entries and descriptors name (JVM Specification SE 8, 4.3.2, 4.4.1).
 ghost use Rattle.std.specs.Prelude.{◌≡◌, ◌<◌, option_map, IfOk, IfSome};
 ghost use Rattle.bytecode_model.specs.Lists.{onto};
-ghost use Rattle.program_tables.specs.Kinds.{type_named, array_code, kind_of_type, kind_of_entry};
+ghost use Rattle.program_tables.specs.Kinds.{type_named, array_code, kind_of_type};
 ghost use Rattle.program_tables.specs.Tables.{kind_seen};
 
+use crate::text_type::{entry_type, field_type_in};
 use class_lookup::Classes;
-use class_lookup::parts::class_text;
-use class_pool::Pool;
-use descriptors::names::is_class_name;
-use descriptors::{Element, FieldType, field_type};
-use jop_base::{FormatFault, NoMemory};
+use descriptors::{Element, FieldType};
+use jop_base::NoMemory;
 use std::alloc::Global;
 
 /// What an object is: an instance of a class or an array of numbers, or an array of so many dimensions whose innermost elements are
@@ -71,31 +69,6 @@ pub fn kind_named(
     ensures kind { IfOk result (λ kind. option_map kind_seen kind ≡ onto (type_named text.now) (kind_of_type classes.now)) }
     ensures within { IfOk result (λ kind. IfSome kind (λ k. k.dimensions < 256)) }
 {
-    if is_class_name(text) {
-        return match classes.find_class(text) {
-            Some(class) => Ok(Some(ObjectKind {
-                dimensions: 0,
-                base: Base::Class(class),
-            })),
-            None => Ok(None),
-        };
-    }
-    match field_type(alloc, text) {
-        Ok(of) => Ok(kind_of_type(classes, &of)),
-        Err(FormatFault::Bad) => Ok(None),
-        Err(FormatFault::NoMemory) => Err(NoMemory),
-    }
-}
-
-/// What an object of the type of a Class entry is.
-pub fn kind_of_entry(
-    alloc: Global,
-    classes: &Classes,
-    pool: &Pool,
-    index: u16,
-) -> Result<Option<ObjectKind>, NoMemory>
-    ensures kind { IfOk result (λ kind. option_map kind_seen kind ≡ kind_of_entry classes.now pool.now index) }
-    ensures within { IfOk result (λ kind. IfSome kind (λ k. k.dimensions < 256)) }
-{
-    kind_named(alloc, classes, class_text(pool, index))
+    let of = field_type_in(alloc, text)?;
+    Ok(entry_type(classes, text, &of).kind)
 }

@@ -14,9 +14,11 @@ mod operand;
 mod refusal;
 mod shapes;
 mod strings;
+mod text_type;
+mod texts;
 mod types;
 
-pub use kinds::{Base, ObjectKind, kind_named, kind_of_entry};
+pub use kinds::{Base, ObjectKind, kind_named};
 pub use meanings::{
     Meaning, class_meaning, constant_operand, entry_of, field_at, is_static_field, kind_in,
     meaning_at, method_at, plain,
@@ -27,5 +29,7 @@ pub use named::{Named, named_in, takes_entry};
 pub use operand::{Declared, Handler, Instruction, MethodShape, Operand};
 pub use refusal::{Item, Site, Why};
 pub use shapes::{field_type_at, field_types_of, shapes_of};
-pub use strings::Strings;
+pub use strings::{StringNumbers, Strings};
+pub use text_type::EntryClass;
+pub use texts::TextTypes;
 pub use types::Types;

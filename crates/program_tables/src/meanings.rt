@@ -1,5 +1,5 @@
 //! What entries of a pool mean (JVM Specification SE 8, 4.4 and 5.4.3), as far as no lookup of members is needed.
-ghost use Rattle.std.specs.Prelude.{◌≡◌, ℕ, List, false, IfOk};
+ghost use Rattle.std.specs.Prelude.{◌≡◌, ℕ, ◌<◌, List, length, Some, false, slice_get};
 ghost use Rattle.std.specs.Option.{option_copied};
 ghost use Rattle.class_pool.specs.declared.class.ClassFile.{ClassFile};
 ghost use Rattle.class_pool.specs.Grammar.{entry_at};
@@ -8,15 +8,15 @@ ghost use Rattle.program_tables.specs.Entries.{meaning_at, meanings_in, meaning_
 ghost use Rattle.program_tables.specs.Meanings.{operand_seen};
 ghost use Rattle.program_tables.specs.Numbers.{is_static_field, strings_of};
 ghost use Rattle.program_tables.specs.Operands.{constant_operand};
+ghost use Rattle.program_tables.specs.Tables.{numbers_among};
 
-use crate::kinds::{ObjectKind, kind_of_entry};
+use crate::kinds::ObjectKind;
 use crate::operand::Operand;
-use crate::strings::Strings;
-use class_lookup::parts::{has_flags, text_at};
+use crate::strings::StringNumbers;
+use crate::texts::TextTypes;
+use class_lookup::parts::has_flags;
 use class_lookup::{Classes, Place};
 use class_pool::{Entry, Member, Pool};
-use jop_base::NoMemory;
-use std::alloc::Global;
 
 /// What an entry means to the instructions that may name it.
 #[derive(Clone, Copy)]
@@ -40,14 +40,21 @@ pub fn plain(operand: Operand) -> Meaning
     }
 }
 
-/// What a constant means.
-pub fn constant_operand(strings: &Strings, pool: &Pool, entry: &Entry) -> Operand
-    ensures { (cs : List ClassFile) → strings.now ≡ strings_of cs → operand_seen result ≡ constant_operand cs pool.now entry.now }
+/// What a constant of a class means.
+pub fn constant_operand(
+    classes: &Classes,
+    numbers: &StringNumbers,
+    class: u32,
+    entry: &Entry,
+) -> Operand
+    requires { class < length classes.now }
+    ensures { (c : ClassFile) → slice_get classes.now class ≡ Some c → numbers.now ≡ numbers_among (strings_of classes.now) classes.now
+        → operand_seen result ≡ constant_operand classes.now c.pool entry.now }
 {
     match entry {
         Entry::Integer(n) => Operand::Int(n.cast_signed()),
         Entry::Long(n) => Operand::Long(n.cast_signed()),
-        Entry::Text(units) => match strings.number(text_at(pool, *units)) {
+        Entry::Text(units) => match numbers.number(classes.symbol(class, *units)) {
             // The objects of errors come first, and each string has its array before it.
             Some(number) => Operand::Text(9 + 2 * number + 1),
             None => Operand::Nothing,
@@ -67,18 +74,14 @@ pub fn constant_operand(strings: &Strings, pool: &Pool, entry: &Entry) -> Operan
     }
 }
 
-/// What a class or an array type means that an entry names.
-pub fn class_meaning(
-    alloc: Global,
-    classes: &Classes,
-    pool: &Pool,
-    index: u16,
-) -> Result<Meaning, NoMemory>
-    ensures { IfOk result (λ made. meaning_seen made ≡ type_meaning classes.now pool.now index) }
+/// What a class or an array type means that an entry of a class names.
+pub fn class_meaning(texts: &TextTypes<'_>, class: u32, index: u16) -> Meaning
+    requires { class < length texts.now }
+    ensures { (c : ClassFile) → slice_get texts.now class ≡ Some c → meaning_seen result ≡ type_meaning texts.now c.pool index }
 {
-    match kind_of_entry(alloc, classes, pool, index)? {
-        Some(kind) => Ok(plain(Operand::Type(kind))),
-        None => Ok(plain(Operand::Nothing)),
+    match texts.kind_of_entry(class, index) {
+        Some(kind) => plain(Operand::Type(kind)),
+        None => plain(Operand::Nothing),
     }
 }
 

@@ -1,175 +1,63 @@
 //! What methods are apart from their code, and what fields hold (JVM Specification SE 8, 4.3, 4.5 and 4.6).
-ghost use Rattle.std.specs.Prelude.{◌≡◌, List, map, option_map, IfOk};
-ghost use Rattle.std.specs.List.{filter_map};
-ghost use Rattle.program_tables.specs.Kinds.{number_declared, declared_of, field_declared, parameters_declared, result_declared};
+ghost use Rattle.std.specs.Prelude.{◌≡◌, ◌<◌, List, length, map, Some, option_map, slice_get, IfOk};
 ghost use Rattle.class_pool.specs.declared.class.ClassFile.{ClassFile};
-ghost use Rattle.program_tables.specs.Meanings.{declared_seen, types_seen, field_types_in, is_of_class, HasShape, AreShapes};
+ghost use Rattle.program_tables.specs.Meanings.{declared_seen, types_seen, field_types_in, HasShape, AreShapes};
 ghost use Rattle.program_tables.specs.Numbers.{methods_by_number};
 ghost use Rattle.program_tables.specs.Resolved.{declared_at, method_in};
 
-use crate::kinds::kind_of_type;
 use crate::laws::{members_are_there, methods_stand_by_number};
 use crate::members::Places;
 use crate::operand::{Declared, MethodShape};
+use crate::texts::TextTypes;
 use class_lookup::parts::{has_flags, text_at};
-use class_lookup::{ClassFile, Classes, Place};
+use class_lookup::{ClassFile, Place};
 use class_pool::Member;
 use descriptors::names::is_instance_initializer;
-use descriptors::{Element, FieldType, field_type, method_type};
 use items::Items;
-use jop_base::{FormatFault, NoMemory};
+use jop_base::NoMemory;
 use std::alloc::Global;
-
-/// The declared type of a number; `float` and `double` aren't supported.
-fn number_declared(element: &Element) -> Option<Declared>
-    ensures { option_map declared_seen result ≡ number_declared element.now }
-{
-    match element {
-        Element::Boolean | Element::Byte | Element::Char | Element::Short | Element::Int => {
-            Some(Declared::Int)
-        }
-        Element::Long => Some(Declared::Long),
-        Element::Float | Element::Double | Element::Class(_) => None,
-    }
-}
-
-/// Whether it is a class.
-fn is_of_class(element: &Element) -> bool
-    ensures { result ≡ is_of_class element.now }
-{
-    match element {
-        Element::Class(_) => true,
-        Element::Boolean
-        | Element::Byte
-        | Element::Char
-        | Element::Short
-        | Element::Int
-        | Element::Long
-        | Element::Float
-        | Element::Double => false,
-    }
-}
-
-/// A type as a declared one, where its class is there.
-fn declared_of(classes: &Classes, of: &FieldType) -> Option<Declared>
-    ensures { option_map declared_seen result ≡ declared_of classes.now of.now }
-{
-    if of.dimensions == 0 && !is_of_class(&of.element) {
-        number_declared(&of.element)
-    } else {
-        match kind_of_type(classes, of) {
-            Some(kind) => Some(Declared::Reference(kind)),
-            None => None,
-        }
-    }
-}
-
-/// These types as declared ones.
-fn all_declared(
-    alloc: Global,
-    classes: &Classes,
-    types: &[FieldType],
-) -> Result<Vec<Declared>, NoMemory>
-    ensures { IfOk result (λ all. map declared_seen all.items ≡ filter_map (declared_of classes.now) types.now) }
-{
-    let mut all = Vec::new(alloc);
-    for of in types {
-        match declared_of(classes, of) {
-            Some(declared) => all.push(declared)?,
-            None => {}
-        }
-    }
-    Ok(all)
-}
-
-/// The declared type of a field with this descriptor.
-fn field_declared(
-    alloc: Global,
-    classes: &Classes,
-    descriptor: &[u16],
-) -> Result<Option<Declared>, NoMemory>
-    ensures { IfOk result (λ declared. option_map declared_seen declared ≡ field_declared classes.now descriptor.now) }
-{
-    match field_type(alloc, descriptor) {
-        Ok(of) => Ok(declared_of(classes, &of)),
-        Err(FormatFault::Bad) => Ok(None),
-        Err(FormatFault::NoMemory) => Err(NoMemory),
-    }
-}
-
-/// The types of a method's parameters and of its result.
-#[derive(Drop)]
-struct Signature {
-    parameters: Items<Declared>,
-    result: Option<Declared>,
-}
-
-/// The types in a method's descriptor.
-fn method_declared(
-    alloc: Global,
-    classes: &Classes,
-    descriptor: &[u16],
-) -> Result<Signature, NoMemory>
-    ensures parameters { IfOk result (λ s. map declared_seen s.parameters ≡ parameters_declared classes.now descriptor.now) }
-    ensures result { IfOk result (λ s. option_map declared_seen s.result ≡ result_declared classes.now descriptor.now) }
-{
-    match method_type(alloc, descriptor) {
-        Ok(types) => {
-            let parameters = all_declared(alloc, classes, types.parameters.as_slice())?;
-            let result = match &types.result {
-                Some(of) => declared_of(classes, of),
-                None => None,
-            };
-            Ok(Signature {
-                parameters: Items::new(parameters),
-                result,
-            })
-        }
-        Err(FormatFault::Bad) => Ok(Signature {
-            parameters: Items::new(Vec::new(alloc)),
-            result: None,
-        }),
-        Err(FormatFault::NoMemory) => Err(NoMemory),
-    }
-}
 
 /// What a method of a class is apart from its code.
 fn shape_of(
     alloc: Global,
-    classes: &Classes,
+    texts: &TextTypes<'_>,
     owner: u32,
     class: &ClassFile,
     method: &Member,
 ) -> Result<MethodShape, NoMemory>
-    ensures { IfOk result (λ shape. HasShape shape (method_in classes.now owner class.now method.now)) }
+    requires owner { owner < length texts.now }
+    requires class { slice_get texts.now owner ≡ Some class.now }
+    ensures { IfOk result (λ shape. HasShape shape (method_in texts.now owner class.now method.now)) }
 {
-    let types = method_declared(alloc, classes, text_at(&class.pool, method.descriptor))?;
+    let descriptor = texts.classes().symbol(owner, method.descriptor);
+    let parameters = Vec::from_slice(alloc, texts.parameters(descriptor))?;
     Ok(MethodShape {
         owner,
         has_this: !has_flags(method.flags, 0x0008),
         is_init: is_instance_initializer(text_at(&class.pool, method.name)),
-        parameters: types.parameters,
-        result: types.result,
+        parameters: Items::new(parameters),
+        result: texts.result(descriptor),
     })
 }
 
 /// What the methods of all classes are, by number.
 pub fn shapes_of(
     alloc: Global,
-    classes: &Classes,
+    texts: &TextTypes<'_>,
     methods: &Places,
 ) -> Result<Vec<MethodShape>, NoMemory>
-    requires { methods.now ≡ methods_by_number classes.now }
-    ensures { IfOk result (λ made. AreShapes classes.now made.items) }
+    requires { methods.now ≡ methods_by_number texts.now }
+    ensures { IfOk result (λ made. AreShapes texts.now made.items) }
 {
     methods_stand_by_number();
     members_are_there();
+    let classes = texts.classes();
     let mut made = Vec::new(alloc);
     for number in 0..methods.count() {
         let place = methods.at(number);
         let class = classes.class(place.class);
         match class.methods.as_slice().get(place.index) {
-            Some(method) => made.push(shape_of(alloc, classes, place.class, class, method)?)?,
+            Some(method) => made.push(shape_of(alloc, texts, place.class, class, method)?)?,
             None => unreachable!(),
         }
     }
@@ -179,15 +67,17 @@ pub fn shapes_of(
 /// What the fields of a class hold, in their order.
 fn field_types_in(
     alloc: Global,
-    classes: &Classes,
+    texts: &TextTypes<'_>,
+    number: u32,
     class: &ClassFile,
 ) -> Result<Items<Option<Declared>>, NoMemory>
-    ensures { IfOk result (λ made. types_seen made ≡ field_types_in classes.now class.now) }
+    requires number { number < length texts.now }
+    requires class { slice_get texts.now number ≡ Some class.now }
+    ensures { IfOk result (λ made. types_seen made ≡ field_types_in texts.now class.now) }
 {
     let mut made = Vec::new(alloc);
     for field in class.fields.as_slice() {
-        let descriptor = text_at(&class.pool, field.descriptor);
-        made.push(field_declared(alloc, classes, descriptor)?)?;
+        made.push(texts.field(texts.classes().symbol(number, field.descriptor)))?;
     }
     Ok(Items::new(made))
 }
@@ -195,13 +85,14 @@ fn field_types_in(
 /// What the fields of all classes hold, by class and place.
 pub fn field_types_of(
     alloc: Global,
-    classes: &Classes,
+    texts: &TextTypes<'_>,
 ) -> Result<Vec<Items<Option<Declared>>>, NoMemory>
-    ensures { IfOk result (λ made. map types_seen made.items ≡ map (field_types_in classes.now) classes.now) }
+    ensures { IfOk result (λ made. map types_seen made.items ≡ map (field_types_in texts.now) texts.now) }
 {
+    let classes = texts.classes();
     let mut made = Vec::new(alloc);
     for number in 0..classes.class_count() {
-        made.push(field_types_in(alloc, classes, classes.class(number))?)?;
+        made.push(field_types_in(alloc, texts, number, classes.class(number))?)?;
     }
     Ok(made)
 }

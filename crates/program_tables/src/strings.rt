@@ -1,10 +1,12 @@
 ghost use Rattle.std.specs.Prelude.{◌≡◌, ◌<◌, length, Some, IfOk, IfSome, slice_get};
-ghost use Rattle.bytecode_model.specs.Lists.{index_of};
+ghost use Rattle.bytecode_model.specs.Lists.{onto, index_of};
 ghost use Rattle.class_lookup.specs.Parts.{same_text};
-ghost use Rattle.program_tables.specs.Tables.{texts_of};
+ghost use Rattle.program_tables.specs.Tables.{texts_of, numbers_among};
 
+use class_lookup::Classes;
 use indexmap::IndexSet;
 use jop_base::NoMemory;
+use std::alloc::Global;
 use std::marker::Model;
 
 /// The most strings whose objects have numbers of 32 bits.
@@ -61,6 +63,46 @@ impl Strings {
     {
         match self.texts.get_index_of(units) {
             Some(number) => Some(number as u32),
+            None => None,
+        }
+    }
+}
+
+/// The numbers of the strings that the texts of classes are, by symbol. Contracts see them as the list.
+#[derive(Drop)]
+pub struct StringNumbers {
+    numbers: Vec<Option<u32>>,
+}
+
+impl Model for StringNumbers {
+    ghost use Rattle.std.specs.Prelude.{◌≡◌, ◌<◌, ◌^◌, ℕ, List, Option, Some, slice_get};
+
+    ghost Value = { List (Option ℕ) };
+
+    ghost view = { λ a. a.numbers.items };
+
+    ghost invariant = { λ a. (n k : ℕ) → slice_get a.numbers.items n ≡ Some (Some k) → k < 2 ^ 30 };
+}
+
+impl StringNumbers {
+    /// The number of each text of the classes among the strings.
+    pub fn new(alloc: Global, classes: &Classes, strings: &Strings) -> Result<Self, NoMemory>
+        ensures { IfOk result (λ made. made ≡ numbers_among strings.now classes.now) }
+    {
+        let mut numbers = Vec::new(alloc);
+        for number in 0..classes.symbol_count() {
+            numbers.push(strings.number(classes.text(number)))?;
+        }
+        Ok(StringNumbers { numbers })
+    }
+
+    /// The number of the string that the text of this symbol is.
+    pub fn number(&self, symbol: u32) -> Option<u32>
+        ensures number { result ≡ onto (slice_get self.now symbol) (λ number. number) }
+        ensures few { IfSome result (λ number. number < 1073741824) }
+    {
+        match self.numbers.get(symbol as usize) {
+            Some(number) => *number,
             None => None,
         }
     }

@@ -1,24 +1,23 @@
 //! What the pool entries of each class mean, so that no instruction's names are looked up anew (JVM Specification SE 8, 4.4, 5.4.3).
-ghost use Rattle.std.specs.Prelude.{◌≡◌, ℕ, ◌<◌, length, map, Some, IfOk};
+ghost use Rattle.std.specs.Prelude.{◌≡◌, ℕ, ◌<◌, false, length, map, Some, slice_get, IfOk};
 ghost use Rattle.std.specs.List.{AllByRecursion};
-ghost use Rattle.class_lookup.specs.Access.{are_in_one_package};
 ghost use Rattle.class_lookup.specs.Lookup.{field_at, method_at};
 ghost use Rattle.program_tables.specs.Entries.{meaning_of, meanings_in, all_meanings, meaning_seen, meanings_seen, field_found, method_found};
 ghost use Rattle.program_tables.specs.Meanings.{operand_seen};
-ghost use Rattle.program_tables.specs.Operands.{field_operand, method_operand, is_guarded_member};
+ghost use Rattle.program_tables.specs.Operands.{constant_operand, field_operand, method_operand, is_guarded_member};
 ghost use Rattle.program_tables.specs.Tables.{HasBounds};
 ghost use Rattle.resolved_program.specs.Entries.{AreTables};
 
 use crate::instances::Instances;
 use class_hierarchy::Hierarchy;
-use class_lookup::parts::{class_text, has_flags, is_in_package_of, text_at};
-use class_lookup::{ClassFile, Classes, Place};
+use class_lookup::parts::has_flags;
+use class_lookup::{ClassFile, Place};
 use class_pool::{Entry, Member};
 use items::Items;
 use jop_base::NoMemory;
 use program_tables::{
-    Meaning, Members, Operand, Strings, class_meaning, constant_operand, field_at, is_static_field,
-    method_at, plain,
+    Meaning, Members, Operand, StringNumbers, TextTypes, class_meaning, constant_operand, field_at,
+    is_static_field, method_at, plain,
 };
 use std::alloc::Global;
 
@@ -26,46 +25,57 @@ use std::alloc::Global;
 #[derive(Drop)]
 pub(crate) struct Tables<'a> {
     pub(crate) classes: &'a Hierarchy,
+    pub(crate) texts: &'a TextTypes<'a>,
+    pub(crate) numbers: &'a StringNumbers,
     pub(crate) members: &'a Members,
-    pub(crate) strings: &'a Strings,
     pub(crate) instances: &'a Instances,
 }
 
-/// The class through which an entry names a field, and the field that is found from it.
+/// The class through which an entry of a class names a field, and the field that is found from it.
 fn field_found(
     classes: &Hierarchy,
+    current: u32,
     class: &ClassFile,
     owner: u16,
     member: u16,
 ) -> Option<(u32, Place)>
+    requires current { current < length classes.now }
+    requires class { slice_get classes.now current ≡ Some class.now }
     ensures { result ≡ field_found classes.now class.now owner member }
 {
-    let pool = &class.pool;
-    let (name, descriptor) = pool.name_and_type(member)?;
-    let named = classes.classes().find_class(class_text(pool, owner))?;
-    let place = classes.find_field(named, text_at(pool, name), text_at(pool, descriptor))?;
+    let listed = classes.classes();
+    let (name, descriptor) = class.pool.name_and_type(member)?;
+    let named = listed.class_named(current, owner)?;
+    let name = listed.symbol(current, name);
+    let descriptor = listed.symbol(current, descriptor);
+    let place = classes.find_field_by(named, name, descriptor)?;
     Some((named, place))
 }
 
-/// The class through which an entry names a method, and the method that is found from it.
+/// The class through which an entry of a class names a method, and the method that is found from it.
 fn method_found(
     classes: &Hierarchy,
+    current: u32,
     class: &ClassFile,
     owner: u16,
     member: u16,
 ) -> Option<(u32, Place)>
+    requires current { current < length classes.now }
+    requires class { slice_get classes.now current ≡ Some class.now }
     ensures { result ≡ method_found classes.now class.now owner member }
 {
-    let pool = &class.pool;
-    let (name, descriptor) = pool.name_and_type(member)?;
-    let named = classes.classes().find_class(class_text(pool, owner))?;
-    let place = classes.find_method(named, text_at(pool, name), text_at(pool, descriptor))?;
+    let listed = classes.classes();
+    let (name, descriptor) = class.pool.name_and_type(member)?;
+    let named = listed.class_named(current, owner)?;
+    let name = listed.symbol(current, name);
+    let descriptor = listed.symbol(current, descriptor);
+    let place = classes.find_method_by(named, name, descriptor)?;
     Some((named, place))
 }
 
 /// What a field means.
 fn field_operand(tables: &Tables<'_>, named: u32, place: Place) -> Operand
-    requires { AreTables tables.now.classes.now tables.now.members.now tables.now.strings.now tables.now.instances.now }
+    requires { AreTables tables.now.classes.now tables.now }
     ensures { operand_seen result ≡ field_operand tables.now.classes.now named place }
 {
     if is_static_field(tables.classes.classes(), place) {
@@ -83,7 +93,7 @@ fn field_operand(tables: &Tables<'_>, named: u32, place: Place) -> Operand
 
 /// What a method means, which is fixed or selected later.
 fn method_operand(tables: &Tables<'_>, named: u32, taken: Option<Place>) -> Operand
-    requires { AreTables tables.now.classes.now tables.now.members.now tables.now.strings.now tables.now.instances.now }
+    requires { AreTables tables.now.classes.now tables.now }
     ensures { operand_seen result ≡ method_operand tables.now.classes.now named taken }
 {
     match taken {
@@ -103,15 +113,7 @@ fn is_guarded(classes: &Hierarchy, current: u32, place: Place, member: &Member) 
     let listed = classes.classes();
     has_flags(member.flags, 0x0004)
         && classes.is_subclass(current, place.class)
-        && !are_in_one_package(listed, current, place.class)
-}
-
-/// Whether both classes are of one package.
-fn are_in_one_package(classes: &Classes, class: u32, other: u32) -> bool
-    requires { class < length classes.now }
-    ensures { result ≡ are_in_one_package classes.now class other }
-{
-    other < classes.class_count() && is_in_package_of(classes.class(class), classes.class(other))
+        && !listed.are_in_one_package(current, place.class)
 }
 
 /// The same of the field of this place, if there is one.
@@ -144,11 +146,12 @@ fn field_meaning(
     owner: u16,
     member: u16,
 ) -> Meaning
-    requires tables { AreTables tables.now.classes.now tables.now.members.now tables.now.strings.now tables.now.instances.now }
+    requires tables { AreTables tables.now.classes.now tables.now }
     requires current { current < length tables.now.classes.now }
+    requires class { slice_get tables.now.classes.now current ≡ Some class.now }
     ensures { (index : ℕ) → meaning_seen result ≡ meaning_of tables.now.classes.now current class.now index (Some (Entry.Field owner member)) }
 {
-    match field_found(tables.classes, class, owner, member) {
+    match field_found(tables.classes, current, class, owner, member) {
         Some(found) => {
             let operand = field_operand(tables, found.0, found.1);
             Meaning {
@@ -169,11 +172,12 @@ fn method_meaning(
     owner: u16,
     member: u16,
 ) -> Meaning
-    requires tables { AreTables tables.now.classes.now tables.now.members.now tables.now.strings.now tables.now.instances.now }
+    requires tables { AreTables tables.now.classes.now tables.now }
     requires current { current < length tables.now.classes.now }
+    requires class { slice_get tables.now.classes.now current ≡ Some class.now }
     ensures { (index : ℕ) → meaning_seen result ≡ meaning_of tables.now.classes.now current class.now index (Some (Entry.Method owner member)) }
 {
-    match method_found(tables.classes, class, owner, member) {
+    match method_found(tables.classes, current, class, owner, member) {
         Some(found) => {
             let special = tables.classes.special(current, found.0, found.1);
             Meaning {
@@ -186,24 +190,38 @@ fn method_meaning(
     }
 }
 
+/// What a constant of a class means.
+fn constant_meaning(tables: &Tables<'_>, current: u32, class: &ClassFile, entry: &Entry) -> Meaning
+    requires tables { AreTables tables.now.classes.now tables.now }
+    requires current { current < length tables.now.classes.now }
+    requires class { slice_get tables.now.classes.now current ≡ Some class.now }
+    ensures usual { (meaning_seen result).usual ≡ constant_operand tables.now.classes.now class.now.pool entry.now }
+    ensures special { (meaning_seen result).special ≡ constant_operand tables.now.classes.now class.now.pool entry.now }
+    ensures guarded { (meaning_seen result).guarded ≡ false }
+{
+    let _ = class;
+    let listed = tables.classes.classes();
+    plain(constant_operand(listed, tables.numbers, current, entry))
+}
+
 /// What an entry of a class means.
 fn entry_meaning(
-    alloc: Global,
     tables: &Tables<'_>,
     current: u32,
     class: &ClassFile,
     index: u16,
     entry: &Entry,
-) -> Result<Meaning, NoMemory>
-    requires tables { AreTables tables.now.classes.now tables.now.members.now tables.now.strings.now tables.now.instances.now }
+) -> Meaning
+    requires tables { AreTables tables.now.classes.now tables.now }
     requires current { current < length tables.now.classes.now }
-    ensures { IfOk result (λ made. meaning_seen made ≡ meaning_of tables.now.classes.now current class.now index (Some entry.now)) }
+    requires class { slice_get tables.now.classes.now current ≡ Some class.now }
+    ensures { meaning_seen result ≡ meaning_of tables.now.classes.now current class.now index (Some entry.now) }
 {
     match entry {
-        Entry::Class(_) => class_meaning(alloc, tables.classes.classes(), &class.pool, index),
-        Entry::Field(owner, member) => Ok(field_meaning(tables, current, class, *owner, *member)),
+        Entry::Class(_) => class_meaning(tables.texts, current, index),
+        Entry::Field(owner, member) => field_meaning(tables, current, class, *owner, *member),
         Entry::Method(owner, member) | Entry::InterfaceMethod(owner, member) => {
-            Ok(method_meaning(tables, current, class, *owner, *member))
+            method_meaning(tables, current, class, *owner, *member)
         }
         Entry::Integer(_)
         | Entry::Long(_)
@@ -215,7 +233,7 @@ fn entry_meaning(
         | Entry::Handle(_, _)
         | Entry::MethodType(_)
         | Entry::Dynamic(_, _)
-        | Entry::Second => Ok(plain(constant_operand(tables.strings, &class.pool, entry))),
+        | Entry::Second => constant_meaning(tables, current, class, entry),
     }
 }
 
@@ -226,15 +244,16 @@ fn meanings_in(
     current: u32,
     class: &ClassFile,
 ) -> Result<Items<Meaning>, NoMemory>
-    requires tables { AreTables tables.now.classes.now tables.now.members.now tables.now.strings.now tables.now.instances.now }
+    requires tables { AreTables tables.now.classes.now tables.now }
     requires current { current < length tables.now.classes.now }
+    requires class { slice_get tables.now.classes.now current ≡ Some class.now }
     requires pool { length class.now.pool < 65536 }
     ensures { IfOk result (λ made. meanings_seen made ≡ meanings_in tables.now.classes.now current class.now) }
 {
     let mut made = Vec::new(alloc);
     for (place, entry) in class.pool.entries().iter().enumerate() {
         let index = (place + 1) as u16;
-        made.push(entry_meaning(alloc, tables, current, class, index, entry)?)?;
+        made.push(entry_meaning(tables, current, class, index, entry))?;
     }
     Ok(Items::new(made))
 }
@@ -244,7 +263,7 @@ pub(crate) fn all_meanings(
     alloc: Global,
     tables: &Tables<'_>,
 ) -> Result<Vec<Items<Meaning>>, NoMemory>
-    requires tables { AreTables tables.now.classes.now tables.now.members.now tables.now.strings.now tables.now.instances.now }
+    requires tables { AreTables tables.now.classes.now tables.now }
     requires bounds { AllByRecursion HasBounds tables.now.classes.now }
     ensures { IfOk result (λ made. map meanings_seen made.items ≡ all_meanings tables.now.classes.now) }
 {

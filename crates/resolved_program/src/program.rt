@@ -18,7 +18,7 @@ ghost use Rattle.resolved_program.specs.Types.{name_among};
 
 use crate::instances::Instances;
 use crate::names::member_text;
-use crate::tables::{entry_tables, member_tables};
+use crate::tables::{ProgramTables, tables_of};
 use crate::types::{TypeName, name_at};
 use class_hierarchy::{Hierarchy, Place};
 use class_lookup::{ClassFile, Classes};
@@ -109,8 +109,10 @@ impl Program {
         ensures { IfOk result (λ made. made ≡ classes) }
     {
         have_bounds(&classes);
-        let by_number = member_tables(alloc, classes.classes())?;
-        let by_entry = entry_tables(alloc, &classes, &by_number.members)?;
+        let ProgramTables {
+            by_number,
+            by_entry,
+        } = tables_of(alloc, &classes)?;
         Ok(Program {
             classes,
             members: by_number.members,

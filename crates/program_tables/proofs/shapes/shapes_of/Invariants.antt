@@ -8,4 +8,4 @@ use Rattle.program_tables.proofs.shapes.shapes_of.Given as goal
 
 abbrev pub invariant-loop-number : goal.invariant-loop-number
 invariant-loop-number l =
-    (length l.made.items ≡ l.number) × ((n : ℕ) (s : MethodShape) → slice_get l.made.items n ≡ Some s → IsSomeAnd (slice_get (resolved_methods l.classes) n) (HasShape s))
+    (length l.made.items ≡ l.number) × ((n : ℕ) (s : MethodShape) → slice_get l.made.items n ≡ Some s → IsSomeAnd (slice_get (resolved_methods l.texts) n) (HasShape s))

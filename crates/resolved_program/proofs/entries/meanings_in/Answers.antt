@@ -10,5 +10,5 @@ loop-place-preserved c =
     let same = c.entries-entry-items.ensures in
     let lt = subst (λ (xs : List Entry). i < length xs) same c.loop-place-test.true in
     let is = subst (λ (xs : List Entry). e ≡ get_or xs i e) same c.entry-item.is in
-    meanings_more c.args.tables.now.classes.now c.args.current c.args.class.now i c.loop-place.made.items c.push.new.self.items c.in_ok-entry_meaning.field-0 e c.loop-place.invariant
-    c.in_ok-push.ensures.items lt is c.in_ok-entry_meaning.ensures
+    meanings_more c.args.tables.now.classes.now c.args.current c.args.class.now i c.loop-place.made.items c.push.new.self.items c.entry_meaning.result e c.loop-place.invariant
+    c.in_ok-push.ensures.items lt is c.entry_meaning.ensures

@@ -14,5 +14,5 @@ returns-clause-strings c =
     let fields = flat_map (λ f. string_in class.pool (constant_entry class f)) class.fields in
     let code = flat_map (λ m. flat_map (λ p. string_in class.pool (constant_named (named_in class p.instr))) (instructions_of m)) class.methods in
     c.in_ok-add_methods.ensures.strings
-    ∙ (ap (λ (xs : List (List ℕ)). with_items same_text xs code) c.in_ok-add_fields.ensures
-    ∙ sym (with_items-append same_text (texts_of c.args.self.now.strings) fields code))
+    ∙ (ap (λ (xs : List (List ℕ)). with_items same_text xs code) c.in_ok-add_fields.ensures.strings
+    ∙ sym (with_items-append same_text (texts_of c.args.self.now.literals.strings) fields code))

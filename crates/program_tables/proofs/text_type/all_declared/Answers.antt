@@ -2,8 +2,8 @@ use Rattle.std.proofs.Common.{◌∷◌, ◌++◌, [], Option, sym, ap, ◌∙�
 use Rattle.std.specs.Option.{option_map_or}
 use Rattle.program_tables.specs.declared.operand.Declared.{Declared}
 use Rattle.program_tables.proofs.ShapeLemmas.{next_declared}
-use Rattle.program_tables.proofs.shapes.all_declared.Goals as goal
-use Rattle.program_tables.proofs.shapes.all_declared.Goals.{in-Some+in_ok-push-in-Some, in-None}
+use Rattle.program_tables.proofs.text_type.all_declared.Goals as goal
+use Rattle.program_tables.proofs.text_type.all_declared.Goals.{in-Some+in_ok-push-in-Some, in-None}
 
 pub loop-of-preserved : goal.loop-of-preserved
 loop-of-preserved c =
