@@ -1,4 +1,3 @@
 pub mod ItemLemmas
 pub mod PlacedLemmas
 pub mod FinalLemmas
-pub mod KeyLemmas

@@ -3,6 +3,5 @@
 #![tactic(auto)]
 
 mod placed;
-mod tables;
 
 pub use placed::{class_at, is_badly_placed, superclasses};

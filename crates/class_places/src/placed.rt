@@ -2,18 +2,14 @@
 ghost use Rattle.std.specs.Prelude.{◌≡◌, Some, ◌<◌, ◌&&◌, ◌||◌, ◌++◌, ◌∷◌, [], not, if◌then◌else◌, OnOk, false, length, reverse, slice_get, IfOk};
 ghost use Rattle.std.specs.Option.{option_copied, option_map_or, option_to_list};
 ghost use Rattle.std.specs.List.{filter_map, list_any};
-ghost use Rattle.class_lookup.specs.Parts.{signature_of, is_final};
+ghost use Rattle.class_lookup.specs.Parts.{Signature, signature_of, is_final};
 ghost use Rattle.class_lookup.specs.Hierarchy.{superclass, superclasses, is_interface, is_on_a_cycle};
-ghost use Rattle.class_lookup.specs.Lookup.{method_at, declared_in, declared_method, same_place};
-ghost use Rattle.class_lookup.specs.Access.{are_in_one_package};
+ghost use Rattle.class_lookup.specs.Lookup.{method_at, declared_method, same_place};
+ghost use Rattle.class_lookup.specs.Symbols.{symbol};
 ghost use Rattle.class_lookup.specs.Selection.{is_method_with, is_virtual, is_open_to, overrides_directly, overriding, upwards};
 ghost use Rattle.program_tables.specs.Placed.{lacks_superclass, has_bad_superclass, has_bad_superinterface, is_bad_interface, overrides_final, has_overridden_final, is_badly_placed};
-ghost use Rattle.class_places.specs.Signatures.{signature_seen, key_of};
-ghost use Rattle.class_places.specs.Tables.{IsTableOf, AreTables};
-ghost use Rattle.class_pool.specs.declared.class.ClassFile.{ClassFile};
 
-use crate::tables::{MethodTable, declared_by, key_of, tables_of};
-use class_lookup::parts::{has_flags, has_signature, is_in_package_of, text_at};
+use class_lookup::parts::has_flags;
 use class_lookup::{Classes, Place};
 use class_pool::{ClassFile, Member};
 use jop_base::NoMemory;
@@ -127,13 +123,6 @@ fn is_virtual(classes: &Classes, place: Place) -> bool
     }
 }
 
-fn are_in_one_package(classes: &Classes, class: u32, other: u32) -> bool
-    ensures { result ≡ are_in_one_package classes.now class other }
-{
-    let count = classes.class_count();
-    class < count && other < count && is_in_package_of(classes.class(class), classes.class(other))
-}
-
 /// Whether the method is public or protected, or is package-private and of the other's package.
 fn is_open_to(classes: &Classes, place: Place, other: Place) -> bool
     ensures { result ≡ is_open_to classes.now place other }
@@ -143,7 +132,7 @@ fn is_open_to(classes: &Classes, place: Place, other: Place) -> bool
             has_flags(method.flags, 0x0001)
                 || has_flags(method.flags, 0x0004)
                 || (!has_flags(method.flags, 0x0007)
-                    && are_in_one_package(classes, other.class, place.class))
+                    && classes.are_in_one_package(other.class, place.class))
         }
         None => false,
     }
@@ -225,36 +214,6 @@ pub fn superclasses(alloc: Global, classes: &Classes, class: u32) -> Result<Vec<
     Ok(found)
 }
 
-/// The place of the method of this name and descriptor in the class, if it declares one.
-pub(crate) fn declared_in(file: &ClassFile, name: &[u16], descriptor: &[u16]) -> Option<usize>
-    ensures { result ≡ declared_in (λ k. k.methods) (signature_seen name.now descriptor.now) file.now }
-{
-    for (index, method) in file.methods.as_slice().iter().enumerate() {
-        if has_signature(file, method, name, descriptor) {
-            return Some(index);
-        }
-    }
-    None
-}
-
-/// The method of this name and descriptor that the class declares, by its table and the key of both.
-fn declared_method(
-    classes: &Classes,
-    class: u32,
-    table: &MethodTable,
-    key: &[u16],
-    name: &[u16],
-    descriptor: &[u16],
-) -> Option<Place>
-    requires table { (k : ClassFile) → slice_get classes.now class ≡ Some k → IsTableOf table.now k }
-    requires key { key.now ≡ key_of name.now descriptor.now }
-    ensures { result ≡ declared_method classes.now (signature_seen name.now descriptor.now) class }
-{
-    let file = class_at(classes, class)?;
-    let index = declared_by(file, table, key, name, descriptor)?;
-    Some(Place { class, index })
-}
-
 /// Puts the method last, if there is one.
 fn put_found(places: &mut Vec<Place>, found: Option<Place>) -> Result<(), NoMemory>
     ensures { OnOk result (places.new.items ≡ places.old.items ++ option_to_list found) }
@@ -265,22 +224,19 @@ fn put_found(places: &mut Vec<Place>, found: Option<Place>) -> Result<(), NoMemo
     Ok(())
 }
 
-/// The methods of a name and a descriptor that these classes declare, which have these tables.
+/// The methods of the name and the descriptor of these symbols that the classes of a list declare.
 fn upwards(
     alloc: Global,
     classes: &Classes,
     chain: &[u32],
-    tables: &[MethodTable],
-    name: &[u16],
-    descriptor: &[u16],
+    name: u32,
+    descriptor: u32,
 ) -> Result<Vec<Place>, NoMemory>
-    requires { AreTables classes.now chain.now tables.now }
-    ensures { IfOk result (λ places. places.items ≡ filter_map (declared_method classes.now (signature_seen name.now descriptor.now)) chain.now) }
+    ensures { IfOk result (λ places. (s : Signature) → symbol classes.now s.name ≡ Some name → symbol classes.now s.descriptor ≡ Some descriptor → places.items ≡ filter_map (declared_method classes.now s) chain.now) }
 {
-    let key = key_of(alloc, name, descriptor)?;
     let mut places = Vec::new(alloc);
-    for (i, table) in tables.iter().enumerate() {
-        let found = declared_method(classes, chain[i], table, &key, name, descriptor);
+    for class in chain {
+        let found = classes.declared_method(*class, name, descriptor);
         put_found(&mut places, found)?;
     }
     Ok(places)
@@ -343,16 +299,14 @@ fn overrides_some_final(
     Ok(false)
 }
 
-/// Whether a method overrides a final one.
+/// Whether a method overrides a final one, with the classes from its class upwards.
 fn overrides_final(
     alloc: Global,
     classes: &Classes,
     chain: &[u32],
-    tables: &[MethodTable],
     place: Place,
 ) -> Result<bool, NoMemory>
-    requires chain { chain.now ≡ superclasses classes.now place.0 }
-    requires tables { AreTables classes.now chain.now tables.now }
+    requires { chain.now ≡ superclasses classes.now place.0 }
     ensures { IfOk result (λ b. b ≡ overrides_final classes.now place) }
 {
     let Some(file) = class_at(classes, place.class) else {
@@ -361,9 +315,9 @@ fn overrides_final(
     let Some(method) = file.methods.as_slice().get(place.index) else {
         return Ok(false);
     };
-    let name = text_at(&file.pool, method.name);
-    let descriptor = text_at(&file.pool, method.descriptor);
-    let places = upwards(alloc, classes, chain, tables, name, descriptor)?;
+    let name = classes.symbol(place.class, method.name);
+    let descriptor = classes.symbol(place.class, method.descriptor);
+    let places = upwards(alloc, classes, chain, name, descriptor)?;
     overrides_some_final(alloc, classes, &places, place)
 }
 
@@ -403,10 +357,9 @@ fn has_overridden_final(alloc: Global, classes: &Classes, class: u32) -> Result<
     if !has_final(classes, &chain) {
         return Ok(false);
     }
-    let tables = tables_of(alloc, classes, &chain)?;
     let count = classes.class(class).methods.as_slice().len();
     for index in 0..count {
-        if overrides_final(alloc, classes, &chain, &tables, Place { class, index })? {
+        if overrides_final(alloc, classes, &chain, Place { class, index })? {
             return Ok(true);
         }
     }
