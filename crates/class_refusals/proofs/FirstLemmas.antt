@@ -1,12 +1,8 @@
 -- The first of what stands at a place, in a method and in a class.
-use Rattle.std.proofs.Common.{◌≡◌, ℕ, List, [], ◌∷◌, ◌++◌, Option, Some, None, Result, Ok, Err, refl, sym, ap, ◌∙◌}
+use Rattle.std.proofs.Common.{◌≡◌, ℕ, List, [], ◌∷◌, ◌++◌, Some, None, refl, ap}
 use Rattle.std.specs.Option.{option_map, option_map_or}
 use Rattle.std.specs.List.{flat_map, enumerate_from}
 use Rattle.first_found.specs.Lists.{first}
-use Rattle.jop_opcodes.specs.declared.instruction.Instr.{Instr}
-use Rattle.jop_opcodes.specs.declared.instruction.DecodeFault.{DecodeFault}
-use Rattle.jop_opcodes.specs.Instruction.{decoded}
-use Rattle.bytecode_model.specs.Program.{as_instr}
 use Rattle.program_tables.specs.declared.refusal.Item.{Item}
 use Rattle.program_tables.specs.declared.refusal.Site.{Site}
 use Rattle.class_pool.specs.declared.class.Code.{Code}
@@ -14,7 +10,7 @@ use Rattle.class_pool.specs.declared.class.Member.{Member}
 use Rattle.class_pool.specs.declared.class.ClassFile.{ClassFile}
 use Rattle.class_pool.specs.Found.{code_of}
 use Rattle.program_tables.specs.declared.refusal.Site.TheVariants as sites
-use Rattle.program_tables.specs.Instructions.{Placed, placed_at, instructions_in, instructions_of}
+use Rattle.program_tables.specs.Instructions.{instructions_in, instructions_of}
 use Rattle.program_tables.specs.Unsupported.{sited, unsupported_in}
 use Rattle.class_refusals.specs.Causes.{method_items, unsupported_at_field, unsupported_at, unsupported_in_method}
 

@@ -1,3 +1,4 @@
 pub mod ItemLemmas
 pub mod FirstLemmas
 pub mod BoundLemmas
+pub mod TableLemmas

@@ -8,10 +8,12 @@ ghost use Rattle.program_tables.specs.Tables.{seen_in};
 ghost use Rattle.program_tables.specs.Unsupported.{is_float, is_double, types_in_field, types_in_method, types_of_method, items_where, items_of_types, items_of_constant, items_of_named, items_of_newarray, items_at_field, has_interface_code};
 ghost use Rattle.program_tables.specs.Core.{is_io};
 ghost use Rattle.first_found.specs.Lists.{first};
+ghost use Rattle.class_refusals.specs.Descriptors.{AreItems};
 ghost use Rattle.class_refusals.specs.Causes.{instruction_items, method_items};
 
 use crate::opcodes::is_refused_opcode;
 use crate::parts::{descriptor_in, entry_at};
+use crate::tables::DescriptorItems;
 use class_lookup::parts::{has_flags, name_of, text_at};
 use class_pool::{ClassFile, Entry, Member, Pool};
 use descriptors::names::is_class_initializer;
@@ -100,7 +102,7 @@ fn item_of_types(of: &MethodType) -> Option<Item>
 }
 
 /// What isn't supported of the type in a field's descriptor.
-fn item_of_field(alloc: Global, descriptor: &[u16]) -> Result<Option<Item>, NoMemory>
+pub(crate) fn item_of_field(alloc: Global, descriptor: &[u16]) -> Result<Option<Item>, NoMemory>
     ensures { IfOk result (λ item. item ≡ first (items_of_types (types_in_field descriptor.now))) }
 {
     match field_type(alloc, descriptor) {
@@ -111,7 +113,7 @@ fn item_of_field(alloc: Global, descriptor: &[u16]) -> Result<Option<Item>, NoMe
 }
 
 /// What isn't supported of the types in a method's descriptor.
-fn item_of_method(alloc: Global, descriptor: &[u16]) -> Result<Option<Item>, NoMemory>
+pub(crate) fn item_of_method(alloc: Global, descriptor: &[u16]) -> Result<Option<Item>, NoMemory>
     ensures { IfOk result (λ item. item ≡ first (items_of_types (types_in_method descriptor.now))) }
 {
     match method_type(alloc, descriptor) {
@@ -134,23 +136,25 @@ fn item_of_constant(entry: &Entry) -> Option<Item>
     }
 }
 
-fn item_of_named(alloc: Global, pool: &Pool, named: Option<Named>) -> Result<Option<Item>, NoMemory>
-    ensures { IfOk result (λ item. item ≡ first (items_of_named (onto named (seen_in pool.now)))) }
+/// What isn't supported of what an instruction names.
+fn item_of_named(pool: &Pool, descriptors: &DescriptorItems, named: Option<Named>) -> Option<Item>
+    requires { AreItems pool.now descriptors.now }
+    ensures { result ≡ first (items_of_named (onto named (seen_in pool.now))) }
 {
     match named {
-        None | Some(Named::Class(_)) => Ok(None),
+        None | Some(Named::Class(_)) => None,
         Some(Named::Constant(index)) => match entry_at(pool, index) {
-            Some(entry) => Ok(item_of_constant(entry)),
-            None => Ok(None),
+            Some(entry) => item_of_constant(entry),
+            None => None,
         },
         Some(Named::Field(_, member)) => match descriptor_in(pool, member) {
-            Some(descriptor) => item_of_field(alloc, descriptor),
-            None => Ok(None),
+            Some(descriptor) => descriptors.of_field(pool, descriptor),
+            None => None,
         },
         Some(Named::Method(_, member)) | Some(Named::InterfaceMethod(_, member)) => {
             match descriptor_in(pool, member) {
-                Some(descriptor) => item_of_method(alloc, descriptor),
-                None => Ok(None),
+                Some(descriptor) => descriptors.of_method(pool, descriptor),
+                None => None,
             }
         }
     }
@@ -180,31 +184,33 @@ fn is_io(class: &ClassFile) -> bool
 /// The first of what isn't supported at an instruction.
 #[tactic(auto, unfolding(crate::specs::Causes::instruction_items, crate::specs::Causes::refused_opcode))]
 pub(crate) fn item_at_instruction(
-    alloc: Global,
     class: &ClassFile,
+    descriptors: &DescriptorItems,
     instr: &Instr,
-) -> Result<Option<Item>, NoMemory>
-    requires { length class.now.pool < 2 ^ 16 }
-    ensures { IfOk result (λ item. item ≡ first (instruction_items class.now instr.now)) }
+) -> Option<Item>
+    requires pool { length class.now.pool < 2 ^ 16 }
+    requires descriptors { AreItems class.now.pool descriptors.now }
+    ensures { result ≡ first (instruction_items class.now instr.now) }
 {
     if is_refused_opcode(is_io(class), instr.op) {
-        return Ok(Some(Item::Opcode(instr.op)));
+        return Some(Item::Opcode(instr.op));
     }
     match item_of_newarray(instr) {
-        Some(item) => Ok(Some(item)),
-        None => item_of_named(alloc, &class.pool, named_in(class, instr)),
+        Some(item) => Some(item),
+        None => item_of_named(&class.pool, descriptors, named_in(class, instr)),
     }
 }
 
 /// The first of what isn't supported at a field.
 pub(crate) fn item_at_field(
-    alloc: Global,
     class: &ClassFile,
+    descriptors: &DescriptorItems,
     field: &Member,
-) -> Result<Option<Item>, NoMemory>
-    ensures { IfOk result (λ item. item ≡ first (items_at_field class.now field.now)) }
+) -> Option<Item>
+    requires { AreItems class.now.pool descriptors.now }
+    ensures { result ≡ first (items_at_field class.now field.now) }
 {
-    item_of_field(alloc, text_at(&class.pool, field.descriptor))
+    descriptors.of_field(&class.pool, field.descriptor)
 }
 
 /// Whether the method is one of an interface, and has code, and isn't the interface's initialization method.
@@ -220,20 +226,21 @@ fn has_interface_code(class: &ClassFile, method: &Member) -> bool
 /// The first of what isn't supported at a method, without its instructions.
 #[tactic(auto, unfolding(crate::specs::Causes::method_items))]
 pub(crate) fn item_at_method(
-    alloc: Global,
     class: &ClassFile,
+    descriptors: &DescriptorItems,
     method: &Member,
-) -> Result<Option<Item>, NoMemory>
-    ensures { IfOk result (λ item. item ≡ first (method_items class.now method.now)) }
+) -> Option<Item>
+    requires { AreItems class.now.pool descriptors.now }
+    ensures { result ≡ first (method_items class.now method.now) }
 {
-    if let Some(item) = item_of_method(alloc, text_at(&class.pool, method.descriptor))? {
-        return Ok(Some(item));
+    if let Some(item) = descriptors.of_method(&class.pool, method.descriptor) {
+        return Some(item);
     }
     if has_flags(method.flags, 0x0100) {
-        return Ok(Some(Item::Native));
+        return Some(Item::Native);
     }
     if has_interface_code(class, method) {
-        return Ok(Some(Item::InterfaceCode));
+        return Some(Item::InterfaceCode);
     }
-    Ok(None)
+    None
 }

@@ -6,5 +6,6 @@ mod first;
 mod found;
 mod opcodes;
 mod parts;
+mod tables;
 
 pub use first::first_unsupported;

@@ -2,9 +2,9 @@
 ghost use Rattle.std.specs.Prelude.{◌≡◌, option_map};
 ghost use Rattle.std.specs.Option.{option_copied};
 ghost use Rattle.class_pool.specs.Grammar.{entry_at};
+ghost use Rattle.class_lookup.specs.Parts.{text_at};
 ghost use Rattle.program_tables.specs.Instructions.{signature_in};
 
-use class_lookup::parts::text_at;
 use class_pool::{Entry, Pool};
 
 /// The entry of an index.
@@ -15,10 +15,10 @@ pub(crate) fn entry_at(pool: &Pool, index: u16) -> Option<&Entry>
     pool.entries().get(place)
 }
 
-/// The descriptor of a NameAndType entry (4.4.6).
-pub(crate) fn descriptor_in(pool: &Pool, index: u16) -> Option<&[u16]>
-    ensures { option_map (λ d. d.now) result ≡ option_map (λ s. s.descriptor) (signature_in pool.now index) }
+/// The index of the descriptor of a NameAndType entry (4.4.6).
+pub(crate) fn descriptor_in(pool: &Pool, index: u16) -> Option<u16>
+    ensures { option_map (text_at pool.now) result ≡ option_map (λ s. s.descriptor) (signature_in pool.now index) }
 {
     let (_name, descriptor) = pool.name_and_type(index)?;
-    Some(text_at(pool, descriptor))
+    Some(descriptor)
 }

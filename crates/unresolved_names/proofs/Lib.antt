@@ -2,5 +2,4 @@ pub mod NameLemmas
 pub mod PartLemmas
 pub mod ManyLemmas
 pub mod MentionLemmas
-pub mod ImplementedLemmas
 pub mod ReasonLemmas

@@ -19,7 +19,6 @@ use Rattle.program_tables.specs.declared.refusal.Why.{Why}
 use Rattle.program_tables.specs.declared.refusal.Why.TheVariants as reasons
 use Rattle.program_tables.specs.Kinds.{classes_in_method_descriptor}
 use Rattle.class_lookup.specs.Parts.{text_at}
-use Rattle.unresolved_names.specs.Words.{implemented_all}
 use Rattle.program_tables.specs.Unresolved.{ThisClass, FieldDescriptor, MethodDescriptor, AtInstruction, AtHandler, InFrame, unless, are_there, implements_all, mentions_in_code, mentions_in_method}
 use Rattle.unresolved_names.specs.Causes.{refused_entry, refused_class, refused_catch, refused_frame_class, refused_instruction, refused_mention, unresolved_mentions}
 
@@ -123,9 +122,6 @@ nothing_case : (d : ℕ) (reason : Why) (b : Bool) → b ≡ true → refused_en
 nothing_case d reason true e = refl
 nothing_case d reason false e = absurd (let f : false ≡ true = e in cc)
 
-pub descriptor_there : (listed cs : List ClassFile) (text units : List ℕ) (b : Bool) → listed ≡ cs → text ≡ units → b ≡ are_there listed (classes_in_method_descriptor text) → are_there cs (classes_in_method_descriptor units) ≡ b
-descriptor_there listed cs text units b same is h = sym (h ∙ ap₂ (λ (ks : List ClassFile) (t : List ℕ). are_there ks (classes_in_method_descriptor t)) same is)
-
 pub at_descriptor : (cs : List ClassFile) (c : ℕ) (k : ClassFile) (m : Member) → are_there cs (classes_in_method_descriptor (text_at k.pool m.descriptor)) ≡ false
     → Some (m.descriptor, reasons.NoClass) ≡ first (flat_map (refused_mention cs c k) (mentions_in_method k m))
 unfolding refused_mention
@@ -165,22 +161,22 @@ in_class cs c k =
     (flat_map-append g (map FieldDescriptor k.fields) (flat_map (mentions_in_method k) k.methods)
     ∙ ap₂ (λ xs ys. xs ++ ys) (flat_map-map g FieldDescriptor k.fields) (flat_map-parts g (mentions_in_method k) k.methods))
 
-nothing_at_class : (cs : List ClassFile) (c : ℕ) (k : ClassFile) → implemented_all cs c ≡ true → refused_mention cs c k ThisClass ≡ []
-unfolding refused_mention implemented_all
+nothing_at_class : (cs : List ClassFile) (c : ℕ) (k : ClassFile) → implements_all cs c ≡ true → refused_mention cs c k ThisClass ≡ []
+unfolding refused_mention
 nothing_at_class cs c k e = nothing_case k.this_class reasons.NotImplemented (implements_all cs c) e
 
-pub at_class : (cs : List ClassFile) (c : ℕ) (k : ClassFile) → implemented_all cs c ≡ false → Some (k.this_class, reasons.NotImplemented) ≡ first (unresolved_mentions cs c k)
-unfolding unresolved_mentions refused_mention implemented_all
+pub at_class : (cs : List ClassFile) (c : ℕ) (k : ClassFile) → implements_all cs c ≡ false → Some (k.this_class, reasons.NotImplemented) ≡ first (unresolved_mentions cs c k)
+unfolding unresolved_mentions refused_mention
 at_class cs c k e =
     descriptor_case k.this_class reasons.NotImplemented (implements_all cs c) (flat_map (refused_mention cs c k) (map FieldDescriptor k.fields ++ flat_map (mentions_in_method k) k.methods)) e
 
-pub at_fields : (cs : List ClassFile) (c : ℕ) (k : ClassFile) (y : Found) → implemented_all cs c ≡ true
+pub at_fields : (cs : List ClassFile) (c : ℕ) (k : ClassFile) (y : Found) → implements_all cs c ≡ true
     → first (flat_map (λ f. refused_mention cs c k (FieldDescriptor f)) k.fields) ≡ Some y → Some y ≡ first (unresolved_mentions cs c k)
 at_fields cs c k y e h =
     three-second (unresolved_mentions cs c k) (refused_mention cs c k ThisClass) (flat_map (λ f. refused_mention cs c k (FieldDescriptor f)) k.fields)
     (flat_map (λ m. flat_map (refused_mention cs c k) (mentions_in_method k m)) k.methods) y (in_class cs c k) (ap first (nothing_at_class cs c k e)) h
 
-pub at_methods : (cs : List ClassFile) (c : ℕ) (k : ClassFile) → implemented_all cs c ≡ true
+pub at_methods : (cs : List ClassFile) (c : ℕ) (k : ClassFile) → implements_all cs c ≡ true
     → first (flat_map (λ f. refused_mention cs c k (FieldDescriptor f)) k.fields) ≡ None
     → first (flat_map (λ m. flat_map (refused_mention cs c k) (mentions_in_method k m)) k.methods) ≡ first (unresolved_mentions cs c k)
 at_methods cs c k e none =

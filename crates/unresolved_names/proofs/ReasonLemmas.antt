@@ -2,11 +2,10 @@
 use Rattle.std.proofs.Common.{◌≡◌, ℕ, Bool, true, false, not, ◌&&◌, ◌||◌, ◌==◌, List, [], ◌∷◌, ◌++◌, Option, Some, None, refl, sym, ap, ap₂, ◌∙◌}
 use Rattle.std.specs.Prelude.{option_map}
 use Rattle.std.specs.Option.{option_map_or}
-use Rattle.std.specs.List.{list_all}
 use Rattle.list_words.specs.Lists.{first_some}
 use Rattle.bytecode_model.specs.Lists.{onto}
 use Rattle.class_pool.specs.declared.entry.Entry.{Entry}
-use Rattle.class_pool.specs.Grammar.{entry_at}
+use Rattle.class_pool.specs.Grammar.{entry_at, name_and_type_of}
 use Rattle.class_pool.specs.declared.class.Member.{Member}
 use Rattle.class_pool.specs.declared.class.ClassFile.{ClassFile}
 use Rattle.class_lookup.specs.Parts.{Signature, is_static, is_private}
@@ -21,7 +20,8 @@ use Rattle.program_tables.specs.Instructions.{signature_in}
 use Rattle.program_tables.specs.Kinds.{class_in_entry, classes_in_field_descriptor, classes_in_method_descriptor}
 use Rattle.program_tables.specs.Operands.{class_named}
 use Rattle.program_tables.specs.Tables.{seen_in}
-use Rattle.program_tables.specs.Unresolved.{unless, are_there, is_there, is_free, may_name, may_name_entry, writes_field, needs_static_field, same_bool, calls_no_private, is_callable_name, why_field_named, why_field_found, why_method_named, why_method_found}
+use Rattle.program_tables.specs.Unresolved.{unless, are_there, is_there, is_free, may_name_entry, writes_field, needs_static_field, same_bool, calls_no_private, is_callable_name, why_field_named, why_field_found, why_method_named, why_method_found}
+use Rattle.unresolved_names.specs.Causes.{signature_at}
 use Rattle.unresolved_names.specs.Words.{accessible_member, nameable_entry, usable_field, found_field_reason, field_reason, usable_method, rightly_named, rightly_special, right_method, found_method_reason, method_reason, class_use_reason, named_reason}
 use Rattle.unresolved_names.proofs.NameLemmas.{all_of_both}
 
@@ -33,12 +33,7 @@ pub not_false : (b : Bool) → not b ≡ false → b ≡ true
 not_false true h = refl
 not_false false h = absurd (let f : true ≡ false = h in cc)
 
--- ---- what may be named
-
-pub nameable : (listed cs : List ClassFile) (caller : ℕ) (c : ClassFile) (index : ℕ) (names : List (List ℕ)) → listed ≡ cs → names ≡ class_in_entry c.pool index
-    → list_all (may_name listed caller) names ≡ nameable_entry cs caller c index
-unfolding nameable_entry
-nameable listed cs caller c index names same e = ap₂ (λ (ks : List ClassFile) (ns : List (List ℕ)). list_all (may_name ks caller) ns) same e
+-- ---- judged by two tests
 
 -- two reasons, the first that applies
 abbrev pub judged : (first second : Bool) → (Why × Why) → Option Why
@@ -267,11 +262,22 @@ method_lost listed cs caller c of_interface op index s m same at =
 
 -- ---- classes that are there
 
-pub entry_is_there : (listed cs : List ClassFile) (names xs : List (List ℕ)) → listed ≡ cs → names ≡ xs → true ≡ are_there listed names → are_there cs xs ≡ true
-entry_is_there listed cs names xs same is h = sym (h ∙ ap₂ (λ (ks : List ClassFile) (ns : List (List ℕ)). are_there ks ns) same is)
+pub is_all_there : (listed cs : List ClassFile) (names : List (List ℕ)) → listed ≡ cs → true ≡ are_there listed names → are_there cs names ≡ true
+is_all_there listed cs names same h = sym (h ∙ ap (λ (ks : List ClassFile). are_there ks names) same)
+
+pub isnt_all_there : (listed cs : List ClassFile) (names : List (List ℕ)) → listed ≡ cs → false ≡ are_there listed names → are_there cs names ≡ false
+isnt_all_there listed cs names same h = sym (h ∙ ap (λ (ks : List ClassFile). are_there ks names) same)
 
 pub class_is_named : (listed cs : List ClassFile) (c : ClassFile) (index n : ℕ) → listed ≡ cs → Some n ≡ class_named listed c index → class_named cs c index ≡ Some n
 class_is_named listed cs c index n same h = sym (h ∙ ap (λ (ks : List ClassFile). class_named ks c index) same)
+
+-- ---- names and descriptors
+
+pub signature_is : (pool : List Entry) (member name descriptor : ℕ) → Some (name, descriptor) ≡ name_and_type_of (entry_at pool member) → Some (signature_at pool name descriptor) ≡ signature_in pool member
+signature_is pool member name descriptor e = ap (option_map (λ (n : ℕ × ℕ). signature_at pool n.0 n.1)) e
+
+pub no_signature : (pool : List Entry) (member : ℕ) → None ≡ name_and_type_of (entry_at pool member) → None ≡ signature_in pool member
+no_signature pool member e = ap (option_map (λ (n : ℕ × ℕ). signature_at pool n.0 n.1)) e
 
 -- ---- where it is told what is named
 

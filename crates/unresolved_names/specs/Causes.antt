@@ -2,9 +2,10 @@
 use Rattle.std.specs.Prelude.{ℕ, ◌==◌, if◌then◌else◌, List, [], Option, option_map}
 use Rattle.std.specs.Option.{option_to_list}
 use Rattle.std.specs.List.{flat_map}
+use Rattle.class_pool.specs.declared.entry.Entry.{Entry}
 use Rattle.class_pool.specs.declared.class.ClassFile.{ClassFile}
 use Rattle.class_pool.specs.declared.class.Member.{Member}
-use Rattle.class_lookup.specs.Parts.{Signature, signature_of}
+use Rattle.class_lookup.specs.Parts.{Signature, signature_of, text_at}
 use Rattle.program_tables.specs.declared.refusal.Why.{Why}
 use Rattle.program_tables.specs.Placed.{supertype_entries}
 use Rattle.program_tables.specs.Instructions.{Placed, index_of_entry, named_in}
@@ -14,6 +15,10 @@ use Rattle.program_tables.specs.Unresolved.{unless, are_there, why_class, why_na
 
 abbrev pub signature_seen : (name descriptor : List ℕ) → Signature
 signature_seen name descriptor = record { name = name; descriptor = descriptor }
+
+-- the name and the descriptor at these indexes of a pool
+abbrev pub signature_at : List Entry → (name descriptor : ℕ) → Signature
+signature_at pool name descriptor = signature_seen (text_at pool name) (text_at pool descriptor)
 
 -- an entry with the reason why what it names isn't resolved, if there is one
 abbrev pub refused_entry : (entry : ℕ) → Option Why → List (ℕ × Why)

@@ -7,7 +7,7 @@ use Rattle.class_lookup.specs.Lookup.{Place}
 use Rattle.class_lookup.specs.Access.{is_accessible_member}
 use Rattle.program_tables.specs.declared.refusal.Why.{Why}
 use Rattle.program_tables.specs.Instructions.{Named}
-use Rattle.program_tables.specs.Unresolved.{may_name_entry, may_use_field, may_use_method, is_named_rightly, is_special, is_right_method, implements_all, why_class, why_class_use, why_field_found, why_field, why_method_found, why_method, why_named}
+use Rattle.program_tables.specs.Unresolved.{may_name_entry, may_use_field, may_use_method, is_named_rightly, is_special, is_right_method, why_class, why_class_use, why_field_found, why_field, why_method_found, why_method, why_named}
 
 -- a member of the class owner may be used by the class caller through the class named
 unfoldable pub accessible_member : List ClassFile → (caller named owner : ℕ) → Member → Bool
@@ -51,6 +51,3 @@ class_use_reason cs caller c op index = why_class_use cs caller c op index
 
 unfoldable pub named_reason : List ClassFile → (caller : ℕ) → ClassFile → (method : Signature) → (op : ℕ) → Option Named → Option Why
 named_reason cs caller c method op named = why_named cs caller c method op named
-
-unfoldable pub implemented_all : List ClassFile → (class : ℕ) → Bool
-implemented_all cs c = implements_all cs c

@@ -9,7 +9,7 @@ ghost use Rattle.unresolved_names.specs.Words.{accessible_member};
 
 use class_hierarchy::Hierarchy;
 use class_lookup::Classes;
-use class_lookup::parts::{has_flags, is_in_package_of, name_of};
+use class_lookup::parts::{has_flags, name_of};
 use class_pool::Member;
 use descriptors::names::{is_class_initializer, is_instance_initializer};
 use items::is_text;
@@ -21,14 +21,6 @@ pub(crate) fn is_free(classes: &Classes, class: u32) -> bool
     class < classes.class_count() && is_text(name_of(classes.class(class)), b"jop/Boot")
 }
 
-/// Whether both classes are of one package.
-fn are_in_one_package(classes: &Classes, class: u32, other: u32) -> bool
-    ensures { result ≡ are_in_one_package classes.now class other }
-{
-    let count = classes.class_count();
-    class < count && other < count && is_in_package_of(classes.class(class), classes.class(other))
-}
-
 /// Whether the second class is public or of the package of the first.
 pub(crate) fn is_accessible_class(classes: &Classes, class: u32, other: u32) -> bool
     ensures { result ≡ is_accessible_class classes.now class other }
@@ -37,7 +29,7 @@ pub(crate) fn is_accessible_class(classes: &Classes, class: u32, other: u32) -> 
     class < count
         && other < count
         && (has_flags(classes.class(other).flags, 0x0001)
-            || is_in_package_of(classes.class(class), classes.class(other)))
+            || classes.are_in_one_package(class, other))
 }
 
 /// Whether there is such a class, and it is neither an abstract class nor an interface.
@@ -74,11 +66,11 @@ pub(crate) fn is_accessible_member(
     } else if has_flags(member.flags, 0x0002) {
         caller == owner
     } else if has_flags(member.flags, 0x0004) {
-        are_in_one_package(classes.classes(), caller, owner)
+        classes.classes().are_in_one_package(caller, owner)
             || (classes.is_subclass(caller, owner)
                 && (has_flags(member.flags, 0x0008) || is_related(classes, caller, named)))
     } else {
-        are_in_one_package(classes.classes(), caller, owner)
+        classes.classes().are_in_one_package(caller, owner)
     }
 }
 

@@ -1,21 +1,19 @@
 //! Fields that instructions name (JVM Specification SE 8, 5.4.3.2, 5.4.4, 6.5.getfield and the like).
-ghost use Rattle.std.specs.Prelude.{◌≡◌, ◌<◌, length, IfOk, Some};
+ghost use Rattle.std.specs.Prelude.{◌≡◌, ◌<◌, length, Some, slice_get};
 ghost use Rattle.class_lookup.specs.Parts.{signature_of};
 ghost use Rattle.class_lookup.specs.Lookup.{field_at};
 ghost use Rattle.program_tables.specs.Operands.{class_named};
 ghost use Rattle.program_tables.specs.Unresolved.{needs_static_field, writes_field};
-ghost use Rattle.unresolved_names.specs.Causes.{signature_seen};
+ghost use Rattle.unresolved_names.specs.Causes.{signature_at};
 ghost use Rattle.unresolved_names.specs.Words.{field_reason, found_field_reason, nameable_entry, usable_field};
 
 use crate::access::{is_accessible_member, is_as_needed, is_free, is_writable_field};
-use crate::names::{class_in_entry, is_field_descriptor_there};
-use crate::parts::{Through, class_named, field_at};
+use crate::names::{is_entry_there, is_field_there, may_name_entry};
+use crate::parts::{Through, class_named, field_at, field_found};
 use class_hierarchy::{Hierarchy, Place};
 use class_lookup::parts::{has_flags, text_at};
 use class_pool::{ClassFile, Member};
-use jop_base::NoMemory;
-use program_tables::Why;
-use std::alloc::Global;
+use program_tables::{TextTypes, Why};
 
 fn needs_static_field(op: u8) -> bool
     ensures { result ≡ needs_static_field op }
@@ -101,38 +99,39 @@ fn why_field_found(
     }
 }
 
-/// Why the field isn't resolved that an instruction of the caller's method names through a Class entry, by its name and
-/// descriptor.
+/// Why the field isn't resolved that an instruction of the caller's method names through a Class entry, by the indexes of its
+/// name and descriptor.
 #[tactic(auto, unfolding(crate::specs::Words::field_reason))]
 pub(crate) fn why_field(
-    alloc: Global,
     classes: &Hierarchy,
+    texts: &TextTypes<'_>,
     caller: u32,
     class: &ClassFile,
     method: &Member,
     op: u8,
     index: u16,
-    name: &[u16],
-    descriptor: &[u16],
-) -> Result<Option<Why>, NoMemory>
-    requires { caller < length classes.now }
-    ensures { IfOk result (λ why. why ≡ field_reason classes.now caller class.now (signature_of class.now method.now) op index (signature_seen name.now descriptor.now)) }
+    name: u16,
+    descriptor: u16,
+) -> Option<Why>
+    requires caller { caller < length classes.now }
+    requires own { slice_get classes.now caller ≡ Some class.now }
+    requires texts { texts.now ≡ classes.now }
+    ensures { result ≡ field_reason classes.now caller class.now (signature_of class.now method.now) op index (signature_at class.now.pool name descriptor) }
 {
-    let named = class_in_entry(alloc, &class.pool, index)?;
-    if !named.is_there(classes.classes())
-        || !is_field_descriptor_there(alloc, classes.classes(), descriptor)?
+    if !is_entry_there(texts, caller, class, index)
+        || !is_field_there(texts, caller, class, descriptor)
     {
-        return Ok(Some(Why::NoClass));
+        return Some(Why::NoClass);
     }
-    let Some(number) = class_named(classes.classes(), class, index) else {
-        return Ok(Some(Why::NoField));
+    let Some(number) = class_named(classes.classes(), caller, class, index) else {
+        return Some(Why::NoField);
     };
-    let Some(place) = classes.find_field(number, name, descriptor) else {
-        return Ok(Some(Why::NoField));
+    let Some(place) = field_found(classes, caller, class, number, name, descriptor) else {
+        return Some(Why::NoField);
     };
     let through = Through {
         class: number,
-        may_be_named: named.may_be_named(classes.classes(), caller),
+        may_be_named: may_name_entry(texts, caller, class, index),
     };
-    Ok(why_field_found(classes, caller, class, method, op, index, through, place))
+    why_field_found(classes, caller, class, method, op, index, through, place)
 }

@@ -5,7 +5,6 @@
 mod access;
 mod fields;
 mod frames;
-mod implemented;
 mod mentions;
 mod methods;
 mod names;

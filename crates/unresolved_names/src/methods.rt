@@ -1,24 +1,22 @@
 //! Methods that instructions name (JVM Specification SE 8, 5.4.3.3, 5.4.3.4, 5.4.4, 6.5.invokevirtual and the like).
-ghost use Rattle.std.specs.Prelude.{◌≡◌, ◌<◌, ◌==◌, ◌||◌, not, length, IfOk, Some};
+ghost use Rattle.std.specs.Prelude.{◌≡◌, ◌<◌, ◌==◌, ◌||◌, not, length, Some, slice_get};
 ghost use Rattle.class_lookup.specs.Parts.{Signature, is_abstract, is_private};
 ghost use Rattle.class_lookup.specs.Lookup.{method_at};
 ghost use Rattle.class_lookup.specs.Selection.{is_method_with};
 ghost use Rattle.program_tables.specs.Operands.{class_named};
 ghost use Rattle.program_tables.specs.Unresolved.{calls_no_private, is_callable_name};
-ghost use Rattle.unresolved_names.specs.Causes.{signature_seen};
+ghost use Rattle.unresolved_names.specs.Causes.{signature_at};
 ghost use Rattle.unresolved_names.specs.Words.{found_method_reason, method_reason, nameable_entry, right_method, rightly_named, rightly_special, usable_method};
 
 use crate::access::{is_accessible_member, is_as_needed, is_free};
-use crate::names::{class_in_entry, is_method_descriptor_there};
-use crate::parts::{Through, class_named, method_at};
+use crate::names::{is_entry_there, is_method_there, may_name_entry};
+use crate::parts::{Through, class_named, method_at, method_found};
 use class_hierarchy::{Hierarchy, Place};
 use class_lookup::Classes;
-use class_lookup::parts::has_flags;
+use class_lookup::parts::{has_flags, text_at};
 use class_pool::{ClassFile, Member};
 use descriptors::names::{is_class_initializer, is_instance_initializer};
-use jop_base::NoMemory;
-use program_tables::Why;
-use std::alloc::Global;
+use program_tables::{TextTypes, Why};
 
 /// Whether there is such a method, and it isn't abstract.
 fn is_not_abstract(classes: &Classes, place: Place) -> bool
@@ -233,40 +231,41 @@ fn why_method_found(
     }
 }
 
-/// Why the method isn't resolved that an instruction of the caller names through a Class entry, by its name and descriptor;
-/// `of_interface` says whether it is named as a method of an interface.
+/// Why the method isn't resolved that an instruction of the caller names through a Class entry, by the indexes of its name and
+/// descriptor; `of_interface` says whether it is named as a method of an interface.
 #[tactic(auto, unfolding(crate::specs::Words::method_reason))]
 pub(crate) fn why_method(
-    alloc: Global,
     classes: &Hierarchy,
+    texts: &TextTypes<'_>,
     caller: u32,
     class: &ClassFile,
     of_interface: bool,
     op: u8,
     index: u16,
-    name: &[u16],
-    descriptor: &[u16],
-) -> Result<Option<Why>, NoMemory>
-    requires { caller < length classes.now }
-    ensures { IfOk result (λ why. why ≡ method_reason classes.now caller class.now of_interface op index (signature_seen name.now descriptor.now)) }
+    name: u16,
+    descriptor: u16,
+) -> Option<Why>
+    requires caller { caller < length classes.now }
+    requires own { slice_get classes.now caller ≡ Some class.now }
+    requires texts { texts.now ≡ classes.now }
+    ensures { result ≡ method_reason classes.now caller class.now of_interface op index (signature_at class.now.pool name descriptor) }
 {
-    let named = class_in_entry(alloc, &class.pool, index)?;
-    if !named.is_there(classes.classes())
-        || !is_method_descriptor_there(alloc, classes.classes(), descriptor)?
+    if !is_entry_there(texts, caller, class, index)
+        || !is_method_there(texts, caller, class, descriptor)
     {
-        return Ok(Some(Why::NoClass));
+        return Some(Why::NoClass);
     }
-    let Some(number) = class_named(classes.classes(), class, index) else {
-        return Ok(Some(Why::NoMethod));
+    let Some(number) = class_named(classes.classes(), caller, class, index) else {
+        return Some(Why::NoMethod);
     };
-    let Some(place) = classes.find_method(number, name, descriptor) else {
-        return Ok(Some(Why::NoMethod));
+    let Some(place) = method_found(classes, caller, class, number, name, descriptor) else {
+        return Some(Why::NoMethod);
     };
     let through = Through {
         class: number,
-        may_be_named: named.may_be_named(classes.classes(), caller),
+        may_be_named: may_name_entry(texts, caller, class, index),
     };
-    Ok(why_method_found(
+    why_method_found(
         classes,
         caller,
         class,
@@ -274,7 +273,7 @@ pub(crate) fn why_method(
         op,
         index,
         through,
-        name,
+        text_at(&class.pool, name),
         place,
-    ))
+    )
 }

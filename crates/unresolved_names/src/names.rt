@@ -1,187 +1,121 @@
 //! The classes that Class entries and descriptors name (JVM Specification SE 8, 4.3 and 4.4.1).
-ghost use Rattle.std.specs.Prelude.{◌≡◌, [], IfOk};
-ghost use Rattle.std.specs.Option.{option_to_list, option_map_or};
+ghost use Rattle.std.specs.Prelude.{◌≡◌, ◌<◌, ℕ, List, length, Some, slice_get};
+ghost use Rattle.class_pool.specs.declared.class.ClassFile.{ClassFile};
 ghost use Rattle.std.specs.List.{list_all};
-ghost use Rattle.program_tables.specs.Kinds.{class_in_type, class_in_entry, classes_in_method_type, classes_in_field_descriptor, classes_in_method_descriptor};
-ghost use Rattle.program_tables.specs.Unresolved.{is_there, are_there, may_name};
-ghost use Rattle.unresolved_names.specs.Words.{class_reason};
+ghost use Rattle.class_lookup.specs.Parts.{text_at};
+ghost use Rattle.program_tables.specs.Kinds.{class_in_entry, classes_in_field_descriptor, classes_in_method_descriptor};
+ghost use Rattle.program_tables.specs.Unresolved.{are_there, may_name};
+ghost use Rattle.program_tables.specs.Texts.{IsClassOf};
+ghost use Rattle.unresolved_names.specs.Words.{class_reason, nameable_entry};
 
 use crate::access::{is_accessible_class, is_free};
 use class_lookup::Classes;
-use class_lookup::parts::class_text;
-use class_pool::{ClassFile, Pool};
-use descriptors::names::is_class_name;
-use descriptors::{Element, FieldType, MethodType, field_type, method_type};
-use items::Items;
-use jop_base::{FormatFault, NoMemory};
-use program_tables::Why;
-use std::alloc::Global;
+use class_pool::ClassFile;
+use program_tables::{EntryClass, TextTypes, Why};
 
-/// The class that a Class entry names, or the class of its array's elements, if there is one.
-#[derive(Drop)]
-pub(crate) struct NamedClass {
-    pub(crate) name: Option<Items<u16>>,
-}
-
-/// The class of a type, if it has one.
-fn class_in_type(of: FieldType) -> NamedClass
-    ensures { option_to_list result.name ≡ class_in_type of }
+/// Whether the class of a Class entry is there, if there is one.
+fn is_there(class: EntryClass) -> bool
+    ensures { (cs : List ClassFile) (names : List (List ℕ)) → IsClassOf cs names class → result ≡ are_there cs names }
 {
-    let FieldType {
-        dimensions: _,
-        element,
-    } = of;
-    match element {
-        Element::Class(name) => NamedClass { name: Some(name) },
-        _ => NamedClass { name: None },
+    match class {
+        EntryClass::Missing => false,
+        EntryClass::None | EntryClass::Class(_) => true,
     }
 }
 
-/// The class that a Class entry names.
-pub(crate) fn class_in_entry(alloc: Global, pool: &Pool, index: u16) -> Result<NamedClass, NoMemory>
-    ensures { IfOk result (λ class. option_to_list class.name ≡ class_in_entry pool.now index) }
+/// Whether the class is there that a Class entry of the caller names, or that of its array's elements.
+pub(crate) fn is_entry_there(
+    texts: &TextTypes<'_>,
+    caller: u32,
+    class: &ClassFile,
+    index: u16,
+) -> bool
+    requires caller { caller < length texts.now }
+    requires own { slice_get texts.now caller ≡ Some class.now }
+    ensures { result ≡ are_there texts.now (class_in_entry class.now.pool index) }
 {
-    let text = class_text(pool, index);
-    if is_class_name(text) {
-        let name = Items::new(Vec::from_slice(alloc, text)?);
-        return Ok(NamedClass { name: Some(name) });
-    }
-    match field_type(alloc, text) {
-        Ok(of) => Ok(class_in_type(of)),
-        Err(FormatFault::Bad) => Ok(NamedClass { name: None }),
-        Err(FormatFault::NoMemory) => Err(NoMemory),
-    }
+    let _ = class;
+    is_there(texts.class_of_entry(caller, index))
 }
 
-/// Whether the class is there.
-fn is_there(classes: &Classes, name: &[u16]) -> bool
-    ensures { result ≡ is_there classes.now name.now }
-{
-    classes.find_class(name).is_some()
-}
-
-/// Whether the caller may name the class.
-fn may_name(classes: &Classes, caller: u32, name: &[u16]) -> bool
-    ensures { result ≡ may_name classes.now caller name.now }
+/// Whether the caller may name the class of a Class entry.
+fn may_name(classes: &Classes, caller: u32, class: EntryClass) -> bool
+    ensures { (names : List (List ℕ)) → IsClassOf classes.now names class → result ≡ list_all (may_name classes.now caller) names }
 {
     if is_free(classes, caller) {
         return true;
     }
-    match classes.find_class(name) {
-        Some(class) => is_accessible_class(classes, caller, class),
-        None => false,
+    match class {
+        EntryClass::None => true,
+        EntryClass::Missing => false,
+        EntryClass::Class(number) => is_accessible_class(classes, caller, number),
     }
 }
 
-impl NamedClass {
-    ghost use Rattle.std.specs.Prelude.{◌≡◌};
-    ghost use Rattle.std.specs.Option.{option_to_list};
-    ghost use Rattle.std.specs.List.{list_all};
-    ghost use Rattle.program_tables.specs.Unresolved.{are_there, may_name};
-
-    /// Whether the class is there.
-    pub(crate) fn is_there(&self, classes: &Classes) -> bool
-        ensures { result ≡ are_there classes.now (option_to_list self.now.name) }
-    {
-        match &self.name {
-            Some(name) => is_there(classes, name.as_slice()),
-            None => true,
-        }
-    }
-
-    /// Whether the caller may name the class.
-    pub(crate) fn may_be_named(&self, classes: &Classes, caller: u32) -> bool
-        ensures { result ≡ list_all (may_name classes.now caller) (option_to_list self.now.name) }
-    {
-        match &self.name {
-            Some(name) => may_name(classes, caller, name.as_slice()),
-            None => true,
-        }
-    }
-}
-
-/// Whether the class of a type is there.
-fn is_type_there(classes: &Classes, of: &FieldType) -> bool
-    ensures { result ≡ are_there classes.now (class_in_type of.now) }
+/// Whether the caller may name the class that its Class entry names, or that of its array's elements.
+#[tactic(auto, unfolding(crate::specs::Words::nameable_entry))]
+pub(crate) fn may_name_entry(
+    texts: &TextTypes<'_>,
+    caller: u32,
+    class: &ClassFile,
+    index: u16,
+) -> bool
+    requires caller { caller < length texts.now }
+    requires own { slice_get texts.now caller ≡ Some class.now }
+    ensures { result ≡ nameable_entry texts.now caller class.now index }
 {
-    match &of.element {
-        Element::Class(name) => is_there(classes, name.as_slice()),
-        _ => true,
-    }
+    let _ = class;
+    may_name(texts.classes(), caller, texts.class_of_entry(caller, index))
 }
 
-/// Whether the classes of types are there.
-fn are_types_there(classes: &Classes, types: &[FieldType]) -> bool
-    ensures { result ≡ list_all (λ of. are_there classes.now (class_in_type of)) types.now }
+/// Whether the class in a field's descriptor is there, by the descriptor's index in the caller's pool.
+pub(crate) fn is_field_there(
+    texts: &TextTypes<'_>,
+    caller: u32,
+    class: &ClassFile,
+    descriptor: u16,
+) -> bool
+    requires caller { caller < length texts.now }
+    requires own { slice_get texts.now caller ≡ Some class.now }
+    ensures { result ≡ are_there texts.now (classes_in_field_descriptor (text_at class.now.pool descriptor)) }
 {
-    types.iter().all(|of| is_type_there(classes, of))
+    let _ = class;
+    texts.is_field_there(texts.classes().symbol(caller, descriptor))
 }
 
-/// Whether the class of a result is there.
-fn is_result_there(classes: &Classes, of: &MethodType) -> bool
-    ensures { result ≡ are_there classes.now (option_map_or class_in_type of.now.result []) }
+/// Whether the classes in a method's descriptor are there, by the descriptor's index in the caller's pool.
+pub(crate) fn is_method_there(
+    texts: &TextTypes<'_>,
+    caller: u32,
+    class: &ClassFile,
+    descriptor: u16,
+) -> bool
+    requires caller { caller < length texts.now }
+    requires own { slice_get texts.now caller ≡ Some class.now }
+    ensures { result ≡ are_there texts.now (classes_in_method_descriptor (text_at class.now.pool descriptor)) }
 {
-    match &of.result {
-        Some(of) => is_type_there(classes, of),
-        None => true,
-    }
-}
-
-#[tactic(auto, using(crate::proofs::NameLemmas::all_of_list_and))]
-fn is_method_type_there(classes: &Classes, of: &MethodType) -> bool
-    ensures { result ≡ are_there classes.now (classes_in_method_type of.now) }
-{
-    are_types_there(classes, of.parameters.as_slice()) && is_result_there(classes, of)
-}
-
-/// Whether the class in a field's descriptor is there.
-pub(crate) fn is_field_descriptor_there(
-    alloc: Global,
-    classes: &Classes,
-    descriptor: &[u16],
-) -> Result<bool, NoMemory>
-    ensures { IfOk result (λ there. there ≡ are_there classes.now (classes_in_field_descriptor descriptor.now)) }
-{
-    match field_type(alloc, descriptor) {
-        Ok(of) => Ok(is_type_there(classes, &of)),
-        Err(FormatFault::Bad) => Ok(true),
-        Err(FormatFault::NoMemory) => Err(NoMemory),
-    }
-}
-
-/// Whether the classes in a method's descriptor are there.
-pub(crate) fn is_method_descriptor_there(
-    alloc: Global,
-    classes: &Classes,
-    descriptor: &[u16],
-) -> Result<bool, NoMemory>
-    ensures { IfOk result (λ there. there ≡ are_there classes.now (classes_in_method_descriptor descriptor.now)) }
-{
-    match method_type(alloc, descriptor) {
-        Ok(of) => Ok(is_method_type_there(classes, &of)),
-        Err(FormatFault::Bad) => Ok(true),
-        Err(FormatFault::NoMemory) => Err(NoMemory),
-    }
+    let _ = class;
+    texts.is_method_there(texts.classes().symbol(caller, descriptor))
 }
 
 /// Why the class of a Class entry isn't resolved that a superclass or superinterface list, an instruction or an exception table
 /// names.
-#[tactic(auto, unfolding(crate::specs::Words::class_reason))]
+#[tactic(auto, unfolding(crate::specs::Words::class_reason, crate::specs::Words::nameable_entry))]
 pub(crate) fn why_class(
-    alloc: Global,
-    classes: &Classes,
+    texts: &TextTypes<'_>,
     caller: u32,
     class: &ClassFile,
     index: u16,
-) -> Result<Option<Why>, NoMemory>
-    ensures { IfOk result (λ why. why ≡ class_reason classes.now caller class.now index) }
+) -> Option<Why>
+    requires caller { caller < length texts.now }
+    requires own { slice_get texts.now caller ≡ Some class.now }
+    ensures { result ≡ class_reason texts.now caller class.now index }
 {
-    let named = class_in_entry(alloc, &class.pool, index)?;
-    if !named.is_there(classes) {
-        Ok(Some(Why::NoClass))
-    } else if !named.may_be_named(classes, caller) {
-        Ok(Some(Why::NotAccessible))
+    if !is_entry_there(texts, caller, class, index) {
+        Some(Why::NoClass)
+    } else if !may_name_entry(texts, caller, class, index) {
+        Some(Why::NotAccessible)
     } else {
-        Ok(None)
+        None
     }
 }

@@ -1,22 +1,69 @@
 //! The classes and members that references mean.
-ghost use Rattle.std.specs.Prelude.{◌≡◌, ◌<◌, length, IfSome, option_map};
+ghost use Rattle.std.specs.Prelude.{◌≡◌, ◌<◌, length, IfSome, Some, slice_get};
 ghost use Rattle.std.specs.Option.{option_copied};
-ghost use Rattle.class_lookup.specs.Lookup.{field_at, method_at};
-ghost use Rattle.program_tables.specs.Instructions.{signature_in};
+ghost use Rattle.class_lookup.specs.Lookup.{field_at, find_field, find_method, method_at};
 ghost use Rattle.program_tables.specs.Operands.{class_named};
-ghost use Rattle.unresolved_names.specs.Causes.{signature_seen};
+ghost use Rattle.unresolved_names.specs.Causes.{signature_at};
 
-use class_lookup::parts::{class_text, text_at};
+use class_hierarchy::Hierarchy;
 use class_lookup::{Classes, Place};
-use class_pool::{ClassFile, Member, Pool};
+use class_pool::{ClassFile, Member};
 
-/// The class that a Class entry names.
+/// The class that a Class entry of the caller names.
 #[tactic(auto, using(crate::proofs::PartLemmas::found_below))]
-pub(crate) fn class_named(classes: &Classes, class: &ClassFile, index: u16) -> Option<u32>
+pub(crate) fn class_named(
+    classes: &Classes,
+    caller: u32,
+    class: &ClassFile,
+    index: u16,
+) -> Option<u32>
+    requires caller { caller < length classes.now }
+    requires own { slice_get classes.now caller ≡ Some class.now }
     ensures named { result ≡ class_named classes.now class.now index }
     ensures below { IfSome result (λ n. n < length classes.now) }
 {
-    classes.find_class(class_text(&class.pool, index))
+    let _ = class;
+    classes.class_named(caller, index)
+}
+
+/// The field of the name and descriptor at these indexes of the caller's pool, looked up from a class.
+pub(crate) fn field_found(
+    classes: &Hierarchy,
+    caller: u32,
+    class: &ClassFile,
+    number: u32,
+    name: u16,
+    descriptor: u16,
+) -> Option<Place>
+    requires caller { caller < length classes.now }
+    requires own { slice_get classes.now caller ≡ Some class.now }
+    requires below { number < length classes.now }
+    ensures { result ≡ find_field classes.now number (signature_at class.now.pool name descriptor) }
+{
+    let _ = class;
+    let texts = classes.classes();
+    let name = texts.symbol(caller, name);
+    classes.find_field_by(number, name, texts.symbol(caller, descriptor))
+}
+
+/// The method of the name and descriptor at these indexes of the caller's pool, looked up from a class.
+pub(crate) fn method_found(
+    classes: &Hierarchy,
+    caller: u32,
+    class: &ClassFile,
+    number: u32,
+    name: u16,
+    descriptor: u16,
+) -> Option<Place>
+    requires caller { caller < length classes.now }
+    requires own { slice_get classes.now caller ≡ Some class.now }
+    requires below { number < length classes.now }
+    ensures { result ≡ find_method classes.now number (signature_at class.now.pool name descriptor) }
+{
+    let _ = class;
+    let texts = classes.classes();
+    let name = texts.symbol(caller, name);
+    classes.find_method_by(number, name, texts.symbol(caller, descriptor))
 }
 
 /// The field of this place.
@@ -54,12 +101,4 @@ pub(crate) fn method_at(classes: &Classes, place: Place) -> Option<&Member>
 pub(crate) struct Through {
     pub(crate) class: u32,
     pub(crate) may_be_named: bool,
-}
-
-/// The name and the descriptor of a NameAndType entry (4.4.6).
-pub(crate) fn signature_in(pool: &Pool, index: u16) -> Option<(&[u16], &[u16])>
-    ensures { option_map (λ s. signature_seen s.0.now s.1.now) result ≡ signature_in pool.now index }
-{
-    let (name, descriptor) = pool.name_and_type(index)?;
-    Some((text_at(pool, name), text_at(pool, descriptor)))
 }

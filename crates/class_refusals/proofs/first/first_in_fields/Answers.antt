@@ -13,7 +13,7 @@ returns-in-Some c =
     let same = c.as_slice-field-items.ensures in
     let lt = subst (λ (xs : List Member). i < length xs) same c.loop-field-test.true in
     let is = subst (λ (xs : List Member). m ≡ get_or xs i m) same c.field-item.is in
-    sym (found_number (unsupported_at_field c.args.class.now) ms i c.loop-field.number m c.in-Some.found lt is c.loop-field.invariant.number c.loop-field.invariant.none (sym c.in_ok-found.ensures ∙ c.in-Some.is))
+    sym (found_number (unsupported_at_field c.args.class.now) ms i c.loop-field.number m c.in-Some.found lt is c.loop-field.invariant.number c.loop-field.invariant.none (sym c.first_at_field.ensures ∙ c.in-Some.is))
 
 pub loop-field-preserved : goal.loop-field-preserved
 loop-field-preserved c =
@@ -23,10 +23,10 @@ loop-field-preserved c =
     let same = c.as_slice-field-items.ensures in
     let lt = subst (λ (xs : List Member). i < length xs) same c.loop-field-test.true in
     let is = subst (λ (xs : List Member). m ≡ get_or xs i m) same c.field-item.is in
-    let none = no_value c.in_ok-found.field-0 c.in_default.not-Some in
+    let none = no_value c.first_at_field.result c.in_default.not-Some in
     record {
       number = ap (λ k. k + 1) c.loop-field.invariant.number;
-      none = none_number (unsupported_at_field c.args.class.now) ms i c.loop-field.number m lt is c.loop-field.invariant.number c.loop-field.invariant.none (sym c.in_ok-found.ensures ∙ none);
+      none = none_number (unsupported_at_field c.args.class.now) ms i c.loop-field.number m lt is c.loop-field.invariant.number c.loop-field.invariant.none (sym c.first_at_field.ensures ∙ none);
     }
 
 pub returns : goal.returns

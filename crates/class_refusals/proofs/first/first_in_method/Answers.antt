@@ -1,4 +1,4 @@
-use Rattle.std.proofs.Common.{◌≡◌, List, ℕ, [], Some, None, refl, sym, ap, ◌∙◌}
+use Rattle.std.proofs.Common.{◌≡◌, List, ℕ, Some, None, sym, ap, ◌∙◌}
 use Rattle.std.specs.Option.{option_map, option_copied}
 use Rattle.std.specs.List.{flat_map}
 use Rattle.first_found.specs.Lists.{first}
@@ -18,7 +18,7 @@ returns-in-Some c =
     let m = c.args.method.now in
     let site = sites.Method c.args.number in
     let items = method_items class m in
-    let head : first (sited site items) ≡ Some (site, c.in-Some.item) = of_sited site items ∙ ap (option_map (λ (item : Item). (site, item))) (sym c.in_ok-item.ensures ∙ c.in-Some.is) in
+    let head : first (sited site items) ≡ Some (site, c.in-Some.item) = of_sited site items ∙ ap (option_map (λ (item : Item). (site, item))) (sym c.item_at_method.ensures ∙ c.in-Some.is) in
     sym (ap first (in_method class c.args.number m) ∙ first-before (sited site items) (flat_map (unsupported_at class c.args.number) (instructions_of m)) (site, c.in-Some.item) head)
 
 pub returns-in-Some-code : goal.returns-in-Some-code
@@ -29,8 +29,8 @@ returns-in-Some-code c =
     let site = sites.Method n in
     let items = method_items class m in
     let f = unsupported_at class n in
-    let none = no_value c.in_ok-item.field-0 c.in_default.not-Some in
-    let head : first (sited site items) ≡ None = of_sited site items ∙ ap (option_map (λ (item : Item). (site, item))) (sym c.in_ok-item.ensures ∙ none) in
+    let none = no_value c.item_at_method.result c.in_default.not-Some in
+    let head : first (sited site items) ≡ None = of_sited site items ∙ ap (option_map (λ (item : Item). (site, item))) (sym c.item_at_method.ensures ∙ none) in
     let code = sym c.code.ensures ∙ ap option_copied c.in-Some-code.is in
     let e = ap (λ (k : List ℕ). first (flat_map f (instructions_in k))) c.as_slice.ensures
     ∙ (ap (λ (xs : List Placed). first (flat_map f xs)) (sym (instructions_are m c.in-Some-code.code.now code))
@@ -45,7 +45,7 @@ returns-in-None c =
     let site = sites.Method n in
     let items = method_items class m in
     let f = unsupported_at class n in
-    let none = no_value c.in_ok-item.field-0 c.in_default.not-Some in
-    let head : first (sited site items) ≡ None = of_sited site items ∙ ap (option_map (λ (item : Item). (site, item))) (sym c.in_ok-item.ensures ∙ none) in
+    let none = no_value c.item_at_method.result c.in_default.not-Some in
+    let head : first (sited site items) ≡ None = of_sited site items ∙ ap (option_map (λ (item : Item). (site, item))) (sym c.item_at_method.ensures ∙ none) in
     let code = sym c.code.ensures ∙ ap option_copied c.in-None.is in
     sym (ap first (in_method class n m) ∙ (first-behind (sited site items) (flat_map f (instructions_of m)) head ∙ ap (λ (xs : List Placed). first (flat_map f xs)) (no_instructions m code)))

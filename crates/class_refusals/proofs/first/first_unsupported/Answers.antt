@@ -3,6 +3,7 @@ use Rattle.std.specs.List.{flat_map, enumerate_from}
 use Rattle.first_found.specs.Lists.{first}
 use Rattle.first_found.specs.Lemmas.{first-before, first-behind, ok_same}
 use Rattle.program_tables.specs.Unsupported.{unsupported_in}
+use Rattle.program_tables.proofs.ListLemmas.{no_value}
 use Rattle.class_refusals.specs.Causes.{unsupported_at_field, unsupported_in_method}
 use Rattle.class_refusals.proofs.BoundLemmas.{class_bounds}
 use Rattle.class_refusals.proofs.FirstLemmas.{in_class}
@@ -16,11 +17,12 @@ returns-in-Some c =
     let class = c.args.class.now in
     let fields = flat_map (unsupported_at_field class) (enumerate_from 0 class.fields) in
     let methods = flat_map (unsupported_in_method class) (enumerate_from 0 class.methods) in
-    sym (ap first (in_class class) ∙ first-before fields methods c.in-Some.found (sym c.in_ok-found.ensures ∙ c.in-Some.is))
+    sym (ap first (in_class class) ∙ first-before fields methods c.in-Some.found (sym c.first_in_fields.ensures ∙ c.in-Some.is))
 
-pub returns-in-None : goal.returns-in-None
-returns-in-None c =
+pub returns : goal.returns
+returns c =
     let class = c.args.class.now in
     let fields = flat_map (unsupported_at_field class) (enumerate_from 0 class.fields) in
     let methods = flat_map (unsupported_in_method class) (enumerate_from 0 class.methods) in
-    ok_same c.first_in_methods.result (first methods) (first (unsupported_in class)) (sym (ap first (in_class class) ∙ first-behind fields methods (sym c.in_ok-found.ensures ∙ c.in-None.is))) c.first_in_methods.ensures
+    let none = no_value c.first_in_fields.result c.in_default.not-Some in
+    ok_same c.first_in_methods.result (first methods) (first (unsupported_in class)) (sym (ap first (in_class class) ∙ first-behind fields methods (sym c.first_in_fields.ensures ∙ none))) c.first_in_methods.ensures

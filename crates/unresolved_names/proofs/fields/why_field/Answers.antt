@@ -1,20 +1,16 @@
-use Rattle.std.proofs.Common.{◌∙◌, refl, sym}
-use Rattle.std.specs.Option.{option_to_list}
-use Rattle.class_lookup.specs.Parts.{signature_of}
+use Rattle.std.proofs.Common.{◌∙◌, sym}
+use Rattle.class_lookup.specs.Parts.{signature_of, text_at}
 use Rattle.program_tables.specs.Kinds.{class_in_entry, classes_in_field_descriptor}
-use Rattle.unresolved_names.specs.Causes.{signature_seen}
-use Rattle.unresolved_names.proofs.ReasonLemmas.{nameable, field_found, entry_is_there, class_is_named}
+use Rattle.unresolved_names.specs.Causes.{signature_at}
+use Rattle.unresolved_names.proofs.ReasonLemmas.{field_found, is_all_there, class_is_named}
 use Rattle.unresolved_names.proofs.fields.why_field.Goals as goal
-
-pub why_field_found-requires-clause-may : goal.why_field_found-requires-clause-may
-why_field_found-requires-clause-may c =
-    c.may_be_named.ensures ∙ nameable c.classes-3.result.now c.args.classes.now c.args.caller c.args.class.now c.args.index (option_to_list c.in_ok-named.named.name) c.classes-3.ensures c.in_ok-named.ensures
 
 pub returns : goal.returns
 returns c =
     let cs = c.args.classes.now in
-    let there = entry_is_there c.classes.result.now cs (option_to_list c.in_ok-named.named.name) (class_in_entry c.args.class.now.pool c.args.index) c.classes.ensures c.in_ok-named.ensures c.if-not-is_there.ensures in
-    let all = entry_is_there c.classes-else-not-is_there.result.now cs (classes_in_field_descriptor c.args.descriptor.now) (classes_in_field_descriptor c.args.descriptor.now) c.classes-else-not-is_there.ensures refl (sym c.if-not-branch.false ∙ c.in_ok-is_field_descriptor_there.ensures) in
-    let named = class_is_named c.classes-2.result.now cs c.args.class.now c.args.index c.in-Some.number c.classes-2.ensures c.in-Some.ensures.named in
+    let pool = c.args.class.now.pool in
+    let there = is_all_there c.args.texts.now cs (class_in_entry pool c.args.index) c.requires.texts c.if-not-is_entry_there.ensures in
+    let all = is_all_there c.args.texts.now cs (classes_in_field_descriptor (text_at pool c.args.descriptor)) c.requires.texts c.if-not-is_field_there.ensures in
+    let named = class_is_named c.classes.result.now cs c.args.class.now c.args.index c.in-Some.number c.classes.ensures c.in-Some.ensures.named in
     c.why_field_found.ensures
-    ∙ field_found cs c.args.caller c.args.class.now (signature_of c.args.class.now c.args.method.now) c.args.op c.args.index (signature_seen c.args.name.now c.args.descriptor.now) c.in-Some.number c.in-Some-find_field.place there all named (sym c.in-Some-find_field.ensures)
+    ∙ field_found cs c.args.caller c.args.class.now (signature_of c.args.class.now c.args.method.now) c.args.op c.args.index (signature_at pool c.args.name c.args.descriptor) c.in-Some.number c.in-Some-field_found.place there all named (sym c.in-Some-field_found.ensures)

@@ -1,4 +1,4 @@
-use Rattle.std.proofs.Common.{ℕ, get_or, refl, sym, ◌∙◌}
+use Rattle.std.proofs.Common.{ℕ, get_or, refl, sym}
 use Rattle.first_found.specs.Lemmas.{found_here}
 use Rattle.unresolved_names.specs.Causes.{refused_catch}
 use Rattle.unresolved_names.proofs.mentions.first_at_handlers.Goals as goal
@@ -7,4 +7,4 @@ pub returns-in-Some : goal.returns-in-Some
 returns-in-Some c =
     let xs = c.args.handlers.now in
     let i = c.loop-handler.handler-index in
-    sym (found_here (λ (h : ℕ × ℕ × ℕ × ℕ). refused_catch c.args.classes.now c.args.caller c.args.class.now h.3) xs i (get_or xs i (0, 0, 0, 0)) (0, 0, 0, 0) c.in-Some.found c.loop-handler-test.true refl c.loop-handler.invariant (sym c.in_ok-found.ensures ∙ c.in-Some.is))
+    sym (found_here (λ (h : ℕ × ℕ × ℕ × ℕ). refused_catch c.args.texts.now c.args.caller c.args.class.now h.3) xs i (get_or xs i (0, 0, 0, 0)) (0, 0, 0, 0) c.in-Some.found c.loop-handler-test.true refl c.loop-handler.invariant (sym c.in-Some.ensures))

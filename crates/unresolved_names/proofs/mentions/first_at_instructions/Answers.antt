@@ -26,7 +26,7 @@ returns-in-Some c =
     let ps = c.deref-pc-items.result.now in
     let i = c.loop-pc.pc-index in
     let e = c.deref-pc-items.ensures.value ∙ c.in_ok-starts.ensures in
-    sym (found_here g ps i (get_or ps i 0) 0 c.in-Some.found c.loop-pc-test.true refl c.loop-pc.invariant (sym c.in_ok-found.ensures ∙ c.in-Some.is))
+    sym (found_here g ps i (get_or ps i 0) 0 c.in-Some.found c.loop-pc-test.true refl c.loop-pc.invariant (sym c.in-Some.ensures))
     ∙ (ap (λ (xs : List ℕ). first (flat_map g xs)) e ∙ ap first (all_places f code))
 
 pub returns : goal.returns

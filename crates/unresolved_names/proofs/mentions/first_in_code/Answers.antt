@@ -2,7 +2,6 @@ use Rattle.std.proofs.Common.{ℕ, List, ◌∙◌, sym, ap, ap₂}
 use Rattle.std.specs.List.{flat_map}
 use Rattle.class_pool.specs.declared.class.ClassFile.{ClassFile}
 use Rattle.first_found.specs.Lists.{first}
-use Rattle.first_found.specs.Lemmas.{ok_same}
 use Rattle.program_tables.specs.Instructions.{instructions_in}
 use Rattle.unresolved_names.specs.Causes.{refused_instruction, refused_catch, refused_frame_class}
 use Rattle.unresolved_names.proofs.MentionLemmas.{at_instructions, at_handlers, at_frames}
@@ -14,21 +13,20 @@ returns-in-Some c =
     at_instructions c.args.classes.now c.args.caller c.args.class.now c.args.method.now c.args.code.now c.in-Some.found c.requires.of_method
     (ap (λ (xs : List ℕ). first (flat_map F (instructions_in xs))) (sym c.as_slice-bytes.ensures) ∙ (sym c.in_ok-found.ensures ∙ c.in-Some.is))
 
-pub returns-in-Some-2 : goal.returns-in-Some-2
-returns-in-Some-2 c =
+pub returns-in-Some-first_at_handlers : goal.returns-in-Some-first_at_handlers
+returns-in-Some-first_at_handlers c =
     let F = refused_instruction c.args.classes.now c.args.caller c.args.class.now c.args.method.now in
-    at_handlers c.args.classes.now c.args.caller c.args.class.now c.args.method.now c.args.code.now c.in-Some-2.caught c.requires.of_method
+    at_handlers c.args.classes.now c.args.caller c.args.class.now c.args.method.now c.args.code.now c.in-Some-first_at_handlers.caught c.requires.of_method
     (ap (λ (xs : List ℕ). first (flat_map F (instructions_in xs))) (sym c.as_slice-bytes.ensures) ∙ (sym c.in_ok-found.ensures ∙ c.in_default.is))
-    (ap₂ (λ (ks : List ClassFile) (hs : List (ℕ × ℕ × ℕ × ℕ)). first (flat_map (λ (h : ℕ × ℕ × ℕ × ℕ). refused_catch ks c.args.caller c.args.class.now h.3) hs)) (sym c.classes.ensures) (sym c.as_slice-handlers.ensures)
-    ∙ (sym c.in_ok-caught.ensures ∙ c.in-Some-2.is))
+    (ap₂ (λ (ks : List ClassFile) (hs : List (ℕ × ℕ × ℕ × ℕ)). first (flat_map (λ (h : ℕ × ℕ × ℕ × ℕ). refused_catch ks c.args.caller c.args.class.now h.3) hs)) (sym c.requires.texts) (sym c.as_slice-handlers.ensures)
+    ∙ sym c.in-Some-first_at_handlers.ensures)
 
 pub returns : goal.returns
 returns c =
     let F = refused_instruction c.args.classes.now c.args.caller c.args.class.now c.args.method.now in
-    ok_same c.first_in_frames.result _ _
-    (ap₂ (λ (ks : List ClassFile) (is : List ℕ). first (flat_map (refused_frame_class ks c.args.class.now) is)) c.classes-2.ensures (c.deref.ensures.value ∙ c.in_ok-indexes.ensures)
+    c.first_in_frames.ensures
+    ∙ (ap₂ (λ (ks : List ClassFile) (is : List ℕ). first (flat_map (refused_frame_class ks c.args.class.now) is)) c.requires.texts (c.deref.ensures.value ∙ c.in_ok-indexes.ensures)
     ∙ at_frames c.args.classes.now c.args.caller c.args.class.now c.args.method.now c.args.code.now c.requires.of_method
     (ap (λ (xs : List ℕ). first (flat_map F (instructions_in xs))) (sym c.as_slice-bytes.ensures) ∙ (sym c.in_ok-found.ensures ∙ c.in_default.is))
-    (ap₂ (λ (ks : List ClassFile) (hs : List (ℕ × ℕ × ℕ × ℕ)). first (flat_map (λ (h : ℕ × ℕ × ℕ × ℕ). refused_catch ks c.args.caller c.args.class.now h.3) hs)) (sym c.classes.ensures) (sym c.as_slice-handlers.ensures)
-    ∙ (sym c.in_ok-caught.ensures ∙ c.in_default-2.is)))
-    c.first_in_frames.ensures
+    (ap₂ (λ (ks : List ClassFile) (hs : List (ℕ × ℕ × ℕ × ℕ)). first (flat_map (λ (h : ℕ × ℕ × ℕ × ℕ). refused_catch ks c.args.caller c.args.class.now h.3) hs)) (sym c.requires.texts) (sym c.as_slice-handlers.ensures)
+    ∙ sym c.in_default-first_at_handlers.ensures))

@@ -1,8 +1,7 @@
-use Rattle.std.proofs.Common.{◌≡◌, ◌<◌, ◌≤◌, List, length, get_or, sym, ◌∙◌, subst}
+use Rattle.std.proofs.Common.{◌≡◌, ◌<◌, ◌≤◌, List, length, get_or, sym, subst}
 use Rattle.class_pool.specs.declared.class.Member.{Member}
 use Rattle.first_found.specs.Lemmas.{found_here, still_none, none_first}
 use Rattle.program_tables.specs.Unresolved.{FieldDescriptor}
-use Rattle.program_tables.proofs.ListLemmas.{no_value}
 use Rattle.unresolved_names.specs.Causes.{refused_mention}
 use Rattle.unresolved_names.proofs.mentions.first_in_fields.Goals as goal
 
@@ -14,7 +13,7 @@ returns-in-Some c =
     let same = c.as_slice-field-items.ensures in
     let lt = subst (λ (xs : List Member). i < length xs) same c.loop-field-test.true in
     let is = subst (λ (xs : List Member). m ≡ get_or xs i m) same c.field-item.is in
-    sym (found_here (λ (x : Member). refused_mention c.args.classes.now c.args.caller c.args.class.now (FieldDescriptor x)) ms i m m c.in-Some.found lt is c.loop-field.invariant (sym c.in_ok-found.ensures ∙ c.in-Some.is))
+    sym (found_here (λ (x : Member). refused_mention c.args.texts.now c.args.caller c.args.class.now (FieldDescriptor x)) ms i m m c.in-Some.found lt is c.loop-field.invariant (sym c.in-Some.ensures))
 
 pub loop-field-preserved : goal.loop-field-preserved
 loop-field-preserved c =
@@ -24,9 +23,9 @@ loop-field-preserved c =
     let same = c.as_slice-field-items.ensures in
     let lt = subst (λ (xs : List Member). i < length xs) same c.loop-field-test.true in
     let is = subst (λ (xs : List Member). m ≡ get_or xs i m) same c.field-item.is in
-    still_none (λ (x : Member). refused_mention c.args.classes.now c.args.caller c.args.class.now (FieldDescriptor x)) ms i m m lt is c.loop-field.invariant (sym c.in_ok-found.ensures ∙ no_value c.in_ok-found.field-0 c.in_default.not-Some)
+    still_none (λ (x : Member). refused_mention c.args.texts.now c.args.caller c.args.class.now (FieldDescriptor x)) ms i m m lt is c.loop-field.invariant (sym c.in_default.ensures)
 
 pub returns : goal.returns
 returns c =
     let past = subst (λ (xs : List Member). length xs ≤ c.loop-field.field-index) c.as_slice-field-items.ensures c.loop-field-test.false in
-    sym (none_first (λ (x : Member). refused_mention c.args.classes.now c.args.caller c.args.class.now (FieldDescriptor x)) c.args.class.now.fields c.loop-field.field-index past c.loop-field.invariant)
+    sym (none_first (λ (x : Member). refused_mention c.args.texts.now c.args.caller c.args.class.now (FieldDescriptor x)) c.args.class.now.fields c.loop-field.field-index past c.loop-field.invariant)

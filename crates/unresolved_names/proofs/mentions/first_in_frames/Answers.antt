@@ -1,6 +1,5 @@
-use Rattle.std.proofs.Common.{get_or, refl, sym, ◌∙◌}
+use Rattle.std.proofs.Common.{get_or, refl, sym}
 use Rattle.first_found.specs.Lemmas.{found_here, still_none, none_first}
-use Rattle.program_tables.proofs.ListLemmas.{no_value}
 use Rattle.unresolved_names.specs.Causes.{refused_frame_class}
 use Rattle.unresolved_names.proofs.mentions.first_in_frames.Goals as goal
 
@@ -8,13 +7,13 @@ pub returns-in-Some : goal.returns-in-Some
 returns-in-Some c =
     let xs = c.args.indexes.now in
     let i = c.loop-index.index-index in
-    sym (found_here (refused_frame_class c.args.classes.now c.args.class.now) xs i (get_or xs i 0) 0 c.in-Some.found c.loop-index-test.true refl c.loop-index.invariant (sym c.in_ok-found.ensures ∙ c.in-Some.is))
+    sym (found_here (refused_frame_class c.args.texts.now c.args.class.now) xs i (get_or xs i 0) 0 c.in-Some.found c.loop-index-test.true refl c.loop-index.invariant (sym c.in-Some.ensures))
 
 pub loop-index-preserved : goal.loop-index-preserved
 loop-index-preserved c =
     let xs = c.args.indexes.now in
     let i = c.loop-index.index-index in
-    still_none (refused_frame_class c.args.classes.now c.args.class.now) xs i (get_or xs i 0) 0 c.loop-index-test.true refl c.loop-index.invariant (sym c.in_ok-found.ensures ∙ no_value c.in_ok-found.field-0 c.in_default.not-Some)
+    still_none (refused_frame_class c.args.texts.now c.args.class.now) xs i (get_or xs i 0) 0 c.loop-index-test.true refl c.loop-index.invariant (sym c.in_default.ensures)
 
 pub returns : goal.returns
-returns c = sym (none_first (refused_frame_class c.args.classes.now c.args.class.now) c.args.indexes.now c.loop-index.index-index c.loop-index-test.false c.loop-index.invariant)
+returns c = sym (none_first (refused_frame_class c.args.texts.now c.args.class.now) c.args.indexes.now c.loop-index.index-index c.loop-index-test.false c.loop-index.invariant)

@@ -12,16 +12,16 @@ use Rattle.unresolved_names.proofs.mentions.first_unresolved.Goals as goal
 
 pub returns-then-not-implements_all : goal.returns-then-not-implements_all
 returns-then-not-implements_all c =
-    ap (λ (d : ℕ). Some (d, reasons.NotImplemented)) c.from.ensures ∙ at_class c.args.classes.now c.args.caller c.args.class.now (sym c.if-not-implements_all.ensures)
+    ap (λ (d : ℕ). Some (d, reasons.NotImplemented)) c.from.ensures ∙ at_class c.args.classes.now c.args.caller c.args.class.now (sym c.requires.implements ∙ c.if-not-implements_all.true)
 
 pub returns-in-Some : goal.returns-in-Some
 returns-in-Some c =
-    at_fields c.args.classes.now c.args.caller c.args.class.now c.in-Some.found (sym c.if-not-implements_all.ensures)
-    (ap (λ (ks : List ClassFile). first (flat_map (λ (f : Member). refused_mention ks c.args.caller c.args.class.now (FieldDescriptor f)) c.args.class.now.fields)) (sym c.classes.ensures) ∙ (sym c.in_ok-found.ensures ∙ c.in-Some.is))
+    at_fields c.args.classes.now c.args.caller c.args.class.now c.in-Some.found (sym c.requires.implements ∙ c.if-not-implements_all.false)
+    (ap (λ (ks : List ClassFile). first (flat_map (λ (f : Member). refused_mention ks c.args.caller c.args.class.now (FieldDescriptor f)) c.args.class.now.fields)) (sym c.requires.texts) ∙ sym c.in-Some.ensures)
 
 pub returns : goal.returns
 returns c =
     ok_same c.first_in_methods.result _ _
-    (at_methods c.args.classes.now c.args.caller c.args.class.now (sym c.if-not-implements_all.ensures)
-    (ap (λ (ks : List ClassFile). first (flat_map (λ (f : Member). refused_mention ks c.args.caller c.args.class.now (FieldDescriptor f)) c.args.class.now.fields)) (sym c.classes.ensures) ∙ (sym c.in_ok-found.ensures ∙ c.in_default.is)))
+    (at_methods c.args.classes.now c.args.caller c.args.class.now (sym c.requires.implements ∙ c.if-not-implements_all.false)
+    (ap (λ (ks : List ClassFile). first (flat_map (λ (f : Member). refused_mention ks c.args.caller c.args.class.now (FieldDescriptor f)) c.args.class.now.fields)) (sym c.requires.texts) ∙ sym c.in_default.ensures))
     c.first_in_methods.ensures

@@ -1,33 +1,47 @@
+use Rattle.std.proofs.Common.{◌∙◌}
 use Rattle.class_lookup.specs.Parts.{signature_of}
-use Rattle.first_found.specs.Lemmas.{ok_same}
-use Rattle.unresolved_names.specs.Causes.{signature_seen}
-use Rattle.unresolved_names.proofs.ReasonLemmas.{constant_told, class_told, field_told, method_told, interface_told, no_field_told, no_method_told, no_interface_told}
+use Rattle.unresolved_names.specs.Causes.{signature_at}
+use Rattle.unresolved_names.proofs.ReasonLemmas.{constant_told, class_told, field_told, method_told, interface_told, no_field_told, no_method_told, no_interface_told, signature_is, no_signature}
 use Rattle.unresolved_names.proofs.mentions.why_there.Goals as goal
 
 pub returns-in-Constant : goal.returns-in-Constant
 returns-in-Constant c = constant_told c.args.classes.now c.args.caller c.args.class.now (signature_of c.args.class.now c.args.method.now) c.args.op c.args.named c.in-Constant.field-0 c.in-Constant.is
 
 pub returns-in-Class : goal.returns-in-Class
-returns-in-Class c = ok_same c.why_class_use.result _ _ (class_told c.classes.result.now c.args.classes.now c.args.caller c.args.class.now (signature_of c.args.class.now c.args.method.now) c.args.op c.args.named c.in-Class.index c.classes.ensures c.in-Class.is) c.why_class_use.ensures
+returns-in-Class c = c.why_class_use.ensures ∙ class_told c.args.texts.now c.args.classes.now c.args.caller c.args.class.now (signature_of c.args.class.now c.args.method.now) c.args.op c.args.named c.in-Class.index c.requires.texts c.in-Class.is
 
 pub returns-in-Some : goal.returns-in-Some
-returns-in-Some c = ok_same c.why_field.result _ _ (field_told c.args.classes.now c.args.caller c.args.class.now (signature_of c.args.class.now c.args.method.now) c.args.op c.args.named c.in-Field.index c.in-Field.member (signature_seen c.in-Some.name.now c.in-Some.descriptor.now) c.in-Field.is c.in-Some.ensures) c.why_field.ensures
+returns-in-Some c =
+    let pool = c.args.class.now.pool in
+    c.why_field.ensures
+    ∙ field_told c.args.classes.now c.args.caller c.args.class.now (signature_of c.args.class.now c.args.method.now) c.args.op c.args.named c.in-Field.index c.in-Field.member (signature_at pool c.in-Some.name c.in-Some.descriptor) c.in-Field.is
+    (signature_is pool c.in-Field.member c.in-Some.name c.in-Some.descriptor c.in-Some.ensures)
 
 pub returns-in-None : goal.returns-in-None
-returns-in-None c = no_field_told c.args.classes.now c.args.caller c.args.class.now (signature_of c.args.class.now c.args.method.now) c.args.op c.args.named c.in-Field.index c.in-Field.member c.in-Field.is c.in-None.ensures
+returns-in-None c =
+    no_field_told c.args.classes.now c.args.caller c.args.class.now (signature_of c.args.class.now c.args.method.now) c.args.op c.args.named c.in-Field.index c.in-Field.member c.in-Field.is
+    (no_signature c.args.class.now.pool c.in-Field.member c.in-None.ensures)
 
-pub returns-in-Some-signature_in : goal.returns-in-Some-signature_in
-returns-in-Some-signature_in c =
-    ok_same c.why_method.result _ _ (method_told c.args.classes.now c.args.caller c.args.class.now (signature_of c.args.class.now c.args.method.now) c.args.op c.args.named c.in-Method.index c.in-Method.member (signature_seen c.in-Some-signature_in.name.now c.in-Some-signature_in.descriptor.now) c.in-Method.is c.in-Some-signature_in.ensures) c.why_method.ensures
+pub returns-in-Some-name_and_type : goal.returns-in-Some-name_and_type
+returns-in-Some-name_and_type c =
+    let pool = c.args.class.now.pool in
+    c.why_method.ensures
+    ∙ method_told c.args.classes.now c.args.caller c.args.class.now (signature_of c.args.class.now c.args.method.now) c.args.op c.args.named c.in-Method.index c.in-Method.member (signature_at pool c.in-Some-name_and_type.name c.in-Some-name_and_type.descriptor) c.in-Method.is
+    (signature_is pool c.in-Method.member c.in-Some-name_and_type.name c.in-Some-name_and_type.descriptor c.in-Some-name_and_type.ensures)
 
-pub returns-in-None-signature_in : goal.returns-in-None-signature_in
-returns-in-None-signature_in c = no_method_told c.args.classes.now c.args.caller c.args.class.now (signature_of c.args.class.now c.args.method.now) c.args.op c.args.named c.in-Method.index c.in-Method.member c.in-Method.is c.in-None-signature_in.ensures
+pub returns-in-None-name_and_type : goal.returns-in-None-name_and_type
+returns-in-None-name_and_type c =
+    no_method_told c.args.classes.now c.args.caller c.args.class.now (signature_of c.args.class.now c.args.method.now) c.args.op c.args.named c.in-Method.index c.in-Method.member c.in-Method.is
+    (no_signature c.args.class.now.pool c.in-Method.member c.in-None-name_and_type.ensures)
 
-pub returns-in-Some-signature_in-2 : goal.returns-in-Some-signature_in-2
-returns-in-Some-signature_in-2 c =
-    ok_same c.why_method-in-Some-signature_in-2.result _ _
-    (interface_told c.args.classes.now c.args.caller c.args.class.now (signature_of c.args.class.now c.args.method.now) c.args.op c.args.named c.in-InterfaceMethod.index c.in-InterfaceMethod.member (signature_seen c.in-Some-signature_in-2.name.now c.in-Some-signature_in-2.descriptor.now) c.in-InterfaceMethod.is c.in-Some-signature_in-2.ensures)
-    c.why_method-in-Some-signature_in-2.ensures
+pub returns-in-Some-name_and_type-2 : goal.returns-in-Some-name_and_type-2
+returns-in-Some-name_and_type-2 c =
+    let pool = c.args.class.now.pool in
+    c.why_method-in-Some-name_and_type-2.ensures
+    ∙ interface_told c.args.classes.now c.args.caller c.args.class.now (signature_of c.args.class.now c.args.method.now) c.args.op c.args.named c.in-InterfaceMethod.index c.in-InterfaceMethod.member (signature_at pool c.in-Some-name_and_type-2.name c.in-Some-name_and_type-2.descriptor) c.in-InterfaceMethod.is
+    (signature_is pool c.in-InterfaceMethod.member c.in-Some-name_and_type-2.name c.in-Some-name_and_type-2.descriptor c.in-Some-name_and_type-2.ensures)
 
-pub returns-in-None-signature_in-2 : goal.returns-in-None-signature_in-2
-returns-in-None-signature_in-2 c = no_interface_told c.args.classes.now c.args.caller c.args.class.now (signature_of c.args.class.now c.args.method.now) c.args.op c.args.named c.in-InterfaceMethod.index c.in-InterfaceMethod.member c.in-InterfaceMethod.is c.in-None-signature_in-2.ensures
+pub returns-in-None-name_and_type-2 : goal.returns-in-None-name_and_type-2
+returns-in-None-name_and_type-2 c =
+    no_interface_told c.args.classes.now c.args.caller c.args.class.now (signature_of c.args.class.now c.args.method.now) c.args.op c.args.named c.in-InterfaceMethod.index c.in-InterfaceMethod.member c.in-InterfaceMethod.is
+    (no_signature c.args.class.now.pool c.in-InterfaceMethod.member c.in-None-name_and_type-2.ensures)
