@@ -1,5 +1,5 @@
 //! A class's place in the hierarchy (JVM Specification SE 8, 4.1, 4.6, 5.3.5 and 5.4.5).
-ghost use Rattle.std.specs.Prelude.{◌≡◌, Some, ◌<◌, ◌&&◌, ◌||◌, ◌++◌, ◌∷◌, [], not, if◌then◌else◌, OnOk, false, length, reverse, slice_get, IfOk};
+ghost use Rattle.std.specs.Prelude.{◌≡◌, Some, ◌<◌, ◌&&◌, ◌||◌, ◌++◌, not, OnOk, false, length, slice_get, IfOk};
 ghost use Rattle.std.specs.Option.{option_copied, option_map_or, option_to_list};
 ghost use Rattle.std.specs.List.{filter_map, list_any};
 ghost use Rattle.class_lookup.specs.Parts.{Signature, signature_of, is_final};
@@ -144,54 +144,27 @@ fn overrides_directly(classes: &Classes, place: Place, upper: Place) -> bool
     is_virtual(classes, place) && is_virtual(classes, upper) && is_open_to(classes, upper, place)
 }
 
-/// Whether the method overrides one of these without another between.
-fn overrides_one(classes: &Classes, place: Place, found: &[Place]) -> bool
-    ensures { result ≡ list_any (overrides_directly classes.now place) found.now }
+/// Whether one of these overrides the method without another between.
+fn is_overridden_by_one(classes: &Classes, joined: &[Place], upper: Place) -> bool
+    ensures { result ≡ list_any (λ r. overrides_directly classes.now r upper) joined.now }
 {
-    found
+    joined
         .iter()
-        .any(|upper| overrides_directly(classes, place, *upper))
+        .any(|lower| overrides_directly(classes, *lower, upper))
 }
 
-/// Whether the method is the resolved one, or overrides one of these without another between.
-fn joins(classes: &Classes, resolved: Place, found: &[Place], place: Place) -> bool
-    ensures { result ≡ (same_place place resolved || list_any (overrides_directly classes.now place) found.now) }
+/// Whether it is the method itself, or one of those that joined it overrides it without another between.
+fn joins(classes: &Classes, place: Place, joined: &[Place], upper: Place) -> bool
+    ensures { result ≡ (same_place place upper || list_any (λ r. overrides_directly classes.now r upper) joined.now) }
 {
-    place == resolved || overrides_one(classes, place, found)
+    place == upper || is_overridden_by_one(classes, joined, upper)
 }
 
-/// Puts the method last, if it joins these.
-fn put_joining(
-    classes: &Classes,
-    resolved: Place,
-    found: &mut Vec<Place>,
-    place: Place,
-) -> Result<(), NoMemory>
-    ensures { OnOk result (found.new.items ≡ (if same_place place resolved || list_any (overrides_directly classes.now place) found.old.items then found.old.items ++ place ∷ [] else found.old.items)) }
+/// Whether it is a final method and another one.
+fn is_other_final(classes: &Classes, place: Place, upper: Place) -> bool
+    ensures { result ≡ (is_method_with is_final classes.now upper && not (same_place place upper)) }
 {
-    if joins(classes, resolved, found, place) {
-        found.push(place)?;
-    }
-    Ok(())
-}
-
-/// Those of methods of one name and descriptor, from a class upwards, that are the resolved one or override it; the uppermost
-/// first.
-fn overriding(
-    alloc: Global,
-    classes: &Classes,
-    resolved: Place,
-    places: &[Place],
-) -> Result<Vec<Place>, NoMemory>
-    ensures { IfOk result (λ found. found.items ≡ reverse (overriding classes.now resolved places.now)) }
-{
-    let mut found = Vec::new(alloc);
-    let mut i = places.len();
-    while i > 0 {
-        i -= 1;
-        put_joining(classes, resolved, &mut found, places[i])?;
-    }
-    Ok(found)
+    is_final(classes, upper) && place != upper
 }
 
 /// The class, its superclass, and so on, over at most as many classes as there are.
@@ -242,47 +215,9 @@ fn upwards(
     Ok(places)
 }
 
-/// Whether the method is one of these.
-fn is_one_of(place: Place, places: &[Place]) -> bool
-    ensures { result ≡ list_any (same_place place) places.now }
-{
-    places.iter().any(|other| place == *other)
-}
-
-/// Whether one method overrides another, among the methods of their name and descriptor from its class upwards.
-fn overrides(
-    alloc: Global,
-    classes: &Classes,
-    places: &[Place],
-    place: Place,
-    upper: Place,
-) -> Result<bool, NoMemory>
-    ensures { IfOk result (λ b. b ≡ (not (same_place place upper) && list_any (same_place place) (overriding classes.now upper places.now))) }
-{
-    if place == upper {
-        return Ok(false);
-    }
-    let found = overriding(alloc, classes, upper, places)?;
-    Ok(is_one_of(place, &found))
-}
-
-/// Whether the other method is final and the method overrides it.
-fn overrides_final_one(
-    alloc: Global,
-    classes: &Classes,
-    places: &[Place],
-    place: Place,
-    upper: Place,
-) -> Result<bool, NoMemory>
-    ensures { IfOk result (λ b. b ≡ (is_method_with is_final classes.now upper && (not (same_place place upper) && list_any (same_place place) (overriding classes.now upper places.now)))) }
-{
-    if !is_final(classes, upper) {
-        return Ok(false);
-    }
-    overrides(alloc, classes, places, place, upper)
-}
-
 /// Whether the method overrides a final one of these, which are the methods of its name and descriptor from its class upwards.
+///
+/// Upwards, each that one of those below overrides without another between joins them.
 fn overrides_some_final(
     alloc: Global,
     classes: &Classes,
@@ -291,9 +226,13 @@ fn overrides_some_final(
 ) -> Result<bool, NoMemory>
     ensures { IfOk result (λ b. b ≡ list_any (λ a. is_method_with is_final classes.now a && (not (same_place place a) && list_any (same_place place) (overriding classes.now a places.now))) places.now) }
 {
+    let mut joined = Vec::new(alloc);
     for upper in places {
-        if overrides_final_one(alloc, classes, places, place, *upper)? {
-            return Ok(true);
+        if joins(classes, place, &joined, *upper) {
+            if is_other_final(classes, place, *upper) {
+                return Ok(true);
+            }
+            joined.push(*upper)?;
         }
     }
     Ok(false)
