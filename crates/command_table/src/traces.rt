@@ -61,8 +61,9 @@ pub fn show_trace_faults(rt: &HostRuntime) -> io::Result<()> {
 
 // Whether a call ended with a fault of its output, which holds a front of a text, but for its end, with so many bytes or more.
 fn is_cut(answer: &Answer, text: &[u8], least: usize) -> bool {
+    let outcome = answer.outcome;
     let out = answer.out.held();
-    matches!(answer.outcome, Outcome::WriteFault)
+    matches!(outcome, Outcome::WriteFault)
         && answer.err.held() == b"write fault\n".as_slice()
         && text.starts_with(out)
         && out.len() < text.len()
@@ -81,8 +82,9 @@ fn cuts_of(
         let Some(answer) = call(alloc, words, Some(image), &[piece], &[])? else {
             return Ok((piece, false));
         };
+        let outcome = answer.outcome;
         let out = answer.out.held();
-        if matches!(answer.outcome, Outcome::Ended) {
+        if matches!(outcome, Outcome::Ended) {
             return Ok((piece, out == text));
         }
         if !is_cut(&answer, text, least) {
