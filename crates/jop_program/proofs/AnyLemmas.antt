@@ -1,5 +1,5 @@
 -- Tests of the items of a list, and the first of rising numbers that passes a test.
-use Rattle.std.proofs.Common.{◌≡◌, ℕ, zero, suc, ◌+◌, ◌<◌, ◌≤◌, Bool, true, false, ◌||◌, ◌==◌, cond, List, [], ◌∷◌, take, Option, Some, None, refl, sym, ap, ◌∙◌, arith, eq-eqb}
+use Rattle.std.proofs.Common.{◌≡◌, ℕ, zero, suc, ◌+◌, ◌<◌, ◌≤◌, Bool, true, false, ◌||◌, ◌==◌, cond, List, [], ◌∷◌, take, Option, Some, None, refl, sym, ap, ◌∙◌, subst, arith, eq-eqb}
 use Rattle.std.specs.Prelude.{find, IfSome, slice_get, if◌then◌else◌}
 use Rattle.first_found.specs.Lists.{first}
 use Rattle.std.specs.List.{range_with_len}
@@ -91,3 +91,7 @@ second_of false false c d e f h = refl
 pub beyond : (p : ℕ → Bool) (k : ℕ) (o : Option ℕ) (c next : ℕ) → o ≡ find p (range_with_len 0 k) → IfSome o (λ d. c ≤ d) → p c ≡ false → next ≡ c + 1 → IfSome o (λ d. next ≤ d)
 beyond p k None c next e le fails is = tt
 beyond p k (Some d) c next e le fails is = let r = goes_beyond p k c d e le fails in omega arith
+
+-- the next number, as the code counts
+pub along_one : (P : ℕ → Type 0) (i : ℕ) → P (suc i) → P (i + 1)
+along_one P i h = let n : suc i ≡ i + 1 = omega arith in subst P n h

@@ -3,8 +3,8 @@ use Rattle.std.specs.Prelude.{find}
 use Rattle.class_pool.specs.declared.class.ClassFile.{ClassFile}
 use Rattle.class_pool.specs.Utf8.{utf8_bytes}
 use Rattle.class_lookup.specs.Parts.{same_text, name_of}
-use Rattle.class_places.proofs.ItemLemmas.{got, along_one}
-use Rattle.jop_program.proofs.AnyLemmas.{found_first, found_none}
+use Rattle.class_places.proofs.ItemLemmas.{got}
+use Rattle.jop_program.proofs.AnyLemmas.{along_one, found_first, found_none}
 use Rattle.jop_program.proofs.main_class.main_class.Goals as goal
 
 pub returns-then-branch : goal.returns-then-branch
