@@ -47,7 +47,7 @@ fn print_out(rt: &HostRuntime, out: &[u8]) -> io::Result<()> {
 fn print_lines(rt: &HostRuntime, text: &str) -> io::Result<()> {
     let count = text.lines().count();
     for (number, line) in text.lines().enumerate() {
-        if count <= 24 || number < 8 || count - number <= 8 {
+        if count <= 24 || number < 8 || count.saturating_sub(number) <= 8 {
             println!(rt; "  {line}")?;
         }
     }
