@@ -9,10 +9,12 @@ use std::io;
 const LEAST: &[u8] = b"JOPB\x00\x01\x00\x00\x00\x00\x00\x00\x00\x01\xb1";
 
 const TRACE: [&str; 2] = ["trace", "b"];
+
 const MICRO: [&str; 3] = ["trace", "--micro", "b"];
 
 // The same with a memory that is quickly made.
 const SMALL: [&str; 4] = ["trace", "--memory", "16", "b"];
+
 const SMALL_MICRO: [&str; 5] = ["trace", "--memory", "16", "--micro", "b"];
 
 /// Images that run to their end.
@@ -30,7 +32,9 @@ pub fn show_steps(rt: &HostRuntime) -> io::Result<()> {
 /// A limit of cycles. The boundary that it comes to has no line.
 pub fn show_limited_steps(rt: &HostRuntime) -> io::Result<()> {
     for cycles in ["0", "1", "2", "3", "4"] {
-        let words = ["trace", "--micro", "--memory", "16", "--cycles", cycles, "b"];
+        let words = [
+            "trace", "--micro", "--memory", "16", "--cycles", cycles, "b",
+        ];
         show_text(rt, &words, Some(HELLO), &[], &[])?;
     }
     Ok(())
