@@ -1,11 +1,14 @@
 pub mod Directly
 pub mod Naming
+pub mod Marking
+pub mod Unmarked
 pub mod Ranks
 pub mod Filled
 pub mod Standing
 pub mod Found
 pub mod Reaching
 pub mod Receiving
+pub mod EarlyLemmas
 pub mod SelectedLemmas
 pub mod Closure
 pub mod CycleLemmas

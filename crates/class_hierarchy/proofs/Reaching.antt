@@ -39,7 +39,7 @@ open_case : (cs : List ClassFile) (y m : Place) (o : Option Member) → option_m
 open_case cs y m None = refl
 open_case cs y m (Some k) = refl
 
-directly_is : (cs : List ClassFile) (m y : Place) → overrides_directly cs m y ≡ (is_virtual cs m && is_virtual cs y && (is_method_with (λ k. is_public k || is_protected k) cs y || is_near cs m y))
+pub directly_is : (cs : List ClassFile) (m y : Place) → overrides_directly cs m y ≡ (is_virtual cs m && is_virtual cs y && (is_method_with (λ k. is_public k || is_protected k) cs y || is_near cs m y))
 directly_is cs m y = ap (λ b. is_virtual cs m && is_virtual cs y && b) (open_case cs y m (method_at cs y))
 
 -- ---- the algebra of one step: v is whether the first method is virtual, w whether the resolved one is

@@ -8,6 +8,7 @@ ghost use Rattle.upward_order.specs.Numbers.{IsSameSearch};
 ghost use Rattle.class_lookup.specs.Symbols.{symbol};
 
 use crate::above::{Above, above_of};
+use crate::marks::{Marks, field_marks, method_marks};
 use crate::members::{first_field, first_method, named_at};
 use crate::receivers::{Resolved, places_for};
 use crate::selecting::{first_instance, first_overriding, first_public};
@@ -25,6 +26,8 @@ use std::marker::Model;
 pub struct Hierarchy {
     classes: Classes,
     above: Above,
+    field_marks: Marks,
+    method_marks: Marks,
 }
 
 impl Model for Hierarchy {
@@ -32,12 +35,16 @@ impl Model for Hierarchy {
     ghost use Rattle.class_pool.specs.declared.class.ClassFile.{ClassFile};
     ghost use Rattle.class_lookup.specs.Hierarchy.{IsAcyclic};
     ghost use Rattle.class_hierarchy.specs.Tables.{AreAbove};
+    ghost use Rattle.class_hierarchy.specs.Marks.{AreMarked};
 
     ghost Value = { List ClassFile };
 
     ghost view = { λ a. a.classes };
 
-    ghost invariant = { λ a. IsAcyclic a.classes × AreAbove a.classes a.above };
+    ghost invariant = { λ a. IsAcyclic a.classes
+        × AreAbove a.classes a.above
+        × AreMarked (λ k. k.fields) a.classes a.field_marks
+        × AreMarked (λ k. k.methods) a.classes a.method_marks };
 }
 
 impl Hierarchy {
@@ -47,7 +54,14 @@ impl Hierarchy {
         ensures { IfOk result (λ made. made ≡ classes) }
     {
         let above = above_of(alloc, &classes)?;
-        Ok(Hierarchy { classes, above })
+        let field_marks = field_marks(alloc, &classes)?;
+        let method_marks = method_marks(alloc, &classes)?;
+        Ok(Hierarchy {
+            classes,
+            above,
+            field_marks,
+            method_marks,
+        })
     }
 
     /// The classes.
@@ -110,7 +124,7 @@ impl Hierarchy {
         ensures { (s : Signature) → symbol self.now s.name ≡ Some name → symbol self.now s.descriptor ≡ Some descriptor → result ≡ find_field self.now class s }
     {
         let list = self.above.supertypes[class as usize].as_slice();
-        first_field(&self.classes, list, name, descriptor)
+        first_field(&self.classes, &self.field_marks, list, name, descriptor)
     }
 
     /// The field of this name and descriptor, looked up from the class (5.4.3.2).
@@ -138,11 +152,11 @@ impl Hierarchy {
     {
         let index = class as usize;
         let list = self.above.superclasses[index].as_slice();
-        match first_method(&self.classes, list, name, descriptor) {
+        match first_method(&self.classes, &self.method_marks, list, name, descriptor) {
             Some(place) => Some(place),
             None => {
                 let list = self.above.inherited[index].as_slice();
-                first_method(&self.classes, list, name, descriptor)
+                first_method(&self.classes, &self.method_marks, list, name, descriptor)
             }
         }
     }
@@ -156,7 +170,7 @@ impl Hierarchy {
             self.classes.declared_method(class, name, descriptor)
         } else if self.classes.is_interface(class) {
             let list = self.above.interfaces[class as usize].as_slice();
-            first_method(&self.classes, list, name, descriptor)
+            first_method(&self.classes, &self.method_marks, list, name, descriptor)
         } else {
             self.find_in_class(class, name, descriptor)
         }
@@ -182,9 +196,9 @@ impl Hierarchy {
         let method = named_at(&self.classes, resolved)?;
         let list = self.above.superclasses[receiver as usize].as_slice();
         if self.classes.is_interface(resolved.class) {
-            first_public(&self.classes, list, &method)
+            first_public(&self.classes, &self.method_marks, list, &method)
         } else {
-            first_overriding(&self.classes, list, &method)
+            first_overriding(&self.classes, &self.method_marks, list, &method)
         }
     }
 
@@ -233,7 +247,7 @@ impl Hierarchy {
         if self.is_of_superclass(current, named, method.name) {
             let upper = self.classes.superclass(current)?;
             let list = self.above.superclasses[upper as usize].as_slice();
-            first_instance(&self.classes, list, &method)
+            first_instance(&self.classes, &self.method_marks, list, &method)
         } else {
             Some(resolved)
         }

@@ -5,7 +5,9 @@
 mod above;
 mod acyclic;
 mod cycles;
+mod deciding;
 mod hierarchy;
+mod marks;
 mod members;
 mod methods;
 mod receivers;

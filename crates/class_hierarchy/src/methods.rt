@@ -45,7 +45,7 @@ pub(crate) fn is_instance(classes: &Classes, place: Place) -> bool
 }
 
 /// Whether there is such a method, and it is neither static nor private.
-fn is_virtual(classes: &Classes, place: Place) -> bool
+pub(crate) fn is_virtual(classes: &Classes, place: Place) -> bool
     ensures { result ≡ is_virtual classes.now place }
 {
     match method_at(classes, place) {

@@ -1,15 +1,18 @@
 //! The methods that are selected for receivers of many classes, with at most one step for each class (JVM Specification SE 8,
 //! 6.5.invokevirtual and invokeinterface).
 
-ghost use Rattle.std.specs.Prelude.{◌≡◌, ◌∷◌, ◌<◌, ◌≤◌, ℕ, List, length, map, Some, None, IfOk, IsTrue, is_some, slice_index_or};
-ghost use Rattle.class_lookup.specs.Hierarchy.{superclass, IsAcyclic};
+ghost use Rattle.std.specs.Prelude.{◌≡◌, ◌∷◌, ◌<◌, ◌≤◌, ℕ, List, length, map, Some, None, false, IfOk, IfSome, IsTrue, is_some, slice_index_or};
+ghost use Rattle.std.specs.Option.{option_map_or};
+ghost use Rattle.class_lookup.specs.Hierarchy.{superclass, superclasses, IsAcyclic};
 ghost use Rattle.class_lookup.specs.Lookup.{Place as APlace};
 ghost use Rattle.class_hierarchy.specs.declared.receivers.Selected.{Selected as SelectedSoFar};
+ghost use Rattle.class_hierarchy.specs.Deciding.{is_early, is_deciding};
 ghost use Rattle.class_hierarchy.specs.Members.{IsNamed};
 ghost use Rattle.class_hierarchy.specs.Selecting.{selected_of, selected_at, selected_above, AreKnown, AreChains};
 
+use crate::deciding::{is_at_or_below, is_overridable};
 use crate::members::{Named, declared_as};
-use crate::methods::{is_joining, is_open, is_public_instance};
+use crate::methods::{is_joining, is_open, is_public_instance, is_virtual};
 use class_lookup::{Classes, Place};
 use items::Items;
 use jop_base::NoMemory;
@@ -120,14 +123,113 @@ fn selected_for(resolved: &Resolved<'_>, table: &[Option<Selected>], class: u32)
     }
 }
 
+/// Whether a class below may declare a method that is selected for it whatever else stands above it.
+fn is_early(resolved: &Resolved<'_>) -> bool
+    requires { IsNamed resolved.now.classes.now resolved.now.method }
+    ensures { result ≡ is_early resolved.now.classes.now resolved.now.of_interface resolved.now.method.place }
+{
+    resolved.of_interface || is_overridable(resolved.classes, &resolved.method)
+}
+
+/// Whether a method that a class declares is selected for the class whatever else stands above it, where that may be.
+fn is_deciding(resolved: &Resolved<'_>, class: u32, place: Place) -> bool
+    requires class { class < length resolved.now.classes.now }
+    requires chains { AreChains resolved.now.classes.now resolved.now.superclasses.now }
+    ensures { IsTrue result → IsTrue (is_deciding resolved.now.classes.now resolved.now.of_interface resolved.now.method.place (superclasses resolved.now.classes.now class) place) }
+{
+    if resolved.of_interface {
+        is_public_instance(resolved.classes, place)
+    } else {
+        is_virtual(resolved.classes, place)
+            && is_at_or_below(resolved.superclasses, class, resolved.method.place.class)
+    }
+}
+
+/// What is selected for a class, where what it declares tells that.
+fn decided(resolved: &Resolved<'_>, class: u32) -> Option<Selected>
+    requires named { IsNamed resolved.now.classes.now resolved.now.method }
+    requires class { class < length resolved.now.classes.now }
+    requires chains { AreChains resolved.now.classes.now resolved.now.superclasses.now }
+    requires early { IsTrue (is_early resolved.now.classes.now resolved.now.of_interface resolved.now.method.place) }
+    ensures { IfSome result (λ s. s ≡ selected_at resolved.now.classes.now resolved.now.of_interface resolved.now.method.place class) }
+{
+    match declared_as(resolved.classes, &resolved.method, class) {
+        Some(place) => {
+            if is_deciding(resolved, class, place) {
+                Some(Selected {
+                    place: Some(place),
+                    free: !resolved.of_interface,
+                })
+            } else {
+                None
+            }
+        }
+        None => None,
+    }
+}
+
+/// Whether it is known what is selected for the direct superclass, if there is one.
+fn is_above_known(resolved: &Resolved<'_>, table: &[Option<Selected>], class: u32) -> bool
+    requires class { class < length resolved.now.classes.now }
+    requires table { length table.now ≡ length resolved.now.classes.now }
+    ensures { result ≡ option_map_or (λ upper. is_some (slice_index_or table.now upper None)) (superclass resolved.now.classes.now class) false }
+{
+    match resolved.classes.superclass(class) {
+        Some(upper) => table[upper as usize].is_some(),
+        None => false,
+    }
+}
+
+/// Whether it is known what is selected for a class; where what the class declares tells that, it is put down. `early` says
+/// whether it can.
+fn is_settled(
+    resolved: &Resolved<'_>,
+    early: bool,
+    table: &mut Vec<Option<Selected>>,
+    class: u32,
+) -> bool
+    requires named { IsNamed resolved.now.classes.now resolved.now.method }
+    requires class { class < length resolved.now.classes.now }
+    requires chains { AreChains resolved.now.classes.now resolved.now.superclasses.now }
+    requires early { IsTrue early → IsTrue (is_early resolved.now.classes.now resolved.now.of_interface resolved.now.method.place) }
+    requires known { AreKnown (selected_at resolved.now.classes.now resolved.now.of_interface resolved.now.method.place) (length resolved.now.classes.now) table.old.items }
+    ensures known { AreKnown (selected_at resolved.now.classes.now resolved.now.of_interface resolved.now.method.place) (length resolved.now.classes.now) table.new.items }
+    ensures there { IsTrue result → IsTrue (is_some (slice_index_or table.new.items class None)) }
+{
+    if table[class as usize].is_some() {
+        return true;
+    }
+    // Where it is known for the superclass, one look at the class tells it all the same.
+    if !early || is_above_known(resolved, table, class) {
+        return false;
+    }
+    match decided(resolved, class) {
+        Some(selected) => {
+            table[class as usize] = Some(selected);
+            true
+        }
+        None => false,
+    }
+}
+
 /// The place of the first of these classes of which it is known what is selected; their number where there is none.
-fn first_known(table: &[Option<Selected>], list: &[u32]) -> usize
-    requires { (i : ℕ) → i < length list.now → slice_index_or list.now i 0 < length table.now }
+fn first_settled(
+    resolved: &Resolved<'_>,
+    early: bool,
+    table: &mut Vec<Option<Selected>>,
+    list: &[u32],
+) -> usize
+    requires named { IsNamed resolved.now.classes.now resolved.now.method }
+    requires list { (i : ℕ) → i < length list.now → slice_index_or list.now i 0 < length resolved.now.classes.now }
+    requires chains { AreChains resolved.now.classes.now resolved.now.superclasses.now }
+    requires early { IsTrue early → IsTrue (is_early resolved.now.classes.now resolved.now.of_interface resolved.now.method.place) }
+    requires known { AreKnown (selected_at resolved.now.classes.now resolved.now.of_interface resolved.now.method.place) (length resolved.now.classes.now) table.old.items }
     ensures within { result ≤ length list.now }
-    ensures known { result < length list.now → IsTrue (is_some (slice_index_or table.now (slice_index_or list.now result 0) None)) }
+    ensures known { AreKnown (selected_at resolved.now.classes.now resolved.now.of_interface resolved.now.method.place) (length resolved.now.classes.now) table.new.items }
+    ensures there { result < length list.now → IsTrue (is_some (slice_index_or table.new.items (slice_index_or list.now result 0) None)) }
 {
     for (i, class) in list.iter().enumerate() {
-        if table[*class as usize].is_some() {
+        if is_settled(resolved, early, table, *class) {
             return i;
         }
     }
@@ -135,16 +237,17 @@ fn first_known(table: &[Option<Selected>], list: &[u32]) -> usize
 }
 
 /// Puts down what is selected for a class and for those above it, from the uppermost on for which that isn't known.
-fn fill(resolved: &Resolved<'_>, table: &mut Vec<Option<Selected>>, class: u32)
+fn fill(resolved: &Resolved<'_>, early: bool, table: &mut Vec<Option<Selected>>, class: u32)
     requires named { IsNamed resolved.now.classes.now resolved.now.method }
     requires class { class < length resolved.now.classes.now }
+    requires early { IsTrue early → IsTrue (is_early resolved.now.classes.now resolved.now.of_interface resolved.now.method.place) }
     requires chains { AreChains resolved.now.classes.now resolved.now.superclasses.now }
     requires known { AreKnown (selected_at resolved.now.classes.now resolved.now.of_interface resolved.now.method.place) (length resolved.now.classes.now) table.old.items }
     ensures known { AreKnown (selected_at resolved.now.classes.now resolved.now.of_interface resolved.now.method.place) (length resolved.now.classes.now) table.new.items }
     ensures there { IsTrue (is_some (slice_index_or table.new.items class None)) }
 {
     let list = resolved.superclasses[class as usize].as_slice();
-    let mut i = first_known(table, list);
+    let mut i = first_settled(resolved, early, table, list);
     while i > 0 {
         i -= 1;
         let selected = selected_for(resolved, table, list[i]);
@@ -155,18 +258,67 @@ fn fill(resolved: &Resolved<'_>, table: &mut Vec<Option<Selected>>, class: u32)
 /// The method that is selected for a receiver.
 fn place_for(
     resolved: &Resolved<'_>,
+    early: bool,
     table: &mut Vec<Option<Selected>>,
     receiver: u32,
 ) -> Option<Place>
     requires named { IsNamed resolved.now.classes.now resolved.now.method }
     requires class { receiver < length resolved.now.classes.now }
+    requires early { IsTrue early → IsTrue (is_early resolved.now.classes.now resolved.now.of_interface resolved.now.method.place) }
     requires chains { AreChains resolved.now.classes.now resolved.now.superclasses.now }
     requires known { AreKnown (selected_at resolved.now.classes.now resolved.now.of_interface resolved.now.method.place) (length resolved.now.classes.now) table.old.items }
     ensures known { AreKnown (selected_at resolved.now.classes.now resolved.now.of_interface resolved.now.method.place) (length resolved.now.classes.now) table.new.items }
     ensures place { result ≡ (selected_at resolved.now.classes.now resolved.now.of_interface resolved.now.method.place receiver).place }
 {
-    fill(resolved, table, receiver);
+    fill(resolved, early, table, receiver);
     known_at(table, receiver).place
+}
+
+/// The methods that are selected for these receivers, where what each of their classes declares tells it.
+fn decided_each(
+    alloc: Global,
+    resolved: &Resolved<'_>,
+    early: bool,
+    receivers: &[u32],
+) -> Result<Option<Vec<Option<Place>>>, NoMemory>
+    requires named { IsNamed resolved.now.classes.now resolved.now.method }
+    requires receivers { (i : ℕ) → i < length receivers.now → slice_index_or receivers.now i 0 < length resolved.now.classes.now }
+    requires chains { AreChains resolved.now.classes.now resolved.now.superclasses.now }
+    requires early { IsTrue early → IsTrue (is_early resolved.now.classes.now resolved.now.of_interface resolved.now.method.place) }
+    ensures { IfOk result (λ found. IfSome found (λ places. places.items ≡ map (λ c. (selected_at resolved.now.classes.now resolved.now.of_interface resolved.now.method.place c).place) receivers.now)) }
+{
+    if !early {
+        return Ok(None);
+    }
+    let mut places = Vec::new(alloc);
+    for receiver in receivers {
+        match decided(resolved, *receiver) {
+            Some(selected) => places.push(selected.place)?,
+            None => return Ok(None),
+        }
+    }
+    Ok(Some(places))
+}
+
+/// The methods that are selected for these receivers, by a table of what is selected for each class.
+fn tabled_each(
+    alloc: Global,
+    resolved: &Resolved<'_>,
+    early: bool,
+    receivers: &[u32],
+) -> Result<Vec<Option<Place>>, NoMemory>
+    requires named { IsNamed resolved.now.classes.now resolved.now.method }
+    requires receivers { (i : ℕ) → i < length receivers.now → slice_index_or receivers.now i 0 < length resolved.now.classes.now }
+    requires chains { AreChains resolved.now.classes.now resolved.now.superclasses.now }
+    requires early { IsTrue early → IsTrue (is_early resolved.now.classes.now resolved.now.of_interface resolved.now.method.place) }
+    ensures { IfOk result (λ places. places.items ≡ map (λ c. (selected_at resolved.now.classes.now resolved.now.of_interface resolved.now.method.place c).place) receivers.now) }
+{
+    let mut table = vec![in alloc; None; resolved.superclasses.len()]?;
+    let mut places = Vec::new(alloc);
+    for receiver in receivers {
+        places.push(place_for(resolved, early, &mut table, *receiver))?;
+    }
+    Ok(places)
 }
 
 /// The methods that are selected for these receivers.
@@ -180,10 +332,9 @@ pub(crate) fn places_for(
     requires chains { AreChains resolved.now.classes.now resolved.now.superclasses.now }
     ensures { IfOk result (λ places. places.items ≡ map (λ c. (selected_at resolved.now.classes.now resolved.now.of_interface resolved.now.method.place c).place) receivers.now) }
 {
-    let mut table = vec![in alloc; None; resolved.superclasses.len()]?;
-    let mut places = Vec::new(alloc);
-    for receiver in receivers {
-        places.push(place_for(resolved, &mut table, *receiver))?;
+    let early = is_early(resolved);
+    match decided_each(alloc, resolved, early, receivers)? {
+        Some(places) => Ok(places),
+        None => tabled_each(alloc, resolved, early, receivers),
     }
-    Ok(places)
 }

@@ -4,17 +4,15 @@ use Rattle.class_hierarchy.specs.Selecting.{selected_at}
 use Rattle.class_hierarchy.proofs.Receiving.{known_more, is_known, next_known, first_there, list_below}
 use Rattle.class_hierarchy.proofs.receivers.fill.Goals as goal
 
-pub first_known-i-requires : goal.first_known-i-requires
-first_known-i-requires c = λ i lt.
+pub first_settled-i-requires-clause-list : goal.first_settled-i-requires-clause-list
+first_settled-i-requires-clause-list c = λ i lt.
     let r = c.args.resolved.now in
     let chains = c.requires.chains in
     let below = c.requires.class in
     let long = chains.long in
     let within : c.args.class < length r.superclasses.now = omega (arith, below, long) in
     let read = c.as_slice-list.ensures ∙ (sym c.index-resolved-class.is ∙ sym (entry_read r.superclasses.now c.args.class c.index-resolved-class.result within c.index-resolved-class.is) ∙ chains.each c.args.class c.requires.class) in
-    let at = list_below r.classes.now chains.acyclic c.args.class c.requires.class c.as_slice-list.result.now read i lt in
-    let table = ap length c.deref.ensures.value ∙ c.requires.known.long in
-    omega (arith, at, table)
+    list_below r.classes.now chains.acyclic c.args.class c.requires.class c.as_slice-list.result.now read i lt
 
 pub selected_for-selected-requires-clause-class : goal.selected_for-selected-requires-clause-class
 selected_for-selected-requires-clause-class c =
@@ -36,7 +34,7 @@ selected_for-selected-requires-clause-known c = λ d h.
     let long = chains.long in
     let within : c.args.class < length r.superclasses.now = omega (arith, below, long) in
     let read = c.as_slice-list.ensures ∙ (sym c.index-resolved-class.is ∙ sym (entry_read r.superclasses.now c.args.class c.index-resolved-class.result within c.index-resolved-class.is) ∙ chains.each c.args.class c.requires.class) in
-    ap (λ t. get_or t d None) c.deref-in-loop-i.ensures.value
+    ap (λ t. get_or t d None) c.deref.ensures.value
     ∙ next_known r.classes.now chains.acyclic (selected_at r.classes.now r.of_interface r.method.place) c.args.class c.as_slice-list.result.now read c.loop-i.i d c.loop-i.table.items c.loop-i-test.true
     c.loop-i.invariant.0 c.loop-i.invariant.1 c.loop-i.invariant.2 h
 

@@ -1,6 +1,6 @@
 use Rattle.std.proofs.Common.{◌≡◌, length, map, take}
 use Rattle.class_hierarchy.specs.Selecting.{selected_at, AreKnown}
-use Rattle.class_hierarchy.proofs.receivers.places_for.Given as goal
+use Rattle.class_hierarchy.proofs.receivers.tabled_each.Given as goal
 
 abbrev pub invariant-loop-receiver : goal.invariant-loop-receiver
 invariant-loop-receiver l =

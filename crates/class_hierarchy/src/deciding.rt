@@ -1,0 +1,47 @@
+//! Methods that are selected for the class that declares them, whatever else stands above it (JVM Specification SE 8,
+//! 6.5.invokevirtual).
+
+ghost use Rattle.std.specs.Prelude.{◌≡◌, ◌<◌, length, IsTrue};
+ghost use Rattle.class_lookup.specs.Hierarchy.{is_among};
+ghost use Rattle.upward_order.specs.Numbers.{entry};
+ghost use Rattle.class_hierarchy.specs.Deciding.{is_overridable};
+ghost use Rattle.class_hierarchy.specs.Members.{IsNamed};
+
+use crate::members::{Named, declared_as};
+use crate::methods::is_open;
+use class_lookup::Classes;
+use items::Items;
+
+/// Whether the method is the one of its name and descriptor that its class declares, and each class below may override it.
+pub(crate) fn is_overridable(classes: &Classes, method: &Named) -> bool
+    requires { IsNamed classes.now method.now }
+    ensures { result ≡ is_overridable classes.now method.now.place }
+{
+    match declared_as(classes, method, method.place.class) {
+        Some(place) => place == method.place && is_open(classes, place),
+        None => false,
+    }
+}
+
+/// Whether so many numbers of a list are left from this one on.
+fn leaves(list: &[u32], number: u32, left: usize) -> bool
+    ensures { IsTrue result → IsTrue (is_among list.now number) }
+{
+    if left == 0 || left > list.len() {
+        return false;
+    }
+    list[list.len() - left] == number
+}
+
+/// Whether a class is this one or has it as a superclass, by the lists of each class with its superclasses: where it has, its list
+/// ends as the other's does.
+pub(crate) fn is_at_or_below(superclasses: &[Items<u32>], class: u32, upper: u32) -> bool
+    requires { class < length superclasses.now }
+    ensures { IsTrue result → IsTrue (is_among (entry superclasses.now class) upper) }
+{
+    let list = superclasses[class as usize].as_slice();
+    match superclasses.get(upper as usize) {
+        Some(above) => leaves(list, upper, above.as_slice().len()),
+        None => false,
+    }
+}
