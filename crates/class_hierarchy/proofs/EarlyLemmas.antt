@@ -115,6 +115,3 @@ public_decides cs i a list m e h = cond-true i (is_public_instance cs m) (is_vir
 
 pub virtual_decides : (cs : List ClassFile) (i : Bool) (a : Place) (list : List ℕ) (m : Place) → i ≡ false → is_virtual cs m ≡ true → is_among list a.0 ≡ true → is_deciding cs i a list m ≡ true
 virtual_decides cs i a list m e v h = cond-false i (is_public_instance cs m) (is_virtual cs m && is_among list a.0) e ∙ and_from (is_virtual cs m) (is_among list a.0) v h
-
-pub among_left : (xs : List ℕ) (left number : ℕ) → 0 < left → left ≤ length xs → eqb (get_or xs (length xs - left) 0) number ≡ true → is_among xs number ≡ true
-among_left xs left number some le h = list_any_at (λ k. eqb k number) xs (length xs - left) 0 (omega (arith, some, le)) h
