@@ -1,10 +1,9 @@
 -- A method decides for its class where it is virtual and the resolved one, which each class below may override, stands in the class or above it.
-use Rattle.std.proofs.Common.{◌≡◌, ℕ, ◌-◌, ◌<◌, ◌≤◌, length, get_or, arith, Bool, true, false, eqb, not, ◌&&◌, ◌||◌, List, [], ◌∷◌, Option, Some, None, inl, inr, refl, sym, ap, ap₂, ◌∙◌}
+use Rattle.std.proofs.Common.{◌≡◌, ℕ, Bool, true, false, eqb, not, ◌&&◌, ◌||◌, List, [], ◌∷◌, Option, Some, None, inl, inr, refl, sym, ap, ap₂, ◌∙◌}
 use Rattle.std.specs.Prelude.{if◌then◌else◌}
 use Rattle.std.specs.Option.{option_map_or}
 use Rattle.std.specs.List.{list_any, filter_map, cons_option}
 use Rattle.std.proofs.lemmas.Bool.{false≢true, or_cases, or_left, or_right, and_from, and_parts, eqb-true, eq-eqb, cond-true, cond-false}
-use Rattle.std.proofs.lemmas.List.Folds.{list_any_at}
 use Rattle.class_pool.specs.declared.class.ClassFile.{ClassFile}
 use Rattle.class_lookup.specs.Parts.{is_public, is_protected}
 use Rattle.class_lookup.specs.Hierarchy.{superclass, superclasses, is_among, IsAcyclic}
@@ -115,6 +114,3 @@ public_decides cs i a list m e h = cond-true i (is_public_instance cs m) (is_vir
 
 pub virtual_decides : (cs : List ClassFile) (i : Bool) (a : Place) (list : List ℕ) (m : Place) → i ≡ false → is_virtual cs m ≡ true → is_among list a.0 ≡ true → is_deciding cs i a list m ≡ true
 virtual_decides cs i a list m e v h = cond-false i (is_public_instance cs m) (is_virtual cs m && is_among list a.0) e ∙ and_from (is_virtual cs m) (is_among list a.0) v h
-
-pub among_left : (xs : List ℕ) (left number : ℕ) → 0 < left → left ≤ length xs → eqb (get_or xs (length xs - left) 0) number ≡ true → is_among xs number ≡ true
-among_left xs left number some le h = list_any_at (λ k. eqb k number) xs (length xs - left) 0 (omega (arith, some, le)) h

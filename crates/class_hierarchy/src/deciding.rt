@@ -23,16 +23,6 @@ pub(crate) fn is_overridable(classes: &Classes, method: &Named) -> bool
     }
 }
 
-/// Whether so many numbers of a list are left from this one on.
-fn leaves(list: &[u32], number: u32, left: usize) -> bool
-    ensures { IsTrue result → IsTrue (is_among list.now number) }
-{
-    if left == 0 || left > list.len() {
-        return false;
-    }
-    list[list.len() - left] == number
-}
-
 /// Whether a class is this one or has it as a superclass, by the lists of each class with its superclasses: where it has, its list
 /// ends as the other's does.
 pub(crate) fn is_at_or_below(superclasses: &[Items<u32>], class: u32, upper: u32) -> bool
@@ -40,8 +30,9 @@ pub(crate) fn is_at_or_below(superclasses: &[Items<u32>], class: u32, upper: u32
     ensures { IsTrue result → IsTrue (is_among (entry superclasses.now class) upper) }
 {
     let list = superclasses[class as usize].as_slice();
-    match superclasses.get(upper as usize) {
-        Some(above) => leaves(list, upper, above.as_slice().len()),
-        None => false,
-    }
+    let left = match superclasses.get(upper as usize) {
+        Some(above) => above.as_slice().len(),
+        None => 0,
+    };
+    0 < left && left <= list.len() && list[list.len() - left] == upper
 }

@@ -8,10 +8,11 @@ ghost use Rattle.upward_order.specs.Numbers.{IsSameSearch};
 ghost use Rattle.class_lookup.specs.Symbols.{symbol};
 
 use crate::above::{Above, above_of};
-use crate::marks::{Marks, field_marks, method_marks};
+use crate::marks::{field_marks, method_marks};
 use crate::members::{first_field, first_method, named_at};
 use crate::receivers::{Resolved, places_for};
 use crate::selecting::{first_instance, first_overriding, first_public};
+use bit_rows::BitRows;
 use class_lookup::laws::members_have_symbols;
 use class_lookup::parts::has_flags;
 use class_lookup::{Classes, Place};
@@ -26,8 +27,8 @@ use std::marker::Model;
 pub struct Hierarchy {
     classes: Classes,
     above: Above,
-    field_marks: Marks,
-    method_marks: Marks,
+    field_marks: BitRows,
+    method_marks: BitRows,
 }
 
 impl Model for Hierarchy {

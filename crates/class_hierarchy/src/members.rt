@@ -8,8 +8,8 @@ ghost use Rattle.class_lookup.specs.Parts.{Signature};
 ghost use Rattle.class_lookup.specs.Symbols.{symbol};
 ghost use Rattle.class_hierarchy.specs.Members.{declared_as, IsNamed, IsNamedAt};
 
-use crate::marks::{Marks, is_set};
 use crate::methods::method_at;
+use bit_rows::{BitRows, Row};
 use class_lookup::{Classes, Place};
 
 /// A method with the symbols of its name and of its descriptor.
@@ -41,12 +41,17 @@ pub(crate) fn declared_as(classes: &Classes, method: &Named, class: u32) -> Opti
 }
 
 /// The same, where a row of bits tells which classes declare one.
-pub(crate) fn marked_as(classes: &Classes, row: &[u64], method: &Named, class: u32) -> Option<Place>
+pub(crate) fn marked_as(
+    classes: &Classes,
+    row: Row<'_>,
+    method: &Named,
+    class: u32,
+) -> Option<Place>
     requires named { IsNamed classes.now method.now }
-    requires row { Tells (λ k. k.methods) classes.now method.now.name method.now.descriptor row.now }
+    requires row { Tells (λ k. k.methods) classes.now method.now.name method.now.descriptor row }
     ensures { result ≡ declared_as classes.now method.now.place class }
 {
-    if is_set(row, class) {
+    if row.has(class) {
         declared_as(classes, method, class)
     } else {
         None
@@ -56,15 +61,15 @@ pub(crate) fn marked_as(classes: &Classes, row: &[u64], method: &Named, class: u
 /// The field of these symbols that a class declares, where a row of bits tells which classes declare one.
 fn marked_field(
     classes: &Classes,
-    row: &[u64],
+    row: Row<'_>,
     class: u32,
     name: u32,
     descriptor: u32,
 ) -> Option<Place>
-    requires { Tells (λ k. k.fields) classes.now name descriptor row.now }
+    requires { Tells (λ k. k.fields) classes.now name descriptor row }
     ensures { (s : Signature) → symbol classes.now s.name ≡ Some name → symbol classes.now s.descriptor ≡ Some descriptor → result ≡ declared_field classes.now s class }
 {
-    if is_set(row, class) {
+    if row.has(class) {
         classes.declared_field(class, name, descriptor)
     } else {
         None
@@ -74,15 +79,15 @@ fn marked_field(
 /// The method of these symbols that a class declares, where a row of bits tells which classes declare one.
 fn marked_method(
     classes: &Classes,
-    row: &[u64],
+    row: Row<'_>,
     class: u32,
     name: u32,
     descriptor: u32,
 ) -> Option<Place>
-    requires { Tells (λ k. k.methods) classes.now name descriptor row.now }
+    requires { Tells (λ k. k.methods) classes.now name descriptor row }
     ensures { (s : Signature) → symbol classes.now s.name ≡ Some name → symbol classes.now s.descriptor ≡ Some descriptor → result ≡ declared_method classes.now s class }
 {
-    if is_set(row, class) {
+    if row.has(class) {
         classes.declared_method(class, name, descriptor)
     } else {
         None
@@ -92,7 +97,7 @@ fn marked_method(
 /// The first field of this name and descriptor that the classes of a list declare.
 pub(crate) fn first_field(
     classes: &Classes,
-    marks: &Marks,
+    marks: &BitRows,
     list: &[u32],
     name: u32,
     descriptor: u32,
@@ -100,7 +105,7 @@ pub(crate) fn first_field(
     requires { AreMarked (λ k. k.fields) classes.now marks.now }
     ensures { (s : Signature) → symbol classes.now s.name ≡ Some name → symbol classes.now s.descriptor ≡ Some descriptor → result ≡ first_some (map (declared_field classes.now s) list.now) }
 {
-    let row = marks.row(name, descriptor)?;
+    let row = marks.row((name, descriptor))?;
     for class in list {
         if let Some(place) = marked_field(classes, row, *class, name, descriptor) {
             return Some(place);
@@ -112,7 +117,7 @@ pub(crate) fn first_field(
 /// The first method of this name and descriptor that the classes of a list declare.
 pub(crate) fn first_method(
     classes: &Classes,
-    marks: &Marks,
+    marks: &BitRows,
     list: &[u32],
     name: u32,
     descriptor: u32,
@@ -120,7 +125,7 @@ pub(crate) fn first_method(
     requires { AreMarked (λ k. k.methods) classes.now marks.now }
     ensures { (s : Signature) → symbol classes.now s.name ≡ Some name → symbol classes.now s.descriptor ≡ Some descriptor → result ≡ first_some (map (declared_method classes.now s) list.now) }
 {
-    let row = marks.row(name, descriptor)?;
+    let row = marks.row((name, descriptor))?;
     for class in list {
         if let Some(place) = marked_method(classes, row, *class, name, descriptor) {
             return Some(place);

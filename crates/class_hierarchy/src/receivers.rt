@@ -26,18 +26,6 @@ pub(crate) struct Selected {
     pub(crate) free: bool,
 }
 
-impl Selected {
-    /// The same.
-    fn kept(&self) -> Selected
-        ensures { result ≡ self.now }
-    {
-        Selected {
-            place: self.place,
-            free: self.free,
-        }
-    }
-}
-
 /// A resolved method, and the tables in which it is found what is selected.
 #[derive(Drop)]
 pub(crate) struct Resolved<'a> {
@@ -59,7 +47,7 @@ fn with_method(resolved: &Resolved<'_>, above: &Selected, place: Place) -> Selec
                 free: false,
             }
         } else {
-            above.kept()
+            *above
         }
     } else if is_joining(
         classes,
@@ -73,7 +61,7 @@ fn with_method(resolved: &Resolved<'_>, above: &Selected, place: Place) -> Selec
             free: above.free || is_open(classes, place),
         }
     } else {
-        above.kept()
+        *above
     }
 }
 
@@ -83,7 +71,7 @@ fn known_at(table: &[Option<Selected>], class: u32) -> Selected
     ensures { (s : SelectedSoFar) → slice_index_or table.now class None ≡ Some s → result ≡ s }
 {
     match &table[class as usize] {
-        Some(selected) => selected.kept(),
+        Some(selected) => *selected,
         None => Selected {
             place: None,
             free: false,
@@ -121,14 +109,6 @@ fn selected_for(resolved: &Resolved<'_>, table: &[Option<Selected>], class: u32)
         Some(place) => with_method(resolved, &above, place),
         None => above,
     }
-}
-
-/// Whether a class below may declare a method that is selected for it whatever else stands above it.
-fn is_early(resolved: &Resolved<'_>) -> bool
-    requires { IsNamed resolved.now.classes.now resolved.now.method }
-    ensures { result ≡ is_early resolved.now.classes.now resolved.now.of_interface resolved.now.method.place }
-{
-    resolved.of_interface || is_overridable(resolved.classes, &resolved.method)
 }
 
 /// Whether a method that a class declares is selected for the class whatever else stands above it, where that may be.
@@ -332,7 +312,7 @@ pub(crate) fn places_for(
     requires chains { AreChains resolved.now.classes.now resolved.now.superclasses.now }
     ensures { IfOk result (λ places. places.items ≡ map (λ c. (selected_at resolved.now.classes.now resolved.now.of_interface resolved.now.method.place c).place) receivers.now) }
 {
-    let early = is_early(resolved);
+    let early = resolved.of_interface || is_overridable(resolved.classes, &resolved.method);
     match decided_each(alloc, resolved, early, receivers)? {
         Some(places) => Ok(places),
         None => tabled_each(alloc, resolved, early, receivers),

@@ -6,15 +6,15 @@ ghost use Rattle.class_lookup.specs.Selection.{overriding, head, is_public_insta
 ghost use Rattle.class_hierarchy.specs.Marks.{AreMarked};
 ghost use Rattle.class_hierarchy.specs.Members.{declared_as, IsNamed};
 
-use crate::marks::Marks;
 use crate::members::{Named, marked_as};
 use crate::methods::{is_instance, is_joining, is_open, is_public_instance};
+use bit_rows::BitRows;
 use class_lookup::{Classes, Place};
 
 /// The first public instance method of this one's name and descriptor that the classes of a list declare.
 pub(crate) fn first_public(
     classes: &Classes,
-    marks: &Marks,
+    marks: &BitRows,
     list: &[u32],
     method: &Named,
 ) -> Option<Place>
@@ -22,7 +22,7 @@ pub(crate) fn first_public(
     requires marks { AreMarked (λ k. k.methods) classes.now marks.now }
     ensures { result ≡ find (is_public_instance classes.now) (filter_map (declared_as classes.now method.now.place) list.now) }
 {
-    let row = marks.row(method.name, method.descriptor)?;
+    let row = marks.row((method.name, method.descriptor))?;
     for class in list {
         if let Some(place) = marked_as(classes, row, method, *class) {
             if is_public_instance(classes, place) {
@@ -36,7 +36,7 @@ pub(crate) fn first_public(
 /// The first instance method of this one's name and descriptor that the classes of a list declare.
 pub(crate) fn first_instance(
     classes: &Classes,
-    marks: &Marks,
+    marks: &BitRows,
     list: &[u32],
     method: &Named,
 ) -> Option<Place>
@@ -44,7 +44,7 @@ pub(crate) fn first_instance(
     requires marks { AreMarked (λ k. k.methods) classes.now marks.now }
     ensures { result ≡ find (is_instance classes.now) (filter_map (declared_as classes.now method.now.place) list.now) }
 {
-    let row = marks.row(method.name, method.descriptor)?;
+    let row = marks.row((method.name, method.descriptor))?;
     for class in list {
         if let Some(place) = marked_as(classes, row, method, *class) {
             if is_instance(classes, place) {
@@ -58,7 +58,7 @@ pub(crate) fn first_instance(
 /// The first method in the classes of a list, from a class upwards, that is the resolved one or overrides it.
 pub(crate) fn first_overriding(
     classes: &Classes,
-    marks: &Marks,
+    marks: &BitRows,
     list: &[u32],
     resolved: &Named,
 ) -> Option<Place>
@@ -66,7 +66,7 @@ pub(crate) fn first_overriding(
     requires marks { AreMarked (λ k. k.methods) classes.now marks.now }
     ensures { result ≡ head (overriding classes.now resolved.now.place (filter_map (declared_as classes.now resolved.now.place) list.now)) }
 {
-    let row = marks.row(resolved.name, resolved.descriptor)?;
+    let row = marks.row((resolved.name, resolved.descriptor))?;
     let mut found = None;
     let mut free = false;
     // From the uppermost class downwards, since a method overrides by way of those between.

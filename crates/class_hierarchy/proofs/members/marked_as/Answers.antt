@@ -3,7 +3,7 @@ use Rattle.list_words.specs.Lists.{onto}
 use Rattle.class_lookup.specs.Lookup.{declared_method}
 use Rattle.class_hierarchy.proofs.members.marked_as.Goals as goal
 
-pub returns-else-is_set : goal.returns-else-is_set
-returns-else-is_set c =
+pub returns-else-has : goal.returns-else-has
+returns-else-has c =
     let h = c.requires.named in
-    sym (ap (λ o. onto o (λ s. declared_method c.args.classes.now s c.args.class)) h.has ∙ c.requires.row h.signature c.args.class h.name_is h.descriptor_is (sym c.is_set.ensures ∙ c.if-is_set.false))
+    sym (ap (λ o. onto o (λ s. declared_method c.args.classes.now s c.args.class)) h.has ∙ c.requires.row h.signature c.args.class h.name_is h.descriptor_is (sym c.has.ensures ∙ c.if-has.false))

@@ -21,8 +21,7 @@ returns-else-is_joining c = λ ms h.
     let r = c.args.resolved.now in
     let s = c.args.above.now in
     let x = c.args.place in
-    c.kept-else-is_joining.ensures
-    ∙ without_joining r.classes.now r.of_interface r.method.place x ms s c.if-resolved.false h
+    without_joining r.classes.now r.of_interface r.method.place x ms s c.if-resolved.false h
     (ap (λ f. is_joining r.classes.now r.method.place f s.free x) (sym c.is_some.ensures) ∙ (sym c.is_joining.ensures ∙ c.if-is_joining.false))
 
 pub returns-then-is_public_instance : goal.returns-then-is_public_instance
@@ -31,5 +30,4 @@ returns-then-is_public_instance c = λ ms h.
 
 pub returns-else-is_public_instance : goal.returns-else-is_public_instance
 returns-else-is_public_instance c = λ ms h.
-    c.kept.ensures
-    ∙ without_public c.args.resolved.now.classes.now c.args.resolved.now.of_interface c.args.resolved.now.method.place c.args.place ms c.args.above.now c.if-resolved.true h (sym c.is_public_instance.ensures ∙ c.if-is_public_instance.false)
+    without_public c.args.resolved.now.classes.now c.args.resolved.now.of_interface c.args.resolved.now.method.place c.args.place ms c.args.above.now c.if-resolved.true h (sym c.is_public_instance.ensures ∙ c.if-is_public_instance.false)
