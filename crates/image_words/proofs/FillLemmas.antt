@@ -1,15 +1,12 @@
 -- What is put into a table, and superclasses.
-use Rattle.std.proofs.Common.{◌≡◌, ◌≢◌, ℕ, ◌+◌, ◌<◌, inl, inr, eqb, List, Option, Some, None, length, set, length-set, refl, sym, ap, ◌∙◌, arith}
+use Rattle.std.proofs.Common.{◌≡◌, ◌≢◌, ℕ, ◌<◌, List, Option, Some, None, length, set, length-set, sym, ap, ◌∙◌, arith}
 use Rattle.std.specs.Prelude.{slice_get, IfSome}
-use Rattle.std.proofs.lemmas.Bool.{cases_Bool, eqb-true, eqb-false}
 use Rattle.std.proofs.lemmas.List.{get_or-set_same, get_or-set_other}
 use Rattle.std.proofs.lemmas.Option.{slice_get-get_or, get_or_from_slice_get, slice_get_within}
 use Rattle.class_pool.specs.declared.class.ClassFile.{ClassFile}
 use Rattle.list_words.specs.Lemmas.{onto_some, index_found}
 use Rattle.class_lookup.specs.Parts.{same_text, name_of, superclass_name}
-use Rattle.class_lookup.specs.Hierarchy.{find_class, superclass, superclasses}
-use Rattle.class_lookup.specs.Laws.{AreSuperclasses}
-use Rattle.class_lookup.specs.Lookup.{Place}
+use Rattle.class_lookup.specs.Hierarchy.{find_class, superclass}
 
 pub set_here : {A : Type 0} (xs : List A) (i : ℕ) (y : A) → i < length xs → slice_get (set xs i y) i ≡ Some y
 set_here xs i y lt =

@@ -1,9 +1,9 @@
 -- The first item that passes a test, in lists to which others are added.
-use Rattle.std.proofs.Common.{◌≡◌, ℕ, zero, suc, ◌+◌, Bool, true, false, ◌||◌, List, [], ◌∷◌, ◌++◌, length, Option, Some, None, refl, sym, ap, ◌∙◌, arith}
+use Rattle.std.proofs.Common.{◌≡◌, ℕ, suc, ◌+◌, Bool, true, false, ◌||◌, List, [], ◌∷◌, ◌++◌, length, Option, Some, None, refl, sym, ap, ◌∙◌, arith}
 use Rattle.std.specs.Prelude.{is_some, if◌then◌else◌}
 use Rattle.std.specs.Option.{option_map, option_or}
 use Rattle.std.specs.List.{list_any, filter}
-use Rattle.std.proofs.lemmas.Bool.{true≢false, false≢true, or_parts, or_from, cases_Bool}
+use Rattle.std.proofs.lemmas.Bool.{true≢false, false≢true, or_parts, or_from}
 use Rattle.list_words.specs.Lists.{onto, index_of}
 use Rattle.list_words.specs.Lemmas.{index_append}
 use Rattle.program_tables.specs.Lists.{with_item, with_items}

@@ -1,13 +1,11 @@
 -- The slot that is made for a method of a class, in the slots of the classes below it.
-use Rattle.std.proofs.Common.{◌≡◌, ◌≢◌, ℕ, zero, suc, ◌+◌, ◌<◌, ◌≤◌, Bool, true, false, not, ◌&&◌, ◌||◌, eqb, List, [], ◌∷◌, ◌++◌, inl, inr, Option, Some, None, map, length, get_or, append-nil, refl, sym, ap, ap₂, ◌∙◌, arith}
+use Rattle.std.proofs.Common.{◌≡◌, ◌≢◌, ℕ, zero, suc, ◌+◌, ◌<◌, ◌≤◌, Bool, true, false, not, ◌||◌, eqb, List, [], ◌∷◌, ◌++◌, inl, inr, Option, Some, None, map, length, refl, sym, ap, ◌∙◌, arith}
 use Rattle.std.specs.Prelude.{◌==◌, slice_get, slice_index, if◌then◌else◌}
 use Rattle.std.specs.Option.{option_map, option_map_or, option_or, option_to_list}
-use Rattle.std.specs.List.{filter, flat_map, list_any, range_with_len}
-use Rattle.std.proofs.lemmas.Bool.{true≢false, and_left, and_right, and_from, or_from, cases_Bool, cases_eq, cases_lt, eqb-true, eqb-false, eq-eqb, ne_eqb, both_ways, false_from_ne_true}
-use Rattle.std.proofs.lemmas.List.FromFn.{get_or-map-range_with_len}
+use Rattle.std.specs.List.{flat_map, list_any, range_with_len}
+use Rattle.std.proofs.lemmas.Bool.{and_left, and_right, or_from, cases_eq, cases_lt, eq-eqb, ne_eqb, both_ways, false_from_ne_true}
 use Rattle.std.proofs.lemmas.Option.{slice_get_past}
 use Rattle.class_pool.specs.declared.class.ClassFile.{ClassFile}
-use Rattle.class_pool.specs.declared.class.Member.{Member}
 use Rattle.list_words.specs.Lists.{onto, index_of}
 use Rattle.list_words.proofs.Reached.{in_append}
 use Rattle.class_lookup.specs.Hierarchy.{superclass, superclasses, is_interface, is_among, is_subclass, extends, IsAcyclic}
@@ -18,10 +16,10 @@ use Rattle.class_lookup.specs.Selection.{signature_at}
 use Rattle.class_lookup.proofs.Hierarchies.{super_is_above, not_itself}
 use Rattle.class_lookup.proofs.Overriding.{place_same, same_is_place}
 use Rattle.program_tables.specs.Numbers.{places_of}
-use Rattle.image_words.specs.Slots.{are_named_alike, interface_methods, inherited_methods, own_methods, has_slot, own_slots, slots}
+use Rattle.image_words.specs.Slots.{are_named_alike, interface_methods, inherited_methods, own_methods, has_slot, own_slots, slots, table_slots, slot_of}
 use Rattle.image_words.specs.Tables.{above_slots, first_slots, own_slot}
 use Rattle.image_words.proofs.IndexLemmas.{or_none, index_both, index_none, index_items, none_filtered, none_left}
-use Rattle.image_words.proofs.MemberLemmas.{own_listed, own_count, own_none, slots_next, slots_whole}
+use Rattle.image_words.proofs.MemberLemmas.{own_listed, own_count, slots_next, slots_whole}
 use Rattle.image_words.proofs.TableLemmas.{slots_step}
 
 -- ---- methods of other classes and of other indices
@@ -172,3 +170,13 @@ slot_below cs a are m i (suc n) c lt =
 
 pub slot_told : (cs : List ClassFile) → IsAcyclic cs → AreSuperclasses cs → (c : ℕ) (m : Place) → is_interface cs m.0 ≡ false → (b : Bool) → is_upward cs c m.0 ≡ b → index_of (same_place m) (slots cs c) ≡ (if b then own_slot cs m else None)
 slot_told cs a are c m i b h = slot_below cs a are m i (length cs) c (a.ranked.bounded c) ∙ ap (λ x. told cs x m) h
+
+pub no_class_slot : (cs : List ClassFile) (m : Place) → length cs ≤ m.0 → None ≡ own_slot cs m
+no_class_slot cs m le =
+    let none = no_method cs m (ap (λ o. onto o (λ (k : ClassFile). slice_get k.methods m.1)) (slice_get_past cs m.0 le)) in
+    sym (ap (λ (b : Bool). if b then Some (length (above_slots cs m.0) + length (first_slots cs m.0 m.1)) else None) none)
+
+-- of a method of a class, named through a class
+pub slot_class : (cs : List ClassFile) (named : ℕ) (m : Place) → is_interface cs named ≡ false → is_interface cs m.0 ≡ false → slot_of cs named m ≡ index_of (same_place m) (slots cs named)
+slot_class cs named m n i =
+    ap (λ (b : Bool). index_of (if b then are_named_alike cs m else same_place m) (table_slots cs named)) i ∙ ap (λ (b : Bool). index_of (same_place m) (if b then [] else slots cs named)) n

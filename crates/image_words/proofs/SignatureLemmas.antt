@@ -4,24 +4,24 @@ use Rattle.std.specs.Prelude.{slice_get, slice_set, is_some, position, if◌then
 use Rattle.std.specs.Option.{option_map_or, option_or}
 use Rattle.std.specs.List.{list_any}
 use Rattle.std.proofs.lemmas.Option.{slice_get_within, get_or_from_slice_get}
-use Rattle.std.proofs.lemmas.Bool.{true≢false, false≢true, and_from, and_parts, cases_Bool, cases_eq, eqb-true, eq-eqb, both_ways, false_from_ne_true}
+use Rattle.std.proofs.lemmas.Bool.{false≢true, and_from, and_parts, cases_Bool, cases_eq, eqb-true, eq-eqb, both_ways}
 use Rattle.class_pool.specs.declared.class.ClassFile.{ClassFile}
 use Rattle.list_words.specs.Lists.{onto, index_of}
 use Rattle.list_words.specs.Lemmas.{none≢some, some_same, onto_some, index_append, index_found}
 use Rattle.class_lookup.specs.Laws.{MembersHaveSymbols, SymbolsStandForTexts}
 use Rattle.class_lookup.specs.Lookup.{Place}
-use Rattle.class_lookup.specs.Parts.{Signature, same_text, same_signature, text_at}
+use Rattle.class_lookup.specs.Parts.{Signature, same_text, same_signature}
 use Rattle.class_lookup.specs.Selection.{signature_at}
 use Rattle.class_lookup.specs.Symbols.{symbol}
 use Rattle.class_lookup.proofs.Searches.{text_same, same_is_text}
 use Rattle.class_lookup.proofs.Selecting.{method_is}
 use Rattle.program_tables.specs.Lists.{with_item}
 use Rattle.program_tables.proofs.ListLemmas.{position_is}
-use Rattle.image_words.specs.Signatures.{symbols_at, same_symbols, has_symbols, number_of, IsNumbered, KeepsNumbers, HasSignatures, AreFirst}
+use Rattle.image_words.specs.Signatures.{symbols_at, same_symbols, has_symbols, number_of, IsNumbered, KeepsNumbers, AreFirst}
 use Rattle.image_words.specs.Slots.{are_named_alike, own_methods}
 use Rattle.image_words.proofs.MemberLemmas.{own_count}
 use Rattle.image_words.proofs.FillLemmas.{set_here, set_other}
-use Rattle.image_words.proofs.IndexLemmas.{bool_same, or_none, any_index, any_same, index_same, some_is, none_is}
+use Rattle.image_words.proofs.IndexLemmas.{bool_same, or_none, any_index, some_is, none_is}
 
 -- ---- pairs of symbols
 

@@ -1,5 +1,5 @@
 -- The slots of a class made from those of its superclass.
-use Rattle.std.proofs.Common.{◌≡◌, ◌≢◌, ℕ, zero, suc, ◌+◌, ◌<◌, ◌≤◌, Bool, true, false, inl, inr, List, [], ◌∷◌, ◌++◌, Option, Some, None, eqb, map, take, take_all, set, length-set, length, get_or, replicate, append-nil, append_assoc, length-append, refl, sym, ap, ◌∙◌, subst, arith}
+use Rattle.std.proofs.Common.{◌≡◌, ◌≢◌, ℕ, suc, ◌+◌, ◌<◌, ◌≤◌, Bool, true, false, inl, inr, List, [], ◌∷◌, ◌++◌, Option, Some, None, eqb, map, take, take_all, set, length-set, length, get_or, replicate, append-nil, append_assoc, length-append, refl, sym, ap, ◌∙◌, subst, arith}
 use Rattle.std.specs.Prelude.{slice_get, slice_index_or, is_some, if◌then◌else◌, IfOk, Result, Ok, Err}
 use Rattle.std.specs.Option.{option_map_or}
 use Rattle.std.specs.List.{list_any, range_with_len}
@@ -7,15 +7,15 @@ use Rattle.std.proofs.lemmas.Bool.{false≢true, or_from, or_cases, cases_lt, ca
 use Rattle.std.proofs.lemmas.List.{get_or_past}
 use Rattle.std.proofs.lemmas.List.Folds.{list_any_more}
 use Rattle.std.proofs.lemmas.List.FromFn.{map-range_with_len_more, get_or-map-range_with_len, length-map-range_with_len}
-use Rattle.std.proofs.lemmas.Option.{get_or_from_slice_get, slice_get-get_or, slice_get_within}
+use Rattle.std.proofs.lemmas.Option.{get_or_from_slice_get, slice_get-get_or, slice_get_within, slice_get_past}
 use Rattle.class_pool.specs.declared.class.ClassFile.{ClassFile}
 use Rattle.list_words.specs.Lists.{onto, index_of}
 use Rattle.list_words.specs.Lemmas.{some_same}
 use Rattle.list_words.proofs.Among.{among_at}
-use Rattle.class_lookup.specs.Hierarchy.{superclass, is_among, is_interface}
+use Rattle.class_lookup.specs.Hierarchy.{superclass, superclasses, is_among, is_interface}
 use Rattle.class_lookup.specs.Laws.{AreSuperclasses, MembersHaveSymbols, SymbolsStandForTexts}
 use Rattle.class_lookup.specs.Lookup.{Place}
-use Rattle.program_tables.specs.Lists.{with_item, with_items}
+use Rattle.program_tables.specs.Lists.{with_items}
 use Rattle.image_words.specs.Signatures.{symbols_at, has_symbols, number_of, HasSignatures, AreFirst}
 use Rattle.image_words.specs.Slots.{are_named_alike, inherited_methods, own_methods, has_slot, own_slots, slots}
 use Rattle.image_words.specs.Order.{IsSuperclassFirst}
@@ -24,6 +24,7 @@ use Rattle.image_words.specs.declared.class_slots.ClassSlots.{ClassSlots}
 use Rattle.image_words.specs.declared.slots.Slots.{Slots}
 use Rattle.image_words.proofs.FillLemmas.{set_here, set_other}
 use Rattle.image_words.proofs.IndexLemmas.{any_index, index_same, index_none}
+use Rattle.image_words.proofs.OrderLemmas.{chain_step, chain_link}
 use Rattle.image_words.proofs.OwnLemmas.{no_slot}
 use Rattle.image_words.proofs.SignatureLemmas.{alike_symbols, alike_none, first_start}
 use Rattle.image_words.proofs.TableLemmas.{slots_step}
@@ -190,3 +191,25 @@ pub read_slots : (cs : List ClassFile) (s : Slots) → AreSlots cs s → (c : �
 read_slots cs s are c t lt e =
     let long = are.long in
     are.each c t (slice_get-get_or s.classes.items c t (omega (arith, lt, long)) ∙ ap Some (sym e))
+
+pub class_first : (cs : List ClassFile) (signatures : List (ℕ × ℕ)) (c : ℕ) (t : ClassSlots) → AreClassSlots cs signatures c t → AreFirst cs signatures t.first.items (slots cs c)
+class_first cs signatures c t are = first_moved cs signatures t.first.items t.first.items (above_slots cs c ++ t.added.items) (slots cs c) are.so_far.first refl are.slots
+
+-- ---- from the uppermost superclass downwards
+
+abbrev slots_at : List ClassFile → (chain : List ℕ) → (i : ℕ) → List Place
+slots_at cs chain i = option_map_or (slots cs) (slice_get chain i) []
+
+pub chain_end : (cs : List ClassFile) (old : List Place) (chain : List ℕ) (n : ℕ) → length chain ≤ n → old ≡ old ++ slots_at cs chain n
+chain_end cs old chain n le = sym (ap (λ o. old ++ option_map_or (slots cs) o []) (slice_get_past chain n le) ∙ append-nil old)
+
+pub chain_down : (cs : List ClassFile) → AreSuperclasses cs → (class i j d : ℕ) (chain : List ℕ) (old added : List Place) → chain ≡ superclasses cs class → i ≡ suc j → slice_get chain j ≡ Some d → slots cs d ≡ above_slots cs d ++ added
+    → (old ++ slots_at cs chain i) ++ added ≡ old ++ slots_at cs chain j
+chain_down cs are class i j d chain old added e same at made =
+    let link : superclass cs d ≡ slice_get chain (suc j) = chain_link cs are j class d (ap (λ xs. slice_get xs j) (sym e) ∙ at) ∙ ap (λ xs. slice_get xs (suc j)) (sym e) in
+    let upper : slots_at cs chain i ≡ above_slots cs d = ap (slots_at cs chain) same ∙ ap (λ o. option_map_or (slots cs) o []) (sym link) in
+    ap (λ xs. (old ++ xs) ++ added) upper
+    ∙ (append_assoc old (above_slots cs d) added ∙ ap (λ xs. old ++ xs) (sym made ∙ sym (ap (λ o. option_map_or (slots cs) o []) at)))
+
+pub chain_top : (cs : List ClassFile) → AreSuperclasses cs → (class i : ℕ) (chain : List ℕ) → chain ≡ superclasses cs class → i ≡ 0 → slots_at cs chain i ≡ slots cs class
+chain_top cs are class i chain e same = ap (slots_at cs chain) same ∙ (ap (λ xs. slots_at cs xs 0) (e ∙ chain_step cs are class))

@@ -13,9 +13,7 @@ ghost use Rattle.image_words.specs.Tables.{above_slots, own_slot, AreSoFar, AreC
 use crate::members::{has_slot, method_count};
 use crate::signatures::{Signatures, symbols_at};
 use class_hierarchy::Hierarchy;
-use class_lookup::laws::{
-    members_have_symbols, superclasses_stand_above, symbols_stand_for_texts,
-};
+use class_lookup::laws::{members_have_symbols, superclasses_stand_above, symbols_stand_for_texts};
 use class_lookup::{Classes, Place};
 use jop_base::NoMemory;
 use std::alloc::Global;

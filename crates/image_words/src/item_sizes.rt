@@ -63,11 +63,7 @@ fn table_size(classes: &Hierarchy, slots: &Slots, class: u32) -> Result<u32, NoM
 }
 
 /// The words of the method tables, by class.
-pub fn table_sizes(
-    alloc: Global,
-    classes: &Hierarchy,
-    slots: &Slots,
-) -> Result<Vec<u32>, NoMemory>
+pub fn table_sizes(alloc: Global, classes: &Hierarchy, slots: &Slots) -> Result<Vec<u32>, NoMemory>
     requires { AreSlots classes.now slots.now }
     ensures { IfOk result (λ sizes. sizes.items ≡ map (table_words classes.now) (classes_of classes.now)) }
 {

@@ -91,10 +91,7 @@ fn add_signatures(
 }
 
 /// The names and the descriptors of the methods of interfaces.
-pub(crate) fn interface_signatures(
-    alloc: Global,
-    classes: &Classes,
-) -> Result<Signatures, NoMemory>
+pub(crate) fn interface_signatures(alloc: Global, classes: &Classes) -> Result<Signatures, NoMemory>
     ensures { IfOk result (λ made. HasSignatures classes.now made) }
 {
     let mut signatures = Signatures::new(alloc);

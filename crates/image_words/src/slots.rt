@@ -1,8 +1,8 @@
 //! The methods of interfaces by number, and the slots of method tables (JVM Specification SE 8, 5.4.5 and 6.5).
-ghost use Rattle.std.specs.Prelude.{◌≡◌, ◌++◌, ◌<◌, List, length, None, true, slice_index_or, IfOk, OnOk};
+ghost use Rattle.std.specs.Prelude.{◌≡◌, ◌++◌, ◌<◌, ◌==◌, ◌||◌, List, length, None, true, slice_index_or, IfOk, OnOk};
 ghost use Rattle.class_pool.specs.declared.class.ClassFile.{ClassFile};
 ghost use Rattle.list_words.specs.Lists.{index_of};
-ghost use Rattle.class_lookup.specs.Hierarchy.{is_interface};
+ghost use Rattle.class_lookup.specs.Hierarchy.{is_interface, is_subclass};
 ghost use Rattle.class_lookup.specs.Lookup.{same_place};
 ghost use Rattle.image_words.specs.Order.{IsSuperclassFirst};
 ghost use Rattle.image_words.specs.Signatures.{HasSignatures};
@@ -14,9 +14,7 @@ use crate::members::{add_methods, is_interface};
 use crate::signatures::{Signatures, interface_signatures};
 use crate::superclass_order::{superclass_chain, superclass_order};
 use class_hierarchy::Hierarchy;
-use class_lookup::laws::{
-    members_have_symbols, superclasses_stand_above, symbols_stand_for_texts,
-};
+use class_lookup::laws::{members_have_symbols, superclasses_stand_above, symbols_stand_for_texts};
 use class_lookup::{Classes, Place};
 use jop_base::NoMemory;
 use std::alloc::Global;
@@ -85,6 +83,14 @@ fn slot_at(cells: &[Option<u32>], index: usize) -> Option<usize>
     }
 }
 
+/// Whether the second class is the first or a superclass of it.
+fn is_upward(classes: &Hierarchy, class: u32, other: u32) -> bool
+    requires { class < length classes.now }
+    ensures { result ≡ (class == other || is_subclass classes.now class other) }
+{
+    class == other || classes.is_subclass(class, other)
+}
+
 impl Slots {
     /// The slots of each class; `numbered` has the methods of interfaces by number. The time and the memory are linear in what
     /// the classes declare, and in how many classes there are for each method of an interface.
@@ -125,6 +131,8 @@ impl Slots {
         requires class { class < length classes.now }
         ensures { OnOk result (places.new.items ≡ places.old.items ++ slots classes.now class) }
     {
+        classes.is_without_cycle();
+        superclasses_stand_above();
         let chain = superclass_chain(*places.allocator(), classes, class)?;
         let mut i = chain.len();
         while i > 0 {
@@ -176,7 +184,7 @@ impl Slots {
             None
         } else if is_interface(listed, method.class) {
             self.first_alike(listed, named, method)
-        } else if named == method.class || classes.is_subclass(named, method.class) {
+        } else if is_upward(classes, named, method.class) {
             self.own_slot(method)
         } else {
             None

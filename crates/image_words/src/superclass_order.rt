@@ -39,7 +39,11 @@ pub(crate) fn superclass_order(alloc: Global, classes: &Hierarchy) -> Result<Num
 }
 
 /// The class, its superclass, and so on.
-pub(crate) fn superclass_chain(alloc: Global, classes: &Hierarchy, class: u32) -> Result<Vec<u32>, NoMemory>
+pub(crate) fn superclass_chain(
+    alloc: Global,
+    classes: &Hierarchy,
+    class: u32,
+) -> Result<Vec<u32>, NoMemory>
     requires { class < length classes.now }
     ensures { IfOk result (λ chain. chain.items ≡ superclasses classes.now class) }
 {

@@ -1,8 +1,7 @@
-use Rattle.std.proofs.Common.{◌≡◌, ◌<◌, List, get_or, length, sym, ap, ◌∙◌, arith}
+use Rattle.std.proofs.Common.{List, get_or, length, ap, ◌∙◌, arith}
 use Rattle.class_pool.specs.declared.class.ClassFile.{ClassFile}
 use Rattle.class_lookup.specs.Hierarchy.{is_interface}
 use Rattle.class_lookup.specs.Lookup.{Place}
-use Rattle.image_words.specs.Slots.{interface_methods}
 use Rattle.image_words.proofs.TableLemmas.{interface_at}
 use Rattle.image_words.proofs.class_slots.add_inherited.Goals as goal
 

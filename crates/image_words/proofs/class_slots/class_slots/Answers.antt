@@ -1,4 +1,4 @@
-use Rattle.std.proofs.Common.{◌≡◌, List, None, get_or, sym, ap, ◌∙◌}
+use Rattle.std.proofs.Common.{List, None, get_or, ap, ◌∙◌}
 use Rattle.class_pool.specs.declared.class.ClassFile.{ClassFile}
 use Rattle.image_words.specs.Slots.{own_slots}
 use Rattle.image_words.specs.Tables.{own_slot}

@@ -1,4 +1,4 @@
-use Rattle.std.proofs.Common.{◌≡◌, ◌++◌, ◌<◌, ℕ, List, Option, length, sym, ap, ◌∙◌, subst, arith}
+use Rattle.std.proofs.Common.{◌≡◌, ◌++◌, ◌<◌, ℕ, List, Option, length, append-nil, sym, ap, ◌∙◌, subst, arith}
 use Rattle.class_pool.specs.declared.class.ClassFile.{ClassFile}
 use Rattle.class_lookup.specs.Hierarchy.{superclass, superclasses}
 use Rattle.image_words.proofs.FillLemmas.{supers_within}
@@ -31,4 +31,7 @@ loop-next-preserved c =
     }
 
 pub returns : goal.returns
-returns c = ?
+returns c =
+    let cs = c.args.classes.now in
+    let chain = c.loop-next.chain.items in
+    sym (append-nil chain) ∙ subst (λ (o : Option ℕ). chain ++ chain_from cs o ≡ superclasses cs c.args.class) c.in_default.is c.loop-next.invariant.chain

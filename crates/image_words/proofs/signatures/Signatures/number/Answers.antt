@@ -1,4 +1,4 @@
-use Rattle.std.proofs.Common.{◌≡◌, ℕ, List, ap, ◌∙◌}
+use Rattle.std.proofs.Common.{ℕ, List, ap, ◌∙◌}
 use Rattle.image_words.specs.Signatures.{number_of}
 use Rattle.image_words.proofs.SignatureLemmas.{number_is}
 use Rattle.image_words.proofs.signatures.Signatures.number.Goals as goal

@@ -1,12 +1,12 @@
-use Rattle.std.proofs.Common.{◌≡◌, length, length-append, ap, arith}
+use Rattle.std.proofs.Common.{length, length-append, ap, arith}
 use Rattle.image_words.specs.Tables.{above_slots}
 use Rattle.image_words.proofs.SlotLemmas.{read_slots}
 use Rattle.image_words.proofs.slots.Slots.count.Goals as goal
 
 pub returns-then-class-len : goal.returns-then-class-len
 returns-then-class-len c = λ cs are below.
-    let s = c.index-slots.result in
-    let got = read_slots cs c.args.self.now are c.args.class s below c.index-slots.is in
+    let s = c.index-slots.result.now in
+    let got = read_slots cs c.args.self.now are c.args.class s below c.index-slots.ensures in
     let all = ap length got.slots in
     let both = length-append (above_slots cs c.args.class) s.added.items in
     let start = got.so_far.start in
