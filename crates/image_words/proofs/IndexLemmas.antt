@@ -70,9 +70,6 @@ index_same t u (x ∷ xs) h =
     ap (λ (b : Bool). if b then Some 0 else onto (index_of t xs) (λ k. Some (suc k))) (h x)
     ∙ ap (λ o. if u x then Some 0 else onto o (λ k. Some (suc k))) (index_same t u xs h)
 
-pub any_same : {A : Type 0} (t u : A → Bool) (xs : List A) → ((x : A) → t x ≡ u x) → list_any t xs ≡ list_any u xs
-any_same t u xs h = any_index t xs ∙ (ap is_some (index_same t u xs h) ∙ sym (any_index u xs))
-
 -- ---- items that are added where none is the same
 
 item_case : {A : Type 0} (t : A → Bool) (xs : List A) (y : A) (b : Bool) → t y ≡ false → index_of t (if b then xs else xs ++ y ∷ []) ≡ index_of t xs
