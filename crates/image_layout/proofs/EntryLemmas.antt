@@ -1,5 +1,5 @@
 -- The words of pool entries.
-use Rattle.std.proofs.Common.{◌≡◌, ℕ, suc, ◌+◌, ◌*◌, ◌^◌, ◌<◌, Bool, true, false, not, eqb, List, [], ◌∷◌, ◌++◌, Option, Some, None, Bor, Result, Ok, Err, map, take, length, get_or, append_assoc, append-nil, refl, sym, ap, ap₂, ◌∙◌, subst, arith}
+use Rattle.std.proofs.Common.{◌≡◌, ℕ, suc, ◌+◌, ◌*◌, ◌^◌, ◌<◌, Bool, true, false, not, eqb, List, [], ◌∷◌, ◌++◌, Option, Some, None, Bor, Result, Ok, Err, map, take, length, get_or, append_assoc, append-nil, refl, sym, ap, ap₂, ◌∙◌, arith}
 use Rattle.std.specs.Prelude.{IsTrue, is_some, slice_get, unwrap_or, if◌then◌else◌}
 use Rattle.std.specs.Option.{option_map, option_map_or, option_copied}
 use Rattle.std.specs.List.{filter, filter_map, cons_option, find, flat_map, range_with_len}
@@ -12,7 +12,7 @@ use Rattle.std.proofs.lemmas.Grind.{flat_map-append}
 use Rattle.std.proofs.lemmas.Bool.{false≢true, cond-true, cond-false, and_parts, eqb-true}
 use Rattle.std.proofs.lemmas.Option.{slice_get_within, slice_get-get_or}
 use Rattle.list_words.specs.Lists.{onto}
-use Rattle.list_words.specs.Lemmas.{none≢some, some_same, onto_some, index_found}
+use Rattle.list_words.specs.Lemmas.{some_same, onto_some, index_found}
 use Rattle.class_lookup.specs.Parts.{Signature, same_text, name_of, class_text, text_at}
 use Rattle.class_lookup.specs.Lookup.{Place, method_at, same_place, find_field, find_method}
 use Rattle.bytecode_model.specs.Program.{Method}

@@ -1,4 +1,4 @@
-use Rattle.std.proofs.Common.{Option, sym, ap, ◌∙◌}
+use Rattle.std.proofs.Common.{Option, sym, ap}
 use Rattle.list_words.specs.Lists.{onto}
 use Rattle.class_lookup.specs.Lookup.{Place}
 use Rattle.program_tables.specs.Instructions.{signature_in}
