@@ -49,8 +49,8 @@ impl Program {
         method_found(self.hierarchy(), class, self.class(class), owner, member)
     }
 
-    /// The number of the object of the string that a String entry of a class gives. None where the entry is none, or where its
-    /// string is no literal that an instruction loads or that a field begins with.
+    /// The number of the object of the string that a String entry of a class gives. None where it is no such entry, or where no
+    /// instruction loads its string and no field has it as its constant.
     pub fn string_object(&self, class: u32, index: u16) -> Option<u32>
         requires { class < length self.now }
         ensures { (c : ClassFile) → slice_get self.now class ≡ Some c → result ≡ object_of_entry self.now c.pool (entry_at c.pool index) }
