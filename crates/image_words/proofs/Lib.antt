@@ -5,8 +5,13 @@ pub mod Image
 pub mod Records
 pub mod Examples
 pub mod ListLemmas
+pub mod IndexLemmas
+pub mod SignatureLemmas
 pub mod MemberLemmas
 pub mod TableLemmas
+pub mod OwnLemmas
+pub mod OrderLemmas
+pub mod SlotLemmas
 pub mod FillLemmas
 pub mod FieldLemmas
 pub mod PlaceLemmas

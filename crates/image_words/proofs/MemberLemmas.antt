@@ -7,11 +7,11 @@ use Rattle.std.proofs.lemmas.List.FromFn.{map-range_with_len_more, length-map-ra
 use Rattle.class_pool.specs.declared.class.Member.{Member}
 use Rattle.class_pool.specs.declared.class.ClassFile.{ClassFile}
 use Rattle.list_words.specs.Lists.{onto}
-use Rattle.class_lookup.specs.Parts.{Signature, signature_of, same_signature}
+use Rattle.class_lookup.specs.Parts.{signature_of}
 use Rattle.class_lookup.specs.Lookup.{Place, method_at}
 use Rattle.class_lookup.specs.Selection.{signature_at}
-use Rattle.image_words.specs.Slots.{are_named_alike, own_methods, has_slot, own_slots}
-use Rattle.image_words.specs.Tables.{is_named}
+use Rattle.image_words.specs.Slots.{own_methods, has_slot, own_slots}
+use Rattle.image_words.specs.Tables.{first_slots}
 
 -- ---- signatures
 
@@ -27,16 +27,6 @@ pub signature_no_method : (cs : List ClassFile) (p : Place) (c : ClassFile) → 
 signature_no_method cs p c h e =
     ap (λ o. onto o (λ (c : ClassFile). onto (onto o (λ (c : ClassFile). slice_get c.methods p.1)) (λ k. Some (signature_of c k)))) h
     ∙ ap (λ o. onto o (λ k. Some (signature_of c k))) e
-
-pub alike_some : (cs : List ClassFile) (m a : Place) (t : Signature) → signature_at cs a ≡ Some t → is_named cs m t ≡ are_named_alike cs m a
-alike_some cs m a t h = ap (λ o. option_map_or (λ s. option_map_or (same_signature s) o false) (signature_at cs m) false) (sym h)
-
-none_alike : (o : Option Signature) → false ≡ option_map_or (λ s. option_map_or (same_signature s) None false) o false
-none_alike None = refl
-none_alike (Some s) = refl
-
-pub alike_none : (cs : List ClassFile) (m a : Place) → signature_at cs a ≡ None → false ≡ are_named_alike cs m a
-alike_none cs m a h = none_alike (signature_at cs m) ∙ ap (λ o. option_map_or (λ s. option_map_or (same_signature s) o false) (signature_at cs m) false) (sym h)
 
 -- ---- the methods that a class declares
 
@@ -68,18 +58,14 @@ own_more c i before =
 pub own_all : (cs : List ClassFile) (c n : ℕ) (before : List Place) → length (own_methods cs c) ≡ n → before ++ map (λ (j : ℕ). (c, j)) (range_with_len 0 n) ≡ before ++ own_methods cs c
 own_all cs c n before h = ap (λ xs. before ++ xs) (ap (λ k. map (λ (j : ℕ). (c, j)) (range_with_len 0 k)) (sym h) ∙ sym (own_listed cs c))
 
-abbrev first_slots : List ClassFile → ℕ → ℕ → List Place
-first_slots cs c n = filter (has_slot cs) (map (λ (j : ℕ). (c, j)) (range_with_len 0 n))
+pub slots_next : (cs : List ClassFile) (c i : ℕ) → first_slots cs c (i + 1) ≡ first_slots cs c i ++ (if has_slot cs (c, i) then (c, i) ∷ [] else [])
+slots_next cs c i = filter_of_map_range_with_len_more {X = Place} (has_slot cs) (λ (j : ℕ). (c, j)) 0 i i (omega arith)
 
-slot_case : (cs : List ClassFile) (c i : ℕ) (b : Bool) → has_slot cs (c, i) ≡ b → first_slots cs c i ++ (if b then (c, i) ∷ [] else []) ≡ first_slots cs c (i + 1)
-slot_case cs c i b h =
-    sym (filter_of_map_range_with_len_more {X = Place} (has_slot cs) (λ (j : ℕ). (c, j)) 0 i i (omega arith) ∙ ap (λ x. first_slots cs c i ++ (if x then (c, i) ∷ [] else [])) h)
+pub slot_more : (cs : List ClassFile) (c i : ℕ) → has_slot cs (c, i) ≡ true → first_slots cs c i ++ (c, i) ∷ [] ≡ first_slots cs c (i + 1)
+slot_more cs c i h = sym (slots_next cs c i ∙ ap (λ (b : Bool). first_slots cs c i ++ (if b then (c, i) ∷ [] else [])) h)
 
-pub slot_more : (cs : List ClassFile) (c i : ℕ) (before : List Place) → has_slot cs (c, i) ≡ true → (before ++ first_slots cs c i) ++ (c, i) ∷ [] ≡ before ++ first_slots cs c (i + 1)
-slot_more cs c i before h = append_assoc before (first_slots cs c i) ((c, i) ∷ []) ∙ ap (λ xs. before ++ xs) (slot_case cs c i true h)
+pub slot_left : (cs : List ClassFile) (c i : ℕ) → has_slot cs (c, i) ≡ false → first_slots cs c i ≡ first_slots cs c (i + 1)
+slot_left cs c i h = sym (slots_next cs c i ∙ (ap (λ (b : Bool). first_slots cs c i ++ (if b then (c, i) ∷ [] else [])) h ∙ append-nil (first_slots cs c i)))
 
-pub slot_left : (cs : List ClassFile) (c i : ℕ) (before : List Place) → has_slot cs (c, i) ≡ false → before ++ first_slots cs c i ≡ before ++ first_slots cs c (i + 1)
-slot_left cs c i before h = ap (λ xs. before ++ xs) (sym (append-nil (first_slots cs c i)) ∙ slot_case cs c i false h)
-
-pub slots_all : (cs : List ClassFile) (c n : ℕ) (before : List Place) → length (own_methods cs c) ≡ n → before ++ first_slots cs c n ≡ before ++ own_slots cs c
-slots_all cs c n before h = ap (λ xs. before ++ xs) (ap (first_slots cs c) (sym h) ∙ ap (filter (has_slot cs)) (sym (own_listed cs c)))
+pub slots_whole : (cs : List ClassFile) (c n : ℕ) → length (own_methods cs c) ≡ n → first_slots cs c n ≡ own_slots cs c
+slots_whole cs c n h = ap (first_slots cs c) (sym h) ∙ ap (filter (has_slot cs)) (sym (own_listed cs c))

@@ -1,17 +1,16 @@
 -- The methods of interfaces class by class, and the slots of a class over those of its superclass.
-use Rattle.std.proofs.Common.{◌≡◌, ℕ, zero, suc, ◌+◌, ◌<◌, ◌≤◌, Bool, true, false, List, [], ◌∷◌, ◌++◌, Option, Some, None, map, length, get_or, append-nil, refl, sym, ap, ◌∙◌, arith}
+use Rattle.std.proofs.Common.{◌≡◌, ℕ, zero, suc, ◌+◌, ◌<◌, Bool, true, false, List, [], ◌∷◌, ◌++◌, Option, Some, None, map, length, get_or, append-nil, refl, sym, ap, ◌∙◌, arith}
 use Rattle.std.specs.Prelude.{slice_get, if◌then◌else◌}
 use Rattle.std.specs.Option.{option_map_or, option_to_list}
 use Rattle.std.specs.List.{filter, flat_map, range_with_len, enumerate_from}
-use Rattle.std.proofs.lemmas.List.FromFn.{get_or-map-range_with_len, length-map-range_with_len}
 use Rattle.class_pool.specs.declared.class.ClassFile.{ClassFile}
-use Rattle.list_words.specs.Numbers.{reached}
 use Rattle.class_lookup.specs.Hierarchy.{superclass, superclasses, is_interface}
 use Rattle.class_lookup.specs.Laws.{AreSuperclasses}
 use Rattle.class_lookup.specs.Lookup.{Place}
 use Rattle.program_tables.specs.Lists.{with_items}
+use Rattle.program_tables.specs.Numbers.{places_of}
 use Rattle.image_words.specs.Slots.{are_named_alike, interface_methods, inherited_methods, own_methods, own_slots, slots_along, slots}
-use Rattle.image_words.specs.Tables.{above_slots, depths_of}
+use Rattle.image_words.specs.Tables.{above_slots}
 use Rattle.image_words.proofs.ListLemmas.{by_number, filter_flat, flat_more}
 
 -- ---- the methods of interfaces
@@ -48,6 +47,19 @@ interface_by cs =
     class_case cs (0 + i) k (ap (slice_get cs) same ∙ h) (is_interface cs (0 + i)) refl) in
     sym (filter_flat test listed (enumerate_from 0 cs) ∙ each)
 
+passes_case : {A : Type 0} (t : A → Bool) (x : A) (xs : List A) (i : ℕ) (d : A) (b : Bool) → t x ≡ b → ((j : ℕ) → j < length xs → t (get_or xs j d) ≡ true) → i < length (if b then x ∷ xs else xs) → t (get_or (if b then x ∷ xs else xs) i d) ≡ true
+passes_case t x xs zero d true h later lt = h
+passes_case t x xs (suc i) d true h later lt = later i (omega (arith, lt))
+passes_case t x xs i d false h later lt = later i lt
+
+filter_passes : {A : Type 0} (t : A → Bool) (xs : List A) (i : ℕ) (d : A) → i < length (filter t xs) → t (get_or (filter t xs) i d) ≡ true
+filter_passes t [] i d lt = absurd (omega (arith, lt))
+filter_passes t (x ∷ xs) i d lt = passes_case t x (filter t xs) i d (t x) refl (λ j l. filter_passes t xs j d l) lt
+
+pub interface_at : (cs : List ClassFile) (i : ℕ) (d : Place) → i < length (interface_methods cs) → is_interface cs (get_or (interface_methods cs) i d).0 ≡ true
+unfolding interface_methods
+interface_at cs i d lt = filter_passes (λ m. is_interface cs m.0) (places_of (λ k. k.methods) cs) i d lt
+
 -- ---- slots
 
 above_case : (cs : List ClassFile) (o : Option ℕ) → slots_along cs (flat_map (superclasses cs) (option_to_list o)) ≡ option_map_or (slots cs) o []
@@ -69,18 +81,6 @@ depth_falls cs are c d h =
 
 pub depth_ends : (cs : List ClassFile) → AreSuperclasses cs → (c : ℕ) → superclass cs c ≡ None → length (superclasses cs c) ≡ 1
 depth_ends cs are c h = ap length (are.step c) ∙ ap (λ o. suc (length (flat_map (superclasses cs) (option_to_list o)))) h
-
-one_above : (cs : List ClassFile) (n : ℕ) → ((d : ℕ) → length (reached (λ k. option_to_list (superclass cs k)) n d) ≤ n) → (o : Option ℕ) → length (flat_map (reached (λ k. option_to_list (superclass cs k)) n) (option_to_list o)) ≤ n
-one_above cs n h None = omega arith
-one_above cs n h (Some d) = let few = h d in let same = ap length (append-nil (reached (λ k. option_to_list (superclass cs k)) n d)) in omega (arith, few, same)
-
-reached_short : (cs : List ClassFile) (n d : ℕ) → length (reached (λ k. option_to_list (superclass cs k)) n d) ≤ n
-reached_short cs zero d = omega arith
-reached_short cs (suc n) d = let rest = one_above cs n (reached_short cs n) (superclass cs d) in omega (arith, rest)
-
-pub depth_most : (cs : List ClassFile) (c : ℕ) → length (superclasses cs c) ≤ length cs
-unfolding superclasses
-depth_most cs c = reached_short cs (length cs) c
 
 -- ---- one class more
 
@@ -106,10 +106,3 @@ depth_next cs are c = by_case (superclass cs c) refl
     by_case : (o : Option ℕ) → superclass cs c ≡ o → length (superclasses cs c) ≡ suc (depth_from cs o)
     by_case None h = depth_ends cs are c h
     by_case (Some d) h = depth_falls cs are c d h
-
-pub depth_read : (cs : List ClassFile) (depths : List ℕ) (c : ℕ) → depths ≡ depths_of cs → c < length cs → get_or depths c 0 ≡ length (superclasses cs c)
-depth_read cs depths c h lt =
-    ap (λ xs. get_or xs c 0) h ∙ get_or-map-range_with_len (λ d. length (superclasses cs d)) 0 (length cs) c c 0 lt (omega arith)
-
-pub depths_long : (cs : List ClassFile) (depths : List ℕ) → depths ≡ depths_of cs → length depths ≡ length cs
-depths_long cs depths h = ap length h ∙ length-map-range_with_len (λ d. length (superclasses cs d)) 0 (length cs)

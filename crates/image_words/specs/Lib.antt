@@ -5,5 +5,7 @@ pub mod Regions
 pub mod Limits
 pub mod Laws
 pub mod Example
+pub mod Signatures
+pub mod Order
 pub mod Tables
 pub mod Outline

@@ -18,7 +18,7 @@ pub record AreInstances (cs : List ClassFile) (runs : List Run) : Type 0 where
 
 pub record IsOutline (cs : List ClassFile) (o : Outline) : Type 0 where
   pub interface_methods : o.interface_methods.items ≡ numbered.interface_methods cs
-  pub slots : AreSlots cs o.slots.items
+  pub slots : AreSlots cs o.slots
   pub instances : AreInstances cs o.instances.items
   pub statics : IsRun front_size (map declared_words (resolved cs).statics) o.statics
   pub type_words : o.type_words ≡ type_words cs

@@ -12,9 +12,9 @@ ghost use Rattle.program_tables.specs.Resolved.{resolved};
 ghost use Rattle.program_tables.specs.Tables.{kind_seen};
 
 use crate::members::is_interface;
+use crate::slots::Slots;
 use class_hierarchy::Hierarchy;
-use class_lookup::{ClassFile, Classes, Place};
-use items::Items;
+use class_lookup::{ClassFile, Classes};
 use jop_base::NoMemory;
 use program_tables::{Declared, Types};
 use std::alloc::Global;
@@ -50,7 +50,7 @@ pub fn type_words(types: &Types) -> u32
 }
 
 /// The words of the method table of a class.
-fn table_size(classes: &Hierarchy, slots: &[Items<Place>], class: u32) -> Result<u32, NoMemory>
+fn table_size(classes: &Hierarchy, slots: &Slots, class: u32) -> Result<u32, NoMemory>
     requires slots { AreSlots classes.now slots.now }
     requires class { class < length classes.now }
     ensures { IfOk result (λ size. size ≡ table_words classes.now class) }
@@ -58,16 +58,12 @@ fn table_size(classes: &Hierarchy, slots: &[Items<Place>], class: u32) -> Result
     if is_interface(classes.classes(), class) {
         Ok(0)
     } else {
-        count(slots[class as usize].as_slice().len())
+        count(slots.count(class))
     }
 }
 
 /// The words of the method tables, by class.
-pub fn table_sizes(
-    alloc: Global,
-    classes: &Hierarchy,
-    slots: &[Items<Place>],
-) -> Result<Vec<u32>, NoMemory>
+pub fn table_sizes(alloc: Global, classes: &Hierarchy, slots: &Slots) -> Result<Vec<u32>, NoMemory>
     requires { AreSlots classes.now slots.now }
     ensures { IfOk result (λ sizes. sizes.items ≡ map (table_words classes.now) (classes_of classes.now)) }
 {

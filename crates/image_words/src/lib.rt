@@ -5,13 +5,16 @@
 //! start. The whole image is laid out in `image_layout`.
 #![tactic(auto)]
 
+mod class_slots;
 mod item_sizes;
 pub mod laws;
 mod members;
 mod objects;
 mod outline;
+mod signatures;
 mod slots;
 mod start;
+mod superclass_order;
 mod types;
 
 pub use item_sizes::{
@@ -20,6 +23,6 @@ pub use item_sizes::{
 pub use members::is_interface;
 pub use objects::object_sizes;
 pub use outline::Outline;
-pub use slots::{index_of_place, interface_methods, slot_of, slots_of};
+pub use slots::{Slots, index_of_place, interface_methods};
 pub use start::{add_raised, add_strings};
 pub use types::{add_types, counted_type};

@@ -2,10 +2,9 @@
 ghost use Rattle.std.specs.Prelude.{◌≡◌, ◌++◌, length, OnOk, slice_get};
 ghost use Rattle.std.specs.Option.{option_copied};
 ghost use Rattle.class_lookup.specs.Hierarchy.{is_interface};
-ghost use Rattle.image_words.specs.Slots.{are_named_alike, own_methods, has_slot, own_slots};
-ghost use Rattle.image_words.specs.Tables.{is_named};
+ghost use Rattle.image_words.specs.Slots.{own_methods, has_slot};
 
-use class_lookup::parts::{has_flags, has_signature, text_at};
+use class_lookup::parts::{has_flags, text_at};
 use class_lookup::{ClassFile, Classes, Place};
 use descriptors::names::is_instance_initializer;
 use jop_base::NoMemory;
@@ -38,37 +37,6 @@ pub fn is_interface(classes: &Classes, number: u32) -> bool
     }
 }
 
-/// Whether the method at a place has this name and descriptor.
-fn is_named(classes: &Classes, place: Place, name: &[u16], descriptor: &[u16]) -> bool
-    ensures { result ≡ is_named classes.now place (record { name = name.now; descriptor = descriptor.now }) }
-{
-    match class_at(classes, place.class) {
-        Some(class) => match class.methods.as_slice().get(place.index) {
-            Some(method) => has_signature(class, method, name, descriptor),
-            None => false,
-        },
-        None => false,
-    }
-}
-
-/// Whether both are methods, of one name and descriptor.
-pub(crate) fn are_named_alike(classes: &Classes, method: Place, other: Place) -> bool
-    ensures { result ≡ are_named_alike classes.now method other }
-{
-    match class_at(classes, other.class) {
-        Some(class) => match class.methods.as_slice().get(other.index) {
-            Some(named) => is_named(
-                classes,
-                method,
-                text_at(&class.pool, named.name),
-                text_at(&class.pool, named.descriptor),
-            ),
-            None => false,
-        },
-        None => false,
-    }
-}
-
 /// Whether the method is an instance method that isn't private and no instance initialization method.
 pub(crate) fn has_slot(classes: &Classes, place: Place) -> bool
     ensures { result ≡ has_slot classes.now place }
@@ -87,7 +55,7 @@ pub(crate) fn has_slot(classes: &Classes, place: Place) -> bool
 }
 
 /// How many methods the class declares.
-fn method_count(classes: &Classes, class: u32) -> usize
+pub(crate) fn method_count(classes: &Classes, class: u32) -> usize
     ensures { length (own_methods classes.now class) ≡ result }
 {
     match class_at(classes, class) {
@@ -106,23 +74,6 @@ pub(crate) fn add_methods(
 {
     for index in 0..method_count(classes, class) {
         places.push(Place { class, index })?;
-    }
-    Ok(())
-}
-
-/// Those of them that have slots of their own, put behind others.
-pub(crate) fn add_own_slots(
-    places: &mut Vec<Place>,
-    classes: &Classes,
-    class: u32,
-) -> Result<(), NoMemory>
-    ensures { OnOk result (places.new.items ≡ places.old.items ++ own_slots classes.now class) }
-{
-    for index in 0..method_count(classes, class) {
-        let place = Place { class, index };
-        if has_slot(classes, place) {
-            places.push(place)?;
-        }
     }
     Ok(())
 }

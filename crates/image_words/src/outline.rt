@@ -11,8 +11,8 @@ ghost use Rattle.image_words.specs.Outline.{IsOutline};
 ghost use Rattle.image_words.specs.Pools.{numbered_place};
 ghost use Rattle.image_words.specs.Regions.{first_place};
 
+use crate::slots::Slots;
 use class_lookup::Place;
-use items::Items;
 use jop_base::NoMemory;
 use program_tables::{ObjectKind, Types};
 use word_lists::{Run, add, times};
@@ -23,7 +23,7 @@ pub struct Outline {
     /// The methods of interfaces, by number.
     pub interface_methods: Vec<Place>,
     /// The slots of the classes.
-    pub slots: Vec<Items<Place>>,
+    pub slots: Slots,
     /// The places of the instance fields in the objects of each class.
     pub instances: Vec<Run>,
     /// The places of the static fields, by index; the types lie behind them.

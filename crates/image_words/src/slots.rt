@@ -1,18 +1,21 @@
 //! The methods of interfaces by number, and the slots of method tables (JVM Specification SE 8, 5.4.5 and 6.5).
-ghost use Rattle.std.specs.Prelude.{◌≡◌, ◌+◌, ◌++◌, ◌<◌, length, Some, IfOk, IfSome, OnOk, slice_get};
-ghost use Rattle.std.specs.List.{list_any};
+ghost use Rattle.std.specs.Prelude.{◌≡◌, ◌++◌, ◌<◌, ◌==◌, ◌||◌, List, length, None, true, slice_index_or, IfOk, OnOk};
+ghost use Rattle.class_pool.specs.declared.class.ClassFile.{ClassFile};
 ghost use Rattle.list_words.specs.Lists.{index_of};
-ghost use Rattle.class_lookup.specs.Hierarchy.{superclass, superclasses, IsAcyclic};
+ghost use Rattle.class_lookup.specs.Hierarchy.{is_interface, is_subclass};
 ghost use Rattle.class_lookup.specs.Lookup.{same_place};
-ghost use Rattle.program_tables.specs.Lists.{with_items};
-ghost use Rattle.image_words.specs.Slots.{are_named_alike, interface_methods, inherited_methods, own_slots, slots, slot_of};
-ghost use Rattle.image_words.specs.Tables.{above_slots, depths_of, AreSlots, AreSlotsBelow};
+ghost use Rattle.image_words.specs.Order.{IsSuperclassFirst};
+ghost use Rattle.image_words.specs.Signatures.{HasSignatures};
+ghost use Rattle.image_words.specs.Slots.{are_named_alike, interface_methods, slots, slot_of};
+ghost use Rattle.image_words.specs.Tables.{own_slot, AreMade, AreSlots};
 
-use crate::members::{add_methods, add_own_slots, are_named_alike, is_interface};
+use crate::class_slots::{ClassSlots, class_slots, number_at};
+use crate::members::{add_methods, is_interface};
+use crate::signatures::{Signatures, interface_signatures};
+use crate::superclass_order::{superclass_chain, superclass_order};
 use class_hierarchy::Hierarchy;
-use class_lookup::laws::superclasses_stand_above;
+use class_lookup::laws::{members_have_symbols, superclasses_stand_above, symbols_stand_for_texts};
 use class_lookup::{Classes, Place};
-use items::Items;
 use jop_base::NoMemory;
 use std::alloc::Global;
 
@@ -29,145 +32,164 @@ pub fn interface_methods(alloc: Global, classes: &Classes) -> Result<Vec<Place>,
     Ok(places)
 }
 
-/// Whether a slot has the method's name and descriptor.
-fn has_alike(classes: &Classes, slots: &[Place], method: Place) -> bool
-    ensures { result ≡ list_any (are_named_alike classes.now method) slots.now }
-{
-    for slot in slots {
-        if are_named_alike(classes, method, *slot) {
-            return true;
-        }
-    }
-    false
+/// The slots of the classes.
+#[derive(Drop)]
+pub struct Slots {
+    /// The names and the descriptors of the methods of interfaces.
+    signatures: Signatures,
+    /// The slots of each class, by those of its superclass.
+    classes: Vec<ClassSlots>,
 }
 
-/// The slots of a class over those of its superclass: those, then one for each own method that has one, and then one for each
-/// method of a superinterface whose name and descriptor no slot has yet.
-fn slots_over(
+/// No slots, for each class.
+fn no_slots(alloc: Global, count: u32) -> Result<Vec<ClassSlots>, NoMemory>
+    ensures { IfOk result (λ table. length table.items ≡ count) }
+{
+    let mut table = Vec::new(alloc);
+    for _class in 0..count {
+        table.push(ClassSlots::new(alloc, 0)?)?;
+    }
+    Ok(table)
+}
+
+/// The slots of each class, where each class stands behind its superclass in this order.
+fn slots_by_class(
     alloc: Global,
     classes: &Hierarchy,
+    signatures: &Signatures,
     numbered: &[Place],
-    above: &[Place],
-    class: u32,
-) -> Result<Vec<Place>, NoMemory>
-    requires class { class < length classes.now }
+    order: &[u32],
+) -> Result<Vec<ClassSlots>, NoMemory>
     requires methods { numbered.now ≡ interface_methods classes.now }
-    ensures { IfOk result (λ made. made.items ≡ with_items (are_named_alike classes.now) (above.now ++ own_slots classes.now class) (inherited_methods classes.now class)) }
+    requires signatures { HasSignatures classes.now signatures.now }
+    requires order { IsSuperclassFirst classes.now order.now }
+    ensures { IfOk result (λ table. AreMade classes.now signatures.now order.now table.items) }
 {
-    let mut slots = Vec::from_slice(alloc, above)?;
-    add_own_slots(&mut slots, classes.classes(), class)?;
-    for method in numbered {
-        if classes.extends(class, method.class) && !has_alike(classes.classes(), &slots, *method) {
-            slots.push(*method)?;
+    let mut table = no_slots(alloc, classes.classes().class_count())?;
+    for class in order {
+        let slots = class_slots(alloc, classes, signatures, numbered, &table, *class)?;
+        table[*class as usize] = slots;
+    }
+    Ok(table)
+}
+
+/// The slot in a cell of a list; none past its end.
+fn slot_at(cells: &[Option<u32>], index: usize) -> Option<usize>
+    ensures { result ≡ slice_index_or cells.now index None }
+{
+    match cells.get(index) {
+        Some(Some(slot)) => Some(*slot as usize),
+        _ => None,
+    }
+}
+
+/// Whether the second class is the first or a superclass of it.
+fn is_upward(classes: &Hierarchy, class: u32, other: u32) -> bool
+    requires { class < length classes.now }
+    ensures { result ≡ (class == other || is_subclass classes.now class other) }
+{
+    class == other || classes.is_subclass(class, other)
+}
+
+impl Slots {
+    /// The slots of each class; `numbered` has the methods of interfaces by number. The time and the memory are linear in what
+    /// the classes declare, and in how many classes there are for each method of an interface.
+    pub fn new(alloc: Global, classes: &Hierarchy, numbered: &[Place]) -> Result<Self, NoMemory>
+        requires { numbered.now ≡ interface_methods classes.now }
+        ensures { IfOk result (λ made. AreSlots classes.now made) }
+    {
+        let signatures = interface_signatures(alloc, classes.classes())?;
+        let order = superclass_order(alloc, classes)?;
+        let table = slots_by_class(alloc, classes, &signatures, numbered, order.as_slice())?;
+        Ok(Slots {
+            signatures,
+            classes: table,
+        })
+    }
+
+    /// How many slots a class has.
+    pub fn count(&self, class: u32) -> usize
+        ensures { (cs : List ClassFile) → AreSlots cs self.now → class < length cs → result ≡ length (slots cs class) }
+    {
+        let class = class as usize;
+        if class < self.classes.len() {
+            let slots = &self.classes[class];
+            slots.start as usize + slots.added.len()
+        } else {
+            0
         }
     }
-    Ok(slots)
-}
 
-/// How many classes there are from the class upwards, itself among them.
-fn depth(classes: &Classes, class: u32) -> u32
-    requires acyclic { IsAcyclic classes.now }
-    requires class { class < length classes.now }
-    ensures { result ≡ length (superclasses classes.now class) }
-{
-    superclasses_stand_above();
-    let most = classes.class_count();
-    let mut depth = 0;
-    let mut next = Some(class);
-    while let Some(at) = next {
-        depth += 1;
-        next = classes.superclass(at);
+    /// The slots of a class, put behind other places.
+    pub fn add_to(
+        &self,
+        places: &mut Vec<Place>,
+        classes: &Hierarchy,
+        class: u32,
+    ) -> Result<(), NoMemory>
+        requires slots { AreSlots classes.now self.now }
+        requires class { class < length classes.now }
+        ensures { OnOk result (places.new.items ≡ places.old.items ++ slots classes.now class) }
+    {
+        classes.is_without_cycle();
+        superclasses_stand_above();
+        let chain = superclass_chain(*places.allocator(), classes, class)?;
+        let mut i = chain.len();
+        while i > 0 {
+            i -= 1;
+            let slots = &self.classes[chain[i] as usize];
+            places.extend_from_slice(&slots.added)?;
+        }
+        Ok(())
     }
-    let _ = most;
-    depth
-}
 
-/// The same of each class.
-fn depths(alloc: Global, classes: &Classes) -> Result<Vec<u32>, NoMemory>
-    requires { IsAcyclic classes.now }
-    ensures { IfOk result (λ made. made.items ≡ depths_of classes.now) }
-{
-    let mut depths = Vec::new(alloc);
-    for class in 0..classes.class_count() {
-        depths.push(depth(classes, class))?;
-    }
-    Ok(depths)
-}
-
-/// The slots of the class's superclass.
-fn slots_above<'a>(classes: &Classes, made: &'a [Items<Place>], class: u32) -> &'a [Place]
-    requires class { class < length classes.now }
-    requires above { IfSome (superclass classes.now class) (λ s. slice_get made.now s ≡ Some (slots classes.now s)) }
-    ensures { result.now ≡ above_slots classes.now class }
-{
-    match classes.superclass(class) {
-        Some(above) => made[above as usize].as_slice(),
-        None => &[],
-    }
-}
-
-/// Puts in the slots of the classes that have so many classes upwards. Those of the classes that have fewer are there.
-fn fill_depth(
-    alloc: Global,
-    classes: &Hierarchy,
-    numbered: &[Place],
-    depths: &[u32],
-    depth: u32,
-    made: &mut Vec<Items<Place>>,
-) -> Result<(), NoMemory>
-    requires methods { numbered.now ≡ interface_methods classes.now }
-    requires depths { depths.now ≡ depths_of classes.now }
-    requires above { AreSlotsBelow classes.now depth made.old.items }
-    ensures { OnOk result (AreSlotsBelow classes.now (depth + 1) made.new.items) }
-{
-    let listed = classes.classes();
-    classes.is_without_cycle();
-    superclasses_stand_above();
-    for class in 0..listed.class_count() {
-        if depths[class as usize] == depth {
-            let above = slots_above(listed, made, class);
-            let slots = slots_over(alloc, classes, numbered, above, class)?;
-            made[class as usize] = Items::new(slots);
+    /// The first slot of a method of the name and the descriptor of this one, which belongs to an interface.
+    fn first_alike(&self, classes: &Classes, named: u32, method: Place) -> Option<usize>
+        requires slots { AreSlots classes.now self.now }
+        requires class { named < length classes.now }
+        requires interface { is_interface classes.now method.0 ≡ true }
+        ensures { result ≡ index_of (are_named_alike classes.now method) (slots classes.now named) }
+    {
+        symbols_stand_for_texts();
+        members_have_symbols();
+        match number_at(classes, &self.signatures, method) {
+            Some(number) => slot_at(&self.classes[named as usize].first, number),
+            None => None,
         }
     }
-    Ok(())
-}
 
-/// The slots of each class, by its number.
-pub fn slots_of(
-    alloc: Global,
-    classes: &Hierarchy,
-    numbered: &[Place],
-) -> Result<Vec<Items<Place>>, NoMemory>
-    requires { numbered.now ≡ interface_methods classes.now }
-    ensures { IfOk result (λ made. AreSlots classes.now made.items) }
-{
-    classes.is_without_cycle();
-    let depths = depths(alloc, classes.classes())?;
-    let count = classes.classes().class_count();
-    let mut made = Vec::new(alloc);
-    for class in 0..count {
-        let _ = class;
-        made.push(Items::new(Vec::new(alloc)))?;
-    }
-    for depth in 0..count {
-        fill_depth(alloc, classes, numbered, &depths, depth, &mut made)?;
-    }
-    fill_depth(alloc, classes, numbered, &depths, count, &mut made)?;
-    Ok(made)
-}
-
-/// The first slot with the method's name and descriptor.
-#[tactic(auto, using(crate::proofs::ListLemmas::index_here, crate::proofs::ListLemmas::index_more))]
-fn alike_slot(classes: &Classes, slots: &[Place], method: Place) -> Option<usize>
-    ensures { result ≡ index_of (are_named_alike classes.now method) slots.now }
-{
-    for (i, slot) in slots.iter().enumerate() {
-        if are_named_alike(classes, method, *slot) {
-            return Some(i);
+    /// The slot that is made for a method of a class.
+    fn own_slot(&self, method: Place) -> Option<usize>
+        ensures { (cs : List ClassFile) → AreSlots cs self.now → result ≡ own_slot cs method }
+    {
+        let class = method.class as usize;
+        if class < self.classes.len() {
+            slot_at(&self.classes[class].own, method.index)
+        } else {
+            None
         }
     }
-    None
+
+    /// The slot of a method that is named through a class: the one that is made for it, or for a method of an interface the
+    /// first of its name and descriptor.
+    pub fn slot(&self, classes: &Hierarchy, named: u32, method: Place) -> Option<usize>
+        requires slots { AreSlots classes.now self.now }
+        requires class { named < length classes.now }
+        ensures { result ≡ slot_of classes.now named method }
+    {
+        classes.is_without_cycle();
+        superclasses_stand_above();
+        let listed = classes.classes();
+        if is_interface(listed, named) {
+            None
+        } else if is_interface(listed, method.class) {
+            self.first_alike(listed, named, method)
+        } else if is_upward(classes, named, method.class) {
+            self.own_slot(method)
+        } else {
+            None
+        }
+    }
 }
 
 /// The index of a method among these.
@@ -181,22 +203,4 @@ pub fn index_of_place(slots: &[Place], method: Place) -> Option<usize>
         }
     }
     None
-}
-
-/// The slot of a method that is named through a class: the one that is made for it, or for a method of an interface the first of
-/// its name and descriptor.
-pub fn slot_of(classes: &Classes, made: &[Items<Place>], named: u32, method: Place) -> Option<usize>
-    requires class { named < length classes.now }
-    requires slots { AreSlots classes.now made.now }
-    ensures { result ≡ slot_of classes.now named method }
-{
-    if is_interface(classes, named) {
-        return None;
-    }
-    let slots = made[named as usize].as_slice();
-    if is_interface(classes, method.class) {
-        alike_slot(classes, slots, method)
-    } else {
-        index_of_place(slots, method)
-    }
 }
