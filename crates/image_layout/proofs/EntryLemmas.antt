@@ -1,5 +1,5 @@
 -- The words of pool entries.
-use Rattle.std.proofs.Common.{◌≡◌, ℕ, suc, ◌+◌, ◌*◌, ◌^◌, ◌<◌, Bool, true, false, not, eqb, List, [], ◌∷◌, ◌++◌, Option, Some, None, Bor, Result, Ok, Err, map, take, length, get_or, append_assoc, append-nil, refl, sym, ap, ap₂, ◌∙◌, subst, arith}
+use Rattle.std.proofs.Common.{◌≡◌, ℕ, suc, ◌+◌, ◌*◌, ◌^◌, ◌<◌, Bool, true, false, not, eqb, List, [], ◌∷◌, ◌++◌, Option, Some, None, Bor, Result, Ok, Err, map, take, length, get_or, append_assoc, append-nil, refl, sym, ap, ap₂, ◌∙◌, arith}
 use Rattle.std.specs.Prelude.{IsTrue, is_some, slice_get, unwrap_or, if◌then◌else◌}
 use Rattle.std.specs.Option.{option_map, option_map_or, option_copied}
 use Rattle.std.specs.List.{filter, filter_map, cons_option, find, flat_map, range_with_len}
@@ -7,23 +7,21 @@ use Rattle.std.proofs.lemmas.List.{length-map, map-append}
 use Rattle.std.proofs.lemmas.List.FromFn.{length-map-range_with_len, get_or-map-range_with_len}
 use Rattle.std.proofs.lemmas.List.Elements.{filter_map-append}
 use Rattle.class_pool.specs.declared.entry.Entry.{Entry}
+use Rattle.class_pool.specs.declared.entry.Entry.TheVariants.{Text}
 use Rattle.std.proofs.lemmas.Grind.{flat_map-append}
 use Rattle.std.proofs.lemmas.Bool.{false≢true, cond-true, cond-false, and_parts, eqb-true}
 use Rattle.std.proofs.lemmas.Option.{slice_get_within, slice_get-get_or}
 use Rattle.list_words.specs.Lists.{onto}
-use Rattle.list_words.specs.Lemmas.{none≢some, some_same, onto_some, index_found}
-use Rattle.class_lookup.specs.Parts.{Signature, same_text, name_of, class_text}
-use Rattle.class_lookup.specs.Hierarchy.{find_class}
-use Rattle.class_lookup.specs.Hierarchy.{IsAcyclic}
-use Rattle.class_lookup.specs.Laws.{FoundMethods}
-use Rattle.class_lookup.specs.Lookup.{Place, method_at, same_place, find_method}
+use Rattle.list_words.specs.Lemmas.{some_same, onto_some, index_found}
+use Rattle.class_lookup.specs.Parts.{Signature, same_text, name_of, class_text, text_at}
+use Rattle.class_lookup.specs.Lookup.{Place, method_at, same_place, find_field, find_method}
 use Rattle.bytecode_model.specs.Program.{Method}
 use Rattle.bytecode_model.specs.Types.{OfReferences}
 use Rattle.image_facts.specs.Says.{argument_words}
 use Rattle.program_tables.specs.declared.kinds.Base.{Base}
 use Rattle.program_tables.specs.Kinds.{arrays_of}
 use Rattle.program_tables.specs.Laws.{MethodsStandByNumber, MembersAreThere}
-use Rattle.program_tables.specs.Numbers.{methods_by_number, method_number}
+use Rattle.program_tables.specs.Numbers.{methods_by_number, method_number, string_number}
 use Rattle.program_tables.specs.Resolved.{method_in, resolved_method, resolved_methods}
 use Rattle.program_tables.specs.Tables.{base_kind}
 use Rattle.class_pool.specs.Grammar.{entry_at}
@@ -32,15 +30,17 @@ use Rattle.class_pool.specs.declared.class.ClassFile.{ClassFile}
 use Rattle.jop_opcodes.specs.declared.instruction.Instr.{Instr}
 use Rattle.program_tables.specs.Instructions.{Placed, placed_at, instructions_of, signature_in}
 use Rattle.bytecode_model.specs.Program.{as_instr}
-use Rattle.program_tables.specs.Entries.{found_from, method_found}
-use Rattle.program_tables.specs.Operands.{operand_in, class_named, method_named}
+use Rattle.program_tables.specs.Entries.{found_from, field_found, method_found}
+use Rattle.program_tables.specs.Operands.{string_object, operand_in, class_named, field_named, method_named}
 use Rattle.image_words.specs.Layout.{outline_of}
-use Rattle.image_words.specs.Pools.{instructions_in, naming, is_fixed_call, numbered_place, operand_place, taken_place, method_word, interface_word, no_words, words_of_entry, entry_words}
+use Rattle.image_words.specs.Pools.{instructions_in, naming, is_fixed_call, numbered_place, operand_place, taken_place, method_word, interface_word, no_words, string_words, words_of_entry, entry_words}
+use Rattle.image_words.specs.Regions.{first_place}
 use Rattle.image_words.specs.Slots.{interface_number, slot_of}
 use Rattle.image_layout.specs.declared.uses.Use.{Use}
 use Rattle.image_layout.specs.Uses.{instr_of, is_fixed, names_index, use_of}
 use Rattle.word_lists.proofs.ListLemmas.{take_some}
 use Rattle.program_laws.proofs.Numbering.{number_of}
+use Rattle.resolved_program.specs.Strings.{object_of_entry}
 use Rattle.image_layout.proofs.SizeLemmas.{stands}
 
 -- ---- mapped lists
@@ -173,22 +173,10 @@ stands_at cs m (Some k) e h = member_at (slice_get k.methods m.1) refl h
 pub there_numbered : (cs : List ClassFile) (m : Place) → IsTrue (is_some (method_at cs m)) → (n : ℕ) × (method_number cs m ≡ Some n)
 there_numbered cs m h = stands_at cs m (slice_get cs m.0) refl h
 
--- what is found is there
-pub found_there : FoundMethods → (cs : List ClassFile) → IsAcyclic cs → (c : ℕ) (s : Signature) (m : Place) → Some m ≡ find_method cs c s → IsTrue (is_some (method_at cs m))
-found_there law cs acyclic c s m h =
-    let f = law cs acyclic c s m (sym h) in
-    let at : method_at cs m ≡ Some f.member = ap (λ o. onto o (λ k. slice_get k.methods m.1)) f.class ∙ f.there in
-    ap is_some at
-
 pub called : (cs : List ClassFile) (m : Place) (n words word number : ℕ) → HasNumber cs m n → ((k : Method) → slice_get (resolved_methods cs) n ≡ Some k → words ≡ argument_words k) → word ≡ words * 2 ^ 24 + number
     → word ≡ option_map_or argument_words (resolved_method cs m) 0 * 2 ^ 24 + number
 called cs m n words word number h a e =
     e ∙ ap (λ (w : ℕ). w * 2 ^ 24 + number) (a h.method h.numbered ∙ sym (ap (λ o. option_map_or argument_words o 0) h.resolved))
-
-pub class_below : (cs ks : List ClassFile) (text : List ℕ) (n : ℕ) → Some n ≡ find_class ks text → ks ≡ cs → n < length cs
-class_below cs ks text n h same =
-    let f = index_found (λ c. same_text (name_of c) text) ks n (sym h) in
-    subst (λ (xs : List ClassFile). n < length xs) same (slice_get_within ks n f.0 f.1)
 
 pub no_copy : {T : Type 0} (r : Option (Bor T)) → ((x : Bor T) → r ≡ Some x → ⊥) → option_copied r ≡ None
 no_copy None h = refl
@@ -210,37 +198,62 @@ use_read cs c k xs uses many i d h lt = ap (λ us. get_or us i d) h ∙ get_or-m
 pub uses_long : (cs : List ClassFile) (c : ℕ) (k : ClassFile) (xs : List Instr) (uses : List Use) (many : ℕ) → uses ≡ map (use_of cs c k xs) (range_with_len 0 many) → length uses ≡ many
 uses_long cs c k xs uses many h = ap length h ∙ length-map-range_with_len (use_of cs c k xs) 0 many
 
--- the method that an entry names, and the class through which it does
-pub found_called : (cs : List ClassFile) (k : ClassFile) (owner member n : ℕ) (p : Place) → method_found cs k owner member ≡ Some (n, p) → (class_named cs k owner ≡ Some n) × (onto (signature_in k.pool member) (method_named cs k owner) ≡ Some p)
-found_called cs k owner member n p h =
-    let pair : ℕ → Place → ℕ × Place = λ x y. (x, y) in
-    let s = onto_some (signature_in k.pool member) (λ s. found_from (λ n. find_method cs n s) cs k owner) (n, p) h in
-    let c = onto_some (class_named cs k owner) (λ n. onto (find_method cs n s.0) (λ p. Some (pair n p))) (n, p) s.2 in
-    let m = onto_some (find_method cs c.0 s.0) (λ p. Some (pair c.0 p)) (n, p) c.2 in
-    let same = some_same (pair c.0 m.0) (n, p) m.2 in
-    let number = ap (λ (q : ℕ × Place). q.0) same in
-    let place = ap (λ (q : ℕ × Place). q.1) same in (
-      c.1 ∙ ap Some number,
-      ap (λ o. onto o (method_named cs k owner)) s.1 ∙ (ap (λ o. onto o (λ n. find_method cs n s.0)) c.1 ∙ (m.1 ∙ ap Some place)),
-    )
+-- ---- members that entries name
 
-pub found_below : (cs : List ClassFile) (k : ClassFile) (owner member n : ℕ) (p : Place) → method_found cs k owner member ≡ Some (n, p) → n < length cs
-found_below cs k owner member n p h = class_below cs cs (class_text k.pool owner) n (sym (found_called cs k owner member n p h).0) refl
+abbrev pair : ℕ → Place → ℕ × Place
+pair n p = (n, p)
 
-found_case : (o : Option Place) (n : ℕ) → onto o (λ (p : Place). let q : ℕ × Place = (n, p) in Some q) ≡ None → o ≡ None
-found_case None n h = refl
-found_case (Some p) n h = absurd (none≢some (let q : ℕ × Place = (n, p) in q) (sym h))
+abbrev pub place_of : Option (ℕ × Place) → Option Place
+place_of found = option_map (λ q. q.1) found
 
-class_case : (o : Option ℕ) (find : ℕ → Option Place) → onto o (λ n. onto (find n) (λ (p : Place). let q : ℕ × Place = (n, p) in Some q)) ≡ None → onto o find ≡ None
-class_case None find h = refl
-class_case (Some n) find h = found_case (find n) n h
+place_case : (n : ℕ) (o : Option Place) → place_of (onto o (λ p. Some (pair n p))) ≡ o
+place_case n None = refl
+place_case n (Some p) = refl
 
-signature_case : (cs : List ClassFile) (k : ClassFile) (owner : ℕ) (o : Option Signature) → onto o (λ s. found_from (λ n. find_method cs n s) cs k owner) ≡ None → onto o (method_named cs k owner) ≡ None
-signature_case cs k owner None h = refl
-signature_case cs k owner (Some s) h = class_case (class_named cs k owner) (λ n. find_method cs n s) h
+class_case : (find : ℕ → Option Place) (o : Option ℕ) → place_of (onto o (λ n. onto (find n) (λ p. Some (pair n p)))) ≡ onto o find
+class_case find None = refl
+class_case find (Some n) = place_case n (find n)
 
-pub found_none : (cs : List ClassFile) (k : ClassFile) (owner member : ℕ) → method_found cs k owner member ≡ None → onto (signature_in k.pool member) (method_named cs k owner) ≡ None
-found_none cs k owner member h = signature_case cs k owner (signature_in k.pool member) h
+signature_case : (find : ℕ → Signature → Option Place) (cs : List ClassFile) (k : ClassFile) (owner : ℕ) (o : Option Signature)
+    → place_of (onto o (λ s. found_from (λ n. find n s) cs k owner)) ≡ onto o (λ s. onto (class_named cs k owner) (λ n. find n s))
+signature_case find cs k owner None = refl
+signature_case find cs k owner (Some s) = class_case (λ n. find n s) (class_named cs k owner)
+
+-- what is found is what the entry names
+pub field_there : (cs : List ClassFile) (k : ClassFile) (owner member : ℕ) (o r : Option (ℕ × Place)) → o ≡ field_found cs k owner member → o ≡ r → onto (signature_in k.pool member) (field_named cs k owner) ≡ place_of r
+field_there cs k owner member o r h e = sym (signature_case (find_field cs) cs k owner (signature_in k.pool member)) ∙ ap place_of (sym h ∙ e)
+
+pub method_there : (cs : List ClassFile) (k : ClassFile) (owner member : ℕ) (o r : Option (ℕ × Place)) → o ≡ method_found cs k owner member → o ≡ r → onto (signature_in k.pool member) (method_named cs k owner) ≡ place_of r
+method_there cs k owner member o r h e = sym (signature_case (find_method cs) cs k owner (signature_in k.pool member)) ∙ ap place_of (sym h ∙ e)
+
+-- and the class is the one through which it does
+pub method_class : (cs : List ClassFile) (k : ClassFile) (owner member : ℕ) (o : Option (ℕ × Place)) (found : ℕ × Place) → o ≡ method_found cs k owner member → o ≡ Some found → class_named cs k owner ≡ Some found.0
+method_class cs k owner member o found h e =
+    let s = onto_some (signature_in k.pool member) (λ s. found_from (λ n. find_method cs n s) cs k owner) found (sym h ∙ e) in
+    let c = onto_some (class_named cs k owner) (λ n. onto (find_method cs n s.0) (λ p. Some (pair n p))) found s.2 in
+    let m = onto_some (find_method cs c.0 s.0) (λ p. Some (pair c.0 p)) found c.2 in
+    c.1 ∙ ap (λ (q : ℕ × Place). Some q.0) (some_same (pair c.0 m.0) found m.2)
+
+pub class_below : (cs : List ClassFile) (k : ClassFile) (owner n : ℕ) → class_named cs k owner ≡ Some n → n < length cs
+class_below cs k owner n h =
+    let f = index_found (λ c. same_text (name_of c) (class_text k.pool owner)) cs n h in
+    slice_get_within cs n f.0 f.1
+
+-- ---- strings
+
+string_case : (place : ℕ → ℕ) (o : Option ℕ) → option_map_or place (option_map string_object o) 0 ≡ option_map_or (λ n. place (string_object n)) o 0
+string_case place None = refl
+string_case place (Some n) = refl
+
+pub string_there : (cs : List ClassFile) (k : ClassFile) (units : ℕ) (e : Option Entry) (o r : Option ℕ) → e ≡ Some (Text units) → o ≡ object_of_entry cs k.pool e → o ≡ r
+    → option_map_or (first_place cs (outline_of cs)) r 0 ∷ 0 ∷ [] ≡ string_words cs (outline_of cs) (text_at k.pool units)
+string_there cs k units e o r there h is =
+    let place = first_place cs (outline_of cs) in
+    let words : ℕ → List ℕ = λ w. w ∷ 0 ∷ [] in
+    let same : r ≡ option_map string_object (string_number cs (text_at k.pool units)) = sym is ∙ (h ∙ ap (object_of_entry cs k.pool) there) in
+    ap words (ap (λ (q : Option ℕ). option_map_or place q 0) same ∙ string_case place (string_number cs (text_at k.pool units)))
+
+-- ---- words of methods
 
 pub method_called : (cs : List ClassFile) (named : Option ℕ) (m : Option Place) (n : ℕ) (p : Place) (word slot : ℕ) → named ≡ Some n → m ≡ Some p → word ≡ option_map_or argument_words (resolved_method cs p) 0 * 2 ^ 24 + slot → slot ≡ unwrap_or (slot_of cs n p) 0
     → word ≡ method_word cs named m

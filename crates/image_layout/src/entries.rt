@@ -1,13 +1,13 @@
 //! The two words of each entry of a class's pool (JVM Specification SE 8, 4.4).
-ghost use Rattle.std.specs.Prelude.{◌≡◌, ◌++◌, ◌<◌, ◌+◌, ◌*◌, ◌^◌, length, map, is_some, Some, IfOk, IfSome, IsTrue, OnOk, option_map, unwrap_or, slice_get};
+ghost use Rattle.std.specs.Prelude.{◌≡◌, ◌++◌, ◌<◌, ◌+◌, ◌*◌, ◌^◌, ℕ, length, map, is_some, Some, IfOk, IsTrue, OnOk, option_map, unwrap_or, slice_get};
 ghost use Rattle.std.specs.Option.{option_map_or};
 ghost use Rattle.class_pool.specs.declared.class.ClassFile.{ClassFile};
 ghost use Rattle.class_pool.specs.Grammar.{entry_at};
 ghost use Rattle.class_lookup.specs.Lookup.{method_at};
+ghost use Rattle.class_lookup.specs.Parts.{text_at};
 ghost use Rattle.image_facts.specs.Says.{bit_of, argument_words};
 ghost use Rattle.image_facts.specs.Words.{is_long_type};
 ghost use Rattle.list_words.specs.Lists.{onto};
-ghost use Rattle.program_tables.specs.Entries.{method_found};
 ghost use Rattle.program_tables.specs.Instructions.{signature_in};
 ghost use Rattle.program_tables.specs.Operands.{class_named, field_named, method_named};
 ghost use Rattle.program_tables.specs.Resolved.{declared_at, resolved_method};
@@ -21,11 +21,8 @@ ghost use Rattle.image_layout.specs.Uses.{instr_of, use_of};
 
 use crate::methods::argument_words;
 use crate::uses::{Use, uses_of};
-use class_hierarchy::Hierarchy;
 use class_lookup::Place;
-use class_lookup::laws::members_are_found_above;
-use class_lookup::parts::{class_text, text_at};
-use class_pool::{ClassFile, Entry, Pool};
+use class_pool::Entry;
 use image_words::{Outline, index_of_place, slot_of};
 use jop_base::NoMemory;
 use program_tables::laws::{members_are_there, methods_stand_by_number};
@@ -37,14 +34,14 @@ use word_lists::{add, count, times};
 /// The words of the arguments stand above a number of 24 bits.
 const ARGUMENTS: u32 = 1 << 24;
 
-/// The words of a String entry.
-fn string_words(program: &Program, outline: &Outline, units: &[u16]) -> [u32; 2]
-    requires { IsOutline program.now outline.now }
-    ensures { result ≡ string_words program.now (outline_of program.now) units.now }
+/// The words of a String entry: the place of its object.
+fn string_words(program: &Program, outline: &Outline, class: u32, index: u16) -> [u32; 2]
+    requires outline { IsOutline program.now outline.now }
+    requires class { class < length program.now }
+    ensures { (k : ClassFile) (units : ℕ) → slice_get program.now class ≡ Some k → entry_at k.pool index ≡ Some (Entry.Text units) → result ≡ string_words program.now (outline_of program.now) (text_at k.pool units) }
 {
-    match program.strings().number(units) {
-        // The objects of errors come first, and each string has its array before it.
-        Some(string) => [outline.object_place(9 + 2 * string + 1), 0],
+    match program.string_object(class, index) {
+        Some(object) => [outline.object_place(object), 0],
         None => [0, 0],
     }
 }
@@ -142,31 +139,19 @@ fn slot_number(program: &Program, outline: &Outline, named: u32, method: Place) 
     slot_of(classes, &outline.slots, named, method).unwrap_or(0)
 }
 
-/// The class through which an entry names a method, and the method that is found from it.
-fn method_found(classes: &Hierarchy, pool: &Pool, owner: u16, member: u16) -> Option<(u32, Place)>
-    ensures found { (k : ClassFile) → k.pool ≡ pool.now → result ≡ method_found classes.now k owner member }
-    ensures there { IfSome result (λ found. IsTrue (is_some (method_at classes.now found.1))) }
-{
-    members_are_found_above();
-    classes.is_without_cycle();
-    let (name, descriptor) = pool.name_and_type(member)?;
-    let named = classes.classes().find_class(class_text(pool, owner))?;
-    let place = classes.find_method(named, text_at(pool, name), text_at(pool, descriptor))?;
-    Some((named, place))
-}
-
 /// The second word of a method: the words of its arguments, and its slot in the class through which it is named.
 fn method_word(
     program: &Program,
     outline: &Outline,
-    class: &ClassFile,
+    class: u32,
     owner: u16,
     member: u16,
 ) -> Result<u32, NoMemory>
-    requires { IsOutline program.now outline.now }
-    ensures { IfOk result (λ word. word ≡ method_word program.now (class_named program.now class.now owner) (onto (signature_in class.now.pool member) (method_named program.now class.now owner))) }
+    requires outline { IsOutline program.now outline.now }
+    requires class { class < length program.now }
+    ensures { IfOk result (λ word. (k : ClassFile) → slice_get program.now class ≡ Some k → word ≡ method_word program.now (class_named program.now k owner) (onto (signature_in k.pool member) (method_named program.now k owner))) }
 {
-    match method_found(program.hierarchy(), &class.pool, owner, member) {
+    match program.method_found(class, owner, member) {
         Some(found) => {
             let slot = slot_number(program, outline, found.0, found.1);
             let word = call_word(program, found.1, slot)?;
@@ -180,14 +165,15 @@ fn method_word(
 fn interface_word(
     program: &Program,
     outline: &Outline,
-    class: &ClassFile,
+    class: u32,
     owner: u16,
     member: u16,
 ) -> Result<u32, NoMemory>
-    requires { IsOutline program.now outline.now }
-    ensures { IfOk result (λ word. word ≡ interface_word program.now (onto (signature_in class.now.pool member) (method_named program.now class.now owner))) }
+    requires outline { IsOutline program.now outline.now }
+    requires class { class < length program.now }
+    ensures { IfOk result (λ word. (k : ClassFile) → slice_get program.now class ≡ Some k → word ≡ interface_word program.now (onto (signature_in k.pool member) (method_named program.now k owner))) }
 {
-    match method_found(program.hierarchy(), &class.pool, owner, member) {
+    match program.method_found(class, owner, member) {
         Some(found) => {
             let number = index_of_place(&outline.interface_methods, found.1);
             let word = call_word(program, found.1, number.unwrap_or(0))?;
@@ -201,22 +187,16 @@ fn interface_word(
 fn field_entry(
     program: &Program,
     outline: &Outline,
-    pool: &Pool,
+    class: u32,
     owner: u16,
     member: u16,
 ) -> [u32; 2]
-    requires { IsOutline program.now outline.now }
-    ensures { (k : ClassFile) → k.pool ≡ pool.now → result ≡ option_map_or (field_words program.now (outline_of program.now)) (onto (signature_in pool.now member) (field_named program.now k owner)) no_words }
+    requires outline { IsOutline program.now outline.now }
+    requires class { class < length program.now }
+    ensures { (k : ClassFile) → slice_get program.now class ≡ Some k → result ≡ option_map_or (field_words program.now (outline_of program.now)) (onto (signature_in k.pool member) (field_named program.now k owner)) no_words }
 {
-    let classes = program.hierarchy();
-    let Some((name, descriptor)) = pool.name_and_type(member) else {
-        return [0, 0];
-    };
-    let Some(named) = classes.classes().find_class(class_text(pool, owner)) else {
-        return [0, 0];
-    };
-    match classes.find_field(named, text_at(pool, name), text_at(pool, descriptor)) {
-        Some(field) => field_words(program, outline, field),
+    match program.field_found(class, owner, member) {
+        Some(found) => field_words(program, outline, found.1),
         None => [0, 0],
     }
 }
@@ -232,23 +212,21 @@ fn words_of_entry(
 ) -> Result<[u32; 2], NoMemory>
     requires outline { IsOutline program.now outline.now }
     requires class { number < length program.now }
-    ensures { IfOk result (λ words. (k : ClassFile) → slice_get program.now number ≡ Some k → taken ≡ taken_place program.now (outline_of program.now) number k index
+    ensures { IfOk result (λ words. (k : ClassFile) → slice_get program.now number ≡ Some k → entry_at k.pool index ≡ Some entry.now → taken ≡ taken_place program.now (outline_of program.now) number k index
         → words ≡ words_of_entry program.now (outline_of program.now) number k index (Some entry.now)) }
 {
-    let class = program.class(number);
-    let pool = &class.pool;
     match entry {
         Entry::Integer(n) => Ok([*n, 0]),
         Entry::Long(n) => Ok([(*n >> 32) as u32, (*n & 0xffff_ffff) as u32]),
-        Entry::Text(units) => Ok(string_words(program, outline, text_at(pool, *units))),
+        Entry::Text(_) => Ok(string_words(program, outline, number, index)),
         Entry::Class(_) => class_words(program, outline, program.kind_of_entry(number, index)),
-        Entry::Field(owner, member) => Ok(field_entry(program, outline, pool, *owner, *member)),
+        Entry::Field(owner, member) => Ok(field_entry(program, outline, number, *owner, *member)),
         Entry::Method(owner, member) => {
-            let word = method_word(program, outline, class, *owner, *member)?;
+            let word = method_word(program, outline, number, *owner, *member)?;
             Ok([taken, word])
         }
         Entry::InterfaceMethod(owner, member) => {
-            let word = interface_word(program, outline, class, *owner, *member)?;
+            let word = interface_word(program, outline, number, *owner, *member)?;
             Ok([taken, word])
         }
         Entry::Utf8(_)

@@ -1,9 +1,12 @@
 //! The static fields with their first values (JVM Specification SE 8, 4.7.2 and 5.5).
-ghost use Rattle.std.specs.Prelude.{◌≡◌, ◌++◌, ℕ, is_some, IfOk, OnOk};
+ghost use Rattle.std.specs.Prelude.{◌≡◌, ◌++◌, ◌<◌, ℕ, is_some, length, Some, IfOk, OnOk, slice_get};
 ghost use Rattle.std.specs.Option.{option_to_list};
 ghost use Rattle.std.specs.List.{flat_map};
 ghost use Rattle.bytecode_model.specs.Types.{default};
+ghost use Rattle.class_pool.specs.declared.class.ClassFile.{ClassFile};
+ghost use Rattle.class_pool.specs.Grammar.{entry_at};
 ghost use Rattle.image_facts.specs.Words.{words_of};
+ghost use Rattle.list_words.specs.Lists.{onto};
 ghost use Rattle.program_tables.specs.Resolved.{constant_of, constant_at, first_value};
 ghost use Rattle.image_words.specs.Layout.{outline_of};
 ghost use Rattle.image_words.specs.Regions.{first_place, statics_region};
@@ -11,38 +14,38 @@ ghost use Rattle.image_words.specs.Outline.{IsOutline};
 ghost use Rattle.program_tables.specs.Meanings.{declared_seen};
 
 use class_lookup::Place;
-use class_lookup::parts::text_at;
-use class_pool::{Entry, Pool};
+use class_pool::Entry;
 use image_words::Outline;
 use jop_base::NoMemory;
 use program_tables::{Declared, entry_of, field_at};
 use resolved_program::Program;
 
-/// The words of a constant, put behind others; whether the entry is one.
+/// The words of a constant of a class, put behind others; whether the entry is one.
 fn add_constant(
     words: &mut Vec<u32>,
     program: &Program,
     outline: &Outline,
-    pool: &Pool,
-    entry: &Entry,
+    class: u32,
+    index: u16,
 ) -> Result<bool, NoMemory>
-    requires { IsOutline program.now outline.now }
-    ensures words { OnOk result (words.new.items ≡ words.old.items ++ flat_map (words_of (first_place program.now (outline_of program.now))) (option_to_list (constant_of program.now pool.now entry.now))) }
-    ensures is { IfOk result (λ is. is ≡ is_some (constant_of program.now pool.now entry.now)) }
+    requires outline { IsOutline program.now outline.now }
+    requires class { class < length program.now }
+    ensures words { OnOk result ((c : ClassFile) → slice_get program.now class ≡ Some c
+        → words.new.items ≡ words.old.items ++ flat_map (words_of (first_place program.now (outline_of program.now))) (option_to_list (onto (entry_at c.pool index) (constant_of program.now c.pool)))) }
+    ensures is { IfOk result (λ is. (c : ClassFile) → slice_get program.now class ≡ Some c → is ≡ is_some (onto (entry_at c.pool index) (constant_of program.now c.pool))) }
 {
-    match entry {
-        Entry::Integer(n) => {
+    match entry_of(&program.class(class).pool, u32::from(index)) {
+        Some(Entry::Integer(n)) => {
             words.push(*n)?;
             Ok(true)
         }
-        Entry::Long(n) => {
+        Some(Entry::Long(n)) => {
             words.extend_from_slice(&[(*n >> 32) as u32, (*n & 0xffff_ffff) as u32])?;
             Ok(true)
         }
-        Entry::Text(units) => match program.strings().number(text_at(pool, *units)) {
-            // The objects of errors come first, and each string has its array before it.
-            Some(string) => {
-                words.push(outline.object_place(9 + 2 * string + 1))?;
+        Some(Entry::Text(_)) => match program.string_object(class, index) {
+            Some(object) => {
+                words.push(outline.object_place(object))?;
                 Ok(true)
             }
             None => Ok(false),
@@ -71,11 +74,7 @@ fn add_constant_of(
     if place.class >= program.class_count() {
         return Ok(false);
     }
-    let pool = &program.class(place.class).pool;
-    match entry_of(pool, u32::from(index)) {
-        Some(entry) => add_constant(words, program, outline, pool, entry),
-        None => Ok(false),
-    }
+    add_constant(words, program, outline, place.class, index)
 }
 
 /// The words of the default value of a type.

@@ -2,3 +2,4 @@ pub mod BoundLemmas
 pub mod InstanceLemmas
 pub mod InstructionLemmas
 pub mod MeaningLemmas
+pub mod StringLemmas

@@ -32,7 +32,7 @@ pub(crate) struct Tables<'a> {
 }
 
 /// The class through which an entry of a class names a field, and the field that is found from it.
-fn field_found(
+pub(crate) fn field_found(
     classes: &Hierarchy,
     current: u32,
     class: &ClassFile,
@@ -53,7 +53,7 @@ fn field_found(
 }
 
 /// The class through which an entry of a class names a method, and the method that is found from it.
-fn method_found(
+pub(crate) fn method_found(
     classes: &Hierarchy,
     current: u32,
     class: &ClassFile,

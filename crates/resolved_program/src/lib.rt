@@ -6,6 +6,7 @@ mod entries;
 mod instances;
 mod instructions;
 mod names;
+mod pool;
 mod program;
 mod tables;
 mod types;

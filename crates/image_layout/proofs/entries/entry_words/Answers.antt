@@ -12,7 +12,7 @@ returns-in_ok-words c =
     let i = c.args.index in
     let taken = c.unwrap_or-taken.ensures ∙ use_taken cs n k i c.args.used used in
     entry_used cs n k i c.args.used.named c.in_ok-words.words (use_named cs n k i c.args.used used) c.if-used.true
-    (c.in_ok-words.ensures k at taken ∙ ap (words_of_entry cs (outline_of cs) n k i) (sym there))
+    (c.in_ok-words.ensures k at there taken ∙ ap (words_of_entry cs (outline_of cs) n k i) (sym there))
 
 pub returns-else-used : goal.returns-else-used
 returns-else-used c =
