@@ -23,7 +23,7 @@ use crate::methods::argument_words;
 use crate::uses::{Use, uses_of};
 use class_lookup::Place;
 use class_pool::Entry;
-use image_words::{Outline, index_of_place, slot_of};
+use image_words::{Outline, index_of_place};
 use jop_base::NoMemory;
 use program_tables::laws::{members_are_there, methods_stand_by_number};
 use program_tables::{Declared, ObjectKind, is_static_field};
@@ -135,8 +135,8 @@ fn slot_number(program: &Program, outline: &Outline, named: u32, method: Place) 
     requires class { named < length program.now }
     ensures { result ≡ unwrap_or (slot_of program.now named method) 0 }
 {
-    let classes = program.hierarchy().classes();
-    slot_of(classes, &outline.slots, named, method).unwrap_or(0)
+    let slot = outline.slots.slot(program.hierarchy(), named, method);
+    slot.unwrap_or(0)
 }
 
 /// The second word of a method: the words of its arguments, and its slot in the class through which it is named.

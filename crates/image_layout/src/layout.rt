@@ -36,7 +36,7 @@ fn words_of(alloc: Global, program: &Program, outline: &Outline) -> Result<Vec<u
     add_lists(&mut words, program, outline)?;
     add_statics(&mut words, program, outline)?;
     add_types(&mut words, program.hierarchy(), program.kinds(), outline)?;
-    add_tables(&mut words, program, outline)?;
+    add_tables(&mut words, alloc, program, outline)?;
     add_interfaces(&mut words, program, outline)?;
     add_pools(&mut words, alloc, program, outline)?;
     add_methods(&mut words, program, outline)?;

@@ -4,7 +4,7 @@ ghost use Rattle.image_words.specs.Outline.{IsOutline};
 
 use crate::sizes::{instances_of, method_sizes, static_sizes};
 use image_words::{
-    Outline, interface_methods, interface_sizes, object_sizes, pool_sizes, slots_of, table_sizes,
+    Outline, Slots, interface_methods, interface_sizes, object_sizes, pool_sizes, table_sizes,
     type_words,
 };
 use jop_base::NoMemory;
@@ -23,7 +23,7 @@ pub(crate) fn outline_of(alloc: Global, program: &Program) -> Result<Outline, No
     let hierarchy = program.hierarchy();
     let classes = hierarchy.classes();
     let numbered = interface_methods(alloc, classes)?;
-    let slots = slots_of(alloc, hierarchy, &numbered)?;
+    let slots = Slots::new(alloc, hierarchy, &numbered)?;
     let instances = instances_of(alloc, program)?;
     let statics = run_from(alloc, FRONT, &static_sizes(alloc, program)?)?;
     let type_words = type_words(program.kinds());

@@ -11,6 +11,7 @@ use image_words::{Outline, is_interface};
 use jop_base::NoMemory;
 use program_tables::method_at;
 use resolved_program::Program;
+use std::alloc::Global;
 use word_lists::add_zeros;
 
 /// Whether the method has code.
@@ -73,6 +74,7 @@ fn add_selected(
 /// The method table of a class; an interface has none.
 fn add_table(
     words: &mut Vec<u32>,
+    alloc: Global,
     program: &Program,
     outline: &Outline,
     class: u32,
@@ -84,13 +86,17 @@ fn add_table(
     if is_interface(program.hierarchy().classes(), class) {
         return Ok(());
     }
-    let slots = outline.slots[class as usize].as_slice();
-    add_selected(words, program, outline, class, slots)
+    let mut methods = Vec::new(alloc);
+    outline
+        .slots
+        .add_to(&mut methods, program.hierarchy(), class)?;
+    add_selected(words, program, outline, class, &methods)
 }
 
 /// The method tables.
 pub(crate) fn add_tables(
     words: &mut Vec<u32>,
+    alloc: Global,
     program: &Program,
     outline: &Outline,
 ) -> Result<(), NoMemory>
@@ -98,7 +104,7 @@ pub(crate) fn add_tables(
     ensures { OnOk result (words.new.items ≡ words.old.items ++ tables_region program.now (outline_of program.now)) }
 {
     for class in 0..program.class_count() {
-        add_table(words, program, outline, class)?;
+        add_table(words, alloc, program, outline, class)?;
     }
     Ok(())
 }
