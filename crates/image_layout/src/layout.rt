@@ -13,7 +13,7 @@ ghost use Rattle.image_words.specs.Regions.{first_place, image_words_of};
 
 use crate::entries::{add_pools, static_word};
 use crate::front::{add_header, add_lists, add_type_places};
-use crate::limits::{MOST_WORDS, count_words, within_counts};
+use crate::limits::{within_counts, within_words};
 use crate::methods::add_methods;
 use crate::outline::outline_of;
 use crate::statics::add_statics;
@@ -23,7 +23,7 @@ use image_words::{Outline, add_raised, add_strings, add_types};
 use jop_base::NoMemory;
 use resolved_program::Program;
 use std::alloc::Global;
-use word_lists::{Counted, LayFault, Layout, within};
+use word_lists::{LayFault, Layout};
 
 /// The words, region by region.
 fn words_of(alloc: Global, program: &Program, outline: &Outline) -> Result<Vec<u32>, NoMemory>
@@ -80,6 +80,35 @@ fn string_places(alloc: Global, program: &Program, outline: &Outline) -> Result<
     Ok(places)
 }
 
+/// The words of an image, and the places that its outline has no list of.
+#[derive(Drop)]
+struct Written {
+    words: Vec<u32>,
+    types: Vec<u32>,
+    fields: Vec<u32>,
+    strings: Vec<u32>,
+}
+
+/// What is written by an outline.
+fn write_image(alloc: Global, program: &Program, outline: &Outline) -> Result<Written, NoMemory>
+    requires { IsOutline program.now outline.now }
+    ensures words { IfOk result (λ made. made.words.items ≡ image_words_of program.now) }
+    ensures types { IfOk result (λ made. made.types.items ≡ map (type_place program.now) (range_with_len 0 (length (types_of program.now)))) }
+    ensures fields { IfOk result (λ made. made.fields.items ≡ map (static_word program.now (outline_of program.now)) (fields_by_number program.now)) }
+    ensures strings { IfOk result (λ made. made.strings.items ≡ map (λ n. first_place program.now (outline_of program.now) (string_object n)) (range_with_len 0 (length (strings_of program.now)))) }
+{
+    let words = words_of(alloc, program, outline)?;
+    let types = type_places(alloc, program, outline)?;
+    let fields = field_places(alloc, program, outline)?;
+    let strings = string_places(alloc, program, outline)?;
+    Ok(Written {
+        words,
+        types,
+        fields,
+        strings,
+    })
+}
+
 /// The image of a program. It has none where it passes a limit: the first of these is told.
 pub fn lay_out(alloc: Global, program: &Program) -> Result<Layout, LayFault>
     ensures made { IfOk result (IsLaidOut program.now) }
@@ -89,17 +118,14 @@ pub fn lay_out(alloc: Global, program: &Program) -> Result<Layout, LayFault>
     packed_has_words();
     within_counts(alloc, program)?;
     let outline = outline_of(alloc, program)?;
-    within(Counted::Words, count_words(program, &outline), MOST_WORDS)?;
-    let words = words_of(alloc, program, &outline)?;
-    let types = type_places(alloc, program, &outline)?;
-    let fields = field_places(alloc, program, &outline)?;
-    let strings = string_places(alloc, program, &outline)?;
+    within_words(program, &outline)?;
+    let written = write_image(alloc, program, &outline)?;
     Ok(Layout {
-        words,
+        words: written.words,
         methods: outline.methods.places,
-        types,
+        types: written.types,
         pools: outline.pools.places,
-        fields,
-        strings,
+        fields: written.fields,
+        strings: written.strings,
     })
 }

@@ -5,7 +5,7 @@ ghost use Rattle.word_lists.specs.declared.fault.LayFault.TheVariants.{TooLarge}
 ghost use Rattle.image_words.specs.Limits.{coded_methods};
 ghost use Rattle.image_words.specs.Outline.{IsOutline};
 ghost use Rattle.image_words.specs.Regions.{image_words_of};
-ghost use Rattle.image_layout.specs.Layout.{counts_passed};
+ghost use Rattle.image_layout.specs.Layout.{counts_passed, first_passed};
 
 use crate::tables::is_coded;
 use core_words::laws::packed_has_words;
@@ -24,7 +24,7 @@ const MOST_INTERFACE_METHODS: u64 = 512;
 const MOST_METHODS: u64 = 65535;
 
 /// How many words an image has at most.
-pub(crate) const MOST_WORDS: u64 = 1048576;
+const MOST_WORDS: u64 = 1048576;
 
 /// How many methods of the program have code.
 pub fn coded_methods(program: &Program) -> u32
@@ -58,7 +58,7 @@ pub(crate) fn within_counts(alloc: Global, program: &Program) -> Result<(), LayF
 }
 
 /// How many words the image has.
-pub(crate) fn count_words(program: &Program, outline: &Outline) -> u64
+fn count_words(program: &Program, outline: &Outline) -> u64
     requires { IsOutline program.now outline.now }
     ensures { result ≡ length (image_words_of program.now) }
 {
@@ -68,4 +68,14 @@ pub(crate) fn count_words(program: &Program, outline: &Outline) -> u64
     resolved_programs_are_lawful();
     program.is_resolved();
     u64::from(outline.objects.end)
+}
+
+/// Refuses a program whose image has too many words, where it passes no limit that is counted before.
+pub(crate) fn within_words(program: &Program, outline: &Outline) -> Result<(), LayFault>
+    requires outline { IsOutline program.now outline.now }
+    requires counts { counts_passed program.now ≡ None }
+    ensures within { OnOk result (first_passed program.now ≡ None) }
+    ensures too_large { (what : Counted) (count limit : ℕ) → result ≡ Err (TooLarge what count limit) → first_passed program.now ≡ Some (what, count, limit) }
+{
+    within(Counted::Words, count_words(program, outline), MOST_WORDS)
 }

@@ -11,10 +11,10 @@ returns-clause-made c =
     let cs = c.args.program.now in
     let o = c.in_ok-outline.ensures in
     record {
-      words = c.in_ok-words.ensures;
+      words = c.in_ok-written.ensures.words;
       methods = places_of_run method_size (resolved cs).methods (methods_place cs) c.in_ok-outline.outline.methods o.methods;
-      types = c.in_ok-types.ensures;
+      types = c.in_ok-written.ensures.types;
       pools = places_of_run pool_words cs (pools_place cs) c.in_ok-outline.outline.pools o.pools;
-      fields = c.in_ok-fields.ensures ∙ fields_same cs;
-      strings = c.in_ok-strings.ensures ∙ strings_same c.packed_has_words.ensures cs;
+      fields = c.in_ok-written.ensures.fields ∙ fields_same cs;
+      strings = c.in_ok-written.ensures.strings ∙ strings_same c.packed_has_words.ensures cs;
     }
