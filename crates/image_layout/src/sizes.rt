@@ -1,5 +1,5 @@
 //! How many words fields and the records of methods take.
-ghost use Rattle.std.specs.Prelude.{◌≡◌, ◌+◌, ◌++◌, ◌<◌, [], length, map, Some, IfOk, OnOk, slice_get};
+ghost use Rattle.std.specs.Prelude.{◌≡◌, ◌+◌, ◌++◌, ◌∷◌, ◌<◌, [], length, map, Some, IfOk, OnOk, slice_get};
 ghost use Rattle.std.specs.List.{cons_option};
 ghost use Rattle.std.specs.Option.{option_map};
 ghost use Rattle.image_facts.specs.Words.{declared_words};
@@ -17,14 +17,22 @@ use resolved_program::Program;
 use std::alloc::Global;
 use word_lists::{Run, add, count, run_from, times};
 
+/// Puts so many words behind others.
+fn push_size(sizes: &mut Vec<u32>, words: u32) -> Result<(), NoMemory>
+    ensures { OnOk result (sizes.new.items ≡ sizes.old.items ++ words ∷ []) }
+{
+    sizes.push(words)?;
+    Ok(())
+}
+
 /// Puts the words of a declared type behind others, if there is one.
 fn push_words(sizes: &mut Vec<u32>, declared: Option<Declared>) -> Result<(), NoMemory>
     ensures { OnOk result (sizes.new.items ≡ sizes.old.items ++ map declared_words (cons_option (option_map declared_seen declared) [])) }
 {
-    if let Some(declared) = declared {
-        sizes.push(declared_words(declared))?;
+    match declared {
+        Some(declared) => push_size(sizes, declared_words(declared)),
+        None => Ok(()),
     }
-    Ok(())
 }
 
 /// The words of the static fields, by their indexes.
