@@ -1,7 +1,7 @@
-"""Makes the rows of the core classes and of jop/Boot in crates/class_table, from the table of docs/definitions.md alone.
+"""Makes the rows of the core classes and of jop/Boot in crates/test_classes, from the table of docs/definitions.md alone.
 
-    python3 core.py stdin >> ../../crates/class_table/stdin
-    python3 core.py stdout >> ../../crates/class_table/stdout
+    python3 core.py stdin >> ../../crates/test_classes/stdin
+    python3 core.py stdout >> ../../crates/test_classes/stdout
     python3 core.py classes DIR        writes the class files, for javap
 
 The pool has what a class mentions in order of first mention, each entry followed at once by those that it names.

@@ -1,8 +1,8 @@
-"""Makes the table of class files in crates/class_table: classes that javac compiled, and the same with one thing changed.
+"""Makes the table of class files in crates/test_classes: classes that javac compiled, and the same with one thing changed.
 
     javac --release 8 -d OUT *.java
-    python3 damage.py OUT stdin > ../../crates/class_table/stdin
-    python3 damage.py OUT stdout > ../../crates/class_table/stdout
+    python3 damage.py OUT stdin > ../../crates/test_classes/stdin
+    python3 damage.py OUT stdout > ../../crates/test_classes/stdout
 
 Each line of the input has a word, a title, and bytes or a text. What is a class file, a pool or a descriptor follows
 from the section of the JVM Specification (SE 8) that the title names, and stands below in WANTED by hand; what a class

@@ -1,4 +1,4 @@
-"""Images by hand and the states of the JVM Specification SE 8 at each boundary, for the program heap_table."""
+"""Images by hand and the states of the JVM Specification SE 8 at each boundary, for the program test_heap."""
 import sys
 
 M32 = 1 << 32

@@ -1,4 +1,4 @@
-"""Prints one row for `crates/resolve_table` of files that are made to cost much: python3 hostile.py NAME.
+"""Prints one row for `crates/test_resolving` of files that are made to cost much: python3 hostile.py NAME.
 
 cycle            33,554,432 bytes of tiny interfaces in one cycle of superinterfaces
 entries          a class whose pool has 65,534 entries, most of them methods that all name one class, one name and one descriptor

@@ -1,7 +1,7 @@
-"""Makes the table of refusals in crates/resolve_table: small classes in the shape that javac gives them, and the same with one thing changed.
+"""Makes the table of refusals in crates/test_resolving: small classes in the shape that javac gives them, and the same with one thing changed.
 
-    python3 refusals.py stdin > ../../crates/resolve_table/stdin
-    python3 refusals.py stdout > ../../crates/resolve_table/stdout
+    python3 refusals.py stdin > ../../crates/test_resolving/stdin
+    python3 refusals.py stdout > ../../crates/test_resolving/stdout
 
 Each row has a title, the class whose main is run, the files, and what refuses them, which was worked out by hand from the order of the passes:
 files are read; names; what isn't supported; superclasses and superinterfaces; the hierarchy; all else that is named; the number of files; main.

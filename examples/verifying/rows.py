@@ -1,7 +1,7 @@
-"""Makes the table of crates/verify_table: small methods, each with the place and the rule that fails first.
+"""Makes the table of crates/test_verifying: small methods, each with the place and the rule that fails first.
 
-    python3 rows.py stdin > ../../crates/verify_table/stdin
-    python3 rows.py stdout > ../../crates/verify_table/stdout
+    python3 rows.py stdin > ../../crates/test_verifying/stdin
+    python3 rows.py stdout > ../../crates/test_verifying/stdout
     python3 rows.py hotspot     # what HotSpot's verifier says of the same classes, for comparison
 
 What each row has to give was worked out by hand from the JVM Specification (SE 8), 4.7.3, 4.7.4, 4.9.1 and 4.10.1, and

@@ -7,8 +7,8 @@ use Rattle.machine_stands.specs.Comes.{ComesTo}
 use Rattle.machine_stands.specs.Simulates.{Simulates}
 use Rattle.value_steps.specs.Family.{moves_values}
 use Rattle.number_steps.specs.Laws.{computes_numbers}
-use Rattle.micro_calls.specs.Family.{calls_by_receiver, calls_or_returns, throws}
-use Rattle.micro_objects.specs.Family.{is_device}
+use Rattle.call_steps.specs.Family.{calls_by_receiver, calls_or_returns, throws}
+use Rattle.device_steps.specs.Family.{is_device}
 use Rattle.heap_steps.specs.Family.{is_of_array, is_of_field}
 use Rattle.object_steps.specs.Family.{allocates, is_monitor, tests_types}
 use Rattle.jop_opcodes.specs.declared.instruction.Instr.{Instr}

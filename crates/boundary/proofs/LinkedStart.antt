@@ -2,7 +2,7 @@
 use Rattle.std.proofs.Common.{◌≡◌, ℕ, ◌+◌, ◌-◌, ◌*◌, ◌/◌, ◌%◌, ◌^◌, ◌<◌, ◌≤◌, Bool, true, false, if◌then◌else◌, List, [], ◌∷◌, ◌++◌, Option, Some, None, map, length, refl, sym, ◌∙◌, ap, subst, arith, add-zero, append-nil, length-append}
 use Rattle.std.specs.Prelude.{slice_get, slice_index, slice_range, IsTrue}
 use Rattle.std.specs.List.{flat_map}
-use Rattle.core_words.specs.Packed.{words_for, words_of_bytes, PackedHasBytes, PackedHasWords}
+use Rattle.word32.specs.Packed.{words_for, words_of_bytes, PackedHasBytes, PackedHasWords}
 use Rattle.method_cache.specs.Contents.{empty, can_load}
 use Rattle.jop_core.specs.Operations.{code_place, code_words}
 use Rattle.jop_core.specs.Reset.{Start, linked_start, linked_reset, reset_of}

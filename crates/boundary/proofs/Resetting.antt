@@ -11,7 +11,7 @@ use Rattle.std.proofs.Math.Seq.{drop-append_seam, take-append_seam}
 use Rattle.stack_cache.specs.Size.{IsSize}
 use Rattle.microcode_rom.specs.declared.TheConstants.{CONSTANTS as NUMBERS}
 use Rattle.jop_core.specs.declared.places.TheConstants.{CONSTANTS, STACK}
-use Rattle.core_words.specs.Packed.{words_for, words_of_bytes, PackedHasBytes, PackedHasWords}
+use Rattle.word32.specs.Packed.{words_for, words_of_bytes, PackedHasBytes, PackedHasWords}
 use Rattle.method_cache.specs.Contents.{Entry, Cache, IsCache, AreApart, HaveWords, total_blocks, blocks_for, empty, loaded, can_load, find_words}
 use Rattle.memory_timing.specs.declared.Config.{Config}
 use Rattle.jop_core.specs.Reset.{Start, reset_of, reset_words, places}

@@ -2,8 +2,8 @@
 use Rattle.std.specs.Prelude.{ℕ, Bool, ◌||◌}
 use Rattle.value_steps.specs.Family.{moves_values}
 use Rattle.number_steps.specs.Laws.{computes_numbers}
-use Rattle.micro_calls.specs.Family.{calls_by_receiver, calls_or_returns, throws}
-use Rattle.micro_objects.specs.Family.{is_device}
+use Rattle.call_steps.specs.Family.{calls_by_receiver, calls_or_returns, throws}
+use Rattle.device_steps.specs.Family.{is_device}
 use Rattle.heap_steps.specs.Family.{is_of_array, is_of_field}
 use Rattle.object_steps.specs.Family.{allocates, is_monitor, tests_types}
 

@@ -1,7 +1,7 @@
 -- A linked program at the start of its run.
 use Rattle.std.specs.Prelude.{◌≡◌, ℕ, ◌-◌, ◌≤◌, true, List, length, IfSome, IsTrue}
 use Rattle.stack_cache.specs.Size.{IsSize}
-use Rattle.core_words.specs.Packed.{words_for}
+use Rattle.word32.specs.Packed.{words_for}
 use Rattle.method_cache.specs.Contents.{empty, can_load}
 use Rattle.memory_timing.specs.declared.Config.{Config}
 use Rattle.jop_core.specs.State as machine

@@ -32,8 +32,8 @@ pub fn linked_runs_begin()
 {
     bytecode_typing::the_boot_state_fits();
     bytecode_typing::fitting_states_are_well_formed();
-    core_words::laws::packed_has_words();
-    core_words::laws::packed_has_bytes();
+    word32::laws::packed_has_words();
+    word32::laws::packed_has_bytes();
     image_facts::words_are_read_and_written();
     image_facts::words_lie();
     image_facts::image_words_lie();
@@ -46,10 +46,10 @@ pub fn families_are_simulated()
 {
     value_steps::laws::values_are_moved();
     number_steps::laws::numbers_are_computed();
-    micro_calls::laws::static_calls_and_returns();
-    micro_calls::laws::calls_by_receiver_come();
-    micro_calls::laws::throws_come();
-    micro_objects::laws::devices_are_simulated();
+    call_steps::laws::static_calls_and_returns();
+    call_steps::laws::calls_by_receiver_come();
+    call_steps::laws::throws_come();
+    device_steps::laws::devices_are_simulated();
     heap_steps::laws::fields_are_simulated();
     heap_steps::laws::arrays_are_simulated();
     object_steps::laws::objects_are_made();
@@ -67,7 +67,7 @@ pub fn stages_advance()
     ensures { StagesAdvance }
 {
     families_are_simulated();
-    micro_calls::laws::raises_come();
+    call_steps::laws::raises_come();
     machine_stands::rows_are_read();
     bytecode_model::laws::rows_are_of_their_opcodes();
     jop_opcodes::laws::instructions_are_read();
@@ -89,7 +89,7 @@ pub fn stages_end_soon()
 {
     stages_advance();
     costs_are_small();
-    core_words::laws::packed_has_words();
+    word32::laws::packed_has_words();
     jop_opcodes::laws::instructions_end_within();
     machine_stands::fixed_words_are_read();
     bytecode_typing::fitting_states_are_well_formed();

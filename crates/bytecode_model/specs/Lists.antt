@@ -1,6 +1,6 @@
 -- Partial results, one after another.
 use Rattle.std.specs.Prelude.{ℕ, zero, suc, List, [], ◌∷◌, Option, Some, None, ℤ, pos, negsuc}
-pub use Rattle.list_words.specs.Lists.{onto, index_of}
+pub use Rattle.lists.specs.Lists.{onto, index_of}
 
 -- the list with the item at this index replaced, where there is one
 abbrev pub replaced : {A : Type 0} → List A → ℕ → A → Option (List A)

@@ -158,11 +158,15 @@ module _ (P : Program) (n : ℕ) (m : Method) (b : Body) (frames : ℕ → Optio
       need (is_seen_as (OfClass named) t) rule.Stack
       (Leaves (Some (with_types f.locals (result_types k.result ++ rest2))) (may_access t) (is_initialized t && list_all is_initialized taken) true))))
 
-  -- the return instruction of the method's descriptor; an `<init>` returns once `this` is initialised
+  -- whether a return may come now: an `<init>` returns once `this` is initialised
+  abbrev pub may_return : Bool
+  may_return = not (m.is_init && f.flag)
+
+  -- the return instruction of the method's descriptor
   abbrev pub return_check : (result : Option Declared) → (given : Option Moved) → Checked
-  return_check None None = Leaves None true (not f.flag) true
+  return_check None None = Leaves None true may_return true
   return_check (Some d) (Some sort) =
-      on_type f.stack (λ t rest. need (moves sort t && is_seen_for d t) rule.Stack (Leaves None true (is_initialized t && not f.flag) true))
+      on_type f.stack (λ t rest. need (moves sort t && is_seen_for d t) rule.Stack (Leaves None true (is_initialized t && may_return) true))
   return_check result given = Fails rule.Stack
 
   -- the instruction of a row

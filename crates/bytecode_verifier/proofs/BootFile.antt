@@ -19,7 +19,7 @@ use Rattle.core_classes.specs.Core as core
 use Rattle.core_classes.specs.Core.{object_name, string_name, no_arguments, call_pieces, main_pieces, boot_pieces, boot_method, boot_plan, boot}
 use Rattle.core_classes.specs.Laws.{BootSaysPlan}
 use Rattle.class_lookup.specs.Parts.{text_at, class_text, name_of, superclass_name}
-use Rattle.list_words.specs.Lists.{onto}
+use Rattle.lists.specs.Lists.{onto}
 use Rattle.program_tables.specs.Core.{boot_name}
 use Rattle.program_tables.specs.Instructions as named
 use Rattle.program_tables.specs.Instructions.{Named, named_by, named_in}

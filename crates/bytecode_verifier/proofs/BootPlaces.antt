@@ -3,9 +3,9 @@ use Rattle.std.proofs.Common.{◌≡◌, ℕ, zero, suc, ◌+◌, ◌<◌, Bool,
 use Rattle.std.specs.Prelude.{slice_get, if◌then◌else◌}
 use Rattle.std.specs.Option.{option_to_list}
 use Rattle.std.specs.List.{range_with_len, enumerate_from, filter, flat_map}
-use Rattle.list_words.specs.Lists.{first_some}
-use Rattle.list_words.specs.Numbers.{reached}
-use Rattle.list_words.specs.Lemmas.{some_same, index_found, index_there}
+use Rattle.lists.specs.Lists.{first_some}
+use Rattle.lists.specs.Numbers.{reached}
+use Rattle.lists.specs.Lemmas.{some_same, index_found, index_there}
 use Rattle.class_pool.specs.declared.class.ClassFile.{ClassFile}
 use Rattle.class_lookup.specs.Parts.{Signature, is_init}
 use Rattle.class_lookup.specs.Hierarchy.{superclass, superinterfaces, is_interface, superclasses, with_superinterfaces, all_superinterfaces}

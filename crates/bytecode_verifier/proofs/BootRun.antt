@@ -4,8 +4,8 @@ use Rattle.std.specs.Prelude.{slice_get, codes, if◌then◌else◌}
 use Rattle.std.specs.Option.{option_map, option_map_or}
 use Rattle.std.specs.Cmp.Lexicographic.{same_text as texts_same}
 use Rattle.std.proofs.lemmas.Option.{slice_get_within}
-use Rattle.list_words.specs.Lists.{onto}
-use Rattle.list_words.specs.Lemmas.{index_found, map_some, onto_some}
+use Rattle.lists.specs.Lists.{onto}
+use Rattle.lists.specs.Lemmas.{index_found, map_some, onto_some}
 use Rattle.class_pool.specs.declared.class.Code.{Code}
 use Rattle.class_pool.specs.declared.class.Member.{Member}
 use Rattle.class_pool.specs.declared.class.ClassFile.{ClassFile}

@@ -5,8 +5,8 @@ use Rattle.std.specs.Option.{option_to_list, option_map_or}
 use Rattle.std.specs.List.{list_all, range_with_len, flat_map, filter, enumerate_from}
 use Rattle.std.proofs.lemmas.Bool.{cases_lt}
 use Rattle.std.proofs.lemmas.List.{length-append}
-use Rattle.list_words.specs.Lists.{onto, index_of}
-use Rattle.list_words.specs.Numbers.{reached}
+use Rattle.lists.specs.Lists.{onto, index_of}
+use Rattle.lists.specs.Numbers.{reached}
 use Rattle.class_pool.specs.declared.class.ClassFile.{ClassFile}
 use Rattle.class_making.specs.Plans.{items_of, class_of}
 use Rattle.core_classes.specs.Core.{empty_init, object_plan, interface_plan, length_method, char_at_method, string_plan, plain_init, keeping_init, get_message_method, throwable_plan, handing_init, error_plan, error_plans, read_method, write_method, io_plan, first_plans, core_plans, core}

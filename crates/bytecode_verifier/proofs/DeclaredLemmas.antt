@@ -14,12 +14,12 @@ use Rattle.descriptors.specs.Parsing.{field_in}
 use Rattle.class_rules.specs.Rules.{IsRightField}
 use Rattle.class_rules.specs.Grammar.{IsClass}
 use Rattle.bytecode_model.specs.Types.{IntType, LongType, OfClass, OfNumbers, Declared, Numeric, Reference}
-use Rattle.list_words.specs.Lists.{onto}
-use Rattle.list_words.specs.Lemmas.{none≢some, some_same, onto_some}
+use Rattle.lists.specs.Lists.{onto}
+use Rattle.lists.specs.Lemmas.{none≢some, some_same, onto_some}
 use Rattle.class_lookup.specs.Parts.{text_at, superclass_name, is_static}
 use Rattle.class_lookup.specs.Hierarchy.{find_class, superclass, superclasses}
 use Rattle.class_lookup.specs.Lookup.{Place, field_at}
-use Rattle.list_words.specs.Numbers.{reached}
+use Rattle.lists.specs.Numbers.{reached}
 use Rattle.program_tables.specs.declared.refusal.Item.{Item}
 use Rattle.program_tables.specs.declared.refusal.Item.TheVariants.{DescriptorFloat, DescriptorDouble}
 use Rattle.program_tables.specs.declared.refusal.Site.{Site}

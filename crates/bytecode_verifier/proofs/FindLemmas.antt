@@ -1,8 +1,8 @@
 -- What the rules say of an instruction of a known family.
 use Rattle.std.proofs.Common.{◌≡◌, ℕ, suc, Bool, true, false, List, Option, Some, None, refl, sym, ap}
 use Rattle.std.specs.Prelude.{if◌then◌else◌}
-use Rattle.list_words.specs.Lists.{onto}
-use Rattle.list_words.specs.Lemmas.{none≢some, some_same}
+use Rattle.lists.specs.Lists.{onto}
+use Rattle.lists.specs.Lemmas.{none≢some, some_same}
 use Rattle.bytecode_model.specs.Types.{Kind, OfReferences}
 use Rattle.program_tables.specs.Kinds.{arrays_of}
 use Rattle.bytecode_model.specs.Rows.{Row}

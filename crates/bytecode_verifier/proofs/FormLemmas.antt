@@ -3,8 +3,8 @@ use Rattle.std.proofs.Common.{◌≡◌, ℕ, ◌+◌, Bool, true, false, ◌||�
 use Rattle.std.specs.Prelude.{IfSome}
 use Rattle.std.specs.Option.{option_map}
 use Rattle.jop_opcodes.specs.declared.instruction.Instr.{Instr}
-use Rattle.list_words.specs.Lists.{onto}
-use Rattle.list_words.specs.Lemmas.{none≢some, some_same, onto_some}
+use Rattle.lists.specs.Lists.{onto}
+use Rattle.lists.specs.Lemmas.{none≢some, some_same, onto_some}
 use Rattle.bytecode_model.specs.Program.{Program, Body, Operand, body_of, as_instr, instr_at}
 use Rattle.jop_opcodes.specs.Instruction.{decoded}
 use Rattle.bytecode_model.specs.Rows as rows

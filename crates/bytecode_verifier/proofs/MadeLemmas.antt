@@ -12,7 +12,7 @@ use Rattle.jop_opcodes.specs.Instruction.{decoded}
 use Rattle.jop_opcodes.specs.Start.{AreStarts, starts_of}
 use Rattle.jop_opcodes.specs.Target.{WholeIsWithin}
 use Rattle.class_pool.specs.declared.class.Code.{Code}
-use Rattle.list_words.specs.Lists.{onto}
+use Rattle.lists.specs.Lists.{onto}
 use Rattle.frame_types.specs.declared.types.TypeFrame.{TypeFrame}
 use Rattle.frame_types.specs.Laws.{StandFrom}
 use Rattle.frame_types.proofs.SearchLemmas.{among_contains}

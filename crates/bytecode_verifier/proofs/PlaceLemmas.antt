@@ -3,8 +3,8 @@ use Rattle.std.proofs.Common.{◌≡◌, ℕ, Bool, true, false, ◌&&◌, List,
 use Rattle.std.specs.Prelude.{IfSome, if◌then◌else◌}
 use Rattle.jop_opcodes.specs.declared.instruction.Instr.{Instr}
 use Rattle.jop_opcodes.specs.Instruction.{decoded}
-use Rattle.list_words.specs.Lists.{onto}
-use Rattle.list_words.specs.Lemmas.{none≢some, some_same}
+use Rattle.lists.specs.Lists.{onto}
+use Rattle.lists.specs.Lemmas.{none≢some, some_same}
 use Rattle.bytecode_model.specs.Program.{Program, Method, Body, Handler, as_instr, instr_at}
 use Rattle.bytecode_model.specs.Rows.{Row}
 use Rattle.bytecode_model.specs.Table.{row_of}

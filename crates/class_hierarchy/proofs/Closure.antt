@@ -3,8 +3,8 @@ use Rattle.std.proofs.Common.{◌≡◌, ℕ, zero, suc, ◌+◌, ◌<◌, ◌�
 use Rattle.std.specs.Prelude.{if◌then◌else◌}
 use Rattle.std.specs.List.{flat_map}
 use Rattle.std.proofs.lemmas.Bool.{cases_Bool, cases_lt, or_cases, or_left, or_right, eqb-true, eq-eqb, false≢true}
-use Rattle.list_words.specs.Numbers.{is_among, reached}
-use Rattle.list_words.proofs.Reached.{in_flat, flat_in}
+use Rattle.lists.specs.Numbers.{is_among, reached}
+use Rattle.lists.proofs.Reached.{in_flat, flat_in}
 
 -- the second number is reached from the first by fewer steps than so many
 abbrev pub R : (ℕ → List ℕ) → (steps c d : ℕ) → Bool

@@ -7,9 +7,9 @@ use Rattle.std.proofs.lemmas.List.{get_or_append_left}
 use Rattle.std.proofs.lemmas.List.Folds.{list_any_more}
 use Rattle.std.proofs.lemmas.Map.Steps.{length-le_from_distinct_below}
 use Rattle.class_pool.specs.declared.class.ClassFile.{ClassFile}
-use Rattle.list_words.specs.Numbers.{is_among, reached}
-use Rattle.list_words.proofs.Reached.{in_append, in_flat}
-use Rattle.list_words.proofs.Among.{among_at}
+use Rattle.lists.specs.Numbers.{is_among, reached}
+use Rattle.lists.proofs.Reached.{in_append, in_flat}
+use Rattle.lists.proofs.Among.{among_at}
 use Rattle.class_lookup.specs.Hierarchy.{direct_supertypes, supertypes, extends, is_on_a_cycle, IsAcyclic}
 use Rattle.upward_order.specs.Numbers.{with_number}
 use Rattle.upward_order.proofs.Marks.{any_flip}

@@ -6,8 +6,8 @@ use Rattle.std.specs.List.{flat_map}
 use Rattle.std.proofs.lemmas.Bool.{and_parts, and_from, eqb-true}
 use lib.Pointwise.{bytes_decides}
 use Rattle.class_pool.specs.declared.class.ClassFile.{ClassFile}
-use Rattle.list_words.proofs.Reached.{reached_step}
-use Rattle.list_words.proofs.Among.{in_left, in_right, option_in}
+use Rattle.lists.proofs.Reached.{reached_step}
+use Rattle.lists.proofs.Among.{in_left, in_right, option_in}
 use Rattle.class_lookup.specs.Parts.{same_text, Signature, same_signature}
 use Rattle.class_lookup.specs.Hierarchy.{superclass, superclasses, superinterfaces, direct_supertypes, is_among, IsAcyclic}
 use Rattle.class_lookup.specs.Lookup.{Place, same_place}

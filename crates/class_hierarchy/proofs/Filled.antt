@@ -11,7 +11,7 @@ use Rattle.class_lookup.specs.Hierarchy.{superclass, superclasses, superinterfac
 use Rattle.class_hierarchy.proofs.Directly.{upward_step, super_list, super_is_above, interface_is_above}
 use Rattle.upward_order.specs.Numbers.{entry, IsSameSearch, HasAll}
 use Rattle.class_hierarchy.specs.TopDown.{IsTopDown}
-use Rattle.list_words.proofs.Finding.{same_search, same_append, same_flat}
+use Rattle.lists.proofs.Finding.{same_search, same_append, same_flat}
 use Rattle.class_hierarchy.proofs.Ranks.{direct_below}
 
 pub record IsFilled (P : ℕ → List ℕ → Type 0) (most : ℕ) (done : List ℕ) (table : List (List ℕ)) : Type 0 where

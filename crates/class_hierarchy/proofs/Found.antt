@@ -6,8 +6,8 @@ use Rattle.std.specs.List.{list_any}
 use Rattle.std.proofs.lemmas.Bool.{cond-true, cond-false, false_from_ne_true}
 use Rattle.class_pool.specs.declared.class.Member.{Member}
 use Rattle.class_pool.specs.declared.class.ClassFile.{ClassFile}
-use Rattle.list_words.specs.Lists.{onto, index_of}
-use Rattle.list_words.specs.Lemmas.{none≢some}
+use Rattle.lists.specs.Lists.{onto, index_of}
+use Rattle.lists.specs.Lemmas.{none≢some}
 use Rattle.class_lookup.specs.Lists.{first_some}
 use Rattle.class_lookup.specs.Parts.{Signature, signature_of, same_signature, is_init}
 use Rattle.class_lookup.specs.Hierarchy.{superclass, superclasses, supertypes, with_superinterfaces, all_superinterfaces, is_interface, is_among, is_subclass}
@@ -17,8 +17,8 @@ use Rattle.class_lookup.specs.Laws.{MembersHaveSymbols}
 use Rattle.class_lookup.specs.Symbols.{symbol}
 use Rattle.class_hierarchy.specs.Tables.{AreAbove}
 use Rattle.class_hierarchy.specs.declared.above.Above.{Above}
-use Rattle.list_words.proofs.Finding.{all_none, search_append}
-use Rattle.list_words.proofs.Tables.{entry_read}
+use Rattle.lists.proofs.Finding.{all_none, search_append}
+use Rattle.lists.proofs.Tables.{entry_read}
 use Rattle.class_hierarchy.proofs.Directly.{signature_same}
 
 -- ---- a name or a descriptor without a symbol

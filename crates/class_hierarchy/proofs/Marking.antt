@@ -10,8 +10,8 @@ use Rattle.bit_rows.specs.Table.{BitTable, columns}
 use Rattle.bit_rows.specs.declared.rows.Row.{Row}
 use Rattle.class_pool.specs.declared.class.Member.{Member}
 use Rattle.class_pool.specs.declared.class.ClassFile.{ClassFile}
-use Rattle.list_words.specs.Lists.{onto, index_of}
-use Rattle.list_words.specs.Lemmas.{some_same, none≢some, index_append}
+use Rattle.lists.specs.Lists.{onto, index_of}
+use Rattle.lists.specs.Lemmas.{some_same, none≢some, index_append}
 use Rattle.class_lookup.specs.Parts.{Signature, signature_of, same_signature, text_at}
 use Rattle.class_lookup.specs.Lookup.{Place, declared, declared_in}
 use Rattle.class_lookup.specs.Symbols.{symbol}

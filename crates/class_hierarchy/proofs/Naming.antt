@@ -3,8 +3,8 @@ use Rattle.std.proofs.Common.{◌≡◌, ℕ, suc, ◌+◌, ◌<◌, List, ◌�
 use Rattle.std.specs.Prelude.{slice_get}
 use Rattle.class_pool.specs.declared.class.Member.{Member}
 use Rattle.class_pool.specs.declared.class.ClassFile.{ClassFile}
-use Rattle.list_words.specs.Lists.{onto, first_some}
-use Rattle.list_words.specs.Lemmas.{onto_some, index_found}
+use Rattle.lists.specs.Lists.{onto, first_some}
+use Rattle.lists.specs.Lemmas.{onto_some, index_found}
 use Rattle.class_lookup.specs.Parts.{signature_of, same_text, text_at}
 use Rattle.class_lookup.specs.Lookup.{Place, method_at}
 use Rattle.class_lookup.specs.Symbols.{texts, symbol}

@@ -8,12 +8,12 @@ use Rattle.std.proofs.lemmas.Bool.{cases_lt, cases_Bool, or_cases, eqb-true, fal
 use Rattle.std.proofs.lemmas.List.{get_or_past, get_or_append_left}
 use Rattle.std.proofs.lemmas.Option.{slice_get_within, slice_get_past}
 use Rattle.class_pool.specs.declared.class.ClassFile.{ClassFile}
-use Rattle.list_words.specs.Lists.{onto}
-use Rattle.list_words.specs.Lemmas.{onto_some, index_found}
+use Rattle.lists.specs.Lists.{onto}
+use Rattle.lists.specs.Lemmas.{onto_some, index_found}
 use Rattle.class_lookup.specs.Parts.{same_text, name_of, superclass_name, superinterface_names}
 use Rattle.class_lookup.specs.Hierarchy.{find_class, superclass, superinterfaces, direct_supertypes, is_among, IsAcyclic}
-use Rattle.list_words.proofs.Reached.{in_append}
-use Rattle.list_words.proofs.Among.{in_option}
+use Rattle.lists.proofs.Reached.{in_append}
+use Rattle.lists.proofs.Among.{in_option}
 use Rattle.class_hierarchy.specs.TopDown.{IsTopDown}
 use Rattle.upward_order.specs.Numbers.{entry, IsPeeled, IsStuck, HasAll, HasRanks}
 

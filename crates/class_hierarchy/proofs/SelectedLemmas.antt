@@ -3,12 +3,12 @@ use Rattle.std.proofs.Common.{◌≡◌, ℕ, ◌<◌, Bool, true, false, List, 
 use Rattle.std.specs.Prelude.{slice_get, if◌then◌else◌}
 use Rattle.std.specs.List.{filter_map, cons_option, find}
 use Rattle.std.specs.Result.{IfOk}
-use Rattle.list_words.proofs.Searching.{map_same}
+use Rattle.lists.proofs.Searching.{map_same}
 use Rattle.std.proofs.lemmas.Option.{slice_get_within}
 use Rattle.std.proofs.lemmas.Bool.{cond-true, cond-false}
 use Rattle.class_pool.specs.declared.class.ClassFile.{ClassFile}
-use Rattle.list_words.specs.Lists.{onto}
-use Rattle.list_words.specs.Lemmas.{onto_some}
+use Rattle.lists.specs.Lists.{onto}
+use Rattle.lists.specs.Lemmas.{onto_some}
 use Rattle.class_lookup.specs.Parts.{Signature, signature_of}
 use Rattle.class_lookup.specs.Hierarchy.{superclass, superclasses, is_interface}
 use Rattle.class_lookup.specs.Lookup.{Place, method_at, declared_method}

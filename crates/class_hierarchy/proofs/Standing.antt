@@ -6,11 +6,11 @@ use Rattle.std.specs.List.{filter_map, flat_map}
 use Rattle.class_pool.specs.declared.class.ClassFile.{ClassFile}
 use Rattle.class_lookup.specs.Parts.{superinterface_names}
 use Rattle.class_lookup.specs.Hierarchy.{find_class, superinterfaces, direct_supertypes, supertypes, with_superinterfaces, reached, is_among}
-use Rattle.list_words.proofs.Reached.{flat_same}
+use Rattle.lists.proofs.Reached.{flat_same}
 use Rattle.class_hierarchy.proofs.Directly.{interface_is_above}
 use Rattle.upward_order.specs.Numbers.{entry, IsSameSearch, IsPeeled, HasAll}
 use Rattle.class_hierarchy.specs.TopDown.{IsTopDown}
-use Rattle.list_words.proofs.Tables.{same_along}
+use Rattle.lists.proofs.Tables.{same_along}
 
 pub peeled_of : (cs : List ClassFile) (above : List (List ℕ)) (order : List ℕ) → length above ≡ length cs → ((c d : ℕ) → is_among (entry above c) d ≡ true → is_among (direct_supertypes cs c) d ≡ true) → IsTopDown cs order → IsPeeled above order
 peeled_of cs above order long within o = record {

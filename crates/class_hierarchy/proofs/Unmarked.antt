@@ -5,8 +5,8 @@ use Rattle.bit_rows.specs.Bits.{has}
 use Rattle.bit_rows.specs.Table.{BitTable}
 use Rattle.class_pool.specs.declared.class.Member.{Member}
 use Rattle.class_pool.specs.declared.class.ClassFile.{ClassFile}
-use Rattle.list_words.specs.Lists.{onto, first_some}
-use Rattle.list_words.proofs.Finding.{all_none}
+use Rattle.lists.specs.Lists.{onto, first_some}
+use Rattle.lists.proofs.Finding.{all_none}
 use Rattle.class_lookup.specs.Parts.{Signature}
 use Rattle.class_lookup.specs.Lookup.{Place, declared, declared_method}
 use Rattle.class_lookup.specs.Symbols.{symbol}

@@ -1,7 +1,7 @@
 -- Methods by the symbols of their names and descriptors.
 use Rattle.std.specs.Prelude.{◌≡◌, ℕ, List, Option, Some, None}
 use Rattle.class_pool.specs.declared.class.ClassFile.{ClassFile}
-use Rattle.list_words.specs.Lists.{onto}
+use Rattle.lists.specs.Lists.{onto}
 use Rattle.class_lookup.specs.Parts.{Signature}
 use Rattle.class_lookup.specs.Lookup.{Place, declared_method}
 use Rattle.class_lookup.specs.Selection.{signature_at}

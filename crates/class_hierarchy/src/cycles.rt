@@ -2,7 +2,7 @@
 
 ghost use Rattle.std.specs.Prelude.{◌≡◌, ℕ, ◌||◌, ◌<◌, ◌≤◌, ◌^◌, false, length, slice_index, IsTrue, IfOk, OnOk};
 ghost use Rattle.std.specs.List.{find, range_with_len};
-ghost use Rattle.list_words.specs.Numbers.{is_among};
+ghost use Rattle.lists.specs.Numbers.{is_among};
 ghost use Rattle.class_lookup.specs.Hierarchy.{direct_supertypes, is_on_a_cycle, IsAcyclic};
 ghost use Rattle.upward_order.specs.Numbers.{entry};
 ghost use Rattle.class_hierarchy.specs.Cycles.{Grows};

@@ -7,8 +7,8 @@ use Rattle.std.proofs.lemmas.Bool.{or_cases, or_left, or_right, eq-eqb, false≢
 use Rattle.class_pool.specs.declared.class.ClassFile.{ClassFile}
 use Rattle.class_lookup.specs.Hierarchy.{superclass, superinterfaces, direct_supertypes, superclasses, supertypes, is_among, is_subclass, extends, is_on_a_cycle, IsRanked, IsAcyclic}
 use Rattle.class_lookup.specs.Laws.{HierarchyLaw, SuperclassesLaw}
-pub use Rattle.list_words.proofs.Among.{in_option, option_in}
-use Rattle.list_words.proofs.Among.{in_left, in_right}
+pub use Rattle.lists.proofs.Among.{in_option, option_in}
+use Rattle.lists.proofs.Among.{in_left, in_right}
 use Rattle.class_lookup.proofs.Reached.{Falls, here, beyond, way_of, in_append, reached_self, reached_by, reached_through, reached_rank, reached_kept, reached_step}
 
 abbrev pub rank_in : List ℕ → ℕ → ℕ

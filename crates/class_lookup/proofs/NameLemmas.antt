@@ -5,7 +5,7 @@ use Rattle.std.specs.List.{filter_map, cons_option}
 use Rattle.std.proofs.lemmas.List.{map-append}
 use Rattle.std.proofs.lemmas.List.Elements.{filter_map-append}
 use Rattle.std.proofs.lemmas.Grind.{take_at_read}
-pub use Rattle.list_words.proofs.Lookups.{named, text_back, lookup_append, copied_none, copied_some, copied_is}
+pub use Rattle.lists.proofs.Lookups.{named, text_back, lookup_append, copied_none, copied_some, copied_is}
 
 -- one more class
 pub next_map : {X Y : Type 0} (f : X → Y) (xs : List X) (i : ℕ) (x : X) (ys : List Y) (y : Y) → i < length xs → x ≡ get_or xs i x → ys ≡ map f (take i xs) → y ≡ f x → ys ++ y ∷ [] ≡ map f (take (i + 1) xs)

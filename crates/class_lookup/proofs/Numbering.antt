@@ -5,8 +5,8 @@ use Rattle.std.specs.Option.{option_or}
 use Rattle.std.specs.List.{list_any, position_or_len}
 use Rattle.std.proofs.lemmas.List.{map-append}
 use Rattle.std.proofs.lemmas.Bool.{true≢false, lt-ltb, le-ltb, ltb-true, ltb-false}
-use Rattle.list_words.specs.Lists.{onto, index_of}
-use Rattle.list_words.specs.Lemmas.{none≢some, some_same, index_append, index_found}
+use Rattle.lists.specs.Lists.{onto, index_of}
+use Rattle.lists.specs.Lemmas.{none≢some, some_same, index_append, index_found}
 use Rattle.class_lookup.specs.Parts.{same_text}
 use Rattle.class_lookup.specs.Lists.{with_item, with_items}
 use Rattle.class_lookup.specs.Numbered.{number_in, AreNumbered}

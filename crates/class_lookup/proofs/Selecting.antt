@@ -6,8 +6,8 @@ use Rattle.std.specs.List.{filter_map, flat_map, cons_option, list_any}
 use Rattle.std.proofs.lemmas.Bool.{or_cases, or_right, and_parts, and_from, false≢true, false_from_ne_true}
 use Rattle.class_pool.specs.declared.class.Member.{Member}
 use Rattle.class_pool.specs.declared.class.ClassFile.{ClassFile}
-use Rattle.list_words.specs.Lists.{onto}
-pub use Rattle.list_words.specs.Lemmas.{index_there}
+use Rattle.lists.specs.Lists.{onto}
+pub use Rattle.lists.specs.Lemmas.{index_there}
 use Rattle.class_lookup.specs.Parts.{Signature, signature_of, same_signature}
 use Rattle.class_lookup.specs.Hierarchy.{superclass, superclasses, is_among, is_subclass, IsAcyclic}
 use Rattle.class_lookup.specs.Lookup.{Place, method_at, same_place, declared_in, declared_method}

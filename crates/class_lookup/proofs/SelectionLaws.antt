@@ -5,7 +5,7 @@ use Rattle.std.specs.Option.{option_map_or}
 use Rattle.std.specs.List.{cons_option, list_any, find}
 use Rattle.std.proofs.lemmas.Bool.{and_parts, and_from, false≢true, both_ways, cond-true, cond-false, false_from_ne_true, not_from_false, not-true}
 use Rattle.class_pool.specs.declared.class.ClassFile.{ClassFile}
-use Rattle.list_words.specs.Lists.{onto}
+use Rattle.lists.specs.Lists.{onto}
 use Rattle.class_lookup.specs.Parts.{Signature}
 use Rattle.class_lookup.specs.Hierarchy.{superclass, is_interface, is_subclass, IsAcyclic}
 use Rattle.class_lookup.specs.Lookup.{Place, same_place, declared_method}

@@ -4,8 +4,8 @@ use Rattle.std.specs.Prelude.{ℕ, ◌<◌, Bool, false, not, List, [], ◌++◌
 use Rattle.std.specs.Option.{option_map_or, option_to_list}
 use Rattle.std.specs.List.{filter_map, flat_map, list_any}
 use Rattle.class_pool.specs.declared.class.ClassFile.{ClassFile}
-use Rattle.list_words.specs.Lists.{onto, index_of}
-pub use Rattle.list_words.specs.Numbers.{reached, is_among}
+use Rattle.lists.specs.Lists.{onto, index_of}
+pub use Rattle.lists.specs.Numbers.{reached, is_among}
 use Rattle.class_lookup.specs.Parts.{same_text, name_of, superclass_name, superinterface_names, is_interface_class, is_abstract_class}
 
 abbrev pub find_class : List ClassFile → (name : List ℕ) → Option ℕ

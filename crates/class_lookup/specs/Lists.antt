@@ -1,7 +1,7 @@
 -- The first of several partial results; lists without repeats.
 use Rattle.std.specs.Prelude.{Bool, not, if◌then◌else◌, List, [], ◌∷◌, ◌++◌}
 use Rattle.std.specs.List.{filter, list_any}
-pub use Rattle.list_words.specs.Lists.{first_some}
+pub use Rattle.lists.specs.Lists.{first_some}
 
 -- the items, each at its first mention
 abbrev pub distinct : {A : Type 0} → (A → A → Bool) → List A → List A

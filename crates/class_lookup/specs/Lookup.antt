@@ -3,7 +3,7 @@
 use Rattle.std.specs.Prelude.{ℕ, Bool, ◌&&◌, ◌==◌, List, ◌++◌, map, Option, option_map, if◌then◌else◌, slice_get}
 use Rattle.class_pool.specs.declared.class.Member.{Member}
 use Rattle.class_pool.specs.declared.class.ClassFile.{ClassFile}
-use Rattle.list_words.specs.Lists.{onto, index_of}
+use Rattle.lists.specs.Lists.{onto, index_of}
 use Rattle.class_lookup.specs.Lists.{first_some}
 use Rattle.class_lookup.specs.Parts.{Signature, signature_of, same_signature, is_init}
 use Rattle.class_lookup.specs.Hierarchy.{is_interface, superclasses, with_superinterfaces, supertypes, all_superinterfaces}

@@ -6,7 +6,7 @@ use Rattle.class_pool.specs.declared.entry.Entry.{Entry}
 use Rattle.class_pool.specs.declared.class.Member.{Member}
 use Rattle.class_pool.specs.declared.class.ClassFile.{ClassFile}
 use Rattle.class_pool.specs.Grammar.{utf8_of}
-use Rattle.list_words.specs.Lists.{onto, index_of}
+use Rattle.lists.specs.Lists.{onto, index_of}
 use Rattle.class_lookup.specs.Parts.{Signature, signature_of, same_signature, same_text}
 use Rattle.class_lookup.specs.Lookup.{Place}
 

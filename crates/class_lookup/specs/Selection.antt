@@ -4,7 +4,7 @@ use Rattle.std.specs.Option.{option_map_or}
 use Rattle.std.specs.List.{filter_map, find, list_any}
 use Rattle.class_pool.specs.declared.class.Member.{Member}
 use Rattle.class_pool.specs.declared.class.ClassFile.{ClassFile}
-use Rattle.list_words.specs.Lists.{onto}
+use Rattle.lists.specs.Lists.{onto}
 use Rattle.class_lookup.specs.Parts.{Signature, signature_of, is_super_class, is_public, is_private, is_protected, is_package_private, is_static, is_init}
 use Rattle.class_lookup.specs.Hierarchy.{superclass, superclasses, is_interface, is_subclass}
 use Rattle.class_lookup.specs.Lookup.{Place, method_at, same_place, declared_method}

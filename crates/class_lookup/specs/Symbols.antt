@@ -4,7 +4,7 @@ use Rattle.std.specs.List.{filter_map, flat_map}
 use Rattle.class_pool.specs.declared.entry.Entry.{Entry}
 use Rattle.class_pool.specs.declared.class.ClassFile.{ClassFile}
 use Rattle.class_pool.specs.Grammar.{utf8_of}
-use Rattle.list_words.specs.Lists.{index_of}
+use Rattle.lists.specs.Lists.{index_of}
 use Rattle.class_lookup.specs.Parts.{same_text}
 use Rattle.class_lookup.specs.Lists.{distinct}
 

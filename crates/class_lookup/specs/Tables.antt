@@ -3,7 +3,7 @@ use Rattle.std.specs.Prelude.{◌≡◌, ℕ, ◌==◌, List, length, map, Optio
 use Rattle.std.specs.List.{filter_map, AllZip}
 use Rattle.class_pool.specs.declared.class.Member.{Member}
 use Rattle.class_pool.specs.declared.class.ClassFile.{ClassFile}
-use Rattle.list_words.specs.Lists.{index_of}
+use Rattle.lists.specs.Lists.{index_of}
 use Rattle.class_lookup.specs.declared.symbols.Symbols.{Symbols}
 use Rattle.class_lookup.specs.declared.names.Names.{Names}
 use Rattle.class_lookup.specs.declared.members.Members.{Members}

@@ -2,7 +2,7 @@
 use Rattle.std.proofs.Common.{◌≡◌, ℕ, List, [], ◌∷◌, ◌++◌, Some, None, refl, ap}
 use Rattle.std.specs.Option.{option_map, option_map_or}
 use Rattle.std.specs.List.{flat_map, enumerate_from}
-use Rattle.first_found.specs.Lists.{first}
+use Rattle.lists.specs.Lists.{first}
 use Rattle.program_tables.specs.declared.refusal.Item.{Item}
 use Rattle.program_tables.specs.declared.refusal.Site.{Site}
 use Rattle.class_pool.specs.declared.class.Code.{Code}

@@ -2,7 +2,7 @@
 use Rattle.std.specs.Prelude.{◌≡◌, ℕ, List, Option, None, map}
 use Rattle.class_pool.specs.declared.entry.Entry.{Entry}
 use Rattle.class_pool.specs.declared.entry.Entry.TheVariants as entries
-use Rattle.first_found.specs.Lists.{first}
+use Rattle.lists.specs.Lists.{first}
 use Rattle.program_tables.specs.declared.refusal.Item.{Item}
 use Rattle.program_tables.specs.Unsupported.{types_in_field, types_in_method, items_of_types}
 use Rattle.class_refusals.specs.declared.tables.DescriptorItems.{DescriptorItems}

@@ -7,7 +7,7 @@ ghost use Rattle.class_rules.specs.Grammar.{IsClass};
 ghost use Rattle.program_tables.specs.Instructions.{placed_at, instructions_in};
 ghost use Rattle.program_tables.specs.Tables.{HasBounds};
 ghost use Rattle.program_tables.specs.Unsupported.{unsupported_in};
-ghost use Rattle.first_found.specs.Lists.{first};
+ghost use Rattle.lists.specs.Lists.{first};
 ghost use Rattle.class_refusals.specs.Descriptors.{AreItems};
 ghost use Rattle.class_refusals.specs.Causes.{unsupported_at_field, unsupported_at, unsupported_in_method};
 

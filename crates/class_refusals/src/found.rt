@@ -7,7 +7,7 @@ ghost use Rattle.program_tables.specs.declared.refusal.Item.TheVariants.{Descrip
 ghost use Rattle.program_tables.specs.Tables.{seen_in};
 ghost use Rattle.program_tables.specs.Unsupported.{is_float, is_double, types_in_field, types_in_method, types_of_method, items_where, items_of_types, items_of_constant, items_of_named, items_of_newarray, items_at_field, has_interface_code};
 ghost use Rattle.program_tables.specs.Core.{is_io};
-ghost use Rattle.first_found.specs.Lists.{first};
+ghost use Rattle.lists.specs.Lists.{first};
 ghost use Rattle.class_refusals.specs.Descriptors.{AreItems};
 ghost use Rattle.class_refusals.specs.Causes.{instruction_items, method_items};
 

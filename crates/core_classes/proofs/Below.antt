@@ -6,7 +6,7 @@ use Rattle.std.specs.List.{list_all, list_any, filter, filter_map, cons_option, 
 use Rattle.std.proofs.Math.Dec.{eqb-suc-zero}
 use Rattle.std.proofs.lemmas.Bool.{eqb-true}
 use Rattle.std.proofs.lemmas.Option.{slice_get_within}
-use Rattle.list_words.specs.Lists.{onto}
+use Rattle.lists.specs.Lists.{onto}
 use Rattle.bytecode_model.specs.Program.{object_class}
 use Rattle.program_tables.specs.declared.refusal.Why.TheVariants.{NotImplemented}
 use Rattle.class_pool.specs.declared.class.Member.{Member}

@@ -5,9 +5,9 @@ use Rattle.std.specs.Option.{option_map_or, option_to_list, option_or}
 use Rattle.std.specs.List.{list_all, list_any, filter, filter_map, cons_option, flat_map, range_with_len, AllByRecursion}
 use Rattle.std.proofs.lemmas.Bool.{le-ltb, eq-eqb}
 use Rattle.std.proofs.lemmas.List.{length-append}
-use Rattle.list_words.specs.Lists.{onto, first_some}
-use Rattle.list_words.specs.Numbers.{reached}
-use Rattle.list_words.specs.Lemmas.{index_append}
+use Rattle.lists.specs.Lists.{onto, first_some}
+use Rattle.lists.specs.Numbers.{reached}
+use Rattle.lists.specs.Lemmas.{index_append}
 use Rattle.class_pool.specs.declared.class.Member.{Member}
 use Rattle.class_pool.specs.declared.class.ClassFile.{ClassFile}
 use Rattle.jop_opcodes.specs.declared.instruction.Instr.{Instr}

@@ -14,7 +14,7 @@ use Rattle.class_making.specs.Plans.{piece_mentions, plan_mentions, items_of}
 use Rattle.class_making.specs.Laws.{ItemsAreFew}
 use Rattle.core_classes.specs.Core.{string_name, call_pieces, main_pieces, boot_pieces, boot_method, boot_plan}
 use Rattle.class_lookup.specs.Parts.{text_at, class_text}
-use Rattle.list_words.specs.Lists.{onto}
+use Rattle.lists.specs.Lists.{onto}
 use Rattle.program_tables.specs.Instructions as named
 use Rattle.program_tables.specs.Instructions.{Named, named_by}
 use Rattle.core_classes.proofs.BootWalk.{call_item, main_item}

@@ -4,8 +4,8 @@ use Rattle.std.specs.Prelude.{IsTrue, ◌&&◌, slice_get}
 use Rattle.std.specs.Option.{option_to_list}
 use Rattle.std.specs.List.{list_all, flat_map}
 use Rattle.std.proofs.lemmas.List.{append-nil, length-append}
-use Rattle.list_words.specs.Lists.{onto}
-use Rattle.list_words.specs.Numbers.{reached}
+use Rattle.lists.specs.Lists.{onto}
+use Rattle.lists.specs.Numbers.{reached}
 use Rattle.class_pool.specs.declared.class.Member.{Member}
 use Rattle.class_pool.specs.declared.class.ClassFile.{ClassFile}
 use Rattle.class_making.specs.Plans.{items_of, class_of}

@@ -3,8 +3,8 @@ use Rattle.std.proofs.Common.{◌≡◌, ℕ, zero, suc, ◌+◌, ◌<◌, Bool,
 use Rattle.std.specs.Prelude.{slice_get, nat_lt, if◌then◌else◌}
 use Rattle.std.specs.List.{list_all, list_any, filter, flat_map, enumerate_from, AllByRecursion}
 use Rattle.std.proofs.lemmas.Bool.{ltb-true, eqb-true}
-use Rattle.list_words.specs.Lists.{onto, index_of}
-use Rattle.list_words.specs.Numbers.{reached, is_among}
+use Rattle.lists.specs.Lists.{onto, index_of}
+use Rattle.lists.specs.Numbers.{reached, is_among}
 
 pub and_left : (a b : Bool) → (a && b) ≡ true → a ≡ true
 and_left true b h = refl

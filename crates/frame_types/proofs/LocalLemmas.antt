@@ -1,6 +1,6 @@
 -- The types of parameters behind those that were found before; and local variables that are padded.
 use Rattle.std.proofs.Common.{◌≡◌, ℕ, zero, suc, ◌<◌, ◌≤◌, List, [], ◌∷◌, ◌++◌, length, Option, Some, None, refl, arith}
-use Rattle.list_words.specs.Lists.{onto}
+use Rattle.lists.specs.Lists.{onto}
 use Rattle.bytecode_model.specs.Slots.{padded}
 use Rattle.frame_types.specs.declared.types.VarType.{VarType}
 

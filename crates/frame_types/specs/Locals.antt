@@ -1,6 +1,6 @@
 -- The local variables with which a method begins: JVM Specification SE 8, 4.10.1.6 (methodInitialStackFrame).
 use Rattle.std.specs.Prelude.{Bool, not, ◌&&◌, ◌==◌, if◌then◌else◌, List, [], ◌∷◌, ◌++◌, codes, Option, Some, None}
-use Rattle.list_words.specs.Lists.{onto}
+use Rattle.lists.specs.Lists.{onto}
 use Rattle.descriptors.specs.declared.descriptor.Element.{Element}
 use Rattle.descriptors.specs.declared.descriptor.Element.TheVariants as elements
 use Rattle.descriptors.specs.declared.descriptor.FieldType.{FieldType}

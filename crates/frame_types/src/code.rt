@@ -2,7 +2,7 @@
 ghost use Rattle.std.specs.Prelude.{◌≡◌};
 ghost use Rattle.std.specs.List.{list_all};
 ghost use Rattle.std.specs.List.Sorted.{IsStrictlyIncreasing};
-ghost use Rattle.list_words.specs.Numbers.{is_among};
+ghost use Rattle.lists.specs.Numbers.{is_among};
 ghost use Rattle.jop_opcodes.specs.Start.{starts_of};
 ghost use Rattle.frame_types.specs.Types.{is_start, is_new, names_new};
 

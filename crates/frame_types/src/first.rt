@@ -1,6 +1,6 @@
 //! The local variables with which a method begins (JVM Specification SE 8, 4.10.1.6).
 ghost use Rattle.std.specs.Prelude.{◌≡◌, ◌++◌, ◌∷◌, [], OnOk, IfOk, Some, Option};
-ghost use Rattle.list_words.specs.Lists.{onto};
+ghost use Rattle.lists.specs.Lists.{onto};
 ghost use Rattle.jop_base.specs.Reading.{Gives};
 ghost use Rattle.descriptors.specs.Descriptors.{letter_of, behind_letter, type_units};
 ghost use Rattle.frame_types.specs.Locals.{element_type, type_of, types_of, begins_uninitialized, this_type, this_types, first_locals};

@@ -8,8 +8,8 @@ use Rattle.std.proofs.lemmas.Option.{slice_get_within}
 use Rattle.class_pool.specs.declared.class.Member.{Member}
 use Rattle.class_pool.specs.declared.class.ClassFile.{ClassFile}
 use Rattle.bytecode_model.specs.Program.{object_class}
-use Rattle.list_words.specs.Lists.{index_of, first_some}
-use Rattle.list_words.proofs.Searching.{first_found}
+use Rattle.lists.specs.Lists.{index_of, first_some}
+use Rattle.lists.proofs.Searching.{first_found}
 use Rattle.class_lookup.specs.Parts.{Signature, signature_of, same_signature, is_init}
 use Rattle.class_lookup.specs.Hierarchy.{superclasses, is_interface, is_among, extends, IsAcyclic}
 use Rattle.class_lookup.specs.Lookup.{Place, same_place, declared_method, find_method}

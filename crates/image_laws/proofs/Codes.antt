@@ -22,7 +22,7 @@ use Rattle.class_rules.specs.Rules.{IsRightMethod}
 use Rattle.class_rules.specs.Found.{MethodsHaveCode}
 use Rattle.class_rules.specs.Grammar.{IsClass}
 use Rattle.bytecode_model.specs.Program.{Method, Body, Handler, body_of}
-use Rattle.list_words.specs.Lemmas.{none≢some, some_same, onto_some, map_some}
+use Rattle.lists.specs.Lemmas.{none≢some, some_same, onto_some, map_some}
 use Rattle.image_facts.specs.Says.{IsCode}
 use Rattle.program_tables.specs.Resolved.{handler_of, body_in, resolved_methods, resolved}
 use Rattle.program_tables.specs.Resolving.{HasBytes, IsResolved}

@@ -13,8 +13,8 @@ use Rattle.descriptors.specs.Parsing.{field_in}
 use Rattle.class_rules.specs.Rules.{IsRightField}
 use Rattle.class_rules.specs.Grammar.{IsClass}
 use Rattle.bytecode_model.specs.Types.{IntType, LongType, OfClass, OfNumbers, Declared, Numeric, Reference}
-use Rattle.list_words.specs.Lists.{onto}
-use Rattle.list_words.specs.Lemmas.{none≢some, some_same, onto_some}
+use Rattle.lists.specs.Lists.{onto}
+use Rattle.lists.specs.Lemmas.{none≢some, some_same, onto_some}
 use Rattle.class_lookup.specs.Parts.{text_at}
 use Rattle.class_lookup.specs.Hierarchy.{find_class}
 use Rattle.class_lookup.specs.Lookup.{Place, field_at}

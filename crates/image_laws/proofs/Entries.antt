@@ -9,10 +9,10 @@ use Rattle.std.proofs.lemmas.Bool.{and_from, eq-eqb, eqb-true, cond-false, false
 use Rattle.std.proofs.lemmas.Option.{slice_get_within}
 use Rattle.class_pool.specs.Grammar.{entry_at}
 use Rattle.class_pool.specs.declared.class.ClassFile.{ClassFile}
-use Rattle.core_words.specs.Packed.{PackedHasWords}
+use Rattle.word32.specs.Packed.{PackedHasWords}
 use Rattle.bytecode_model.specs.Types.{OfReferences}
 use Rattle.bytecode_model.specs.Program.{type_number}
-use Rattle.list_words.specs.Lemmas.{none≢some, some_same, index_found}
+use Rattle.lists.specs.Lemmas.{none≢some, some_same, index_found}
 use Rattle.class_lookup.specs.Parts.{same_text}
 use Rattle.program_tables.specs.Instructions.{Placed, index_of_entry, named_in}
 use Rattle.program_tables.specs.Core.{raised_classes}

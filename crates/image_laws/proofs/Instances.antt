@@ -10,7 +10,7 @@ use Rattle.class_pool.specs.declared.class.ClassFile.{ClassFile}
 use Rattle.class_rules.specs.Grammar.{IsClass}
 use Rattle.bytecode_model.specs.Types.{IntType, LongType, OfClass, OfNumbers, OfReferences, Declared, Numeric, Reference, same_kind}
 use Rattle.image_facts.specs.Words.{declared_words}
-use Rattle.list_words.specs.Numbers.{reached}
+use Rattle.lists.specs.Numbers.{reached}
 use Rattle.class_lookup.specs.Hierarchy.{superclass, superclasses, is_interface}
 use Rattle.class_lookup.specs.Lookup.{Place}
 use Rattle.program_tables.specs.Lists.{distinct}

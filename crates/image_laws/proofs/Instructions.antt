@@ -15,8 +15,8 @@ use Rattle.jop_opcodes.specs.declared.instruction.Instr.{Instr}
 use Rattle.jop_opcodes.specs.Instruction.{decoded}
 use Rattle.jop_opcodes.specs.Start.{starts_of, IsStart}
 use Rattle.bytecode_model.specs.Program.{NoOperand, as_instr}
-use Rattle.list_words.specs.Lists.{onto}
-use Rattle.list_words.specs.Lemmas.{none≢some, some_same}
+use Rattle.lists.specs.Lists.{onto}
+use Rattle.lists.specs.Lemmas.{none≢some, some_same}
 use Rattle.class_lookup.specs.Parts.{Signature, signature_of}
 use Rattle.class_lookup.specs.Lookup.{Place, method_at}
 use Rattle.program_tables.specs.Instructions.{Placed, placed_at, instructions_in as code_instructions, instructions_of, named_in}

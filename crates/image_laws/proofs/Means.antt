@@ -16,8 +16,8 @@ use Rattle.jop_opcodes.specs.Instruction.{decoded}
 use Rattle.jop_opcodes.specs.Start.{IsStart}
 use Rattle.bytecode_model.specs.Types.{OfReferences}
 use Rattle.bytecode_model.specs.Program.{Method, Body, NoOperand, as_instr, body_of}
-use Rattle.list_words.specs.Lists.{onto}
-use Rattle.list_words.specs.Lemmas.{none≢some, some_same, onto_some, map_some}
+use Rattle.lists.specs.Lists.{onto}
+use Rattle.lists.specs.Lemmas.{none≢some, some_same, onto_some, map_some}
 use Rattle.image_facts.specs.Places.{AreFixed}
 use Rattle.image_facts.specs.Says.{argument_words, invokespecial, invokestatic, IsSlot, IsInterfaceNumber, SaysOperand}
 use Rattle.class_lookup.specs.Parts.{Signature, text_at}

@@ -13,8 +13,8 @@ use Rattle.descriptors.specs.Parsing.{field_in}
 use Rattle.class_rules.specs.Grammar.{IsClass}
 use Rattle.bytecode_model.specs.Types.{Kind, OfClass, OfNumbers, OfReferences, same_kind}
 use Rattle.bytecode_model.specs.Program.{type_number}
-use Rattle.list_words.specs.Lists.{onto}
-use Rattle.list_words.specs.Lemmas.{none≢some, some_same, index_found}
+use Rattle.lists.specs.Lists.{onto}
+use Rattle.lists.specs.Lemmas.{none≢some, some_same, index_found}
 use Rattle.class_lookup.specs.Parts.{same_text, name_of, text_at, class_text}
 use Rattle.class_lookup.specs.Hierarchy.{is_concrete}
 use Rattle.program_tables.specs.declared.refusal.Why.TheVariants.{WrongKind}

@@ -10,8 +10,8 @@ use Rattle.class_pool.specs.Found.{code_of}
 use Rattle.class_rules.specs.Found.{MethodsHaveCode}
 use Rattle.bytecode_model.specs.Types.{Kind, Declared, OfReferences}
 use Rattle.bytecode_model.specs.Program.{Program, Method, Operand, NoOperand, AnInt, ALong, AString, AStatic, AField, AMethod, AType, type_number}
-use Rattle.list_words.specs.Lists.{onto, index_of}
-use Rattle.list_words.specs.Lemmas.{some_same, onto_some, index_found}
+use Rattle.lists.specs.Lists.{onto, index_of}
+use Rattle.lists.specs.Lemmas.{some_same, onto_some, index_found}
 use Rattle.image_facts.specs.Words.{is_long_type}
 use Rattle.image_facts.specs.Places.{Places, AreFixed, object_place}
 use Rattle.image_facts.specs.Says.{bit_of, argument_words, invokevirtual, invokespecial, invokestatic, invokeinterface, IsSlot, IsInterfaceNumber, MeansMethod, Means, SaysOperand}

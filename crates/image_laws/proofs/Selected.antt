@@ -7,11 +7,11 @@ use Rattle.std.proofs.lemmas.Bool.{false≢true, not_from_false}
 use Rattle.std.proofs.lemmas.Option.{slice_get_within}
 use Rattle.std.proofs.lemmas.List.Sums.{sum_by-cons}
 use Rattle.class_pool.specs.declared.class.ClassFile.{ClassFile}
-use Rattle.core_words.specs.Packed.{PackedHasWords}
+use Rattle.word32.specs.Packed.{PackedHasWords}
 use Rattle.bytecode_model.specs.Program.{Method}
 use Rattle.bytecode_typing.specs.Lawful.{IsVirtualCall, IsInterfaceCall}
-use Rattle.list_words.specs.Lists.{onto}
-use Rattle.list_words.specs.Lemmas.{none≢some, index_there, index_found}
+use Rattle.lists.specs.Lists.{onto}
+use Rattle.lists.specs.Lemmas.{none≢some, index_there, index_found}
 use Rattle.image_facts.specs.Words.{words_of, object_image}
 use Rattle.image_facts.specs.Places.{object_place}
 use Rattle.image_facts.specs.Says.{argument_words, IsSlot, IsInterfaceNumber}

@@ -11,8 +11,8 @@ use Rattle.class_pool.specs.declared.entry.Entry.TheVariants.{Text}
 use Rattle.std.proofs.lemmas.Grind.{flat_map-append}
 use Rattle.std.proofs.lemmas.Bool.{false≢true, cond-true, cond-false, and_parts, eqb-true}
 use Rattle.std.proofs.lemmas.Option.{slice_get_within, slice_get-get_or}
-use Rattle.list_words.specs.Lists.{onto}
-use Rattle.list_words.specs.Lemmas.{some_same, onto_some, index_found}
+use Rattle.lists.specs.Lists.{onto}
+use Rattle.lists.specs.Lemmas.{some_same, onto_some, index_found}
 use Rattle.class_lookup.specs.Parts.{Signature, same_text, name_of, class_text, text_at}
 use Rattle.class_lookup.specs.Lookup.{Place, method_at, same_place, find_field, find_method}
 use Rattle.bytecode_model.specs.Program.{Method}
@@ -38,7 +38,7 @@ use Rattle.image_words.specs.Regions.{first_place}
 use Rattle.image_words.specs.Slots.{interface_number, slot_of}
 use Rattle.image_layout.specs.declared.uses.Use.{Use}
 use Rattle.image_layout.specs.Uses.{instr_of, is_fixed, names_index, use_of}
-use Rattle.word_lists.proofs.ListLemmas.{take_some}
+use Rattle.image_builder.proofs.ListLemmas.{take_some}
 use Rattle.program_laws.proofs.Numbering.{number_of}
 use Rattle.resolved_program.specs.Strings.{object_of_entry}
 use Rattle.image_layout.proofs.SizeLemmas.{stands}

@@ -4,7 +4,7 @@ use Rattle.std.specs.Prelude.{slice_get}
 use Rattle.std.proofs.lemmas.Option.{slice_get_past}
 use Rattle.class_pool.specs.declared.class.ClassFile.{ClassFile}
 use Rattle.bytecode_model.specs.Program.{Method}
-use Rattle.list_words.specs.Lists.{onto}
+use Rattle.lists.specs.Lists.{onto}
 use Rattle.class_lookup.specs.Lookup.{Place}
 use Rattle.image_facts.specs.Places.{image_words, pool_of}
 use Rattle.program_tables.specs.Laws.{MethodsStandByNumber, MembersAreThere}

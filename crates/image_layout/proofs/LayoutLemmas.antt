@@ -5,8 +5,8 @@ use Rattle.std.specs.Option.{option_map_or}
 use Rattle.std.specs.List.{range_with_len}
 use Rattle.std.proofs.lemmas.List.{length-map, length-replicate}
 use Rattle.class_pool.specs.declared.class.ClassFile.{ClassFile}
-use Rattle.core_words.specs.Packed.{PackedHasWords}
-use Rattle.list_words.specs.Lists.{index_of}
+use Rattle.word32.specs.Packed.{PackedHasWords}
+use Rattle.lists.specs.Lists.{index_of}
 use Rattle.image_facts.specs.Places.{static_place}
 use Rattle.image_facts.specs.Words.{declared_words}
 use Rattle.class_lookup.specs.Lookup.{Place, same_place}
@@ -19,9 +19,9 @@ use Rattle.image_words.specs.Regions as regions
 use Rattle.image_words.specs.Regions.{first_place}
 use Rattle.image_words.proofs.Image.{object_same}
 use Rattle.image_words.proofs.Placing.{front_length}
-use Rattle.word_lists.specs.declared.sums.Run.{Run}
-use Rattle.word_lists.specs.Runs.{place_behind, IsRun}
-use Rattle.word_lists.proofs.ListLemmas.{sum_taken}
+use Rattle.image_builder.specs.declared.sums.Run.{Run}
+use Rattle.image_builder.specs.Runs.{place_behind, IsRun}
+use Rattle.image_builder.proofs.ListLemmas.{sum_taken}
 
 pub ten_joined : (w0 w1 w2 w3 w4 w5 w6 w7 w8 w9 w10 r1 r2 r3 r4 r5 r6 r7 r8 r9 r10 : List ℕ) → w0 ≡ [] → w1 ≡ w0 ++ r1 → w2 ≡ w1 ++ r2 → w3 ≡ w2 ++ r3 → w4 ≡ w3 ++ r4 → w5 ≡ w4 ++ r5 → w6 ≡ w5 ++ r6 → w7 ≡ w6 ++ r7 → w8 ≡ w7 ++ r8 → w9 ≡ w8 ++ r9 → w10 ≡ w9 ++ r10 → w10 ≡ r1 ++ (r2 ++ (r3 ++ (r4 ++ (r5 ++ (r6 ++ (r7 ++ (r8 ++ (r9 ++ (r10 ++ [])))))))))
 ten_joined w0 w1 w2 w3 w4 w5 w6 w7 w8 w9 w10 r1 r2 r3 r4 r5 r6 r7 r8 r9 r10 e0 e1 e2 e3 e4 e5 e6 e7 e8 e9 e10 =

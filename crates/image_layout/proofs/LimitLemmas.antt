@@ -4,7 +4,7 @@ use Rattle.std.specs.Prelude.{slice_get, sum_by, if◌then◌else◌}
 use Rattle.std.specs.List.{filter}
 use Rattle.std.proofs.lemmas.List.Elements.{filter-append}
 use Rattle.class_pool.specs.declared.class.ClassFile.{ClassFile}
-use Rattle.core_words.specs.Packed.{PackedHasWords}
+use Rattle.word32.specs.Packed.{PackedHasWords}
 use Rattle.bytecode_model.specs.declared.Value.{Value}
 use Rattle.bytecode_model.specs.declared.Value.TheVariants.{Int, Long, Ref, Null, Unset}
 use Rattle.bytecode_model.specs.Types.{IntType, LongType, Declared, Numeric, Reference, is_long, default}
@@ -22,18 +22,18 @@ use Rattle.image_words.specs.Laws.{ImageWordsLie}
 use Rattle.image_words.specs.Layout.{outline_of}
 use Rattle.image_words.specs.Regions as regions
 use Rattle.image_words.proofs.Image.{object_same}
-use Rattle.list_words.specs.Lists.{first_some}
-use Rattle.list_words.specs.Lemmas.{none≢some}
+use Rattle.lists.specs.Lists.{first_some}
+use Rattle.lists.specs.Lemmas.{none≢some}
 use Rattle.class_lookup.specs.Lookup.{Place}
 use Rattle.program_tables.specs.Numbers.{places_of, is_coded, methods_by_number, types_of}
 use Rattle.image_words.specs.Slots.{interface_methods}
 use Rattle.image_words.specs.Regions.{image_words_of}
 use Rattle.image_words.specs.Limits.{coded_methods, most_types, most_interface_methods, most_methods, most_words}
-use Rattle.word_lists.specs.declared.fault.Counted.{Counted}
-use Rattle.word_lists.specs.declared.fault.Counted.TheVariants.{Types, InterfaceMethods, Methods, Words}
+use Rattle.image_builder.specs.declared.fault.Counted.{Counted}
+use Rattle.image_builder.specs.declared.fault.Counted.TheVariants.{Types, InterfaceMethods, Methods, Words}
 use Rattle.image_layout.specs.Layout.{counts_passed, first_passed}
-use Rattle.word_lists.specs.Passed.{passed}
-use Rattle.word_lists.proofs.ListLemmas.{take_whole, take_some}
+use Rattle.image_builder.specs.Passed.{passed}
+use Rattle.image_builder.proofs.ListLemmas.{take_whole, take_some}
 
 -- ---- all words
 

@@ -10,7 +10,7 @@ use Rattle.class_pool.specs.declared.class.Code.{Code}
 use Rattle.class_pool.specs.declared.class.Member.{Member}
 use Rattle.class_pool.specs.declared.class.ClassFile.{ClassFile}
 use Rattle.class_pool.specs.Found.{code_of}
-use Rattle.core_words.specs.Packed.{words_for, words_of_bytes}
+use Rattle.word32.specs.Packed.{words_for, words_of_bytes}
 use Rattle.bytecode_model.specs.Program.{Method, Handler}
 use Rattle.bytecode_model.specs.Types as model
 use Rattle.image_facts.specs.Words.{declared_words}
@@ -19,15 +19,15 @@ use Rattle.program_tables.specs.declared.operand.MethodShape.{MethodShape}
 use Rattle.program_tables.specs.Meanings.{declared_seen, HasShape}
 use Rattle.image_facts.specs.Places.{Places}
 use Rattle.image_facts.specs.Says.{argument_words, handler_words, method_words}
-use Rattle.list_words.specs.Lists.{onto}
-use Rattle.list_words.specs.Lemmas.{some_same}
+use Rattle.lists.specs.Lists.{onto}
+use Rattle.lists.specs.Lemmas.{some_same}
 use Rattle.class_lookup.specs.Lookup.{Place, method_at}
 use Rattle.program_tables.specs.Laws.{MethodsStandByNumber, MembersAreThere}
 use Rattle.program_tables.specs.Numbers.{methods_by_number}
 use Rattle.program_tables.specs.Resolved.{handler_of, body_in, method_in, resolved_method, resolved_methods, resolved}
 use Rattle.image_words.specs.Layout.{pool_place, outline_of}
 use Rattle.image_words.specs.Regions.{method_image}
-use Rattle.word_lists.proofs.ListLemmas.{take_past}
+use Rattle.image_builder.proofs.ListLemmas.{take_past}
 use Rattle.image_layout.proofs.SizeLemmas.{Stands, stands}
 
 pub methods_taken : MethodsStandByNumber → (cs : List ClassFile) (n : ℕ) → length (methods_by_number cs) ≤ n → take n (resolved_methods cs) ≡ resolved_methods cs

@@ -4,7 +4,7 @@ use Rattle.std.specs.List.{flat_map, range_with_len}
 use Rattle.class_pool.specs.declared.class.ClassFile.{ClassFile}
 use Rattle.image_words.specs.Layout.{outline_of}
 use Rattle.image_words.specs.Pools.{no_words, entry_words}
-use Rattle.word_lists.proofs.ListLemmas.{range_flat}
+use Rattle.image_builder.proofs.ListLemmas.{range_flat}
 use Rattle.image_layout.proofs.EntryLemmas.{first_words}
 
 pub pool_more : (cs : List ClassFile) (c : ℕ) (k : ClassFile) (place index : ℕ) (before old new pair : List ℕ) → old ≡ before ++ flat_map (entry_words cs (outline_of cs) c k) (range_with_len 0 (place + 1)) → index ≡ place + 1

@@ -8,18 +8,18 @@ use Rattle.class_pool.specs.declared.class.Code.{Code}
 use Rattle.class_pool.specs.declared.class.Member.{Member}
 use Rattle.class_pool.specs.declared.class.ClassFile.{ClassFile}
 use Rattle.class_pool.specs.Found.{code_of}
-use Rattle.core_words.specs.Packed.{words_for}
+use Rattle.word32.specs.Packed.{words_for}
 use Rattle.bytecode_model.specs.Program.{Method}
-use Rattle.list_words.specs.Lists.{onto}
+use Rattle.lists.specs.Lists.{onto}
 use Rattle.class_lookup.specs.Lookup.{Place, method_at}
 use Rattle.image_facts.specs.Words.{declared_words}
 use Rattle.program_tables.specs.Laws.{MethodsStandByNumber, MembersAreThere}
 use Rattle.program_tables.specs.Numbers.{methods_by_number}
 use Rattle.program_tables.specs.Resolved.{handler_of, body_in, method_in, resolved_method, resolved_methods, resolved}
 use Rattle.image_words.specs.Layout.{body_size, method_size}
-use Rattle.word_lists.specs.declared.sums.Run.{Run}
-use Rattle.word_lists.specs.Runs.{IsRun}
-use Rattle.word_lists.proofs.ListLemmas.{get_below, take_past}
+use Rattle.image_builder.specs.declared.sums.Run.{Run}
+use Rattle.image_builder.specs.Runs.{IsRun}
+use Rattle.image_builder.proofs.ListLemmas.{get_below, take_past}
 
 -- ---- a method that has a number
 

@@ -2,7 +2,7 @@
 use Rattle.std.specs.Prelude.{◌≡◌, List, [], ◌∷◌, length, map, Option}
 use Rattle.std.specs.List.{range_with_len}
 use Rattle.class_pool.specs.declared.class.ClassFile.{ClassFile}
-use Rattle.list_words.specs.Lists.{first_some}
+use Rattle.lists.specs.Lists.{first_some}
 use Rattle.program_tables.specs.Numbers.{fields_by_number, types_of, strings_of}
 use Rattle.program_tables.specs.Operands.{string_object}
 use Rattle.program_tables.specs.Resolved.{resolved}
@@ -11,9 +11,9 @@ use Rattle.image_words.specs.Layout.{classes_of}
 use Rattle.image_words.specs.Pools.{static_word}
 use Rattle.image_words.specs.Regions.{first_place, image_words_of, places_of}
 use Rattle.image_words.specs.Limits.{coded_methods, most_types, most_interface_methods, most_methods, most_words}
-use Rattle.word_lists.specs.Laid.{Laid}
-use Rattle.word_lists.specs.Passed.{Passed, passed}
-use Rattle.word_lists.specs.declared.fault.Counted.TheVariants.{Types, InterfaceMethods, Methods, Words}
+use Rattle.image_builder.specs.Laid.{Laid}
+use Rattle.image_builder.specs.Passed.{Passed, passed}
+use Rattle.image_builder.specs.declared.fault.Counted.TheVariants.{Types, InterfaceMethods, Methods, Words}
 
 pub record IsLaidOut (cs : List ClassFile) (made : Laid) : Type 0 where
   pub words : made.words ≡ image_words_of cs

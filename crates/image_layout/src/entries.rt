@@ -7,7 +7,7 @@ ghost use Rattle.class_lookup.specs.Lookup.{method_at};
 ghost use Rattle.class_lookup.specs.Parts.{text_at};
 ghost use Rattle.image_facts.specs.Says.{bit_of, argument_words};
 ghost use Rattle.image_facts.specs.Words.{is_long_type};
-ghost use Rattle.list_words.specs.Lists.{onto};
+ghost use Rattle.lists.specs.Lists.{onto};
 ghost use Rattle.program_tables.specs.Instructions.{signature_in};
 ghost use Rattle.program_tables.specs.Operands.{class_named, field_named, method_named};
 ghost use Rattle.program_tables.specs.Resolved.{declared_at, resolved_method};
@@ -29,7 +29,7 @@ use program_tables::laws::{members_are_there, methods_stand_by_number};
 use program_tables::{Declared, ObjectKind, is_static_field};
 use resolved_program::Program;
 use std::alloc::Global;
-use word_lists::{add, count, times};
+use image_builder::{add, count, times};
 
 /// The words of the arguments stand above a number of 24 bits.
 const ARGUMENTS: u32 = 1 << 24;

@@ -3,8 +3,8 @@ ghost use Rattle.std.specs.Prelude.{◌≡◌, ℕ, length, map, Some, None, Err
 ghost use Rattle.std.specs.List.{range_with_len};
 ghost use Rattle.program_tables.specs.Numbers.{fields_by_number, strings_of, types_of};
 ghost use Rattle.program_tables.specs.Operands.{string_object};
-ghost use Rattle.word_lists.specs.declared.fault.Counted.{Counted};
-ghost use Rattle.word_lists.specs.declared.fault.LayFault.TheVariants.{TooLarge};
+ghost use Rattle.image_builder.specs.declared.fault.Counted.{Counted};
+ghost use Rattle.image_builder.specs.declared.fault.LayFault.TheVariants.{TooLarge};
 ghost use Rattle.image_layout.specs.Layout.{IsLaidOut, first_passed};
 ghost use Rattle.image_words.specs.Outline.{IsOutline};
 ghost use Rattle.image_words.specs.Layout.{type_place, outline_of};
@@ -18,12 +18,12 @@ use crate::methods::add_methods;
 use crate::outline::outline_of;
 use crate::statics::add_statics;
 use crate::tables::{add_interfaces, add_tables};
-use core_words::laws::packed_has_words;
+use word32::laws::packed_has_words;
 use image_words::{Outline, add_raised, add_strings, add_types};
 use jop_base::NoMemory;
 use resolved_program::Program;
 use std::alloc::Global;
-use word_lists::{LayFault, Layout};
+use image_builder::{LayFault, Layout};
 
 /// The words, region by region.
 fn words_of(alloc: Global, program: &Program, outline: &Outline) -> Result<Vec<u32>, NoMemory>

@@ -14,4 +14,4 @@ mod uses;
 
 pub use layout::lay_out;
 pub use limits::coded_methods;
-pub use word_lists::{Counted, LayFault, Layout};
+pub use image_builder::{Counted, LayFault, Layout};

@@ -1,21 +1,21 @@
 //! How large an image may be.
 ghost use Rattle.std.specs.Prelude.{◌≡◌, ℕ, length, Some, None, Err, OnOk};
-ghost use Rattle.word_lists.specs.declared.fault.Counted.{Counted};
-ghost use Rattle.word_lists.specs.declared.fault.LayFault.TheVariants.{TooLarge};
+ghost use Rattle.image_builder.specs.declared.fault.Counted.{Counted};
+ghost use Rattle.image_builder.specs.declared.fault.LayFault.TheVariants.{TooLarge};
 ghost use Rattle.image_words.specs.Limits.{coded_methods};
 ghost use Rattle.image_words.specs.Outline.{IsOutline};
 ghost use Rattle.image_words.specs.Regions.{image_words_of};
 ghost use Rattle.image_layout.specs.Layout.{counts_passed, first_passed};
 
 use crate::tables::is_coded;
-use core_words::laws::packed_has_words;
+use word32::laws::packed_has_words;
 use image_facts::image_words_grow;
 use image_words::laws::image_words_lie;
 use image_words::{Outline, interface_methods};
 use program_laws::laws::resolved_programs_are_lawful;
 use resolved_program::Program;
 use std::alloc::Global;
-use word_lists::{Counted, LayFault, within};
+use image_builder::{Counted, LayFault, within};
 
 const MOST_TYPES: u64 = 2048;
 

@@ -17,7 +17,7 @@ use jop_base::NoMemory;
 use program_tables::Declared;
 use program_tables::laws::{members_are_there, methods_stand_by_number};
 use resolved_program::Program;
-use word_lists::{add, add_bytes, count, halves, times};
+use image_builder::{add, add_bytes, count, halves, times};
 
 /// What stands in the upper half of a word counts so many times.
 const UPPER: u32 = 65536;

@@ -10,7 +10,7 @@ use image_words::{
 use jop_base::NoMemory;
 use resolved_program::Program;
 use std::alloc::Global;
-use word_lists::{add, count, run_from, times};
+use image_builder::{add, count, run_from, times};
 
 /// The words of the header and of the two lists behind it.
 const FRONT: u32 = 16 + 8 + 9;

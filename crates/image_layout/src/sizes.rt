@@ -15,7 +15,7 @@ use program_tables::Declared;
 use program_tables::laws::{members_are_there, methods_stand_by_number};
 use resolved_program::Program;
 use std::alloc::Global;
-use word_lists::{Run, add, count, run_from, times};
+use image_builder::{Run, add, count, run_from, times};
 
 /// Puts so many words behind others.
 fn push_size(sizes: &mut Vec<u32>, words: u32) -> Result<(), NoMemory>

@@ -6,7 +6,7 @@ ghost use Rattle.bytecode_model.specs.Types.{default};
 ghost use Rattle.class_pool.specs.declared.class.ClassFile.{ClassFile};
 ghost use Rattle.class_pool.specs.Grammar.{entry_at};
 ghost use Rattle.image_facts.specs.Words.{words_of};
-ghost use Rattle.list_words.specs.Lists.{onto};
+ghost use Rattle.lists.specs.Lists.{onto};
 ghost use Rattle.program_tables.specs.Resolved.{constant_of, constant_at, first_value};
 ghost use Rattle.image_words.specs.Layout.{outline_of};
 ghost use Rattle.image_words.specs.Regions.{first_place, statics_region};

@@ -12,7 +12,7 @@ use jop_base::NoMemory;
 use program_tables::method_at;
 use resolved_program::Program;
 use std::alloc::Global;
-use word_lists::add_zeros;
+use image_builder::add_zeros;
 
 /// Whether the method has code.
 pub(crate) fn is_coded(classes: &Classes, place: Place) -> bool

@@ -14,8 +14,8 @@ use Rattle.image_words.specs.Regions.{supertype_words, type_image}
 use Rattle.class_pool.specs.declared.class.ClassFile.{ClassFile}
 use Rattle.bytecode_model.specs.Types.{Kind, OfReferences}
 use Rattle.bytecode_model.specs.Program.{Program, is_of, object_class, serializable_class, cloneable_class}
-use Rattle.list_words.specs.Lists.{onto}
-use Rattle.list_words.specs.Numbers.{reached}
+use Rattle.lists.specs.Lists.{onto}
+use Rattle.lists.specs.Numbers.{reached}
 use Rattle.class_lookup.specs.Parts.{superclass_name, superinterface_names}
 use Rattle.class_lookup.specs.Hierarchy.{find_class, supertypes, direct_supertypes, extends, is_among}
 use Rattle.program_tables.specs.Kinds.{arrays_of}

@@ -5,9 +5,9 @@ use Rattle.std.proofs.lemmas.List.{map-append, length-drop, take_min}
 use Rattle.std.proofs.Math.Nat.{two-pow-succ, mul-add}
 use Rattle.std.proofs.Math.Pow.{pow-lt}
 use Rattle.image_facts.specs.Says.{bit_of}
-use Rattle.list_words.specs.Lemmas.{none≢some}
+use Rattle.lists.specs.Lemmas.{none≢some}
 use Rattle.image_words.specs.Regions.{number_of_bits}
-use Rattle.word_lists.proofs.ListLemmas.{take_some}
+use Rattle.image_builder.proofs.ListLemmas.{take_some}
 
 bits_case : (c n b p q m : ℕ) → m ≡ n + b * p → q ≡ p + p → c + 2 * m ≡ c + 2 * n + b * q
 bits_case c n b p q m h e =

@@ -7,15 +7,15 @@ use Rattle.std.proofs.lemmas.List.Sums.{sum-map}
 use Rattle.std.proofs.lemmas.Option.{slice_get-get_or, slice_get_past}
 use Rattle.class_pool.specs.declared.class.ClassFile.{ClassFile}
 use Rattle.bytecode_model.specs.Types.{Declared}
-use Rattle.list_words.specs.Lists.{onto}
-use Rattle.list_words.specs.Numbers.{reached}
+use Rattle.lists.specs.Lists.{onto}
+use Rattle.lists.specs.Numbers.{reached}
 use Rattle.class_lookup.specs.Parts.{superclass_name}
 use Rattle.class_lookup.specs.Hierarchy.{find_class, superclass, superclasses}
 use Rattle.class_lookup.specs.Lookup.{Place}
 use Rattle.image_facts.specs.Words.{declared_words}
 use Rattle.program_tables.specs.Numbers.{is_instance_field, own_instance_fields}
 use Rattle.program_tables.specs.Resolved.{declared_at, resolved}
-use Rattle.word_lists.specs.declared.sums.Run.{Run}
+use Rattle.image_builder.specs.declared.sums.Run.{Run}
 use Rattle.image_words.specs.Outline.{AreInstances}
 
 fields_case : (cs : List ClassFile) (c : ℕ) → slice_get cs c ≡ None → (n : ℕ) → flat_map (own_instance_fields cs) (reverse (reached (λ k. option_to_list (superclass cs k)) n c)) ≡ []

@@ -5,14 +5,14 @@ use Rattle.std.specs.List.{flat_map, enumerate_from, range_with_len}
 use Rattle.std.proofs.lemmas.Grind.{flat_map-append}
 use Rattle.std.proofs.lemmas.List.{length-replicate}
 use Rattle.class_pool.specs.declared.class.ClassFile.{ClassFile}
-use Rattle.core_words.specs.Packed.{PackedHasWords}
+use Rattle.word32.specs.Packed.{PackedHasWords}
 use Rattle.bytecode_model.specs.State.{Object}
 use Rattle.bytecode_model.specs.Types.{OfNumbers, t_boolean}
 use Rattle.bytecode_model.specs.Program.{type_number}
 use Rattle.bytecode_model.specs.Sizes.{object_words}
 use Rattle.bytecode_model.specs.Effects as effects
 use Rattle.bytecode_model.specs.Effects.{Fault, fault_object}
-use Rattle.list_words.specs.Lemmas.{some_same}
+use Rattle.lists.specs.Lemmas.{some_same}
 use Rattle.image_facts.specs.Within.{LieAt}
 use Rattle.image_facts.specs.Words.{words_of, object_image}
 use Rattle.image_facts.specs.Places.{AreFixed, objects_place, object_place, pool_of}

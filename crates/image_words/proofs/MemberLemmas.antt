@@ -6,7 +6,7 @@ use Rattle.std.specs.List.{filter, range_with_len}
 use Rattle.std.proofs.lemmas.List.FromFn.{map-range_with_len_more, length-map-range_with_len, filter_of_map_range_with_len_more}
 use Rattle.class_pool.specs.declared.class.Member.{Member}
 use Rattle.class_pool.specs.declared.class.ClassFile.{ClassFile}
-use Rattle.list_words.specs.Lists.{onto}
+use Rattle.lists.specs.Lists.{onto}
 use Rattle.class_lookup.specs.Parts.{signature_of}
 use Rattle.class_lookup.specs.Lookup.{Place, method_at}
 use Rattle.class_lookup.specs.Selection.{signature_at}

@@ -6,8 +6,8 @@ use Rattle.std.specs.List.{flat_map, list_any, range_with_len}
 use Rattle.std.proofs.lemmas.Bool.{and_left, and_right, or_from, cases_eq, cases_lt, eq-eqb, ne_eqb, both_ways, false_from_ne_true}
 use Rattle.std.proofs.lemmas.Option.{slice_get_past}
 use Rattle.class_pool.specs.declared.class.ClassFile.{ClassFile}
-use Rattle.list_words.specs.Lists.{onto, index_of}
-use Rattle.list_words.proofs.Reached.{in_append}
+use Rattle.lists.specs.Lists.{onto, index_of}
+use Rattle.lists.proofs.Reached.{in_append}
 use Rattle.class_lookup.specs.Hierarchy.{superclass, superclasses, is_interface, is_among, is_subclass, extends, IsAcyclic}
 use Rattle.class_lookup.specs.Laws.{AreSuperclasses}
 use Rattle.class_lookup.specs.Lookup.{Place, method_at, same_place}

@@ -13,9 +13,9 @@ use Rattle.program_tables.specs.Resolved.{resolved}
 use Rattle.image_words.specs.Layout.{front_size, methods_size, middle_size, methods_place, outline_of}
 use Rattle.image_words.specs.Outline.{AreInstances}
 use Rattle.image_words.specs.Regions.{first_place}
-use Rattle.word_lists.specs.declared.sums.Run.{Run}
-use Rattle.word_lists.specs.Runs.{IsRun}
-use Rattle.word_lists.proofs.RunLemmas.{run_place, run_end}
+use Rattle.image_builder.specs.declared.sums.Run.{Run}
+use Rattle.image_builder.specs.Runs.{IsRun}
+use Rattle.image_builder.proofs.RunLemmas.{run_place, run_end}
 use Rattle.image_words.proofs.FieldLemmas.{fields_past}
 
 -- the objects lie behind the methods

@@ -9,13 +9,13 @@ use Rattle.class_pool.specs.declared.entry.Entry.{Entry}
 use Rattle.class_pool.specs.declared.entry.Entry.TheVariants as entries
 use Rattle.class_pool.specs.Grammar.{entry_at}
 use Rattle.class_pool.specs.declared.class.ClassFile.{ClassFile}
-use Rattle.core_words.specs.Packed.{words_for, words_of_bytes, PackedHasWords}
+use Rattle.word32.specs.Packed.{words_for, words_of_bytes, PackedHasWords}
 use Rattle.bytecode_model.specs.Program.{Method, Body, Handler}
 use Rattle.image_facts.specs.Places.{Places}
 use Rattle.image_facts.specs.Says.{argument_words, handler_words, method_words}
 use Rattle.image_facts.proofs.Pieces.{length_in}
-use Rattle.list_words.specs.Lists.{onto}
-use Rattle.list_words.specs.Lemmas.{none≢some}
+use Rattle.lists.specs.Lists.{onto}
+use Rattle.lists.specs.Lemmas.{none≢some}
 use Rattle.class_lookup.specs.Lookup.{Place}
 use Rattle.program_tables.specs.Instructions.{signature_in}
 use Rattle.program_tables.specs.Operands.{field_named}

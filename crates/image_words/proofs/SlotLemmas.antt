@@ -9,9 +9,9 @@ use Rattle.std.proofs.lemmas.List.Folds.{list_any_more}
 use Rattle.std.proofs.lemmas.List.FromFn.{map-range_with_len_more, get_or-map-range_with_len, length-map-range_with_len}
 use Rattle.std.proofs.lemmas.Option.{get_or_from_slice_get, slice_get-get_or, slice_get_within, slice_get_past}
 use Rattle.class_pool.specs.declared.class.ClassFile.{ClassFile}
-use Rattle.list_words.specs.Lists.{onto, index_of}
-use Rattle.list_words.specs.Lemmas.{some_same}
-use Rattle.list_words.proofs.Among.{among_at}
+use Rattle.lists.specs.Lists.{onto, index_of}
+use Rattle.lists.specs.Lemmas.{some_same}
+use Rattle.lists.proofs.Among.{among_at}
 use Rattle.class_lookup.specs.Hierarchy.{superclass, superclasses, is_among, is_interface}
 use Rattle.class_lookup.specs.Laws.{AreSuperclasses, MembersHaveSymbols, SymbolsStandForTexts}
 use Rattle.class_lookup.specs.Lookup.{Place}

@@ -8,8 +8,8 @@ use Rattle.image_words.specs.Slots as numbered
 use Rattle.image_words.specs.Layout.{front_size, type_words, table_words, interface_words, pool_words, method_size, methods_size, classes_of, tables_place, interfaces_place, pools_place, methods_place}
 use Rattle.image_words.specs.Tables.{AreSlots}
 use Rattle.image_words.specs.declared.outline.Outline.{Outline}
-use Rattle.word_lists.specs.declared.sums.Run.{Run}
-use Rattle.word_lists.specs.Runs.{IsRun}
+use Rattle.image_builder.specs.declared.sums.Run.{Run}
+use Rattle.image_builder.specs.Runs.{IsRun}
 
 -- by class the instance fields, behind the word of the object's type
 pub record AreInstances (cs : List ClassFile) (runs : List Run) : Type 0 where

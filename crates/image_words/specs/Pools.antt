@@ -6,7 +6,7 @@ use Rattle.class_pool.specs.declared.entry.Entry.{Entry}
 use Rattle.class_pool.specs.declared.entry.Entry.TheVariants as entries
 use Rattle.class_pool.specs.Grammar.{entry_at}
 use Rattle.class_pool.specs.declared.class.ClassFile.{ClassFile}
-use Rattle.list_words.specs.Lists.{onto, index_of}
+use Rattle.lists.specs.Lists.{onto, index_of}
 use Rattle.bytecode_model.specs.Types.{Kind, OfReferences}
 use Rattle.bytecode_model.specs.Program.{Operand, AMethod, type_number}
 use Rattle.image_facts.specs.Words.{is_long_type}

@@ -2,7 +2,7 @@
 use Rattle.std.specs.Prelude.{◌≡◌, ℕ, Bool, true, false, ◌&&◌, ◌==◌, List, Option, Some, slice_get}
 use Rattle.std.specs.Option.{option_map_or}
 use Rattle.class_pool.specs.declared.class.ClassFile.{ClassFile}
-use Rattle.list_words.specs.Lists.{onto, index_of}
+use Rattle.lists.specs.Lists.{onto, index_of}
 use Rattle.class_lookup.specs.Hierarchy.{is_interface}
 use Rattle.class_lookup.specs.Lookup.{Place}
 use Rattle.class_lookup.specs.Selection.{signature_at}

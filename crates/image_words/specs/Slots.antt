@@ -3,7 +3,7 @@ use Rattle.std.specs.Prelude.{ℕ, Bool, false, not, ◌&&◌, if◌then◌else�
 use Rattle.std.specs.Option.{option_map_or}
 use Rattle.std.specs.List.{filter, range_with_len}
 use Rattle.class_pool.specs.declared.class.ClassFile.{ClassFile}
-use Rattle.list_words.specs.Lists.{index_of}
+use Rattle.lists.specs.Lists.{index_of}
 use Rattle.class_lookup.specs.Parts.{same_signature, is_init}
 use Rattle.class_lookup.specs.Hierarchy.{superclasses, is_interface, extends}
 use Rattle.class_lookup.specs.Lookup.{Place, same_place}

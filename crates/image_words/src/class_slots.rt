@@ -2,7 +2,7 @@
 ghost use Rattle.std.specs.Prelude.{◌≡◌, ℕ, ◌+◌, ◌++◌, ◌<◌, List, [], ◌∷◌, length, None, true, is_some, replicate, slice_index_or, IfOk, OnOk};
 ghost use Rattle.std.specs.Option.{option_map_or};
 ghost use Rattle.class_pool.specs.declared.class.ClassFile.{ClassFile};
-ghost use Rattle.list_words.specs.Lists.{onto};
+ghost use Rattle.lists.specs.Lists.{onto};
 ghost use Rattle.class_lookup.specs.Hierarchy.{is_interface};
 ghost use Rattle.class_lookup.specs.Lookup.{Place as APlace};
 ghost use Rattle.program_tables.specs.Lists.{with_item, with_items};
@@ -17,7 +17,7 @@ use class_lookup::laws::{members_have_symbols, superclasses_stand_above, symbols
 use class_lookup::{Classes, Place};
 use jop_base::NoMemory;
 use std::alloc::Global;
-use word_lists::{add, count};
+use image_builder::{add, count};
 
 /// The slots of a class.
 #[derive(Drop)]

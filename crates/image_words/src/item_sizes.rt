@@ -18,7 +18,7 @@ use class_lookup::{ClassFile, Classes};
 use jop_base::NoMemory;
 use program_tables::{Declared, Types};
 use std::alloc::Global;
-use word_lists::{Run, add, count, times};
+use image_builder::{Run, add, count, times};
 
 /// A value of type long takes two words.
 pub fn declared_words(declared: Declared) -> u32

@@ -13,7 +13,7 @@ use crate::item_sizes::class_words;
 use jop_base::NoMemory;
 use program_tables::Strings;
 use std::alloc::Global;
-use word_lists::{Run, add, count};
+use image_builder::{Run, add, count};
 
 /// The classes of the objects that instructions raise, in their order.
 pub(crate) fn raised_classes() -> [u32; 9]

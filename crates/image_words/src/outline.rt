@@ -15,7 +15,7 @@ use crate::slots::Slots;
 use class_lookup::Place;
 use jop_base::NoMemory;
 use program_tables::{ObjectKind, Types};
-use word_lists::{Run, add, times};
+use image_builder::{Run, add, times};
 
 /// Where the parts of an image lie, and for which methods the tables have words.
 #[derive(Drop)]

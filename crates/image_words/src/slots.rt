@@ -1,7 +1,7 @@
 //! The methods of interfaces by number, and the slots of method tables (JVM Specification SE 8, 5.4.5 and 6.5).
 ghost use Rattle.std.specs.Prelude.{◌≡◌, ◌++◌, ◌<◌, ◌==◌, ◌||◌, List, length, None, true, slice_index_or, IfOk, OnOk};
 ghost use Rattle.class_pool.specs.declared.class.ClassFile.{ClassFile};
-ghost use Rattle.list_words.specs.Lists.{index_of};
+ghost use Rattle.lists.specs.Lists.{index_of};
 ghost use Rattle.class_lookup.specs.Hierarchy.{is_interface, is_subclass};
 ghost use Rattle.class_lookup.specs.Lookup.{same_place};
 ghost use Rattle.image_words.specs.Order.{IsSuperclassFirst};

@@ -15,7 +15,7 @@ use crate::objects::raised_classes;
 use crate::outline::Outline;
 use jop_base::NoMemory;
 use program_tables::Strings;
-use word_lists::{add, add_units, add_zeros, count};
+use image_builder::{add, add_units, add_zeros, count};
 
 /// Before the classes stand the eight arrays of numbers, of which the second are those of char.
 const FIRST_CLASS: u32 = 8;

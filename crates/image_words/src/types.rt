@@ -21,7 +21,7 @@ use crate::outline::Outline;
 use class_hierarchy::Hierarchy;
 use jop_base::NoMemory;
 use program_tables::{Base, ObjectKind, Types};
-use word_lists::add;
+use image_builder::add;
 
 /// The classes that arrays are.
 const OBJECT: u32 = 0;

@@ -13,9 +13,9 @@ use Rattle.boundary.specs.Answers.{IsUnbroken}
 use Rattle.boundary.specs.Setting.{Setting}
 use Rattle.boundary.specs.Session.{Session, Begins}
 use Rattle.boundary.specs.Runs.{RunsAll}
-use Rattle.command_lines.specs.declared.line.Counts.{Counts}
+use Rattle.outcome_lines.specs.declared.line.Counts.{Counts}
 use Rattle.linked_start.specs.Start.{UncaughtClassesAreThere}
-use Rattle.lent_devices.specs.Lent.{Lent, lent, wired}
+use Rattle.stream_devices.specs.Lent.{Lent, lent, wired}
 use Rattle.boundary.specs.Traces.{OutputFails, AtBoundary, AtWrite, AtCycle, TracesAll}
 use Rattle.jop_cli.specs.declared.show.NamedShow.{NamedShow}
 use Rattle.jop_cli.specs.declared.show.NamedShow.TheVariants as shows

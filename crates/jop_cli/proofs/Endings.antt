@@ -2,7 +2,7 @@
 use Rattle.std.proofs.Common.{◌≡◌, ℕ, ◌<◌, List, length, Option, Some, None, refl, sym, ◌∙◌, ap, subst}
 use Rattle.std.specs.Prelude.{IsSomeAnd, slice_get}
 use Rattle.std.proofs.lemmas.Option.{slice_get_within}
-use Rattle.list_words.specs.Lemmas.{onto_some}
+use Rattle.lists.specs.Lemmas.{onto_some}
 use Rattle.class_pool.specs.declared.class.ClassFile.{ClassFile}
 use Rattle.bytecode_model.specs.Program.{Method, Body, body_of}
 use Rattle.program_tables.specs.Laws.{MethodsStandByNumber}

@@ -14,7 +14,7 @@ use Rattle.jop_cli.specs.Assembling.{Assembles}
 use Rattle.jop_cli.specs.Linking.{LinksFiles}
 use Rattle.jop_core.specs.Reset.{bare_reset}
 use Rattle.boundary.specs.Setting.{bare_setting}
-use Rattle.lent_devices.specs.Lent.{Lent}
+use Rattle.stream_devices.specs.Lent.{Lent}
 use Rattle.jop_cli.specs.Phase.{HasSettings, is_linked}
 use Rattle.jop_cli.specs.BareFile.{blocks_of_code, Ran, RanWith, RunsBareBytes}
 use Rattle.jop_cli.specs.LinkedFile.{RunsLinkedBytes}

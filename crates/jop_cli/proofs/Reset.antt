@@ -29,8 +29,8 @@ use Rattle.boundary.specs.Setting.{Setting, limits, Stands, bare_setting}
 use Rattle.boundary.specs.Advances.{FailsToWrite}
 use Rattle.boundary.specs.Activations.{Stage}
 use Rattle.boundary.specs.Runs.{Goes}
-use Rattle.command_lines.specs.declared.line.Counts.{Counts}
-use Rattle.lent_devices.specs.Lent.{Lent, wired}
+use Rattle.outcome_lines.specs.declared.line.Counts.{Counts}
+use Rattle.stream_devices.specs.Lent.{Lent, wired}
 use Rattle.jop_cli.specs.declared.program_end.ProgramEnd.{ProgramEnd}
 use Rattle.jop_cli.specs.declared.program_end.ProgramEnd.TheVariants as ways
 use Rattle.jop_cli.specs.declared.outcome.Ending.TheVariants as endings

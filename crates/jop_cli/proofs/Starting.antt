@@ -2,7 +2,7 @@
 use Rattle.std.proofs.Common.{◌≡◌, ℕ, ◌-◌, ◌<◌, ◌≤◌, true, List, length, Option, Some, None, refl, sym, ◌∙◌, ap, subst, arith, inl, ⊎_elim, lt-ltb, le-leb}
 use Rattle.std.specs.Prelude.{IfSome, IsSomeAnd, IfOk, Result, Ok, Err}
 use Rattle.stack_cache.specs.Size.{IsSize}
-use Rattle.core_words.specs.Packed.{words_for}
+use Rattle.word32.specs.Packed.{words_for}
 use Rattle.method_cache.specs.Contents.{empty, can_load}
 use Rattle.memory_timing.specs.declared.Config.{Config}
 use Rattle.jop_core.specs.Reset.{linked_reset}
@@ -15,7 +15,7 @@ use Rattle.program_tables.specs.Resolving.{IsResolved}
 use Rattle.program_tables.specs.Resolved.{resolved}
 use Rattle.image_facts.specs.Says.{IsCode}
 use Rattle.image_words.specs.Regions.{places_of}
-use Rattle.word_lists.specs.Laid.{Laid}
+use Rattle.image_builder.specs.Laid.{Laid}
 use Rattle.bytecode_verifier.specs.Failure.{IsVerified}
 use Rattle.boundary.specs.declared.answer.Boundary.TheVariants.{Bytecode}
 use Rattle.boundary.specs.Linked.{IsHeld, AreLinked, BeginsEach}

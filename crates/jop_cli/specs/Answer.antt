@@ -7,7 +7,7 @@ use Rattle.jop_words.specs.declared.command.Settings.{Settings}
 use Rattle.jop_words.specs.declared.command.Command.{Command}
 use Rattle.jop_words.specs.declared.command.Command.TheVariants.{Run, Trace, Asm as Assemble, Link as LinkTo}
 use Rattle.jop_words.specs.Command.{command_of}
-use Rattle.command_lines.specs.Said.{SaidLess}
+use Rattle.outcome_lines.specs.Said.{SaidLess}
 use Rattle.jop_cli.specs.declared.outcome.Refusal.TheVariants.{Usage, TooBig, NotBuilt, MethodTooLong, Link}
 use Rattle.jop_cli.specs.declared.outcome.Ending.{Ending}
 use Rattle.jop_cli.specs.declared.outcome.Ending.TheVariants.{Ended, Written, Linked, Uncaught, Refused, TooLong, NotLinked, Spent, ReadFault, InputFault, WriteFault, NoMemory}
@@ -18,7 +18,7 @@ use Rattle.jop_cli.specs.declared.show.Show.TheVariants as shows
 use Rattle.jop_cli.specs.Line.{text_at, line_of, is_fault}
 use Rattle.jop_cli.specs.Phase.{is_linked}
 use Rattle.jop_cli.specs.BareFile.{RunsBareBytes}
-use Rattle.lent_devices.specs.Lent.{Lent, lent}
+use Rattle.stream_devices.specs.Lent.{Lent, lent}
 use Rattle.jop_cli.specs.LinkedFile.{RunsLinkedBytes}
 use Rattle.jop_cli.specs.World.{World, IsQuiet, IsUntaken, FilesStayBut, IsUnchanged, Reads, IsTooBig}
 use Rattle.jop_cli.specs.Assembling.{Assembles}

@@ -14,7 +14,7 @@ use Rattle.jop_device.specs.Told.{Told}
 use Rattle.boundary.specs.Traces.{OutputFails, AtBoundary, AtWrite, AtCycle}
 use Rattle.jop_cli.specs.declared.show.Show.{Show}
 use Rattle.jop_cli.specs.Show.{Shown, Output, Trace, bare_shown}
-use Rattle.lent_devices.specs.Lent.{Lent}
+use Rattle.stream_devices.specs.Lent.{Lent}
 use Rattle.jop_cli.specs.declared.program_end.ProgramEnd.TheVariants as runs
 use Rattle.jop_cli.specs.declared.outcome.Refusal.TheVariants.{BadImage, MethodTooLong}
 use Rattle.jop_cli.specs.declared.outcome.Ending.{Ending}

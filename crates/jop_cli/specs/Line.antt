@@ -8,7 +8,7 @@ use Rattle.jop_cli.specs.declared.outcome.Ending.{Ending}
 use Rattle.jop_cli.specs.declared.outcome.Ending.TheVariants.{Ended, Written, Linked, Uncaught, Refused, TooLong, NotLinked, Spent, ReadFault, InputFault, WriteFault, NoMemory}
 use Rattle.microcode_asm.specs.declared.AsmKind.{AsmKind}
 use Rattle.microcode_asm.specs.declared.AsmKind.TheVariants.{Form, NoLabel, LabelTwice, EntryTwice, ConstTwice, NoTurns}
-use Rattle.command_lines.specs.Line.{counts_parts, word_text}
+use Rattle.outcome_lines.specs.Line.{counts_parts, word_text}
 use Rattle.jopizer.specs.declared.refusal.LinkRefusal.{LinkRefusal}
 use Rattle.jopizer.specs.declared.refusal.LinkRefusal.TheVariants as links
 use Rattle.refusal_lines.specs.Lines as named

@@ -18,7 +18,7 @@ use Rattle.jop_cli.specs.declared.outcome.Ending.{Ending}
 use Rattle.jop_cli.specs.declared.outcome.Ending.TheVariants.{Ended, Uncaught, Refused, TooLong, NotLinked, Spent, InputFault, WriteFault, NoMemory}
 use Rattle.jop_cli.specs.declared.show.Show.{Show}
 use Rattle.jop_cli.specs.Linking.{Refuses, HasName}
-use Rattle.lent_devices.specs.Lent.{Lent}
+use Rattle.stream_devices.specs.Lent.{Lent}
 use Rattle.jop_cli.specs.LinkedSettings.{RunsLinked}
 
 -- ---- the bytes

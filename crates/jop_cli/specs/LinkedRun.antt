@@ -4,7 +4,7 @@ use Rattle.memory_timing.specs.declared.Config.{Config}
 use Rattle.class_pool.specs.declared.class.ClassFile.{ClassFile}
 use Rattle.program_tables.specs.Resolved.{resolved}
 use Rattle.image_words.specs.Regions.{places_of}
-use Rattle.word_lists.specs.Laid.{Laid}
+use Rattle.image_builder.specs.Laid.{Laid}
 use Rattle.image_layout.specs.Layout.{IsLaidOut, first_passed}
 use Rattle.bytecode_verifier.specs.Failure.{types_found}
 use Rattle.jop_program.specs.Linked.{linked_classes}

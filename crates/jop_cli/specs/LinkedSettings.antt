@@ -13,7 +13,7 @@ use Rattle.jop_cli.specs.declared.program_end.ImageEnd.TheVariants.{MethodTooLon
 use Rattle.jop_cli.specs.declared.show.Show.{Show}
 use Rattle.jop_cli.specs.Show.{linked_shown}
 use Rattle.jop_cli.specs.Phase.{HasSettings}
-use Rattle.lent_devices.specs.Lent.{Lent}
+use Rattle.stream_devices.specs.Lent.{Lent}
 use Rattle.jop_cli.specs.Run as run
 use Rattle.jop_cli.specs.LinkedRun.{HasClass, linked_setting}
 

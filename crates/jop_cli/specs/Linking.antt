@@ -10,7 +10,7 @@ use Rattle.jopizer.specs.declared.refusal.LinkRefusal.TheVariants as links
 use Rattle.jopizer.specs.Linked.{Parts, IsLinked, image_of}
 use Rattle.jopizer.specs.Refused.{IsRefusal}
 use Rattle.refusal_lines.specs.Naming.{IsNamed}
-use Rattle.command_lines.specs.declared.line.Sizes.{Sizes}
+use Rattle.outcome_lines.specs.declared.line.Sizes.{Sizes}
 use Rattle.jop_cli.specs.declared.outcome.Refusal.TheVariants.{TooBig}
 use Rattle.jop_cli.specs.declared.outcome.Ending.{Ending}
 use Rattle.jop_cli.specs.declared.outcome.Ending.TheVariants.{Linked, Refused, NotLinked, ReadFault, WriteFault, NoMemory}

@@ -15,8 +15,8 @@ use Rattle.boundary.specs.Session.{Session, IsStateOf, Begins}
 use Rattle.boundary.specs.Activations.{Stage}
 use Rattle.boundary.specs.Runs as whole
 use Rattle.boundary.specs.Traces.{TracesTo}
-use Rattle.command_lines.specs.declared.line.Counts.{Counts}
-use Rattle.lent_devices.specs.Lent.{Lent, wired}
+use Rattle.outcome_lines.specs.declared.line.Counts.{Counts}
+use Rattle.stream_devices.specs.Lent.{Lent, wired}
 use Rattle.jop_cli.specs.Show.{Shown, Output, Trace}
 use Rattle.jop_cli.specs.declared.program_end.ProgramEnd.{ProgramEnd}
 use Rattle.jop_cli.specs.declared.program_end.ProgramEnd.TheVariants.{Ended, Uncaught, Spent, ReadFault, WriteFault, NoMemory}

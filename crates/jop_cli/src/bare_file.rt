@@ -4,7 +4,7 @@ ghost use Rattle.bare_image.specs.Bare.{Image, IsImage, IsBare};
 ghost use Rattle.stack_cache.specs.Size.{IsSize};
 ghost use Rattle.jop_core.specs.Reset.{CanStartBare, bare_reset};
 ghost use Rattle.boundary.specs.Setting.{bare_setting};
-ghost use Rattle.lent_devices.specs.Lent.{lent};
+ghost use Rattle.stream_devices.specs.Lent.{lent};
 ghost use Rattle.jop_words.specs.Range.{AreSettings};
 ghost use Rattle.jop_cli.specs.Leaving.{Leaves};
 ghost use Rattle.jop_cli.specs.Show.{AreNamed, IsNamed, bare_shown, shown_by};
@@ -22,7 +22,7 @@ use jop_base::NoMemory;
 use jop_core::{Bare, BareFault, Config, Watch, read_bare};
 use jop_outside::Sink;
 use jop_words::Settings;
-use lent_devices::NoSource;
+use stream_devices::NoSource;
 use std::alloc::Global;
 
 // The image that the bytes are.

@@ -2,12 +2,12 @@
 ghost use Rattle.std.specs.Prelude.{◌≡◌, false};
 ghost use Rattle.std.specs.List.{concat};
 ghost use Rattle.jop_outside.specs.Outside.{HasCause};
-ghost use Rattle.command_lines.specs.Said as lines;
+ghost use Rattle.outcome_lines.specs.Said as lines;
 ghost use Rattle.jop_words.specs.Command.{texts};
 ghost use Rattle.jop_cli.specs.Line.{text_at, kind_name, link_parts, too_long_parts, is_memory, line_of, is_fault};
 
 use crate::outcome::{AsmRefusal, Ending, Refusal};
-use command_lines::{AsmLine, Line, LinkLine, say};
+use outcome_lines::{AsmLine, Line, LinkLine, say};
 use jop_outside::{Failed, Sink};
 use jopizer::LinkRefusal;
 use microcode_asm::AsmKind;

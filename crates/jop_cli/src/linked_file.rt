@@ -10,7 +10,7 @@ ghost use Rattle.jopizer.specs.Refused.{IsRefusal};
 ghost use Rattle.class_names.specs.Room.{HasRoom};
 ghost use Rattle.jop_words.specs.Range.{AreSettings};
 ghost use Rattle.jop_cli.specs.declared.program_end.ImageEnd.TheVariants as ends;
-ghost use Rattle.lent_devices.specs.Lent.{lent};
+ghost use Rattle.stream_devices.specs.Lent.{lent};
 ghost use Rattle.jop_cli.specs.Leaving.{Leaves, FailsRisen};
 ghost use Rattle.jop_cli.specs.LinkedRun.{HasClass};
 ghost use Rattle.jop_cli.specs.LinkedFile.{BytesFault, IsTooLongAs, SaysEnd, EndsAs, RunsLinkedBytes};

@@ -1,7 +1,7 @@
 //! The run of a linked program, from reset.
 ghost use Rattle.std.specs.Prelude.{◌≡◌, ◌<◌, ◌^◌, IfOk};
 ghost use Rattle.stack_cache.specs.Size.{IsSize};
-ghost use Rattle.lent_devices.specs.Lent.{lent};
+ghost use Rattle.stream_devices.specs.Lent.{lent};
 ghost use Rattle.coded_methods.specs.Methods.{AreMethods};
 ghost use Rattle.program_tables.specs.Resolved.{resolved};
 ghost use Rattle.image_words.specs.Regions.{places_of};
@@ -24,7 +24,7 @@ use linked_methods::methods_of;
 use linked_start::{boot_takes_six_words, uncaught_classes_are_there, verified_programs_are_told};
 use program_tables::laws::methods_stand_by_number;
 use std::alloc::Global;
-use word_lists::Layout;
+use image_builder::Layout;
 
 /// A machine at reset over the image of a verified program that is laid out, with these methods. The only error is that there
 /// was no memory.

@@ -4,7 +4,7 @@ ghost use Rattle.jop_words.specs.Range.{AreSettings};
 ghost use Rattle.program_tables.specs.Resolved.{resolved};
 ghost use Rattle.linked_methods.specs.Fitting.{Fits};
 ghost use Rattle.jop_cli.specs.declared.program_end.ImageEnd.TheVariants as ends;
-ghost use Rattle.lent_devices.specs.Lent.{lent};
+ghost use Rattle.stream_devices.specs.Lent.{lent};
 ghost use Rattle.jop_cli.specs.LinkedSettings.{LeavesDevices, RanWith, RunsLinked};
 
 use crate::linked_machine::run_linked;

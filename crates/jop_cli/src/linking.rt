@@ -13,7 +13,7 @@ ghost use Rattle.jop_cli.specs.Leaving.{Leaves};
 
 use crate::lines::text_of;
 use crate::outcome::{Ending, Refusal};
-use command_lines::Sizes;
+use outcome_lines::Sizes;
 use image_layout::coded_methods;
 use jop_base::NoMemory;
 use jop_outside::{Files, Sink, put_all};

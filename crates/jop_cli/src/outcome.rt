@@ -1,6 +1,6 @@
 //! How a call of the program ends.
 
-use command_lines::{Counts, Sizes};
+use outcome_lines::{Counts, Sizes};
 use jopizer::LinkRefusal;
 use microcode_asm::AsmKind;
 

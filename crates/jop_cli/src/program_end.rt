@@ -1,6 +1,6 @@
 //! How a run ends.
 
-use command_lines::Counts;
+use outcome_lines::Counts;
 
 /// How the run of a program ends.
 #[derive(Clone, Copy)]

@@ -1,7 +1,7 @@
 //! A run of a machine with an input, an output and a watch.
 ghost use Rattle.std.specs.Prelude.{◌≡◌, ◌≢◌, ◌<◌, ◌≤◌, ◌^◌, List, Option, length};
 ghost use Rattle.jop_device.specs.declared.seen.Seen.{Seen};
-ghost use Rattle.lent_devices.specs.Lent.{lent, wired};
+ghost use Rattle.stream_devices.specs.Lent.{lent, wired};
 ghost use Rattle.boundary.specs.Answers.{IsUnbroken};
 ghost use Rattle.boundary.specs.Setting.{Setting};
 ghost use Rattle.boundary.specs.Runs.{RunsAll};
@@ -13,10 +13,10 @@ ghost use Rattle.jop_cli.specs.Run.{AreCounts, Started, HasStarted, RunsAsAll, R
 use crate::program_end::ProgramEnd;
 use crate::show::NamedShow;
 use boundary::{RunEnd, Running, trace};
-use command_lines::Counts;
+use outcome_lines::Counts;
 use jop_core::{Machine, Watch};
 use jop_outside::{Sink, Source};
-use lent_devices::RunDevice;
+use stream_devices::RunDevice;
 use trace_lines::TraceDevice;
 
 /// Runs a machine until its program has ended, its clock is at least the limit at a boundary, or `input` or `out` fails. The

@@ -1,6 +1,6 @@
 //! The top call.
 ghost use Rattle.std.specs.Prelude.{◌≡◌, ◌<◌, ◌^◌, ℕ, List, [], length, Some, true, false};
-ghost use Rattle.lent_devices.specs.Lent.{lent};
+ghost use Rattle.stream_devices.specs.Lent.{lent};
 ghost use Rattle.jop_words.specs.Command.{texts};
 ghost use Rattle.jop_words.specs.Range.{AreSettings};
 ghost use Rattle.jop_cli.specs.Phase.{is_linked};

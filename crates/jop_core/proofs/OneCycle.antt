@@ -10,7 +10,7 @@ use Rattle.micro_isa.specs.declared.operation.Operation.TheVariants.{Ldin}
 use Rattle.micro_isa.specs.Operations.{operation_of}
 use Rattle.micro_isa.specs.Words.{micro_of}
 use Rattle.microcode_rom.specs.declared.TheConstants.{WORDS}
-use Rattle.telling.specs.Telling.{Rose}
+use Rattle.io_history.specs.Telling.{Rose}
 use Rattle.jop_core.specs.declared.halt.Halt.TheVariants.{Running}
 use Rattle.jop_core.specs.declared.tick.Tick.TheVariants.{Went, ReadFault, WriteFault}
 use Rattle.jop_device.specs.declared.seen.Seen.{Seen}

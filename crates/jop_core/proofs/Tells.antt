@@ -1,7 +1,7 @@
 -- How what a device tells goes on over several calls.
 use Rattle.std.proofs.Common.{◌≡◌, ℕ, Bool, false, List, [], ◌++◌, refl, sym, subst, ◌∙◌}
 use Rattle.std.specs.declared.option.Option.{Option}
-use Rattle.telling.specs.Growing.{Grew-trans}
+use Rattle.io_history.specs.Growing.{Grew-trans}
 use Rattle.jop_device.specs.declared.seen.Seen.{Seen}
 use Rattle.jop_device.specs.Told.{Told, Note, Passed, PassedInPart, Exchanged, GivesWhere}
 use Rattle.jop_device.specs.Noting.{Noted-trans, NotedInPart-after}

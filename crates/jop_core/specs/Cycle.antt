@@ -14,7 +14,7 @@ use Rattle.method_cache.specs.Contents.{word_of}
 use Rattle.jop_core.specs.declared.halt.Halt.{Halt}
 use Rattle.jop_core.specs.declared.halt.Halt.TheVariants.{Running, Ended, Uncaught}
 use Rattle.jop_core.specs.State.{State}
-pub use Rattle.core_words.specs.Packed.{byte_of}
+pub use Rattle.word32.specs.Packed.{byte_of}
 use Rattle.jop_core.specs.Operations.{pushed, popped, stored, word_at, operated}
 
 -- a byte of the current method; past its words, and where the cache doesn't hold it, it is 0

@@ -9,7 +9,7 @@ use Rattle.jop_core.specs.declared.halt.Halt.{Halt}
 use Rattle.jop_core.specs.declared.halt.Halt.TheVariants.{Ended, Uncaught}
 use Rattle.jop_core.specs.declared.places.TheConstants.{STACK}
 use Rattle.jop_core.specs.State.{State}
-pub use Rattle.core_words.specs.Signed.{sign_extended8, sign_extended16, is_negative, signed_lt, shifted_right, number_of, holds}
+pub use Rattle.word32.specs.Signed.{sign_extended8, sign_extended16, is_negative, signed_lt, shifted_right, number_of, holds}
 
 -- the place below which each on-chip place stays
 abbrev pub place_of : State → ℕ → ℕ

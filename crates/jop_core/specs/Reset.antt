@@ -8,7 +8,7 @@ use Rattle.microcode_rom.specs.declared.TheConstants.{CONSTANTS}
 use Rattle.jop_core.specs.declared.halt.Halt.TheVariants.{Running, Uncaught}
 use Rattle.jop_core.specs.declared.places.TheConstants.{POOL, STACK, RAISED}
 use Rattle.jop_core.specs.State.{State}
-pub use Rattle.core_words.specs.Packed.{word_at_bytes, words_from, words_for, words_of_bytes}
+pub use Rattle.word32.specs.Packed.{word_at_bytes, words_from, words_for, words_of_bytes}
 use Rattle.jop_core.specs.Operations.{code_words, code_place}
 use Rattle.jop_core.specs.Cycle.{byte_of, entry_of}
 use Rattle.bare_image.specs.Bare.{Image, frame_words}

@@ -3,7 +3,7 @@ use Rattle.std.specs.Prelude.{◌≡◌, ℕ, List, [], ◌++◌}
 use Rattle.std.specs.List.{flat_map}
 use Rattle.std.proofs.Common.{refl, sym, ap, ◌∙◌, append_assoc}
 use Rattle.std.proofs.lemmas.Grind.{flat_map-append}
-use Rattle.telling.specs.Growing.{Grew-refl, Grew-trans}
+use Rattle.io_history.specs.Growing.{Grew-refl, Grew-trans}
 use Rattle.jop_device.specs.Told.{Told, Note, Noted, NotedInPart}
 
 pub Noted-refl : (told : Told) → Noted told told []

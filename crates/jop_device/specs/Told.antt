@@ -3,7 +3,7 @@ use Rattle.std.specs.Prelude.{◌≡◌, ℕ, ◌^◌, ◌<◌, ◌≤◌, Bool,
 use Rattle.std.specs.List.{flat_map}
 use Rattle.std.specs.declared.option.Option.{Option}
 use Rattle.std.specs.declared.result.Result.{Result}
-use Rattle.telling.specs.Telling.{Grew, Rose}
+use Rattle.io_history.specs.Telling.{Grew, Rose}
 use Rattle.jop_device.specs.declared.seen.Seen.{Seen}
 
 -- a thing that a device notes: a byte that it was given, or a state that it was handed

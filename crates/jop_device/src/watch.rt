@@ -1,7 +1,7 @@
 //! Watches of a machine's states.
 ghost use Rattle.std.specs.Prelude.{◌≡◌, ◌≤◌, List, [], ◌∷◌, Some, None, IfOk, if◌then◌else◌};
 ghost use Rattle.std.specs.declared.option.Option.{Option};
-ghost use Rattle.telling.specs.Telling.{Grew};
+ghost use Rattle.io_history.specs.Telling.{Grew};
 ghost use Rattle.jop_device.specs.declared.seen.Seen.{Seen};
 
 use crate::seen::Seen;

@@ -1,2 +1,2 @@
 -- How what is told goes on over several calls.
-pub use Rattle.telling.specs.Growing.{NothingIsAdded, AdditionsJoin, Grew-refl, Grew-trans}
+pub use Rattle.io_history.specs.Growing.{NothingIsAdded, AdditionsJoin, Grew-refl, Grew-trans}

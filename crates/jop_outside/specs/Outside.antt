@@ -2,7 +2,7 @@
 use Rattle.std.specs.Prelude.{◌≡◌, ◌≢◌, ◌↔◌, ℕ, ◌<◌, ◌≤◌, List, [], ◌++◌, length, take, drop, ⊤, None, Some, Ok, Err}
 use Rattle.std.specs.declared.option.Option.{Option}
 use Rattle.std.specs.declared.result.Result.{Result}
-pub use Rattle.telling.specs.Telling.{Rose, HasCause, Counted, Grew}
+pub use Rattle.io_history.specs.Telling.{Rose, HasCause, Counted, Grew}
 
 -- What a sink tells after a call that was handed a piece: the front that the call took is added, and after an error all is as it was.
 abbrev pub Puts : {E : Type 0} → Option (List ℕ) → Option (List ℕ) → Result ℕ E → List ℕ → Type 0

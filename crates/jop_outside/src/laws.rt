@@ -1,2 +1,2 @@
 // What follows of what is told.
-pub use telling::{additions_join, nothing_is_added};
+pub use io_history::{additions_join, nothing_is_added};

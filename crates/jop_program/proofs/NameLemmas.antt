@@ -5,8 +5,8 @@ use Rattle.std.specs.Option.{option_map_or}
 use Rattle.std.specs.List.{list_any, AllByRecursion}
 use Rattle.std.specs.Cmp.Lexicographic as texts
 use Rattle.std.proofs.lemmas.Bool.{ltb-false, eq-eqb}
-use Rattle.list_words.specs.Lists.{onto, index_of}
-use Rattle.list_words.specs.Lemmas.{index_found, index_there}
+use Rattle.lists.specs.Lists.{onto, index_of}
+use Rattle.lists.specs.Lemmas.{index_found, index_there}
 use Rattle.class_pool.specs.declared.entry.Entry.{Entry}
 use Rattle.class_pool.specs.declared.entry.Entry.TheVariants as entries
 use Rattle.class_pool.specs.declared.class.Member.{Member}

@@ -6,9 +6,9 @@ use Rattle.std.specs.List.{filter, filter_map, cons_option, flat_map, range_with
 use Rattle.std.proofs.lemmas.Bool.{eqb-true, eq-eqb}
 use Rattle.std.proofs.lemmas.List.{reverse-append}
 use Rattle.std.proofs.lemmas.Option.{slice_get_within}
-use Rattle.list_words.specs.Lists.{onto}
-use Rattle.list_words.specs.Numbers.{reached}
-use Rattle.list_words.specs.Lemmas.{index_found}
+use Rattle.lists.specs.Lists.{onto}
+use Rattle.lists.specs.Numbers.{reached}
+use Rattle.lists.specs.Lemmas.{index_found}
 use Rattle.class_pool.specs.declared.class.ClassFile.{ClassFile}
 use Rattle.class_lookup.specs.Parts.{same_text, name_of, superclass_name}
 use Rattle.class_lookup.specs.Hierarchy.{find_class, superclass, superclasses}

@@ -4,7 +4,7 @@ use Rattle.std.specs.Prelude.{IfSome, if◌then◌else◌, nat_le, find, is_some
 use Rattle.std.specs.List.{range_with_len, AllByRecursion}
 use Rattle.std.proofs.lemmas.Bool.{leb-true}
 use Rattle.std.specs.Prelude.{IfOk, Result, Ok, Err}
-use Rattle.first_found.specs.Lists.{first}
+use Rattle.lists.specs.Lists.{first}
 use Rattle.class_pool.specs.declared.class.ClassFile.{ClassFile}
 use Rattle.class_rules.specs.Grammar.{IsClass}
 use Rattle.core_classes.specs.Core.{core}

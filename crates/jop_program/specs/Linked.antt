@@ -5,7 +5,7 @@ use Rattle.std.specs.Option.{option_map_or}
 use Rattle.std.specs.List.{filter_map, flat_map, list_any, range_with_len}
 use Rattle.class_pool.specs.Utf8.{utf8_bytes}
 use Rattle.class_pool.specs.declared.class.ClassFile.{ClassFile}
-use Rattle.list_words.specs.Lists.{onto}
+use Rattle.lists.specs.Lists.{onto}
 use Rattle.class_lookup.specs.Parts.{same_text, name_of, Signature, signature_of, same_signature, is_public, is_static}
 use Rattle.class_lookup.specs.Hierarchy.{superclasses, is_on_a_cycle}
 use Rattle.program_tables.specs.Lists.{distinct}

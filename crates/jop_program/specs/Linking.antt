@@ -1,7 +1,7 @@
 -- What the parts of resolving are given and what they answer.
 use Rattle.std.specs.Prelude.{◌≡◌, ℕ, ◌+◌, ◌<◌, ◌≤◌, Bool, false, nat_le, if◌then◌else◌, List, [], ◌∷◌, ◌++◌, length, Some, None, find}
 use Rattle.std.specs.List.{flat_map, range_with_len, AllByRecursion}
-use Rattle.first_found.specs.Lists.{first}
+use Rattle.lists.specs.Lists.{first}
 use Rattle.class_pool.specs.declared.class.ClassFile.{ClassFile}
 use Rattle.class_rules.specs.Grammar.{IsClass}
 use Rattle.class_lookup.specs.Hierarchy.{is_on_a_cycle, IsAcyclic}

@@ -3,7 +3,7 @@ use Rattle.std.specs.Prelude.{◌≡◌, ℕ, ◌⊎◌, List, [], ◌∷◌, ta
 use Rattle.class_pool.specs.declared.class.ClassFile.{ClassFile}
 use Rattle.class_rules.specs.Grammar.{IsClassOf}
 use Rattle.class_file.specs.Grammar.{IsOtherVersion}
-use Rattle.first_found.specs.Lists.{first}
+use Rattle.lists.specs.Lists.{first}
 use Rattle.jop_program.specs.declared.refusal.LinkRefusal.{LinkRefusal}
 use Rattle.jop_program.specs.declared.refusal.LinkRefusal.TheVariants as answers
 use Rattle.jop_program.specs.Linked.{linked_classes}

@@ -1,7 +1,7 @@
 //! Which initialization methods are called, and in which order (JVM Specification SE 8, 5.5).
 ghost use Rattle.std.specs.Prelude.{◌≡◌, ◌&&◌, ◌++◌, [], nat_eq, nat_le, not, if◌then◌else◌, reverse, slice_get, is_some, Some, None, IfOk, OnOk};
 ghost use Rattle.std.specs.Option.{option_to_list};
-ghost use Rattle.list_words.specs.Lists.{onto};
+ghost use Rattle.lists.specs.Lists.{onto};
 ghost use Rattle.class_lookup.specs.Parts.{name_of};
 ghost use Rattle.program_tables.specs.Lists.{with_items};
 ghost use Rattle.jop_program.specs.Linked.{most_files, is_initialized, initialization_order, initialized, first_on_cycle};

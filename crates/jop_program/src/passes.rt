@@ -1,7 +1,7 @@
 //! The passes over the classes, one after the other, each file by file.
 ghost use Rattle.std.specs.Prelude.{◌≡◌, ◌+◌, ◌<◌, ◌≤◌, length, IfOk, IfSome, Some, false, find, slice_get, slice_index_or, ℕ};
 ghost use Rattle.std.specs.List.{AllByRecursion, range_with_len};
-ghost use Rattle.first_found.specs.Lists.{first as first_of};
+ghost use Rattle.lists.specs.Lists.{first as first_of};
 ghost use Rattle.class_rules.specs.Grammar.{IsClass};
 ghost use Rattle.program_tables.specs.Tables.{HasBounds};
 ghost use Rattle.program_tables.specs.Placed.{duplicate_of};

@@ -1,7 +1,7 @@
 //! The program of files, or what refuses them first.
 ghost use Rattle.std.specs.Prelude.{◌≡◌, ◌+◌, ◌<◌, ◌≤◌, ◌^◌, ◌++◌, ◌∷◌, [], length, map, Some, None, IfOk, IfErr, nat_le, if◌then◌else◌, find, false, ℕ};
 ghost use Rattle.std.specs.List.{AllByRecursion, range_with_len};
-ghost use Rattle.first_found.specs.Lists.{first as first_of};
+ghost use Rattle.lists.specs.Lists.{first as first_of};
 ghost use Rattle.class_rules.specs.Grammar.{IsClass};
 ghost use Rattle.class_lookup.specs.Hierarchy.{is_on_a_cycle, IsAcyclic};
 ghost use Rattle.core_classes.specs.Core.{core, boot};

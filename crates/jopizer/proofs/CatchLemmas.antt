@@ -7,8 +7,8 @@ use Rattle.std.proofs.lemmas.List.Elements.{All-from_recursion}
 use Rattle.class_pool.specs.declared.class.Code.{Code}
 use Rattle.class_pool.specs.declared.class.ClassFile.{ClassFile}
 use Rattle.class_rules.specs.Found.{MethodsHaveCode}
-use Rattle.list_words.specs.Numbers.{is_among}
-use Rattle.list_words.specs.Lemmas.{none≢some, index_there}
+use Rattle.lists.specs.Numbers.{is_among}
+use Rattle.lists.specs.Lemmas.{none≢some, index_there}
 use Rattle.jop_opcodes.specs.Start.{starts_of, first_bad}
 use Rattle.frame_types.specs.Laws.{FramesLaw}
 use Rattle.frame_types.specs.Frames.{frames_of}

@@ -4,16 +4,16 @@ use Rattle.std.specs.Prelude.{nat_le, if◌then◌else◌}
 use Rattle.linked_image.specs.Linked.{Image, OneImage}
 use Rattle.class_pool.specs.declared.class.ClassFile.{ClassFile}
 use Rattle.class_rules.specs.Grammar.{IsClassOf}
-use Rattle.word_lists.specs.Laid.{Laid}
-use Rattle.word_lists.specs.Passed.{Passed, passed}
-use Rattle.word_lists.specs.declared.fault.Counted.{Counted}
-use Rattle.word_lists.specs.declared.fault.Counted.TheVariants.{Types, InterfaceMethods, Methods, Words}
+use Rattle.image_builder.specs.Laid.{Laid}
+use Rattle.image_builder.specs.Passed.{Passed, passed}
+use Rattle.image_builder.specs.declared.fault.Counted.{Counted}
+use Rattle.image_builder.specs.declared.fault.Counted.TheVariants.{Types, InterfaceMethods, Methods, Words}
 use Rattle.image_words.specs.Limits.{IsWithinLimits, coded_methods, most_types, most_interface_methods, most_methods, most_words}
 use Rattle.image_words.specs.Slots.{interface_methods}
 use Rattle.image_words.specs.Regions.{image_words_of}
 use Rattle.image_layout.specs.Layout.{IsLaidOut, first_passed}
 use Rattle.program_tables.specs.Numbers.{types_of}
-use Rattle.list_words.specs.Lists.{first_some}
+use Rattle.lists.specs.Lists.{first_some}
 use Rattle.jop_program.specs.Linked.{linked_classes}
 use Rattle.jop_program.specs.Resolving.{AreClassesOf, IsProgramOf}
 use Rattle.jopizer.specs.Linked.{Parts, image_of}

@@ -9,8 +9,8 @@ use Rattle.class_pool.specs.ClassSpelling.{inside_bytes}
 use Rattle.class_rules.specs.Grammar.{IsClassOf}
 use Rattle.class_file.specs.Grammar.{IsOtherVersion}
 use Rattle.class_file.proofs.ClassLaws.{class_header, other_behind}
-use Rattle.first_found.specs.Lists.{first}
-use Rattle.list_words.specs.Lemmas.{none≢some}
+use Rattle.lists.specs.Lists.{first}
+use Rattle.lists.specs.Lemmas.{none≢some}
 use Rattle.image_words.specs.Regions.{image_words_of}
 use Rattle.image_layout.specs.Layout.{first_passed}
 use Rattle.bytecode_verifier.specs.Failure.{method_failure, IsVerified}

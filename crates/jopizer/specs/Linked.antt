@@ -1,7 +1,7 @@
 -- What files are linked to: JVM Specification SE 8, chapter 5, and the words of the image.
 use Rattle.std.specs.Prelude.{◌≡◌, ℕ, ◌≤◌, List, length, None}
 use Rattle.class_pool.specs.declared.class.ClassFile.{ClassFile}
-use Rattle.word_lists.specs.Laid.{Laid}
+use Rattle.image_builder.specs.Laid.{Laid}
 use Rattle.linked_image.specs.Linked.{Image, bytes_of}
 use Rattle.image_words.specs.Regions.{image_words_of}
 use Rattle.image_layout.specs.Layout.{IsLaidOut, first_passed}

@@ -6,7 +6,7 @@ use Rattle.std.proofs.lemmas.Bool.{cases_lt}
 use Rattle.std.proofs.lemmas.List.{get_or-map, length-map}
 use Rattle.std.proofs.lemmas.List.Sums.{sum_by_more}
 use Rattle.std.proofs.lemmas.Option.{slice_get_within, get_or_from_slice_get}
-use Rattle.list_words.specs.Lemmas.{some_same, onto_some}
+use Rattle.lists.specs.Lemmas.{some_same, onto_some}
 use Rattle.coded_methods.specs.declared.method.CodedMethod.{CodedMethod}
 use Rattle.coded_methods.specs.Methods.{IsMethod, AreMethods, places}
 use Rattle.class_pool.specs.declared.class.ClassFile.{ClassFile}

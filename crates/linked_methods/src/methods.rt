@@ -10,7 +10,7 @@ use jop_base::NoMemory;
 use program_tables::laws::methods_stand_by_number;
 use resolved_program::Program;
 use std::alloc::Global;
-use word_lists::Layout;
+use image_builder::Layout;
 
 /// The methods of a program that have code, by number, with their places in its image.
 pub fn methods_of<'a>(

@@ -1,7 +1,7 @@
 -- Where instructions begin and end.
 use Rattle.std.proofs.Common.{◌≡◌, ℕ, ◌+◌, List, length, inl, inr, Result, Ok, Err, None, refl, sym, ◌∙◌, arith, ⊎_elim}
 use Rattle.std.proofs.lemmas.Bool.{cases_lt}
-use Rattle.list_words.specs.Lemmas.{none≢some}
+use Rattle.lists.specs.Lemmas.{none≢some}
 use Rattle.jop_opcodes.specs.declared.instruction.Instr.{Instr}
 use Rattle.jop_opcodes.specs.declared.instruction.DecodeFault.{DecodeFault}
 use Rattle.jop_opcodes.specs.Instruction.{decoded}

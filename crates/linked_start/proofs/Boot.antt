@@ -9,7 +9,7 @@ use Rattle.class_pool.specs.Found.{code_of}
 use Rattle.class_making.specs.Plans.{items_of, method_in, code_in, class_of}
 use Rattle.core_classes.specs.Core.{core, boot, boot_plan, boot_method, boot_pieces}
 use Rattle.jop_program.specs.Linked.{calls_of, main_name, linked_classes}
-use Rattle.list_words.specs.Lists.{onto}
+use Rattle.lists.specs.Lists.{onto}
 use Rattle.bytecode_model.specs.Sizes.{body_words}
 use Rattle.bytecode_model.specs.Program.{Method, body_of}
 use Rattle.program_tables.specs.Resolved.{body_in, boot_of, resolved_methods, resolved}

@@ -12,9 +12,9 @@ use Rattle.jop_opcodes.specs.Start.{starts_of, first_bad}
 use Rattle.frame_types.specs.Laws.{FramesLaw}
 use Rattle.frame_types.specs.Frames as maps
 use Rattle.frame_types.proofs.SearchLemmas.{among_contains}
-use Rattle.list_words.specs.Lists.{onto}
-use Rattle.list_words.specs.Numbers.{is_among}
-use Rattle.list_words.specs.Lemmas.{none≢some, map_some, index_there}
+use Rattle.lists.specs.Lists.{onto}
+use Rattle.lists.specs.Numbers.{is_among}
+use Rattle.lists.specs.Lemmas.{none≢some, map_some, index_there}
 use Rattle.bytecode_model.specs.Types.{Kind, OfClass, same_kind}
 use Rattle.bytecode_model.specs.Program.{Method, Body, Handler, type_number}
 use Rattle.bytecode_typing.specs.Types.{TypeFrame}

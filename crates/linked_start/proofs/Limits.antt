@@ -2,16 +2,16 @@
 use Rattle.std.proofs.Common.{◌≡◌, ℕ, ◌≤◌, Bool, true, false, List, [], ◌∷◌, length, Option, Some, None, refl, sym}
 use Rattle.std.specs.Prelude.{nat_le, if◌then◌else◌}
 use Rattle.std.proofs.lemmas.Bool.{leb-true}
-use Rattle.list_words.specs.Lists.{first_some}
-use Rattle.list_words.specs.Lemmas.{none≢some}
+use Rattle.lists.specs.Lists.{first_some}
+use Rattle.lists.specs.Lemmas.{none≢some}
 use Rattle.class_pool.specs.declared.class.ClassFile.{ClassFile}
 use Rattle.program_tables.specs.Numbers.{types_of}
 use Rattle.image_words.specs.Slots.{interface_methods}
 use Rattle.image_words.specs.Regions.{image_words_of}
 use Rattle.image_words.specs.Limits.{coded_methods, most_types, most_interface_methods, most_methods, most_words, IsWithinLimits}
-use Rattle.word_lists.specs.Passed.{Passed, passed}
-use Rattle.word_lists.specs.declared.fault.Counted.{Counted}
-use Rattle.word_lists.specs.declared.fault.Counted.TheVariants.{Types, InterfaceMethods, Methods, Words}
+use Rattle.image_builder.specs.Passed.{Passed, passed}
+use Rattle.image_builder.specs.declared.fault.Counted.{Counted}
+use Rattle.image_builder.specs.declared.fault.Counted.TheVariants.{Types, InterfaceMethods, Methods, Words}
 use Rattle.image_layout.specs.Layout.{first_passed}
 
 first_none : {A : Type 0} (o : Option A) (os : List (Option A)) → first_some (o ∷ os) ≡ None → (o ≡ None) × (first_some os ≡ None)

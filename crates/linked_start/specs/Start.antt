@@ -15,7 +15,7 @@ use Rattle.image_facts.specs.Says.{Says}
 use Rattle.machine_stands.specs.StandsFor.{StandsFor}
 use Rattle.image_words.specs.Regions.{places_of}
 use Rattle.image_words.specs.Limits.{most_words}
-use Rattle.word_lists.specs.Laid.{Laid}
+use Rattle.image_builder.specs.Laid.{Laid}
 use Rattle.image_layout.specs.Layout.{IsLaidOut, first_passed}
 use Rattle.bytecode_verifier.specs.Failure.{IsVerified, types_found}
 use Rattle.jop_program.specs.Linked.{linked_classes}

@@ -8,7 +8,7 @@ use Rattle.std.proofs.lemmas.List.{reverse-append, reverse-reverse, length-rever
 use Rattle.stack_cache.specs.Size.{IsSize}
 use Rattle.microcode_rom.specs.declared.TheConstants.{CONSTANTS as NUMBERS}
 use Rattle.memory_timing.specs.declared.TheConstants.{MAX_MEMORY}
-use Rattle.core_words.specs.Packed.{PackedHasBytes}
+use Rattle.word32.specs.Packed.{PackedHasBytes}
 use Rattle.method_cache.specs.Contents.{Cache, IsCache, is_cached, word_of}
 use Rattle.micro_flow.specs.declared.CostParams.{CostParams}
 use Rattle.jop_opcodes.specs.Start.{AreStarts}

@@ -4,7 +4,7 @@ use Rattle.std.specs.Prelude.{IsSomeAnd, IfSome, slice_index}
 use Rattle.std.specs.declared.option.Option.{Option}
 use Rattle.std.proofs.lemmas.List.{append-nil}
 use Rattle.std.proofs.Math.Nat.{mod-eq_of_lt}
-use Rattle.core_words.specs.Packed.{byte_of, words_of_bytes, PackedHasWords}
+use Rattle.word32.specs.Packed.{byte_of, words_of_bytes, PackedHasWords}
 use Rattle.method_cache.specs.Contents.{Cache, is_cached, loaded, word_of}
 use Rattle.microcode_rom.specs.declared.TheConstants.{ENTRIES}
 use Rattle.micro_flow.specs.declared.CostParams.{CostParams}

@@ -5,7 +5,7 @@ use Rattle.std.proofs.lemmas.List.Sums.{sum_by-cons}
 use Rattle.std.proofs.lemmas.List.{append-nil, length-reverse, reverse-append, reverse-reverse}
 use Rattle.std.proofs.Math.Nat.{mod-eq_of_lt}
 use mathlib.Core.List.{reverse_aux}
-use Rattle.core_words.specs.Packed.{byte_of, words_of_bytes, PackedHasWords}
+use Rattle.word32.specs.Packed.{byte_of, words_of_bytes, PackedHasWords}
 use Rattle.method_cache.specs.Contents.{Cache, is_cached, word_of}
 use Rattle.microcode_rom.specs.declared.TheConstants.{CONSTANTS as NUMBERS, RAISE}
 use Rattle.micro_flow.specs.declared.CostParams.{CostParams}

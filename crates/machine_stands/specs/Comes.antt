@@ -1,7 +1,7 @@
 -- A step of the bytecode as a run of the machine to the next boundary.
 use Rattle.std.specs.Prelude.{◌≡◌, ℕ, ◌+◌, ◌%◌, ◌^◌, ◌<◌, ◌≤◌, Bool, true, false, List, [], ◌∷◌, ◌++◌, length, ◌==◌, if◌then◌else◌, Some, None, IsSomeAnd}
 use Rattle.std.specs.declared.option.Option.{Option}
-use Rattle.core_words.specs.Packed.{words_of_bytes}
+use Rattle.word32.specs.Packed.{words_of_bytes}
 use Rattle.method_cache.specs.Contents.{is_cached, loaded}
 use Rattle.micro_flow.specs.declared.CostParams.{CostParams}
 use Rattle.micro_flow.specs.Walk.{IsCost, IsRaiseCost}

@@ -5,7 +5,7 @@ use Rattle.microcode_rom.specs.declared.TheConstants.{CONSTANTS as NUMBERS, RAIS
 use Rattle.method_cache.specs.Contents.{Entry, Cache, IsCache, is_cached, can_load}
 use Rattle.memory_timing.specs.declared.TheConstants.{MAX_MEMORY}
 use Rattle.memory_timing.specs.Port.{padded}
-use Rattle.core_words.specs.Packed.{words_for, words_of_bytes}
+use Rattle.word32.specs.Packed.{words_for, words_of_bytes}
 use Rattle.jop_opcodes.specs.Bytes.{u1}
 use Rattle.jop_core.specs.declared.halt.Halt.TheVariants as halts
 use Rattle.jop_core.specs.declared.places.TheConstants.{POOL, METHOD, NEXT_FREE, MEMORY_END, FRAME_SUM, FRAME_LIMIT, RAISE_LIST, RAISED, CONSTANTS, STACK}

@@ -1,7 +1,7 @@
 -- When a machine stands again, after a row that goes on in another frame.
 use Rattle.std.specs.Prelude.{◌≡◌, ℕ, ◌+◌, ◌%◌, ◌^◌, Bool, true, false, ◌==◌, List, [], ◌∷◌, ◌++◌, length, reverse, Some, None}
 use Rattle.std.specs.declared.option.Option.{Option}
-use Rattle.core_words.specs.Packed.{words_of_bytes}
+use Rattle.word32.specs.Packed.{words_of_bytes}
 use Rattle.method_cache.specs.Contents.{is_cached, loaded}
 use Rattle.jop_opcodes.specs.declared.instruction.Instr.{Instr}
 use Rattle.jop_core.specs.State as machine

@@ -1,7 +1,7 @@
 -- Steps of the raise routine (JVM Specification SE 8, 2.10), from what it makes of the words of the top frame to where the machine stands for the next state.
 use Rattle.std.specs.Prelude.{◌≡◌, ℕ, ◌+◌, ◌≤◌, List, [], ◌∷◌, ◌++◌, length, drop, reverse, slice_get, Some, None}
 use Rattle.std.specs.declared.option.Option.{Option}
-use Rattle.core_words.specs.Packed.{words_of_bytes}
+use Rattle.word32.specs.Packed.{words_of_bytes}
 use Rattle.method_cache.specs.Contents.{is_cached}
 use Rattle.microcode_rom.specs.declared.TheConstants.{RAISE}
 use Rattle.micro_flow.specs.declared.CostParams.{CostParams}

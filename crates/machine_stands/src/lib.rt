@@ -27,8 +27,8 @@ pub fn bare_images_say()
 pub fn bare_images_begin()
     ensures { BareImagesBegin }
 {
-    core_words::laws::packed_has_words();
-    core_words::laws::packed_has_bytes();
+    word32::laws::packed_has_words();
+    word32::laws::packed_has_bytes();
 }
 
 /// A `putfield` of a long, as two writes of the memory.
@@ -53,7 +53,7 @@ pub fn machines_stand_again()
     ensures { MachinesStandAgain }
 {
     jop_opcodes::laws::starts_follow_one_another();
-    core_words::laws::packed_has_bytes();
+    word32::laws::packed_has_bytes();
     micro_sketch::laws::rows_are_steps();
 }
 
@@ -84,8 +84,8 @@ pub fn rows_switch()
     ensures { SwitchesCome }
 {
     jop_opcodes::laws::starts_follow_one_another();
-    core_words::laws::packed_has_bytes();
-    core_words::laws::packed_has_words();
+    word32::laws::packed_has_bytes();
+    word32::laws::packed_has_words();
     micro_sketch::laws::rows_are_steps();
     micro_sketch::laws::runs_add_up();
     machines_are_seen();
@@ -113,7 +113,7 @@ pub fn rows_are_read()
 pub fn sketches_show()
     ensures { SketchesShow }
 {
-    core_words::laws::packed_has_bytes();
+    word32::laws::packed_has_bytes();
     machines_are_seen();
 }
 
@@ -163,8 +163,8 @@ pub fn raises_unwind()
     ensures uncaught { UncaughtCome }
 {
     jop_opcodes::laws::starts_follow_one_another();
-    core_words::laws::packed_has_bytes();
-    core_words::laws::packed_has_words();
+    word32::laws::packed_has_bytes();
+    word32::laws::packed_has_words();
     micro_sketch::laws::rows_are_steps();
     micro_sketch::laws::machines_are_seen_as_sketches();
     micro_sketch::laws::raise_keeps_its_cost();

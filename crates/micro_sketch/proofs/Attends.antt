@@ -1,7 +1,7 @@
 -- What a device was told of a run, over one cycle and over several runs.
 use Rattle.std.proofs.Common.{◌≡◌, ℕ, Bool, true, false, List, [], ◌∷◌, ◌++◌, refl, subst, arith}
 use Rattle.std.specs.declared.option.Option.{Option}
-use Rattle.telling.specs.Growing.{Grew-refl, Grew-trans}
+use Rattle.io_history.specs.Growing.{Grew-refl, Grew-trans}
 use Rattle.jop_device.specs.declared.seen.Seen.{Seen}
 use Rattle.jop_device.specs.Noting.{Noted-refl, Noted-trans}
 use Rattle.jop_device.specs.Told.{Told, Note, Exchanged, GivesWhere, GivesEach, Attended, CountsRise}

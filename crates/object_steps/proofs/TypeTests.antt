@@ -3,7 +3,7 @@ use Rattle.std.proofs.Common.{◌≡◌, ℕ, ◌+◌, ◌/◌, ◌%◌, ◌^◌
 use Rattle.std.specs.Prelude.{slice_get, slice_index, IsSomeAnd}
 use Rattle.std.proofs.lemmas.Option.{none-some}
 use Rattle.std.proofs.lemmas.Nat.{and_mask}
-use Rattle.list_words.specs.Lemmas.{onto_some}
+use Rattle.lists.specs.Lemmas.{onto_some}
 use Rattle.jop_opcodes.specs.Form.{one, UnsignedShort}
 use Rattle.jop_opcodes.specs.Row as opcodes
 use Rattle.jop_opcodes.specs.Reading.{plain_instr}

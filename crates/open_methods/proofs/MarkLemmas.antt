@@ -10,9 +10,9 @@ use Rattle.std.proofs.lemmas.List.{get_or-set_same, get_or-set_other, length-set
 use Rattle.std.proofs.lemmas.List.Folds.{list_any_more, list_all-append}
 use Rattle.std.proofs.lemmas.List.FromFn.{map-range_with_len_more}
 use Rattle.std.proofs.lemmas.Option.{slice_get_cases, slice_get_within}
-use Rattle.list_words.specs.Numbers.{is_among}
-use Rattle.list_words.proofs.Among.{among_at}
-use Rattle.list_words.proofs.Reached.{in_append}
+use Rattle.lists.specs.Numbers.{is_among}
+use Rattle.lists.proofs.Among.{among_at}
+use Rattle.lists.proofs.Reached.{in_append}
 use Rattle.class_pool.specs.declared.class.ClassFile.{ClassFile}
 use Rattle.class_lookup.specs.Hierarchy.{extends, supertypes, is_concrete}
 use Rattle.class_lookup.specs.Lookup.{Place}

@@ -19,7 +19,7 @@ use Rattle.bytecode_model.specs.Program.{Method, object_class}
 use Rattle.bytecode_typing.specs.Tests.{Holds}
 use Rattle.bytecode_typing.specs.Checks.{is_own_class}
 use Rattle.bytecode_typing.specs.Lawful.{IsThere, IsStaticCall, IsSpecialCall, IsVirtualCall, IsInterfaceCall}
-use Rattle.list_words.specs.Lemmas.{none≢some, some_same, onto_some}
+use Rattle.lists.specs.Lemmas.{none≢some, some_same, onto_some}
 use Rattle.class_lookup.specs.Lists.{first_some}
 use Rattle.class_lookup.specs.Parts.{Signature, signature_of, has_code, is_static, is_private, is_abstract, is_super_class, is_init, is_clinit}
 use Rattle.class_lookup.specs.Hierarchy.{superclass, is_interface, is_subclass, extends}

@@ -22,7 +22,7 @@ use Rattle.bytecode_model.specs.Types.{Kind, OfClass, OfReferences, same_kind}
 use Rattle.bytecode_model.specs.State.{Object}
 use Rattle.bytecode_model.specs.Program.{Program, Method, Operand, NoOperand, AString, AStatic, AField, AMethod, AType, kind_of, type_number, object_class, string_class}
 use Rattle.bytecode_typing.specs.Lawful.{IsThere, IsConstant, IsStaticCall, IsSpecialCall, IsVirtualCall, IsInterfaceCall}
-use Rattle.list_words.specs.Lemmas.{some_same, onto_some, map_some, index_found, index_there}
+use Rattle.lists.specs.Lemmas.{some_same, onto_some, map_some, index_found, index_there}
 use Rattle.class_lookup.specs.Parts.{Signature, same_text, name_of, text_at, class_text, is_static}
 use Rattle.class_lookup.specs.Hierarchy.{is_interface, is_concrete, extends}
 use Rattle.class_lookup.specs.Lookup.{Place, same_place, field_at, find_field, find_method}

@@ -10,7 +10,7 @@ use Rattle.class_pool.specs.declared.entry.Entry.{Entry}
 use Rattle.class_rules.specs.Flags.{IsSet}
 use Rattle.class_rules.specs.Rules.{AreSame, AreDistinct}
 use Rattle.class_rules.specs.Grammar.{IsClass}
-use Rattle.list_words.specs.Lemmas.{none≢some, some_same}
+use Rattle.lists.specs.Lemmas.{none≢some, some_same}
 use Rattle.class_lookup.specs.Parts.{has, is_interface_class, is_abstract_class}
 use Rattle.class_lookup.specs.Hierarchy.{is_interface, is_concrete, is_on_a_cycle}
 use Rattle.class_lookup.specs.Laws as lookups

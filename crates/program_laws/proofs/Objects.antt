@@ -23,7 +23,7 @@ use Rattle.bytecode_model.specs.Effects.{Fault, fault_object}
 use Rattle.bytecode_model.specs.Effects as effects
 use Rattle.bytecode_typing.specs.Tests.{Holds, AllTwo}
 use Rattle.bytecode_typing.specs.Fits.{kind_in, HasDeclared, HasEach, PartsFit, ObjectFits, numbers_of}
-use Rattle.list_words.specs.Lemmas.{none≢some}
+use Rattle.lists.specs.Lemmas.{none≢some}
 use Rattle.class_lookup.specs.Parts.{same_text, text_at}
 use Rattle.class_lookup.specs.Hierarchy.{is_concrete, extends}
 use Rattle.program_tables.specs.Lists.{distinct}

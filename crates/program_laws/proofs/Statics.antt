@@ -28,7 +28,7 @@ use Rattle.bytecode_model.specs.Types.{OfClass, Declared, Numeric, IntType, Long
 use Rattle.bytecode_model.specs.Program.{string_class}
 use Rattle.bytecode_typing.specs.Tests.{Holds, AllTwo}
 use Rattle.bytecode_typing.specs.Fits.{kind_in, may_be, HasDeclared, numbers_of}
-use Rattle.list_words.specs.Lemmas.{none≢some, some_same, onto_some, map_some, index_found}
+use Rattle.lists.specs.Lemmas.{none≢some, some_same, onto_some, map_some, index_found}
 use Rattle.class_lookup.specs.Parts.{same_text, name_of, text_at, is_static}
 use Rattle.class_lookup.specs.Hierarchy.{find_class, is_interface, extends}
 use Rattle.class_lookup.specs.Lookup.{Place, field_at}

@@ -13,7 +13,7 @@ use Rattle.class_pool.specs.declared.class.Member.{Member}
 use Rattle.descriptors.specs.declared.descriptor.FieldType.{FieldType}
 use Rattle.bytecode_model.specs.Lists.{onto}
 use Rattle.bytecode_model.specs.Types as model
-use Rattle.list_words.specs.Lemmas.{some_same}
+use Rattle.lists.specs.Lemmas.{some_same}
 use Rattle.program_tables.specs.declared.operand.Declared.{Declared}
 use Rattle.program_tables.specs.declared.operand.MethodShape.{MethodShape}
 use Rattle.class_lookup.specs.Lookup.{Place, method_at}

@@ -5,7 +5,7 @@ use Rattle.std.specs.List.{list_any}
 use Rattle.std.proofs.lemmas.List.Folds.{list_any-append}
 use Rattle.std.proofs.lemmas.Cmp.{nat_list_eq_equiv}
 use Rattle.class_pool.specs.declared.class.ClassFile.{ClassFile}
-use Rattle.list_words.specs.Lists.{onto, index_of}
+use Rattle.lists.specs.Lists.{onto, index_of}
 use Rattle.class_lookup.specs.Parts.{same_text, name_of}
 use Rattle.core_classes.specs.Core.{core, boot, boot_plan}
 use Rattle.core_classes.specs.Laws.{CoreIsNamed, BootSaysPlan}

@@ -1,13 +1,13 @@
 -- The lines of refusals: of files that are no program, of a method that breaks a rule of the verifier, and of an image past a limit. Each line is its parts, one
 -- after another.
 use Rattle.std.specs.Prelude.{ℕ, Bool, true, false, List, [], ◌∷◌, ◌++◌, codes, decimal}
-use Rattle.command_lines.specs.declared.line.Place.{Place}
-use Rattle.command_lines.specs.declared.line.Place.TheVariants as places
-use Rattle.command_lines.specs.Line.{place_parts}
+use Rattle.outcome_lines.specs.declared.line.Place.{Place}
+use Rattle.outcome_lines.specs.declared.line.Place.TheVariants as places
+use Rattle.outcome_lines.specs.Line.{place_parts}
 use Rattle.program_tables.specs.declared.refusal.Site.{Site}
 use Rattle.program_tables.specs.declared.refusal.Site.TheVariants as sites
 use Rattle.bytecode_verifier.specs.declared.fault.MethodRule.{MethodRule}
-use Rattle.word_lists.specs.declared.fault.Counted.{Counted}
+use Rattle.image_builder.specs.declared.fault.Counted.{Counted}
 use Rattle.jop_program.specs.declared.refusal.Counted.TheVariants.{Classes}
 use Rattle.jop_program.specs.declared.refusal.LinkRefusal.{LinkRefusal}
 use Rattle.jop_program.specs.declared.refusal.LinkRefusal.TheVariants.{BadClass, UnsupportedVersion, Duplicate, Unsupported, Unresolved, BadHierarchy, NoMain, TooLarge, NoMemory}

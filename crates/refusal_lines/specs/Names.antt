@@ -9,8 +9,8 @@ use Rattle.verifier_types.specs.declared.checked.Rule.{Rule}
 use Rattle.verifier_types.specs.declared.checked.Rule.TheVariants as rules
 use Rattle.bytecode_verifier.specs.declared.fault.MethodRule.{MethodRule}
 use Rattle.bytecode_verifier.specs.declared.fault.MethodRule.TheVariants as methods
-use Rattle.word_lists.specs.declared.fault.Counted.{Counted}
-use Rattle.word_lists.specs.declared.fault.Counted.TheVariants.{Types, InterfaceMethods, Methods, Words}
+use Rattle.image_builder.specs.declared.fault.Counted.{Counted}
+use Rattle.image_builder.specs.declared.fault.Counted.TheVariants.{Types, InterfaceMethods, Methods, Words}
 
 -- an opcode has its mnemonic, behind wide too
 abbrev pub item_name : Item → List ℕ

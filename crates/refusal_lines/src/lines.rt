@@ -2,16 +2,16 @@
 ghost use Rattle.std.specs.Prelude.{◌≡◌, [], false};
 ghost use Rattle.std.specs.List.{concat};
 ghost use Rattle.jop_outside.specs.Outside.{HasCause};
-ghost use Rattle.command_lines.specs.Said.{Said};
+ghost use Rattle.outcome_lines.specs.Said.{Said};
 ghost use Rattle.refusal_lines.specs.Lines.{place_of, refusal_parts, is_want_of_memory, failure_parts, limit_parts};
 
 use crate::names::{item_name, limit_name, rule_name, why_name};
 use bytecode_verifier::MethodRule;
-use command_lines::{Line, LinkLine, Named, Place, say};
+use outcome_lines::{Line, LinkLine, Named, Place, say};
 use jop_outside::{Failed, Sink};
 use jop_program::{Counted as Limited, LinkRefusal};
 use program_tables::{Item, Site, Why};
-use word_lists::Counted;
+use image_builder::Counted;
 
 fn place_of(site: Site) -> Place
     ensures { result ≡ place_of site }

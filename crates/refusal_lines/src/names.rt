@@ -5,7 +5,7 @@ ghost use Rattle.refusal_lines.specs.Names.{item_name, why_name, walk_rule_name,
 use bytecode_verifier::{MethodRule, Rule};
 use jop_opcodes::name;
 use program_tables::{Item, Why};
-use word_lists::Counted;
+use image_builder::Counted;
 
 /// The name of an item that this machine doesn't support.
 pub(crate) fn item_name(item: Item) -> &'static str

@@ -19,7 +19,7 @@ use Rattle.jop_opcodes.specs.Instruction.{decoded}
 use Rattle.jop_opcodes.specs.Target.{WholeIsWithin}
 use Rattle.bytecode_model.specs.Lists.{onto}
 use Rattle.bytecode_model.specs.Program.{as_instr, instr_at}
-use Rattle.list_words.specs.Lemmas.{onto_some}
+use Rattle.lists.specs.Lemmas.{onto_some}
 use Rattle.class_lookup.specs.Lookup.{Place, method_at}
 use Rattle.class_pool.specs.declared.entry.Entry.{Entry}
 use Rattle.class_lookup.specs.Parts.{text_at}

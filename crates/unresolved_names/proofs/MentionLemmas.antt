@@ -3,8 +3,8 @@ use Rattle.std.proofs.Common.{◌≡◌, ℕ, Bool, true, false, not, ◌==◌, 
 use Rattle.std.specs.Prelude.{if◌then◌else◌}
 use Rattle.std.specs.Option.{option_map, option_map_or}
 use Rattle.std.specs.List.{filter, flat_map}
-use Rattle.first_found.specs.Lists.{first}
-use Rattle.first_found.specs.Lemmas.{flat_map-append, first-before, first-behind}
+use Rattle.lists.specs.Lists.{first}
+use Rattle.lists.specs.FirstLemmas.{flat_map-append, first-before, first-behind}
 use Rattle.class_pool.specs.declared.class.Code.{Code}
 use Rattle.class_pool.specs.declared.class.Member.{Member}
 use Rattle.class_pool.specs.declared.class.ClassFile.{ClassFile}

@@ -8,7 +8,7 @@ ghost use Rattle.program_tables.specs.Instructions.{placed_at, instructions_in};
 ghost use Rattle.program_tables.specs.Tables.{seen_in, HasBounds};
 ghost use Rattle.program_tables.specs.Unresolved.{implements_all as implements_each, may_be_made, mentions_in_code, mentions_in_method, FieldDescriptor};
 ghost use Rattle.bytecode_model.specs.Lists.{onto};
-ghost use Rattle.first_found.specs.Lists.{first};
+ghost use Rattle.lists.specs.Lists.{first};
 ghost use Rattle.unresolved_names.specs.Causes.{refused_catch, refused_frame_class, refused_instruction, refused_mention, unresolved_mentions};
 ghost use Rattle.unresolved_names.specs.Words.{class_use_reason, named_reason};
 

@@ -1,7 +1,7 @@
 //! The superclass and the superinterfaces that a class names (JVM Specification SE 8, 5.3.5).
 ghost use Rattle.std.specs.Prelude.{◌≡◌, ◌<◌, length, Some, slice_get};
 ghost use Rattle.std.specs.List.{flat_map};
-ghost use Rattle.first_found.specs.Lists.{first};
+ghost use Rattle.lists.specs.Lists.{first};
 ghost use Rattle.unresolved_names.specs.Causes.{refused_class, unresolved_supertypes};
 
 use crate::names::why_class;

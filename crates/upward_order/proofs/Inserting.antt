@@ -3,8 +3,8 @@ use Rattle.std.proofs.Common.{◌≡◌, ℕ, ◌+◌, ◌<◌, Bool, true, fals
 use Rattle.std.specs.Prelude.{if◌then◌else◌}
 use Rattle.std.proofs.lemmas.List.{take_more}
 use Rattle.std.proofs.lemmas.Bool.{or_cases, eqb-true, false≢true}
-use Rattle.list_words.specs.Numbers.{is_among, IsSameSearch}
-use Rattle.list_words.proofs.Finding.{same_search, same_append, covered}
+use Rattle.lists.specs.Numbers.{is_among, IsSameSearch}
+use Rattle.lists.proofs.Finding.{same_search, same_append, covered}
 use Rattle.upward_order.specs.Numbers.{with_number}
 
 with_case : (xs : List ℕ) (x : ℕ) (b : Bool) → is_among xs x ≡ b → IsSameSearch (if b then xs else xs ++ x ∷ []) (xs ++ x ∷ [])

@@ -5,8 +5,8 @@ use Rattle.std.specs.Bool.{MatchBool}
 use Rattle.std.proofs.lemmas.List.{take-append-le, get_or_append_left}
 use Rattle.std.proofs.lemmas.Bool.{cases_lt, or_cases, eqb-true, false≢true}
 use Rattle.std.proofs.lemmas.Map.Steps.{length-le_from_distinct_below}
-use Rattle.list_words.specs.Numbers.{is_among}
-use Rattle.list_words.proofs.Reached.{in_append}
+use Rattle.lists.specs.Numbers.{is_among}
+use Rattle.lists.proofs.Reached.{in_append}
 use Rattle.upward_order.specs.Numbers.{entry, IsOrdered, AreBelow, IsPeeled, IsWaiting}
 use Rattle.upward_order.proofs.Marks.{any_flip}
 

@@ -3,7 +3,7 @@ use Rattle.std.proofs.Common.{◌≡◌, ℕ, zero, suc, ◌<◌, ◌≤◌, Boo
 use Rattle.std.specs.Prelude.{if◌then◌else◌, slice_index}
 use Rattle.std.proofs.lemmas.Bool.{cases_lt, or_cases, or_left, or_right, eqb-true, false≢true}
 use Rattle.std.proofs.lemmas.List.{get_or_past}
-use Rattle.list_words.specs.Numbers.{is_among, Falls}
+use Rattle.lists.specs.Numbers.{is_among, Falls}
 use Rattle.upward_order.specs.Numbers.{entry, IsPeeled, HasAll}
 
 abbrev pub rank_in : List ℕ → ℕ → ℕ

@@ -5,12 +5,12 @@ use Rattle.std.proofs.lemmas.Bool.{cases_lt, cases_eq, cases_Bool, or_cases, or_
 use Rattle.std.proofs.lemmas.List.{take_more, get_or_past, get_or-set_same, get_or-set_other, length-set}
 use Rattle.std.proofs.lemmas.List.Folds.{list_any_more}
 use Rattle.std.proofs.lemmas.Grind.{flat_map-append}
-use Rattle.list_words.specs.Lists.{first_some}
-use Rattle.list_words.specs.Numbers.{is_among, reached, Falls}
-use Rattle.list_words.proofs.Reached.{in_append, in_flat, flat_in, reached_step, reached_through}
+use Rattle.lists.specs.Lists.{first_some}
+use Rattle.lists.specs.Numbers.{is_among, reached, Falls}
+use Rattle.lists.proofs.Reached.{in_append, in_flat, flat_in, reached_step, reached_through}
 use Rattle.upward_order.specs.Numbers.{entry, IsSameSearch, IsTransitive, HasWhole, IsPeeled, HasAll}
-use Rattle.list_words.proofs.Finding.{same_search, same_append, same_flat, covered, same_among}
-use Rattle.list_words.proofs.Among.{among_at}
+use Rattle.lists.proofs.Finding.{same_search, same_append, same_flat, covered, same_among}
+use Rattle.lists.proofs.Among.{among_at}
 use Rattle.upward_order.proofs.Ranks.{rank_in, ranks_of, falls_of}
 
 -- ---- one more number's list

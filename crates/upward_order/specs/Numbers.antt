@@ -1,7 +1,7 @@
 -- Numbers, of which each has a list of those directly above it.
 use Rattle.std.specs.Prelude.{◌≡◌, ℕ, ◌<◌, false, List, [], ◌∷◌, ◌++◌, length, take, if◌then◌else◌, slice_index, IsTrue}
-pub use Rattle.list_words.specs.Numbers.{entry, IsSameSearch}
-use Rattle.list_words.specs.Numbers.{is_among, Falls}
+pub use Rattle.lists.specs.Numbers.{entry, IsSameSearch}
+use Rattle.lists.specs.Numbers.{is_among, Falls}
 
 -- the list with the number behind it, unless it has it
 abbrev pub with_number : List ℕ → ℕ → List ℕ

@@ -1,6 +1,6 @@
 ghost use Rattle.std.specs.Prelude.{◌≡◌, ℕ, ◌++◌, [], nat_eq, OnOk};
 ghost use Rattle.std.specs.List.{IsDistinct};
-ghost use Rattle.list_words.specs.Numbers.{is_among};
+ghost use Rattle.lists.specs.Numbers.{is_among};
 ghost use Rattle.upward_order.specs.Numbers.{with_number, IsSameSearch};
 
 use indexmap::IndexSet;

@@ -2,7 +2,7 @@
 
 ghost use Rattle.std.specs.Prelude.{◌≡◌, ℕ, ◌^◌, ◌<◌, ◌≤◌, ◌++◌, ◌∷◌, [], false, length, IsTrue, IfOk, OnOk};
 ghost use Rattle.std.specs.Bool.{MatchBool};
-ghost use Rattle.list_words.specs.Numbers.{is_among};
+ghost use Rattle.lists.specs.Numbers.{is_among};
 ghost use Rattle.upward_order.specs.Numbers.{IsPeeled, IsWaiting, IsStuck, HasAll, HasRanks};
 
 use crate::hint::hint_of;

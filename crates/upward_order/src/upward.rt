@@ -2,7 +2,7 @@
 
 ghost use Rattle.std.specs.Prelude.{◌≡◌, ℕ, ◌<◌, ◌≤◌, ◌++◌, ◌∷◌, [], false, length, replicate, IfOk, OnOk};
 ghost use Rattle.std.specs.List.{flat_map};
-ghost use Rattle.list_words.specs.Numbers.{is_among, reached};
+ghost use Rattle.lists.specs.Numbers.{is_among, reached};
 ghost use Rattle.upward_order.specs.Numbers.{entry, IsSameSearch, IsTransitive, HasWhole, IsPeeled, HasAll};
 
 use crate::number_set::NumberSet;

@@ -1,7 +1,7 @@
 -- The lines of constants that no pool has.
 use Rattle.std.proofs.Common.{◌+◌, ◌-◌, ◌^◌, pos, refl, ◌∙◌, ap, arith}
 use Rattle.std.specs.Prelude.{negsuc}
-use Rattle.core_words.specs.Signed.{sign_extended8, sign_extended16}
+use Rattle.word32.specs.Signed.{sign_extended8, sign_extended16}
 use Rattle.jop_opcodes.specs.Bytes.{u1, u2, s1, s2}
 use Rattle.jop_opcodes.specs.Form.{one, Absent, SignedByte, SignedShort}
 use Rattle.jop_opcodes.specs.Row as opcodes

@@ -6,7 +6,7 @@ use Rattle.std.specs.Int.RustNames.{FitsSigned}
 use Rattle.std.proofs.lemmas.Int.{ints, to_z-of_z, of_z-to_z, wrapping_add-bits}
 use Rattle.std.proofs.Math.Facts.{to_z-neg}
 use Rattle.std.proofs.lemmas.Bool.{ltb-true, ltb-false}
-use Rattle.core_words.specs.Signed.{sign_extended8, sign_extended16}
+use Rattle.word32.specs.Signed.{sign_extended8, sign_extended16}
 use Rattle.image_facts.specs.Words.{int_word}
 
 pub extended8 : (b : ℕ) → b < 2 ^ 8 → sign_extended8 b ≡ int_word (cast_signed w8 b)

@@ -1,7 +1,7 @@
 -- The lines of loads and stores, of the increment, and of these behind `wide`.
 use Rattle.std.proofs.Common.{◌≡◌, ℕ, ◌+◌, ◌-◌, ◌^◌, ◌<◌, true, List, ◌∷◌, Some, set, refl, ◌∙◌, ap, arith}
 use Rattle.std.specs.Prelude.{slice_index}
-use Rattle.core_words.specs.Signed.{sign_extended8, sign_extended16}
+use Rattle.word32.specs.Signed.{sign_extended8, sign_extended16}
 use Rattle.jop_opcodes.specs.Bytes.{u1, u2, s1, s2}
 use Rattle.jop_opcodes.specs.Form.{one, two, Absent, UnsignedByte, UnsignedShort, SignedByte, SignedShort}
 use Rattle.jop_opcodes.specs.Row as opcodes

@@ -4,8 +4,8 @@ use Rattle.std.specs.Prelude.{slice_get}
 use Rattle.std.specs.Option.{option_map_or, option_to_list}
 use Rattle.std.specs.List.{filter_map, flat_map, list_any}
 use Rattle.std.proofs.lemmas.Option.{slice_get_past}
-use Rattle.list_words.specs.Lists.{onto}
-use Rattle.list_words.specs.Numbers.{reached}
+use Rattle.lists.specs.Lists.{onto}
+use Rattle.lists.specs.Numbers.{reached}
 use Rattle.class_pool.specs.declared.class.ClassFile.{ClassFile}
 use Rattle.class_lookup.specs.Parts.{superclass_name, superinterface_names}
 use Rattle.class_lookup.specs.Hierarchy.{find_class, direct_supertypes, supertypes, extends}

@@ -7,7 +7,7 @@ use crate::halt::Halt;
 use crate::machine::Machine;
 use crate::places::STACK;
 use crate::steps::Action;
-use core_words::{branch_holds, number, shift_right, sign_extend8, sign_extend16, signed_less};
+use word32::{branch_holds, number, shift_right, sign_extend8, sign_extend16, signed_less};
 use micro_isa::Operation;
 
 impl<const N: usize> Machine<N> {

@@ -5,7 +5,7 @@ ghost use Rattle.jop_core.specs.Cycle.{byte_at};
 ghost use Rattle.jop_core.specs.Meaning.{bytes_of};
 
 use crate::machine::Machine;
-use core_words::byte_of_word;
+use word32::byte_of_word;
 
 impl<const N: usize> Machine<N> {
     // A place among the on-chip words.

@@ -1,7 +1,7 @@
 use Rattle.std.proofs.Common.{sym, ap, ◌∙◌, ◌≤◌, length, arith}
 use Rattle.std.specs.Prelude.{slice_get}
 use Rattle.std.proofs.lemmas.Option.{slice_get_past}
-use Rattle.list_words.specs.Lists.{onto}
+use Rattle.lists.specs.Lists.{onto}
 use Rattle.program_tables.specs.Numbers.{instance_fields}
 use Rattle.program_tables.specs.Resolved.{declared_at, declared_fields}
 use Rattle.bytecode_verifier.proofs.DeclaredLemmas.{fields_typed, no_fields}

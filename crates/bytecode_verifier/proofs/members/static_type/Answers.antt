@@ -1,6 +1,6 @@
 use Rattle.std.proofs.Common.{sym, ap, ◌∙◌, ◌≤◌, length, arith}
 use Rattle.std.proofs.lemmas.Option.{slice_get_past}
-use Rattle.list_words.specs.Lists.{onto}
+use Rattle.lists.specs.Lists.{onto}
 use Rattle.program_tables.specs.Numbers.{static_fields}
 use Rattle.program_tables.specs.Resolved.{declared_at}
 use Rattle.bytecode_verifier.proofs.DeclaredLemmas.{statics_typed}

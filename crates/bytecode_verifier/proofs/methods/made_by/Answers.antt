@@ -1,5 +1,5 @@
 use Rattle.std.proofs.Common.{sym, ap, ◌∙◌}
-use Rattle.list_words.specs.Lists.{onto}
+use Rattle.lists.specs.Lists.{onto}
 use Rattle.bytecode_typing.specs.Checks.{class_made_by}
 use Rattle.program_tables.specs.Meanings.{operand_seen}
 use Rattle.bytecode_verifier.specs.Family.{named_row}

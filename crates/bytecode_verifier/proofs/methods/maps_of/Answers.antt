@@ -1,7 +1,7 @@
 use Rattle.std.proofs.Common.{◌≡◌, ℕ, sym, ap, ap₂, ◌∙◌, Some, arith}
 use Rattle.std.specs.Prelude.{slice_get}
 use Rattle.class_pool.specs.declared.class.ClassFile.{ClassFile}
-use Rattle.list_words.specs.Lemmas.{some_same}
+use Rattle.lists.specs.Lemmas.{some_same}
 use Rattle.bytecode_verifier.proofs.MadeLemmas.{all_within, all_as}
 use Rattle.bytecode_verifier.proofs.methods.maps_of.Goals as goal
 

@@ -3,7 +3,7 @@ use Rattle.std.specs.Prelude.{slice_get}
 use Rattle.std.specs.Option.{option_map}
 use Rattle.std.specs.List.{range_with_len}
 use Rattle.jop_opcodes.specs.Start.{starts_of}
-use Rattle.list_words.specs.Lemmas.{some_same}
+use Rattle.lists.specs.Lemmas.{some_same}
 use Rattle.program_tables.specs.Meanings.{handler_seen}
 use Rattle.program_tables.specs.Resolved.{handler_of, resolved}
 use Rattle.bytecode_typing.specs.Types.{TypeFrame}

@@ -1,5 +1,5 @@
 use Rattle.std.proofs.Common.{◌++◌, ◌∷◌, [], List, ℕ, ap₂, ◌∙◌}
-use Rattle.list_words.proofs.Tables.{replicate_more}
+use Rattle.lists.proofs.Tables.{replicate_more}
 use Rattle.class_hierarchy.proofs.above.empty_lists.Goals as goal
 
 pub loop-index-preserved : goal.loop-index-preserved

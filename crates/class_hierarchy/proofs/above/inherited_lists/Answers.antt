@@ -3,8 +3,8 @@ use Rattle.std.specs.Option.{option_map_or}
 use Rattle.std.specs.List.{flat_map}
 use Rattle.class_lookup.specs.Hierarchy.{superclass, superinterfaces}
 use Rattle.upward_order.specs.Numbers.{entry}
-use Rattle.list_words.proofs.Among.{among_at}
-use Rattle.list_words.proofs.Tables.{same_along}
+use Rattle.lists.proofs.Among.{among_at}
+use Rattle.lists.proofs.Tables.{same_along}
 use Rattle.class_hierarchy.proofs.Filled.{AreInherited, filled_none, filled_more, filled_all, inherited_list}
 use Rattle.class_hierarchy.proofs.above.inherited_lists.Goals as goal
 

@@ -1,6 +1,6 @@
 use Rattle.std.proofs.Common.{◌<◌, length, sym, ap, ◌∙◌, arith}
 use Rattle.class_lookup.specs.Hierarchy.{superclass}
-use Rattle.list_words.proofs.Tables.{entry_read}
+use Rattle.lists.proofs.Tables.{entry_read}
 use Rattle.class_hierarchy.proofs.Filled.{superclass_below, none_of, above_some, above_none, front_then, front_alone}
 use Rattle.class_hierarchy.proofs.above.superclass_list.Goals as goal
 use Rattle.class_hierarchy.proofs.above.superclass_list.Goals.{in-Some+in_ok-extend_from_slice, in_default}

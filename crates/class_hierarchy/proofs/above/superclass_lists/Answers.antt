@@ -2,7 +2,7 @@ use Rattle.std.proofs.Common.{◌∷◌, [], List, ℕ, replicate, length, get_o
 use Rattle.std.specs.Option.{option_map_or}
 use Rattle.class_lookup.specs.Hierarchy.{superclass}
 use Rattle.upward_order.specs.Numbers.{entry}
-use Rattle.list_words.proofs.Among.{among_at}
+use Rattle.lists.proofs.Among.{among_at}
 use Rattle.class_hierarchy.proofs.Filled.{AreSuperclassesOf, filled_none, filled_more, filled_all, chain_list}
 use Rattle.class_hierarchy.proofs.above.superclass_lists.Goals as goal
 

@@ -1,5 +1,5 @@
 use Rattle.std.proofs.Common.{◌≡◌, ℕ, ◌||◌, take}
-use Rattle.list_words.specs.Numbers.{is_among}
+use Rattle.lists.specs.Numbers.{is_among}
 use Rattle.class_hierarchy.specs.Cycles.{Grows}
 use Rattle.class_hierarchy.proofs.cycles.add_each.Given as goal
 

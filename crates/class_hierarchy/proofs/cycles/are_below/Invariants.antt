@@ -1,6 +1,6 @@
 use Rattle.std.proofs.Common.{◌≡◌, ℕ, ◌<◌, true, take}
 use Rattle.std.specs.Prelude.{slice_index}
-use Rattle.list_words.specs.Numbers.{is_among}
+use Rattle.lists.specs.Numbers.{is_among}
 use Rattle.class_hierarchy.proofs.cycles.are_below.Given as goal
 
 abbrev pub invariant-loop-number : goal.invariant-loop-number

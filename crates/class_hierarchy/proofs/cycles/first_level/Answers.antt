@@ -1,8 +1,8 @@
 use Rattle.std.proofs.Common.{◌≡◌, ◌<◌, ℕ, List, length, inl, inr, refl, sym, ap, ◌∙◌, arith}
 use Rattle.std.specs.Prelude.{slice_index}
 use Rattle.std.proofs.lemmas.Bool.{cases_lt}
-use Rattle.list_words.specs.Numbers.{is_among}
-use Rattle.list_words.proofs.Tables.{entry_read}
+use Rattle.lists.specs.Numbers.{is_among}
+use Rattle.lists.proofs.Tables.{entry_read}
 use Rattle.class_lookup.specs.Hierarchy.{is_on_a_cycle}
 use Rattle.class_hierarchy.proofs.CycleLemmas.{falling_is_on_none}
 use Rattle.class_hierarchy.proofs.cycles.first_level.Goals as goal

@@ -1,6 +1,6 @@
 use Rattle.std.proofs.Common.{◌<◌, ◌≤◌, ◌||◌, ℕ, List, length, get_or, sym, ap, ap₂, ◌∙◌, subst, arith}
-use Rattle.list_words.specs.Numbers.{is_among}
-use Rattle.list_words.proofs.Tables.{entry_read}
+use Rattle.lists.specs.Numbers.{is_among}
+use Rattle.lists.proofs.Tables.{entry_read}
 use Rattle.class_lookup.specs.Hierarchy.{direct_supertypes}
 use Rattle.class_hierarchy.proofs.CycleLemmas.{searched_first, searched_more, searched_all, found_few, next_below}
 use Rattle.class_hierarchy.proofs.cycles.is_on_cycle.Goals as goal

@@ -1,6 +1,6 @@
 use Rattle.std.proofs.Common.{◌≡◌, ℕ, ◌<◌, ◌≤◌, true}
 use Rattle.std.specs.Prelude.{slice_index}
-use Rattle.list_words.specs.Numbers.{is_among}
+use Rattle.lists.specs.Numbers.{is_among}
 use Rattle.upward_order.specs.Numbers.{entry}
 use Rattle.class_hierarchy.proofs.cycles.never_rise.Given as goal
 

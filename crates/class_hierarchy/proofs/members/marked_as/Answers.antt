@@ -1,5 +1,5 @@
 use Rattle.std.proofs.Common.{sym, ap, ◌∙◌}
-use Rattle.list_words.specs.Lists.{onto}
+use Rattle.lists.specs.Lists.{onto}
 use Rattle.class_lookup.specs.Lookup.{declared_method}
 use Rattle.class_hierarchy.proofs.members.marked_as.Goals as goal
 

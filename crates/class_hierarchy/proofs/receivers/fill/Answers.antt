@@ -1,5 +1,5 @@
 use Rattle.std.proofs.Common.{◌<◌, ◌-◌, length, get_or, None, sym, ap, ◌∙◌, arith}
-use Rattle.list_words.proofs.Tables.{entry_read}
+use Rattle.lists.proofs.Tables.{entry_read}
 use Rattle.class_hierarchy.specs.Selecting.{selected_at}
 use Rattle.class_hierarchy.proofs.Receiving.{known_more, is_known, next_known, first_there, list_below}
 use Rattle.class_hierarchy.proofs.receivers.fill.Goals as goal

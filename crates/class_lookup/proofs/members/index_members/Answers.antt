@@ -1,7 +1,7 @@
 use Rattle.std.proofs.Common.{◌+◌, ◌&&◌, List, ℕ, not, take, sym, ap, ◌∙◌, subst, eqb}
 use Rattle.std.specs.Prelude.{is_some}
 use Rattle.indexmap.proofs.CallerLemmas.{insert_entry-new}
-use Rattle.list_words.proofs.Lookups.{copied_none, copied_some}
+use Rattle.lists.proofs.Lookups.{copied_none, copied_some}
 use Rattle.class_lookup.specs.Parts.{signature_of}
 use Rattle.class_lookup.specs.Symbols.{texts}
 use Rattle.class_lookup.specs.Numbered.{IsIndexed}

@@ -1,7 +1,7 @@
 use Rattle.std.proofs.Common.{◌≡◌, ◌+◌, ◌<◌, List, map, length, get_or, refl, ap, sym, ◌∙◌, subst, arith}
 use Rattle.class_pool.specs.declared.class.ClassFile.{ClassFile}
 use Rattle.class_pool.specs.declared.entry.Entry.{Entry}
-use Rattle.list_words.specs.Lemmas.{some_same}
+use Rattle.lists.specs.Lemmas.{some_same}
 use Rattle.image_words.specs.Pools.{instructions_in}
 use Rattle.image_layout.specs.Uses.{instr_of}
 use Rattle.image_layout.proofs.EntryLemmas.{uses_long, use_read, entry_there}

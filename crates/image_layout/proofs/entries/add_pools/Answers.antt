@@ -4,8 +4,8 @@ use Rattle.std.proofs.lemmas.List.FromFn.{length-enumerate_from}
 use Rattle.class_pool.specs.declared.class.ClassFile.{ClassFile}
 use Rattle.image_words.specs.Layout.{outline_of}
 use Rattle.image_words.specs.Pools.{pool_image}
-use Rattle.word_lists.proofs.ListLemmas.{flat_more, flat_whole, enumerated_first}
-use Rattle.word_lists.proofs.ListLemmas.{get_below}
+use Rattle.image_builder.proofs.ListLemmas.{flat_more, flat_whole, enumerated_first}
+use Rattle.image_builder.proofs.ListLemmas.{get_below}
 use Rattle.image_layout.proofs.entries.add_pools.Goals as goal
 
 pub loop-class-preserved : goal.loop-class-preserved

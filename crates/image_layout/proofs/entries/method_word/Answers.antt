@@ -1,10 +1,10 @@
 use Rattle.std.proofs.Common.{Option, sym, ap}
-use Rattle.list_words.specs.Lists.{onto}
+use Rattle.lists.specs.Lists.{onto}
 use Rattle.class_lookup.specs.Lookup.{Place}
 use Rattle.program_tables.specs.Instructions.{signature_in}
 use Rattle.program_tables.specs.Operands.{class_named, method_named}
 use Rattle.image_words.specs.Pools.{method_word}
-use Rattle.word_lists.proofs.ListLemmas.{get_below}
+use Rattle.image_builder.proofs.ListLemmas.{get_below}
 use Rattle.image_layout.proofs.EntryLemmas.{class_below, method_class, method_there, method_called}
 use Rattle.image_layout.proofs.entries.method_word.Goals as goal
 

@@ -1,7 +1,7 @@
 use Rattle.std.proofs.Common.{◌++◌, ◌∷◌, [], ℕ, ap, ◌∙◌}
 use Rattle.image_words.specs.Layout.{outline_of}
 use Rattle.image_words.specs.Regions.{first_place}
-use Rattle.word_lists.proofs.ListLemmas.{range_more}
+use Rattle.image_builder.proofs.ListLemmas.{range_more}
 use Rattle.image_layout.proofs.front.add_object_places.Goals as goal
 
 pub loop-object-preserved : goal.loop-object-preserved

@@ -1,6 +1,6 @@
 use Rattle.std.proofs.Common.{◌++◌, ◌∷◌, [], ℕ, ap, ◌∙◌}
 use Rattle.image_words.specs.Layout.{type_place}
-use Rattle.word_lists.proofs.ListLemmas.{range_more}
+use Rattle.image_builder.proofs.ListLemmas.{range_more}
 use Rattle.image_layout.proofs.front.add_type_places.Goals as goal
 
 pub loop-number-preserved : goal.loop-number-preserved

@@ -3,7 +3,7 @@ use Rattle.class_lookup.specs.Lookup.{Place}
 use Rattle.program_tables.specs.Numbers.{fields_by_number}
 use Rattle.image_words.specs.Layout.{outline_of}
 use Rattle.image_words.specs.Pools.{static_word}
-use Rattle.word_lists.proofs.ListLemmas.{mapped_more, take_whole}
+use Rattle.image_builder.proofs.ListLemmas.{mapped_more, take_whole}
 use Rattle.image_layout.proofs.layout.field_places.Goals as goal
 
 pub loop-number-preserved : goal.loop-number-preserved

@@ -4,7 +4,7 @@ use Rattle.program_tables.specs.Operands.{string_object}
 use Rattle.program_tables.specs.Numbers.{strings_of}
 use Rattle.image_words.specs.Layout.{outline_of}
 use Rattle.image_words.specs.Regions.{first_place}
-use Rattle.word_lists.proofs.ListLemmas.{range_more}
+use Rattle.image_builder.proofs.ListLemmas.{range_more}
 use Rattle.image_layout.proofs.layout.string_places.Goals as goal
 
 pub loop-string-preserved : goal.loop-string-preserved

@@ -2,7 +2,7 @@ use Rattle.std.proofs.Common.{◌++◌, ℕ, List, take_all, ap, ◌∙◌}
 use Rattle.std.specs.List.{flat_map}
 use Rattle.image_facts.specs.Says.{handler_words}
 use Rattle.program_tables.specs.Resolved.{handler_of, resolved}
-use Rattle.word_lists.proofs.ListLemmas.{flat_at}
+use Rattle.image_builder.proofs.ListLemmas.{flat_at}
 use Rattle.image_layout.proofs.MethodLemmas.{handlers_joined}
 use Rattle.image_layout.proofs.methods.add_handlers.Goals as goal
 

@@ -3,7 +3,7 @@ use Rattle.std.specs.Prelude.{slice_get}
 use Rattle.std.specs.List.{flat_map}
 use Rattle.std.proofs.lemmas.Option.{slice_get_within}
 use Rattle.class_pool.specs.declared.class.ClassFile.{ClassFile}
-use Rattle.core_words.specs.Packed.{words_for, words_of_bytes}
+use Rattle.word32.specs.Packed.{words_for, words_of_bytes}
 use Rattle.image_facts.specs.Says.{handler_words}
 use Rattle.program_tables.specs.Resolved.{handler_of, resolved}
 use Rattle.image_words.specs.Layout.{pool_place}

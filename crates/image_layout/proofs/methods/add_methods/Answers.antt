@@ -5,8 +5,8 @@ use Rattle.program_tables.specs.Numbers.{methods_by_number}
 use Rattle.program_tables.specs.Resolved.{method_in, resolved_methods}
 use Rattle.image_words.specs.Layout.{outline_of}
 use Rattle.image_words.specs.Regions.{method_image}
-use Rattle.word_lists.proofs.ListLemmas.{flat_more}
-use Rattle.word_lists.proofs.ListLemmas.{get_below}
+use Rattle.image_builder.proofs.ListLemmas.{flat_more}
+use Rattle.image_builder.proofs.ListLemmas.{get_below}
 use Rattle.image_layout.proofs.SizeLemmas.{stands}
 use Rattle.image_layout.proofs.MethodLemmas.{methods_taken}
 use Rattle.image_layout.proofs.methods.add_methods.Goals as goal

@@ -6,9 +6,9 @@ use Rattle.program_tables.specs.Resolved.{resolved}
 use Rattle.image_words.specs.Slots.{interface_methods}
 use Rattle.image_words.specs.Outline.{AreInstances}
 use Rattle.image_words.specs.Tables.{AreSlots}
-use Rattle.word_lists.specs.declared.sums.Run.{Run}
+use Rattle.image_builder.specs.declared.sums.Run.{Run}
 use Rattle.image_words.specs.Layout.{front_size, table_words, interface_words, pool_words, method_size, methods_size, classes_of, tables_place, interfaces_place, pools_place, methods_place}
-use Rattle.word_lists.proofs.RunLemmas.{run_of, run_end}
+use Rattle.image_builder.proofs.RunLemmas.{run_of, run_end}
 use Rattle.image_layout.proofs.outline.outline_of.Goals as goal
 
 pub returns : goal.returns

@@ -1,6 +1,6 @@
 use Rattle.std.proofs.Common.{◌≡◌, ℕ, List, length, ◌∙◌, subst, arith}
-use Rattle.word_lists.specs.Runs.{IsRun}
-use Rattle.word_lists.proofs.ListLemmas.{all_none, all_more}
+use Rattle.image_builder.specs.Runs.{IsRun}
+use Rattle.image_builder.proofs.ListLemmas.{all_none, all_more}
 use Rattle.image_layout.proofs.SizeLemmas.{HasFields}
 use Rattle.image_layout.proofs.sizes.instances_of.Goals as goal
 

@@ -1,4 +1,4 @@
-use Rattle.word_lists.proofs.ListLemmas.{AllTo}
+use Rattle.image_builder.proofs.ListLemmas.{AllTo}
 use Rattle.image_layout.proofs.SizeLemmas.{HasFields}
 use Rattle.image_layout.proofs.sizes.instances_of.Given as goal
 

@@ -2,7 +2,7 @@ use Rattle.std.proofs.Common.{◌++◌, ◌∷◌, [], ◌≤◌, ℕ, List, len
 use Rattle.image_words.specs.Layout.{method_size}
 use Rattle.program_tables.specs.Numbers.{methods_by_number}
 use Rattle.program_tables.specs.Resolved.{resolved_methods}
-use Rattle.word_lists.proofs.ListLemmas.{take_some}
+use Rattle.image_builder.proofs.ListLemmas.{take_some}
 use Rattle.image_layout.proofs.SizeLemmas.{methods_end}
 use Rattle.image_layout.proofs.sizes.method_sizes.Goals as goal
 

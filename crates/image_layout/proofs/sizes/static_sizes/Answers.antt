@@ -5,7 +5,7 @@ use Rattle.class_lookup.specs.Lookup.{Place}
 use Rattle.image_facts.specs.Words.{declared_words}
 use Rattle.program_tables.specs.Numbers.{static_fields}
 use Rattle.program_tables.specs.Resolved.{declared_at}
-use Rattle.word_lists.proofs.ListLemmas.{kept_more, take_whole}
+use Rattle.image_builder.proofs.ListLemmas.{kept_more, take_whole}
 use Rattle.image_layout.proofs.sizes.static_sizes.Goals as goal
 
 pub loop-index-preserved : goal.loop-index-preserved

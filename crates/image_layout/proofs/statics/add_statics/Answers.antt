@@ -3,7 +3,7 @@ use Rattle.program_tables.specs.Numbers.{static_fields}
 use Rattle.program_tables.specs.Resolved.{first_value}
 use Rattle.image_words.specs.Layout.{outline_of}
 use Rattle.image_words.specs.Regions.{first_place}
-use Rattle.word_lists.proofs.ListLemmas.{flat_kept}
+use Rattle.image_builder.proofs.ListLemmas.{flat_kept}
 use Rattle.image_layout.proofs.statics.add_statics.Goals as goal
 
 pub loop-index-preserved : goal.loop-index-preserved

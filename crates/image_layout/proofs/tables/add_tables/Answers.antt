@@ -2,7 +2,7 @@ use Rattle.std.proofs.Common.{◌<◌, length, arith}
 use Rattle.std.proofs.lemmas.List.FromFn.{length-range_with_len}
 use Rattle.image_words.specs.Layout.{classes_of, outline_of}
 use Rattle.image_words.specs.Regions.{table_image}
-use Rattle.word_lists.proofs.ListLemmas.{flat_more, flat_whole, range_first}
+use Rattle.image_builder.proofs.ListLemmas.{flat_more, flat_whole, range_first}
 use Rattle.image_layout.proofs.tables.add_tables.Goals as goal
 
 pub loop-class-preserved : goal.loop-class-preserved

@@ -1,7 +1,7 @@
 use Rattle.std.proofs.Common.{◌+◌, List, length, map, take, take_all, sym, ap, ◌∙◌}
 use Rattle.std.specs.List.{range_with_len}
 use Rattle.std.proofs.lemmas.List.{take_more}
-use Rattle.list_words.specs.Lemmas.{some_same}
+use Rattle.lists.specs.Lemmas.{some_same}
 use Rattle.class_pool.specs.declared.class.ClassFile.{ClassFile}
 use Rattle.jop_opcodes.specs.declared.instruction.Instr.{Instr}
 use Rattle.image_words.specs.Pools.{instructions_in}

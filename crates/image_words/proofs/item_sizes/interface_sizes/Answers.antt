@@ -1,7 +1,7 @@
 use Rattle.std.proofs.Common.{◌≡◌, ◌++◌, ◌∷◌, [], ◌<◌, ℕ, length, map, ap, ◌∙◌, arith}
 use Rattle.std.proofs.lemmas.List.FromFn.{length-range_with_len}
 use Rattle.image_words.specs.Layout.{interface_words, classes_of}
-use Rattle.word_lists.proofs.ListLemmas.{mapped_more, range_first, take_whole}
+use Rattle.image_builder.proofs.ListLemmas.{mapped_more, range_first, take_whole}
 use Rattle.image_words.proofs.item_sizes.interface_sizes.Goals as goal
 
 pub loop-class-preserved : goal.loop-class-preserved

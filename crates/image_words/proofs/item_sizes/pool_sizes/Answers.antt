@@ -1,6 +1,6 @@
 use Rattle.std.proofs.Common.{◌≡◌, ◌++◌, ◌∷◌, [], ℕ, length, map, ap, ◌∙◌, arith}
 use Rattle.image_words.specs.Layout.{pool_words}
-use Rattle.word_lists.proofs.ListLemmas.{mapped_more, take_whole}
+use Rattle.image_builder.proofs.ListLemmas.{mapped_more, take_whole}
 use Rattle.image_words.proofs.item_sizes.pool_sizes.Goals as goal
 
 pub loop-number-preserved : goal.loop-number-preserved

@@ -5,7 +5,7 @@ use Rattle.bytecode_model.specs.Sizes.{object_words}
 use Rattle.program_tables.specs.Core.{raised_classes}
 use Rattle.program_tables.specs.Resolved.{raised_object, resolved}
 use Rattle.image_facts.specs.Words.{declared_words}
-use Rattle.word_lists.proofs.ListLemmas.{map_more, map_whole}
+use Rattle.image_builder.proofs.ListLemmas.{map_more, map_whole}
 use Rattle.image_words.proofs.ObjectLemmas.{raised_within, raised_size}
 use Rattle.image_words.proofs.objects.add_raised_sizes.Goals as goal
 

@@ -1,7 +1,7 @@
 use Rattle.std.proofs.Common.{◌≡◌, ◌++◌, ◌∷◌, [], ◌+◌, ℕ, List, length, append_assoc, sym, ap, ◌∙◌, arith}
 use Rattle.std.specs.List.{enumerate_from}
 use Rattle.std.proofs.lemmas.List.FromFn.{length-enumerate_from}
-use Rattle.word_lists.proofs.ListLemmas.{flat_more, flat_whole, enumerated_first}
+use Rattle.image_builder.proofs.ListLemmas.{flat_more, flat_whole, enumerated_first}
 use Rattle.image_words.proofs.ObjectLemmas.{core_count, string_words, string_size, strings_joined}
 use Rattle.image_words.proofs.objects.add_string_sizes.Goals as goal
 

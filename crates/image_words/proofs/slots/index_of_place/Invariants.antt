@@ -1,5 +1,5 @@
 use Rattle.std.proofs.Common.{◌≡◌, None, take}
-use Rattle.list_words.specs.Lists.{index_of}
+use Rattle.lists.specs.Lists.{index_of}
 use Rattle.class_lookup.specs.Lookup.{same_place}
 use Rattle.image_words.proofs.slots.index_of_place.Given as goal
 

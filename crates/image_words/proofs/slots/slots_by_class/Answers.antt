@@ -1,5 +1,5 @@
 use Rattle.std.proofs.Common.{List, get_or, length, refl, sym, ap, ◌∙◌, subst, arith}
-use Rattle.list_words.proofs.Among.{among_at}
+use Rattle.lists.proofs.Among.{among_at}
 use Rattle.image_words.specs.Tables.{AreAbove}
 use Rattle.image_words.specs.declared.class_slots.ClassSlots.{ClassSlots}
 use Rattle.image_words.proofs.SlotLemmas.{made_none, made_above, made_more, made_all}

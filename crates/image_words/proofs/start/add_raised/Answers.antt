@@ -5,7 +5,7 @@ use Rattle.program_tables.specs.Core.{raised_classes}
 use Rattle.program_tables.specs.Resolved.{raised_object, resolved}
 use Rattle.image_words.specs.Layout.{type_place, outline_of}
 use Rattle.image_words.specs.Regions.{first_place}
-use Rattle.word_lists.proofs.ListLemmas.{flat_at, flat_whole}
+use Rattle.image_builder.proofs.ListLemmas.{flat_at, flat_whole}
 use Rattle.image_words.proofs.ObjectLemmas.{raised_within}
 use Rattle.image_words.proofs.StartLemmas.{raised_images}
 use Rattle.image_words.proofs.start.add_raised.Goals as goal

@@ -1,6 +1,6 @@
 use Rattle.std.proofs.Common.{◌++◌, ℕ, List, replicate, sym, ap, ◌∙◌, subst}
 use Rattle.image_words.specs.Layout.{type_place}
-use Rattle.word_lists.specs.declared.sums.Run.{Run}
+use Rattle.image_builder.specs.declared.sums.Run.{Run}
 use Rattle.image_words.specs.Outline.{AreInstances}
 use Rattle.image_words.proofs.StartLemmas.{raised_made}
 use Rattle.image_words.proofs.start.add_raised_object.Goals as goal

@@ -4,7 +4,7 @@ use Rattle.std.proofs.lemmas.List.FromFn.{length-enumerate_from}
 use Rattle.program_tables.specs.Resolved.{string_objects}
 use Rattle.image_words.specs.Layout.{outline_of}
 use Rattle.image_words.specs.Regions.{objects_image}
-use Rattle.word_lists.proofs.ListLemmas.{get_below, flat_more, flat_whole, enumerated_first}
+use Rattle.image_builder.proofs.ListLemmas.{get_below, flat_more, flat_whole, enumerated_first}
 use Rattle.image_words.proofs.StartLemmas.{string_part, string_parts}
 use Rattle.image_words.proofs.start.add_strings.Goals as goal
 

@@ -1,7 +1,7 @@
 use Rattle.std.proofs.Common.{◌++◌, ◌∷◌, [], ℕ, ap, ◌∙◌}
 use Rattle.program_tables.specs.Tables.{kind_seen}
 use Rattle.image_words.specs.Regions.{supertype_word}
-use Rattle.word_lists.proofs.ListLemmas.{range_more}
+use Rattle.image_builder.proofs.ListLemmas.{range_more}
 use Rattle.image_words.proofs.types.add_supertypes.Goals as goal
 
 pub loop-word-preserved : goal.loop-word-preserved

@@ -6,8 +6,8 @@ use Rattle.program_tables.specs.Numbers.{types_of}
 use Rattle.program_tables.specs.Tables.{kind_seen}
 use Rattle.image_words.specs.Layout.{outline_of}
 use Rattle.image_words.specs.Regions.{type_image}
-use Rattle.word_lists.proofs.ListLemmas.{flat_more, flat_whole, enumerated_first}
-use Rattle.word_lists.proofs.ListLemmas.{get_below}
+use Rattle.image_builder.proofs.ListLemmas.{flat_more, flat_whole, enumerated_first}
+use Rattle.image_builder.proofs.ListLemmas.{get_below}
 use Rattle.image_words.proofs.types.add_types.Goals as goal
 
 pub loop-number-preserved : goal.loop-number-preserved

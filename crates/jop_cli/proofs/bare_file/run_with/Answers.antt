@@ -1,5 +1,5 @@
 use Rattle.std.proofs.Common.{◌≡◌, [], Some, arith}
-use Rattle.lent_devices.specs.Lent.{lent}
+use Rattle.stream_devices.specs.Lent.{lent}
 use Rattle.jop_cli.proofs.Executing.{with_settings}
 use Rattle.jop_cli.proofs.bare_file.run_with.Goals as goal
 

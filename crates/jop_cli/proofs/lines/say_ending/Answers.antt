@@ -1,6 +1,6 @@
 use Rattle.std.proofs.Common.{ℕ, List, false, sym, subst}
 use Rattle.std.specs.List.{concat}
-use Rattle.command_lines.specs.Said as lines
+use Rattle.outcome_lines.specs.Said as lines
 use Rattle.jop_words.specs.Command.{texts}
 use Rattle.jop_cli.specs.declared.outcome.Ending.{Ending}
 use Rattle.jop_cli.specs.Line.{too_long_parts, line_of, is_fault}

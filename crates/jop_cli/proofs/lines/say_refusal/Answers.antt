@@ -1,5 +1,5 @@
 use Rattle.std.proofs.Common.{false, sym, subst}
-use Rattle.command_lines.specs.Said as lines
+use Rattle.outcome_lines.specs.Said as lines
 use Rattle.jop_words.specs.Command.{texts}
 use Rattle.jop_cli.specs.declared.outcome.Refusal.{Refusal}
 use Rattle.jop_cli.specs.declared.outcome.Ending.TheVariants.{Refused}

@@ -1,6 +1,6 @@
 use Rattle.std.proofs.Common.{ℕ, Some, None}
 use Rattle.std.specs.Prelude.{slice_get, if◌then◌else◌}
-use Rattle.list_words.specs.Lists.{onto}
+use Rattle.lists.specs.Lists.{onto}
 use Rattle.class_lookup.specs.Parts.{name_of}
 use Rattle.jop_program.specs.Linked.{is_initialized}
 use Rattle.class_places.proofs.ItemLemmas.{more_found}

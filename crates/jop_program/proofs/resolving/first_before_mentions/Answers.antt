@@ -1,6 +1,6 @@
 use Rattle.std.proofs.Common.{List, Some, refl, ◌∙◌, arith}
-use Rattle.first_found.specs.Lists.{first}
-use Rattle.first_found.specs.Lemmas.{ok_same}
+use Rattle.lists.specs.Lists.{first}
+use Rattle.lists.specs.FirstLemmas.{ok_same}
 use Rattle.class_lookup.specs.Hierarchy.{IsAcyclic}
 use Rattle.jop_program.specs.declared.refusal.LinkRefusal.{LinkRefusal}
 use Rattle.jop_program.specs.Linked.{files_in}

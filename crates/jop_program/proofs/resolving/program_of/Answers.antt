@@ -1,5 +1,5 @@
 use Rattle.std.proofs.Common.{List, refl, ap, sym, ◌∙◌, subst}
-use Rattle.first_found.specs.Lists.{first}
+use Rattle.lists.specs.Lists.{first}
 use Rattle.class_pool.specs.declared.class.ClassFile.{ClassFile}
 use Rattle.resolved_program.specs.Resolved.{AreResolved}
 use Rattle.jop_program.specs.Linked.{files_in}

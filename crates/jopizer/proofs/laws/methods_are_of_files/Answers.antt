@@ -1,5 +1,5 @@
 use Rattle.jop_program.proofs.ResolvedLemmas.{Laws}
-use Rattle.list_words.specs.Lemmas.{none≢some}
+use Rattle.lists.specs.Lemmas.{none≢some}
 use Rattle.std.proofs.Common.{sym, ◌∙◌}
 use Rattle.jopizer.proofs.BootLemmas.{of_file}
 use Rattle.jopizer.proofs.laws.methods_are_of_files.Goals as goal

@@ -1,6 +1,6 @@
 use Rattle.std.proofs.Common.{◌≡◌, ℕ, ◌+◌, Bool, List, Option, Vec, Global, false, not, ◌||◌, take, get_or, sym, ap, ◌∙◌, subst, arith}
 use Rattle.std.specs.Option.{option_map_or}
-use Rattle.list_words.proofs.Among.{among_at}
+use Rattle.lists.proofs.Among.{among_at}
 use Rattle.class_lookup.specs.Hierarchy.{is_among}
 use Rattle.class_lookup.specs.Lookup.{Place}
 use Rattle.class_lookup.specs.Parts.{has_code}

@@ -1,5 +1,5 @@
 use Rattle.std.proofs.Common.{get_or}
-use Rattle.list_words.proofs.Among.{among_at}
+use Rattle.lists.proofs.Among.{among_at}
 use Rattle.open_methods.proofs.marks.unmarked.Goals as goal
 
 pub bounds-marks-class : goal.bounds-marks-class

@@ -1,5 +1,5 @@
 use Rattle.std.proofs.Common.{ℕ, get_or, refl, sym}
-use Rattle.first_found.specs.Lemmas.{found_here}
+use Rattle.lists.specs.FirstLemmas.{found_here}
 use Rattle.unresolved_names.specs.Causes.{refused_catch}
 use Rattle.unresolved_names.proofs.mentions.first_at_handlers.Goals as goal
 

@@ -3,8 +3,8 @@ use Rattle.std.specs.Option.{option_map_or}
 use Rattle.std.specs.List.{flat_map}
 use Rattle.std.proofs.lemmas.List.Elements.{Contains-get_or}
 use Rattle.jop_opcodes.specs.Start.{starts_of}
-use Rattle.first_found.specs.Lists.{first}
-use Rattle.first_found.specs.Lemmas.{found_here, none_first}
+use Rattle.lists.specs.Lists.{first}
+use Rattle.lists.specs.FirstLemmas.{found_here, none_first}
 use Rattle.program_tables.specs.Instructions.{placed_at}
 use Rattle.program_tables.proofs.MentionLemmas.{all_places}
 use Rattle.unresolved_names.specs.Causes.{refused_instruction}

@@ -1,7 +1,7 @@
 use Rattle.std.proofs.Common.{ℕ, List, ◌∙◌, sym, ap, ap₂}
 use Rattle.std.specs.List.{flat_map}
 use Rattle.class_pool.specs.declared.class.ClassFile.{ClassFile}
-use Rattle.first_found.specs.Lists.{first}
+use Rattle.lists.specs.Lists.{first}
 use Rattle.program_tables.specs.Instructions.{instructions_in}
 use Rattle.unresolved_names.specs.Causes.{refused_instruction, refused_catch, refused_frame_class}
 use Rattle.unresolved_names.proofs.MentionLemmas.{at_instructions, at_handlers, at_frames}

@@ -1,6 +1,6 @@
 use Rattle.std.proofs.Common.{◌≡◌, ◌<◌, ◌≤◌, List, length, get_or, sym, subst}
 use Rattle.class_pool.specs.declared.class.Member.{Member}
-use Rattle.first_found.specs.Lemmas.{found_here, still_none, none_first}
+use Rattle.lists.specs.FirstLemmas.{found_here, still_none, none_first}
 use Rattle.program_tables.specs.Unresolved.{FieldDescriptor}
 use Rattle.unresolved_names.specs.Causes.{refused_mention}
 use Rattle.unresolved_names.proofs.mentions.first_in_fields.Goals as goal

@@ -1,6 +1,6 @@
 use Rattle.std.proofs.Common.{ℕ, Some, ◌∙◌, sym, ap}
 use Rattle.class_lookup.specs.Parts.{text_at}
-use Rattle.first_found.specs.Lemmas.{ok_same}
+use Rattle.lists.specs.FirstLemmas.{ok_same}
 use Rattle.program_tables.specs.declared.refusal.Why.TheVariants as reasons
 use Rattle.program_tables.specs.Kinds.{classes_in_method_descriptor}
 use Rattle.unresolved_names.proofs.MentionLemmas.{at_descriptor, at_code, without_code}

@@ -1,7 +1,7 @@
 use Rattle.std.proofs.Common.{◌≡◌, ◌<◌, ◌≤◌, List, length, get_or, sym, ◌∙◌, subst}
 use Rattle.std.specs.List.{flat_map}
 use Rattle.class_pool.specs.declared.class.Member.{Member}
-use Rattle.first_found.specs.Lemmas.{found_here, still_none, none_first}
+use Rattle.lists.specs.FirstLemmas.{found_here, still_none, none_first}
 use Rattle.program_tables.specs.Unresolved.{mentions_in_method}
 use Rattle.program_tables.proofs.ListLemmas.{no_value}
 use Rattle.unresolved_names.specs.Causes.{refused_mention}

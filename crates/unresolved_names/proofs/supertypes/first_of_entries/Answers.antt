@@ -1,5 +1,5 @@
 use Rattle.std.proofs.Common.{get_or, refl, sym}
-use Rattle.first_found.specs.Lemmas.{found_here, still_none, none_first}
+use Rattle.lists.specs.FirstLemmas.{found_here, still_none, none_first}
 use Rattle.unresolved_names.specs.Causes.{refused_class}
 use Rattle.unresolved_names.proofs.supertypes.first_of_entries.Goals as goal
 

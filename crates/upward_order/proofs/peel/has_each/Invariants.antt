@@ -1,6 +1,6 @@
 use Rattle.std.proofs.Common.{ℕ, take}
 use Rattle.std.specs.Prelude.{IsTrue}
-use Rattle.list_words.specs.Numbers.{is_among}
+use Rattle.lists.specs.Numbers.{is_among}
 use Rattle.upward_order.proofs.peel.has_each.Given as goal
 
 abbrev pub invariant-loop-number : goal.invariant-loop-number

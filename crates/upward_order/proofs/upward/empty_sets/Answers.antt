@@ -1,5 +1,5 @@
 use Rattle.std.proofs.Common.{◌++◌, ◌∷◌, [], List, ℕ, ap₂, ◌∙◌}
-use Rattle.list_words.proofs.Tables.{replicate_more}
+use Rattle.lists.proofs.Tables.{replicate_more}
 use Rattle.upward_order.proofs.upward.empty_sets.Goals as goal
 
 pub loop-index-preserved : goal.loop-index-preserved

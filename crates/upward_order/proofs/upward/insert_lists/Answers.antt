@@ -2,7 +2,7 @@ use Rattle.std.proofs.Common.{◌≡◌, ◌+◌, ◌++◌, List, ℕ, get_or, t
 use Rattle.std.specs.List.{flat_map}
 use Rattle.upward_order.specs.Numbers.{entry, IsSameSearch}
 use Rattle.upward_order.proofs.UpwardLemmas.{inserted_more, inserted_before, inserted_none}
-use Rattle.list_words.proofs.Tables.{entry_read, same_along}
+use Rattle.lists.proofs.Tables.{entry_read, same_along}
 use Rattle.upward_order.proofs.upward.insert_lists.Goals as goal
 use Rattle.upward_order.proofs.upward.insert_lists.Goals.{then-not-contains+then-index-table+in_ok-insert_all, else-not-contains, else-not-contains-via-then-not-contains+else-index-table, else-not-contains-via-else-not-contains}
 

@@ -1,10 +1,10 @@
 use Rattle.std.proofs.Common.{◌+◌, ◌∷◌, List, ℕ, get_or, take, sym, ap, ap₂, ◌∙◌, subst, arith}
 use Rattle.std.specs.List.{flat_map}
-use Rattle.list_words.specs.Numbers.{is_among}
+use Rattle.lists.specs.Numbers.{is_among}
 use Rattle.upward_order.specs.Numbers.{entry, IsTransitive}
-use Rattle.list_words.proofs.Among.{among_at}
+use Rattle.lists.proofs.Among.{among_at}
 use Rattle.upward_order.proofs.UpwardLemmas.{built_through, built_more, falls_at, falls_apart, front_more, through_end}
-use Rattle.list_words.proofs.Tables.{entry_read, same_along}
+use Rattle.lists.proofs.Tables.{entry_read, same_along}
 use Rattle.upward_order.proofs.upward.upward_lists.Goals as goal
 
 pub bounds-above-index : goal.bounds-above-index

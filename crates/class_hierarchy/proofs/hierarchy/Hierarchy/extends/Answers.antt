@@ -1,7 +1,7 @@
 use Rattle.std.proofs.Common.{◌<◌, List, length, sym, ap, ◌∙◌, subst}
 use Rattle.class_pool.specs.declared.class.ClassFile.{ClassFile}
 use Rattle.class_lookup.specs.Hierarchy.{supertypes, extends}
-use Rattle.list_words.proofs.Finding.{same_among}
+use Rattle.lists.proofs.Finding.{same_among}
 use Rattle.class_hierarchy.proofs.Found.{supertypes_read}
 use Rattle.class_hierarchy.proofs.hierarchy.Hierarchy.extends.Goals as goal
 

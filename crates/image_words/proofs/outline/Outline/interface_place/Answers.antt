@@ -1,7 +1,7 @@
 use Rattle.std.proofs.Common.{◌+◌, length, arith}
 use Rattle.image_words.specs.Slots.{interface_methods}
 use Rattle.image_words.specs.Layout.{interface_words, classes_of, interfaces_place}
-use Rattle.word_lists.proofs.RunLemmas.{run_place}
+use Rattle.image_builder.proofs.RunLemmas.{run_place}
 use Rattle.image_words.proofs.outline.Outline.interface_place.Goals as goal
 
 pub returns : goal.returns

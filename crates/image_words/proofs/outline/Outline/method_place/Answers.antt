@@ -1,6 +1,6 @@
 use Rattle.program_tables.specs.Resolved.{resolved}
 use Rattle.image_words.specs.Layout.{method_size, methods_place}
-use Rattle.word_lists.proofs.RunLemmas.{run_place}
+use Rattle.image_builder.proofs.RunLemmas.{run_place}
 use Rattle.image_words.proofs.outline.Outline.method_place.Goals as goal
 
 pub returns : goal.returns

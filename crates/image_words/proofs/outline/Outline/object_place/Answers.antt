@@ -2,7 +2,7 @@ use Rattle.std.proofs.Common.{◌+◌}
 use Rattle.bytecode_model.specs.Sizes.{object_words}
 use Rattle.program_tables.specs.Resolved.{resolved}
 use Rattle.image_words.specs.Layout.{methods_place, methods_size}
-use Rattle.word_lists.proofs.RunLemmas.{run_place}
+use Rattle.image_builder.proofs.RunLemmas.{run_place}
 use Rattle.image_words.proofs.PlaceLemmas.{object_at}
 use Rattle.image_words.proofs.outline.Outline.object_place.Goals as goal
 

@@ -1,5 +1,5 @@
 use Rattle.image_words.specs.Layout.{pool_words, pools_place}
-use Rattle.word_lists.proofs.RunLemmas.{run_place}
+use Rattle.image_builder.proofs.RunLemmas.{run_place}
 use Rattle.image_words.proofs.outline.Outline.pool_place.Goals as goal
 
 pub returns : goal.returns

@@ -1,7 +1,7 @@
 use Rattle.image_facts.specs.Words.{declared_words}
 use Rattle.program_tables.specs.Resolved.{resolved}
 use Rattle.image_words.specs.Layout.{front_size}
-use Rattle.word_lists.proofs.RunLemmas.{run_place}
+use Rattle.image_builder.proofs.RunLemmas.{run_place}
 use Rattle.image_words.proofs.PlaceLemmas.{static_at}
 use Rattle.image_words.proofs.outline.Outline.static_place.Goals as goal
 

@@ -2,7 +2,7 @@ use Rattle.std.proofs.Common.{◌+◌, ◌*◌, ℕ, ap, ap₂, ◌∙◌}
 use Rattle.image_facts.specs.Words.{declared_words}
 use Rattle.program_tables.specs.Resolved.{resolved}
 use Rattle.image_words.specs.Layout.{front_size}
-use Rattle.word_lists.proofs.RunLemmas.{run_end}
+use Rattle.image_builder.proofs.RunLemmas.{run_end}
 use Rattle.image_words.proofs.outline.Outline.type_place.Goals as goal
 
 pub returns : goal.returns

@@ -1,6 +1,6 @@
 use Rattle.std.proofs.Common.{ℕ, List, Option, Some, None, get_or, sym, ap, ◌∙◌, arith}
 use Rattle.image_words.specs.Slots.{slots}
-use Rattle.word_lists.proofs.ListLemmas.{get_below}
+use Rattle.image_builder.proofs.ListLemmas.{get_below}
 use Rattle.image_words.proofs.SlotLemmas.{class_first, first_index, read_slots}
 use Rattle.image_words.proofs.slots.Slots.first_alike.Goals as goal
 

@@ -1,5 +1,0 @@
-use Rattle.core_words.proofs.Packs.{length-words_of_bytes}
-use Rattle.core_words.proofs.laws.packed_has_words.Goals as goal
-
-pub returns : goal.returns
-returns c = length-words_of_bytes

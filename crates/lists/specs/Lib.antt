@@ -1,0 +1,6 @@
+pub mod Lists
+pub mod Numbers
+pub mod Lemmas
+pub mod FirstLemmas
+pub mod Members
+pub mod Tests

@@ -1,0 +1,11 @@
+ghost use Rattle.word32.specs.Packed.{PackedHasWords, PackedHasBytes};
+
+/// Bytes are packed into as many words as hold them.
+pub fn packed_has_words()
+    ensures { PackedHasWords }
+{}
+
+/// The bytes of the packed words are the bytes that were packed, and then zeros.
+pub fn packed_has_bytes()
+    ensures { PackedHasBytes }
+{}
