@@ -23,7 +23,7 @@ spelled [] = []
 spelled (i ∷ is) = i.opcode ∷ (i.operands ++ spelled is)
 
 -- an instruction of this shape may stand where so many operands are on the stack
-pub record Fits (max_locals max_stack depth : ℕ) (i : Instruction) (s : Shape) : Type 0 where
+pub record InstructionFits (max_locals max_stack depth : ℕ) (i : Instruction) (s : Shape) : Type 0 where
   pub known : shape_of i.opcode ≡ Some s
   pub bytes : length i.operands ≡ s.bytes
   pub locals : s.locals ≤ max_locals
@@ -34,7 +34,7 @@ pub record Fits (max_locals max_stack depth : ℕ) (i : Instruction) (s : Shape)
 abbrev pub StayWithin : (max_locals max_stack depth : ℕ) → List Instruction → Type 0
 StayWithin max_locals max_stack depth [] = Unit {0}
 StayWithin max_locals max_stack depth (i ∷ is) =
-    (s : Shape) × Fits max_locals max_stack depth i s × StayWithin max_locals max_stack (depth - s.pops + s.pushes) is
+    (s : Shape) × InstructionFits max_locals max_stack depth i s × StayWithin max_locals max_stack (depth - s.pops + s.pushes) is
 
 -- return, which stands at the end and nowhere else
 abbrev pub return_code : ℕ

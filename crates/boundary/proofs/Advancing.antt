@@ -11,7 +11,7 @@ use Rattle.jop_core.specs.Cycle.{output_of}
 use Rattle.jop_core.specs.Scene.{begun, output_during, first_of}
 use Rattle.jop_device.specs.Told.{Told, GivesEach}
 use Rattle.micro_sketch.specs.Ends.{AreGiven}
-use Rattle.micro_sketch.specs.Step.{Ran, Arrived, Broke}
+use Rattle.micro_sketch.specs.Step.{RanCycles, Arrived, Broke}
 use Rattle.micro_sketch.specs.StepLaws.{AreRunLaws}
 use Rattle.bytecode_typing.specs.Fits.{IsGoing}
 use Rattle.bytecode_model.specs.State.{State}
@@ -87,8 +87,8 @@ module _ (advance : StagesAdvance) (agree : StagesAgree) (runs : AreRunLaws) (ap
       let n = advance g old s is st going answer byte in
       let c = n.comes in
       let same = same_landing runs old c.new new c.answers a.answers c.cycles a.cycles (comes_lands g.program g.places g.chip g.memory old s n.next c) (arrived_lands old new t0 t1 a) (meets c.answers a.answers (taken_of g old s answer going n)) in
-      let A : List (Option ℕ) → Type 0 = λ xs. Ran a.cycles old new t0 t1 xs in
-      let C : ℕ → Type 0 = λ k. Ran k old new t0 t1 c.answers in
+      let A : List (Option ℕ) → Type 0 = λ xs. RanCycles a.cycles old new t0 t1 xs in
+      let C : ℕ → Type 0 = λ k. RanCycles k old new t0 t1 c.answers in
       let S : machine.State → Type 0 = λ m. StandsFor g.program g.places g.chip g.memory m n.next in
       record {
         advances = record { answer = answer; byte = byte; next = n.next; is_next = n.is_next; fits = n.fits; comes = c; answer_is = ap first_of (sym same.answers_are); new_is = same.new_is; ran = subst C (sym same.cycles_are) (subst A (sym same.answers_are) a.ran) };

@@ -18,7 +18,7 @@ use Rattle.machine_stands.specs.Bare.{program_of}
 use Rattle.coded_methods.specs.declared.method.CodedMethod.{CodedMethod}
 use Rattle.coded_methods.specs.Methods.{AreMethods}
 use Rattle.boundary.specs.Laws.{BareImagesArePrograms}
-use Rattle.boundary.specs.Linked.{AreLinked, BeginsEach, LinkedRunsBegin}
+use Rattle.boundary.specs.Linked.{IsHeldImage, BeginsEach, LinkedRunsBegin}
 use Rattle.boundary.specs.Setting.{Setting, IsSetting, bare_setting}
 use Rattle.boundary.specs.Session.{HasWaits, IsInStep, Begins}
 use Rattle.boundary.proofs.Obeys.{onto_some}
@@ -57,10 +57,10 @@ step_begins programs n image config methods m grammar are is begins =
 
 -- ---- linked programs
 
-pub size_of : (n : ℕ) (words : List ℕ) (methods : List CodedMethod) (config : Config) → AreLinked n words methods config → IsSize n
+pub size_of : (n : ℕ) (words : List ℕ) (methods : List CodedMethod) (config : Config) → IsHeldImage n words methods config → IsSize n
 size_of n words methods config linked = subst IsSize linked.chip linked.held.size
 
-pub can_start : LinkedRunsBegin → (n : ℕ) (words : List ℕ) (methods : List CodedMethod) (config : Config) → AreLinked n words methods config → CanStart words config
+pub can_start : LinkedRunsBegin → (n : ℕ) (words : List ℕ) (methods : List CodedMethod) (config : Config) → IsHeldImage n words methods config → CanStart words config
 can_start begin n words methods config linked = subst (λ ws. CanStart ws config) (sym linked.words_are) (begin linked.setting config linked.held).0
 
 pub linked_begins : LinkedRunsBegin → (n : ℕ) (words : List ℕ) (config : Config) (m : machine.State) → m ≡ linked_reset n words config → BeginsEach n words config m
@@ -68,7 +68,7 @@ linked_begins begin n words config m is g held chip words_are =
     let M : ℕ → List ℕ → Type 0 = λ k ws. Begins g (linked_reset k ws config) in
     subst (λ (z : machine.State). Begins g z) (sym is) (subst (λ (ws : List ℕ). M n ws) (sym words_are) (subst (λ (k : ℕ). M k (image_of g.program g.places)) chip (begin g config held).1))
 
-pub linked_step : LinkedRunsBegin → (n : ℕ) (words : List ℕ) (methods : List CodedMethod) (config : Config) (m : machine.State) → AreLinked n words methods config → m ≡ linked_reset n words config
+pub linked_step : LinkedRunsBegin → (n : ℕ) (words : List ℕ) (methods : List CodedMethod) (config : Config) (m : machine.State) → IsHeldImage n words methods config → m ≡ linked_reset n words config
     → IsInStep n (record { machine = m; methods = methods; mode = answers.Bytecode })
 linked_step begin n words methods config m linked is =
     let W : machine.State → Type 0 = λ z. HasWaits z in

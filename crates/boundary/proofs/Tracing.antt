@@ -8,7 +8,7 @@ use Rattle.jop_core.specs.Keeps.{CyclesKeep}
 use Rattle.jop_core.specs.Scene.{begun, notes_during}
 use Rattle.jop_device.specs.declared.seen.Seen.{Seen}
 use Rattle.jop_device.specs.Told.{Told, Note, silent, Attended, GivesEach}
-use Rattle.micro_sketch.specs.Step.{Ran}
+use Rattle.micro_sketch.specs.Step.{RanCycles}
 use Rattle.micro_sketch.specs.StepLaws.{AreRunLaws}
 use Rattle.trace_lines.specs.Lines.{note_line}
 use Rattle.trace_lines.specs.Traced.{LineIsPut}
@@ -45,7 +45,7 @@ attended_unnoted t0 t1 t2 line answers out seen notes put h = record {
   };
 }
 
-ran_unnoted : (cycles : ℕ) (old new : machine.State) (t0 t1 t2 : Told) (line : List ℕ) (answers : List (Option ℕ)) → LineIsPut t0 t1 line → Ran cycles old new t1 t2 answers → Ran cycles old new (unnoted t0) (unnoted t2) answers
+ran_unnoted : (cycles : ℕ) (old new : machine.State) (t0 t1 t2 : Told) (line : List ℕ) (answers : List (Option ℕ)) → LineIsPut t0 t1 line → RanCycles cycles old new t1 t2 answers → RanCycles cycles old new (unnoted t0) (unnoted t2) answers
 ran_unnoted cycles old new t0 t1 t2 line answers put ran = record { state = ran.state; left = ran.left; device = attended_unnoted t0 t1 t2 line answers _ _ _ put ran.device }
 
 abbrev advances_unnoted : (g : Setting) (s : State) (old new : machine.State) (t0 t1 t2 : Told) (line : List ℕ) → LineIsPut t0 t1 line → Advances g s old new t1 t2 → Advances g s old new (unnoted t0) (unnoted t2)

@@ -4,7 +4,7 @@ use Rattle.jop_core.specs.State as machine
 use Rattle.jop_core.specs.Keeps.{CyclesKeep}
 use Rattle.jop_core.specs.Scene.{Scene, begun, run, output_during}
 use Rattle.jop_device.specs.Told.{Told}
-use Rattle.micro_sketch.specs.Step.{Ran}
+use Rattle.micro_sketch.specs.Step.{RanCycles}
 use Rattle.micro_sketch.specs.StepLaws.{AreRunLaws, after_output}
 use Rattle.bytecode_model.specs.declared.Ending.{Ending}
 use Rattle.bytecode_model.specs.declared.Ending.TheVariants as modes
@@ -67,7 +67,7 @@ Far g limit a now told told' = RunsOn g limit a now told told' (λ s. IsGoing s.
 
 module _ (laws : AreRunLaws) (keep : CyclesKeep) where
   -- what two runs, one behind the other, put out
-  pub output_adds : (m n : ℕ) (old mid : machine.State) (t0 t1 : Told) (earlier later : List (Option ℕ)) → Ran m old mid t0 t1 earlier
+  pub output_adds : (m n : ℕ) (old mid : machine.State) (t0 t1 : Told) (earlier later : List (Option ℕ)) → RanCycles m old mid t0 t1 earlier
       → output_during (m + n) (begun old (earlier ++ later)) ≡ output_during m (begun old earlier) ++ output_during n (begun mid later)
   output_adds m n old mid t0 t1 earlier later ran =
       let c = begun old (earlier ++ later) in

@@ -6,7 +6,7 @@ use Rattle.jop_core.specs.declared.tick.Tick.TheVariants as ticks
 use Rattle.jop_core.specs.State as machine
 use Rattle.jop_core.specs.Cycle.{output_of}
 use Rattle.jop_core.specs.Scene.{begun, first_of, output_during}
-use Rattle.micro_sketch.specs.Step.{Ran, Broke}
+use Rattle.micro_sketch.specs.Step.{RanCycles, Broke}
 use Rattle.bytecode_model.specs.State.{State}
 use Rattle.bytecode_model.specs.Steps.{step}
 use Rattle.bytecode_model.specs.WellFormed.{IsAnswer}
@@ -28,7 +28,7 @@ pub record Advances (g : Setting) (s : State) (old new : machine.State) (told to
   pub comes : ComesTo g.program g.places g.chip g.memory old s next
   pub answer_is : answer ≡ first_of comes.answers
   pub new_is : comes.new ≡ new
-  pub ran : Ran comes.cycles old new told told' comes.answers
+  pub ran : RanCycles comes.cycles old new told told' comes.answers
 
 -- and how the next state goes on is the answer
 abbrev pub Reaches : (g : Setting) → State → (old new : machine.State) → (told told' : Told) → Boundary → Type 0

@@ -25,7 +25,7 @@ pub record IsHeld (g : Setting) (config : Config) : Type 0 where
   pub boot : IfSome (body_of g.program g.program.boot) (λ b. body_words b ≤ g.chip - 80)
 
 -- The words are those of the image of a program that a machine with n on-chip words holds, and these are its methods with code.
-pub record AreLinked (n : ℕ) (words : List ℕ) (methods : List CodedMethod) (config : Config) : Type 0 where
+pub record IsHeldImage (n : ℕ) (words : List ℕ) (methods : List CodedMethod) (config : Config) : Type 0 where
   pub setting : Setting
   pub held : IsHeld setting config
   pub chip : setting.chip ≡ n

@@ -4,7 +4,7 @@ use Rattle.std.specs.declared.option.Option.{Option}
 use Rattle.jop_core.specs.State as machine
 use Rattle.jop_core.specs.Scene.{begun, output_during}
 use Rattle.jop_device.specs.Told.{Told}
-use Rattle.micro_sketch.specs.Step.{Ran}
+use Rattle.micro_sketch.specs.Step.{RanCycles}
 use Rattle.bytecode_model.specs.declared.Ending.TheVariants as modes
 use Rattle.bytecode_model.specs.State.{State}
 use Rattle.bytecode_model.specs.Steps.{run_from}
@@ -34,7 +34,7 @@ pub record IsRun (g : Setting) (limit : ℕ) (a b : Stage) (told told' : Told) :
   pub cycles : ℕ
   pub clock : b.machine.clock ≡ a.machine.clock + cycles
   pub answers : List (Option ℕ)
-  pub ran : Ran cycles a.machine b.machine told told' answers
+  pub ran : RanCycles cycles a.machine b.machine told told' answers
   pub took : b.state.answers ≡ a.state.answers ++ answers
   pub put : b.state.output ≡ a.state.output ++ output_during cycles (begun a.machine answers)
 

@@ -5,7 +5,7 @@ ghost use Rattle.jop_core.specs.Reset.{CanStartBare, bare_reset, linked_reset};
 ghost use Rattle.coded_methods.specs.Methods.{AreMethods};
 ghost use Rattle.boundary.specs.Answers.{is_going, mode_after};
 ghost use Rattle.boundary.specs.Setting.{bare_setting};
-ghost use Rattle.boundary.specs.Linked.{AreLinked, BeginsEach};
+ghost use Rattle.boundary.specs.Linked.{IsHeldImage, BeginsEach};
 ghost use Rattle.boundary.specs.Session.{goes, Begins, IsAtStep, HasEnded, EndsWith, AllGoOnSo};
 ghost use Rattle.boundary.specs.Advances.{StepsAll, PassesTime};
 
@@ -85,7 +85,7 @@ impl<'a, const N: usize> Running<'a, N> {
         methods: &'a [CodedMethod<'a>],
         config: Config,
     ) -> Result<Self, NoMemory>
-        requires program { AreLinked N words.now methods.now config }
+        requires program { IsHeldImage N words.now methods.now config }
         ensures starts { IfOk result (λ r. r ≡ record { machine = linked_reset N words.now config; methods = methods.now; mode = Boundary.Bytecode }) }
         ensures begins { IfOk result (λ r. BeginsEach N words.now config r.machine) }
     {

@@ -16,8 +16,8 @@ abbrev pub blocks_of : List ℕ → List ℕ → ℕ
 blocks_of sizes members = sum_by (λ m. slice_index sizes m) members
 
 -- they can all be in a cache of so many blocks at once
-abbrev pub Fits : List ℕ → List ℕ → ℕ → Type 0
-Fits sizes members blocks = blocks_of sizes members ≤ blocks
+abbrev pub FitsCache : List ℕ → List ℕ → ℕ → Type 0
+FitsCache sizes members blocks = blocks_of sizes members ≤ blocks
 
 -- the cycles that the load of a method of so many words stalls, where a read waits r cycles
 abbrev pub load_stall : ℕ → ℕ → ℕ

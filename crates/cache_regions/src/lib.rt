@@ -2,7 +2,7 @@
 #![tactic(auto)]
 
 ghost use Rattle.std.specs.Prelude.{◌≡◌, ◌≤◌, ◌↔◌, IsTrue, length};
-ghost use Rattle.cache_regions.specs.Region.{AreMembers, Fits, stall_of};
+ghost use Rattle.cache_regions.specs.Region.{AreMembers, FitsCache, stall_of};
 
 pub mod laws;
 
@@ -10,7 +10,7 @@ pub mod laws;
 /// method takes, by its number.
 pub fn fits(sizes: &[u32], members: &[u32], blocks: u32) -> bool
     requires { AreMembers (length sizes.now) members.now }
-    ensures { IsTrue result ↔ Fits sizes.now members.now blocks }
+    ensures { IsTrue result ↔ FitsCache sizes.now members.now blocks }
 {
     let mut taken = 0u64;
     for m in members {

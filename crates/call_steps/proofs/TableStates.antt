@@ -32,7 +32,7 @@ use Rattle.bytecode_model.specs.Effects.{Call, Fault, NullPointerException, Inco
 use Rattle.bytecode_model.specs.Steps.{applied, raising}
 use Rattle.image_facts.specs.Places.{Places, AreFixed, object_place, pool_of}
 use Rattle.image_facts.specs.Says as says
-use Rattle.image_facts.specs.Says.{SaysAll, SaysLinked, Means, MeansMethod, Finds, IsSlot, IsInterfaceNumber}
+use Rattle.image_facts.specs.Says.{SaysAll, SaysLinked, Means, MeansMethod, FindsMethod, IsSlot, IsInterfaceNumber}
 use Rattle.machine_stands.specs.Frames.{IsWordOf, AreOperands}
 use Rattle.machine_stands.specs.StandsFor.{limits_of}
 use Rattle.machine_stands.specs.Comes.{params, ComesTo}

@@ -99,18 +99,18 @@ abbrev pub field_place : Program → (class index : ℕ) → ℕ
 field_place P c i = 1 + sum_by declared_words (take i (P.fields c))
 
 -- a table has at this place the method that runs where u is selected
-abbrev pub Finds : Program → Places → (place u : ℕ) → Type 0
-Finds P pl place u = IsSome (body_of P u) → AreFixed P pl place (pl.method u ∷ [])
+abbrev pub FindsMethod : Program → Places → (place u : ℕ) → Type 0
+FindsMethod P pl place u = IsSome (body_of P u) → AreFixed P pl place (pl.method u ∷ [])
 
 -- In the tables of the named class and of those below it, this slot has the method that is selected for m.
 abbrev pub IsSlot : Program → Places → (named m slot : ℕ) → Type 0
 IsSlot P pl named m slot =
-    (t c u : ℕ) → slice_get P.types t ≡ Some (OfClass c) → P.extends c named ≡ true → P.select c m ≡ Some u → Finds P pl (pl.method_table t + slot) u
+    (t c u : ℕ) → slice_get P.types t ≡ Some (OfClass c) → P.extends c named ≡ true → P.select c m ≡ Some u → FindsMethod P pl (pl.method_table t + slot) u
 
 -- In the table of a type that implements the interface, the place of this number has the method that is selected for m, and in any other 0.
 pub record IsInterfaceNumber (P : Program) (pl : Places) (m interface number : ℕ) : Type 0 where
   pub implements : (t u : ℕ) (k : Kind) → slice_get P.types t ≡ Some k → has_class P (Some k) interface ≡ true → selected P (Some k) m ≡ Some u
-      → Finds P pl (pl.interface_table t + number) u
+      → FindsMethod P pl (pl.interface_table t + number) u
   pub other : (t : ℕ) (k : Kind) → slice_get P.types t ≡ Some k → has_class P (Some k) interface ≡ false → AreFixed P pl (pl.interface_table t + number) (0 ∷ [])
 
 -- The two words of a method: where it runs without a selection, its place; else the words of its arguments, and a slot or an interface method's number.

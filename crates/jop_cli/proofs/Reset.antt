@@ -39,7 +39,7 @@ use Rattle.jop_cli.specs.Show.{Shown, Output, Trace}
 use Rattle.jop_cli.specs.Run as run
 use Rattle.jop_cli.specs.Run.{Started, RunsAs}
 use Rattle.jop_cli.specs.Phase.{HasSettings}
-use Rattle.jop_cli.specs.BareFile.{blocks_of_code, WritesAtImpdep2, FailsAtImpdep2, Ran}
+use Rattle.jop_cli.specs.BareFile.{blocks_of_code, WritesAtImpdep2, FailsAtImpdep2, RanBare}
 
 -- the code fits the cache of the settings
 pub fits_cache : (settings : Settings) (image : Image) (config : Config) → HasSettings settings config → IsImage image → blocks_of_code settings image ≤ settings.blocks
@@ -127,7 +127,7 @@ module _ (stepping : BareImagesStep) (image : Image) (grammar : IsImage image) (
 
 -- the byte that couldn't be put out is that of an impdep2
 pub at_impdep2 : BareImagesStep → (image : Image) → IsImage image → (shown : Shown) (n memory : ℕ) (reset : machine.State) (limit : ℕ) (old new : Lent) → (r : run.Ran shown (bare_setting image n memory) reset limit old new ways.WriteFault)
-    → Ran shown (bare_setting image n memory) reset limit old new endings.WriteFault
+    → RanBare shown (bare_setting image n memory) reset limit old new endings.WriteFault
 at_impdep2 stepping image grammar shown n memory reset limit old new r =
     (r, at_stage stepping image grammar n memory limit (record { machine = reset; state = r.0.boot }) (boot_runs (bare_setting image n memory).program r.0.boot r.0.is_boot) shown r.0.now old new r.0.runs)
 

@@ -18,7 +18,7 @@ use Rattle.image_words.specs.Regions.{places_of}
 use Rattle.image_builder.specs.Laid.{Laid}
 use Rattle.bytecode_verifier.specs.Failure.{IsVerified}
 use Rattle.boundary.specs.declared.answer.Boundary.TheVariants.{Bytecode}
-use Rattle.boundary.specs.Linked.{IsHeld, AreLinked, BeginsEach}
+use Rattle.boundary.specs.Linked.{IsHeld, IsHeldImage, BeginsEach}
 use Rattle.boundary.specs.Session.{Session, Begins}
 use Rattle.linked_methods.specs.Fitting.{code_blocks}
 use Rattle.linked_start.specs.Start.{IsTold, VerifiedProgramsAreTold, BootTakesSixWords}
@@ -61,7 +61,7 @@ module _ (told : VerifiedProgramsAreTold) (boots : BootTakesSixWords) (cs : List
         (subst (λ (xs : List ClassFile). IsSomeAnd (body_of (resolved xs) (resolved xs).boot) (λ b. body_words b ≡ 6)) (sym can.linked.classes) (boots can.linked.files can.linked.main));
   }
 
-  pub linked : (words : List ℕ) (methods : List CodedMethod) → words ≡ laid.words → AreMethods (resolved cs) (places_of cs) methods → AreLinked n words methods config
+  pub linked : (words : List ℕ) (methods : List CodedMethod) → words ≡ laid.words → AreMethods (resolved cs) (places_of cs) methods → IsHeldImage n words methods config
   linked words methods same are = record { setting = linked_setting cs n config.memory; held = held; chip = refl; words_are = same ∙ is_told.words; methods_are = are }
 
   started : (s : Session) (words : List ℕ) (methods : List CodedMethod) → words ≡ laid.words → AreMethods (resolved cs) (places_of cs) methods → s ≡ record { machine = linked_reset n words config; methods = methods; mode = Bytecode } → BeginsEach n words config s.machine

@@ -44,16 +44,16 @@ FailsAtImpdep2 Output g limit a now old new r = opcode_of g.program r.last.state
 FailsAtImpdep2 (Trace cycles names) g limit a now old new r = WritesAtImpdep2 names g r.traces.last now r.traces.before _ r.traces.fails
 
 -- How the run of a bare image ends: no class is uncaught, and the input isn't asked.
-abbrev pub Ran : Shown → (g : Setting) → (reset : machine.State) → (limit : ℕ) → (old new : Lent) → Ending → Type 0
-Ran shown g reset limit old new (Ended counts) = run.Ran shown g reset limit old new (runs.Ended counts)
-Ran shown g reset limit old new (Spent counts) = run.Ran shown g reset limit old new (runs.Spent counts)
-Ran shown g reset limit old new WriteFault =
+abbrev pub RanBare : Shown → (g : Setting) → (reset : machine.State) → (limit : ℕ) → (old new : Lent) → Ending → Type 0
+RanBare shown g reset limit old new (Ended counts) = run.Ran shown g reset limit old new (runs.Ended counts)
+RanBare shown g reset limit old new (Spent counts) = run.Ran shown g reset limit old new (runs.Spent counts)
+RanBare shown g reset limit old new WriteFault =
     (r : run.Ran shown g reset limit old new runs.WriteFault) × FailsAtImpdep2 shown g limit (record { machine = reset; state = r.0.boot }) r.0.now old new r.0.runs
-Ran shown g reset limit old new NoMemory = run.Ran shown g reset limit old new runs.NoMemory
-Ran shown g reset limit old new ending = ⊥
+RanBare shown g reset limit old new NoMemory = run.Ran shown g reset limit old new runs.NoMemory
+RanBare shown g reset limit old new ending = ⊥
 
 -- The code of the image takes more blocks than the method cache has, and nothing was done.
-pub record IsTooLong (settings : Settings) (image : Image) (old new : Lent) (ending : Ending) : Type 0 where
+pub record IsCodeTooLong (settings : Settings) (image : Image) (old new : Lent) (ending : Ending) : Type 0 where
   pub blocks : settings.blocks < blocks_of_code settings image
   pub ending_is : ending ≡ Refused (MethodTooLong 0 (blocks_of_code settings image) settings.blocks)
   pub same : new ≡ old
@@ -63,13 +63,13 @@ pub record RanWith (settings : Settings) (show : Show) (image : Image) (old new 
   pub blocks : blocks_of_code settings image ≤ settings.blocks
   pub config : Config
   pub has : HasSettings settings config
-  pub ran : Ran (bare_shown show) (bare_setting image settings.stack config.memory) (bare_reset settings.stack image config) settings.cycles old new ending
+  pub ran : RanBare (bare_shown show) (bare_setting image settings.stack config.memory) (bare_reset settings.stack image config) settings.cycles old new ending
 
 -- The bytes are those of an image, and its code takes more blocks than the method cache has, or it was run.
 pub record RunsImage (settings : Settings) (show : Show) (bytes : List ℕ) (old new : Lent) (ending : Ending) : Type 0 where
   pub image : Image
   pub bare : IsBare bytes image
-  pub ran : IsTooLong settings image old new ending ⊎ RanWith settings show image old new ending
+  pub ran : IsCodeTooLong settings image old new ending ⊎ RanWith settings show image old new ending
 
 -- how the run of the bytes ends
 abbrev pub RunsBareBytes : Settings → Show → (bytes : List ℕ) → (old new : Lent) → Ending → Type 0

@@ -9,7 +9,7 @@ use Rattle.image_layout.specs.Layout.{IsLaidOut, first_passed}
 use Rattle.bytecode_verifier.specs.Failure.{types_found}
 use Rattle.jop_program.specs.Linked.{linked_classes}
 use Rattle.boundary.specs.Setting.{Setting}
-use Rattle.linked_methods.specs.Fitting.{Fits}
+use Rattle.linked_methods.specs.Fitting.{MethodFits}
 use Rattle.jop_cli.specs.declared.program_end.ProgramEnd.{ProgramEnd}
 use Rattle.jop_cli.specs.declared.program_end.ProgramEnd.TheVariants.{Uncaught}
 
@@ -18,18 +18,18 @@ abbrev pub linked_setting : List ClassFile → (chip memory : ℕ) → Setting
 linked_setting cs n size = record { program = resolved cs; places = places_of cs; types = types_found cs; chip = n; memory = size }
 
 -- the classes are those of some files, with the one that is run
-pub record AreLinked (cs : List ClassFile) : Type 0 where
+pub record AreLinkedClasses (cs : List ClassFile) : Type 0 where
   pub files : List ClassFile
   pub main : List ℕ
   pub classes : cs ≡ linked_classes files main
 
 -- The image of the classes is laid out within its limits, and a machine with these settings holds it: the words fit its memory, and each code its method cache.
 pub record CanRun (cs : List ClassFile) (laid : Laid) (config : Config) : Type 0 where
-  pub linked : AreLinked cs
+  pub linked : AreLinkedClasses cs
   pub laid_out : IsLaidOut cs laid
   pub within : first_passed cs ≡ None
   pub memory : length laid.words ≤ config.memory
-  pub codes : (m : ℕ) → Fits (resolved cs) config.blocks config.block_words m
+  pub codes : (m : ℕ) → MethodFits (resolved cs) config.blocks config.block_words m
 
 -- a class that isn't caught is one of the program's
 abbrev pub HasClass : List ClassFile → ProgramEnd → Type 0

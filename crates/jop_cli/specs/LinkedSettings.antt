@@ -5,7 +5,7 @@ use Rattle.jop_core.specs.Reset.{linked_reset}
 use Rattle.jop_words.specs.declared.command.Settings.{Settings}
 use Rattle.program_tables.specs.Resolved.{resolved}
 use Rattle.jopizer.specs.Linked.{Parts}
-use Rattle.linked_methods.specs.Fitting.{Fits, IsFirst}
+use Rattle.linked_methods.specs.Fitting.{MethodFits, IsFirst}
 use Rattle.jop_cli.specs.declared.program_end.ProgramEnd.{ProgramEnd}
 use Rattle.jop_cli.specs.declared.program_end.ProgramEnd.TheVariants as runs
 use Rattle.jop_cli.specs.declared.program_end.ImageEnd.{ImageEnd}
@@ -19,7 +19,7 @@ use Rattle.jop_cli.specs.LinkedRun.{HasClass, linked_setting}
 
 -- each code fits the method cache
 abbrev pub CodesFit : Settings → Parts → Type 0
-CodesFit settings l = (m : ℕ) → Fits (resolved l.classes) settings.blocks settings.block_words m
+CodesFit settings l = (m : ℕ) → MethodFits (resolved l.classes) settings.blocks settings.block_words m
 
 -- A machine with the settings holds the image, and it was run from reset.
 pub record RanWith (settings : Settings) (show : Show) (l : Parts) (old new : Lent) (end : ProgramEnd) : Type 0 where

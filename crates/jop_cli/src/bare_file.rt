@@ -9,7 +9,7 @@ ghost use Rattle.jop_words.specs.Range.{AreSettings};
 ghost use Rattle.jop_cli.specs.Leaving.{Leaves};
 ghost use Rattle.jop_cli.specs.Show.{AreNamed, IsNamed, bare_shown, shown_by};
 ghost use Rattle.jop_cli.specs.Run.{Started};
-ghost use Rattle.jop_cli.specs.BareFile.{ImageFault, blocks_of_code, IsTooLong, Ran, RanWith, RunsBareBytes};
+ghost use Rattle.jop_cli.specs.BareFile.{ImageFault, blocks_of_code, IsCodeTooLong, RanBare, RanWith, RunsBareBytes};
 
 use crate::outcome::{Ending, Refusal};
 use crate::program_end::ProgramEnd;
@@ -67,7 +67,7 @@ fn run_started<const N: usize, O: Sink, V: Watch>(
     requires grammar { IsImage bare.now }
     requires named { AreNamed (shown_by shown.now) running.old.methods }
     requires few { plan.limit < 2 ^ 63 }
-    ensures ran { Ran (shown_by shown.now) (bare_setting bare.now N plan.config.memory) (bare_reset N bare.now plan.config) plan.limit
+    ensures ran { RanBare (shown_by shown.now) (bare_setting bare.now N plan.config.memory) (bare_reset N bare.now plan.config) plan.limit
         (lent (Some []) 0 (O.held out.old) (O.faults out.old) (V.held watch.old))
         (lent (Some []) 0 (O.held out.new) (O.faults out.new) (V.held watch.new)) result }
     ensures done { Leaves result → ⊥ }
@@ -98,7 +98,7 @@ fn run_image<const N: usize, O: Sink, V: Watch>(
     requires grammar { IsImage bare.now }
     requires named { IsNamed (shown_by shown.now) }
     requires few { plan.limit < 2 ^ 63 }
-    ensures ran { Ran (shown_by shown.now) (bare_setting bare.now N plan.config.memory) (bare_reset N bare.now plan.config) plan.limit
+    ensures ran { RanBare (shown_by shown.now) (bare_setting bare.now N plan.config.memory) (bare_reset N bare.now plan.config) plan.limit
         (lent (Some []) 0 (O.held out.old) (O.faults out.old) (V.held watch.old))
         (lent (Some []) 0 (O.held out.new) (O.faults out.new) (V.held watch.new)) result }
     ensures leaves { Leaves result → (out.new ≡ out.old) × (watch.new ≡ watch.old) }
@@ -124,7 +124,7 @@ fn run_bare<const N: usize, O: Sink, V: Watch>(
     requires room { CanStartBare bare.now plan.config }
     requires grammar { IsImage bare.now }
     requires few { plan.limit < 2 ^ 63 }
-    ensures ran { Ran (bare_shown plan.show) (bare_setting bare.now N plan.config.memory) (bare_reset N bare.now plan.config) plan.limit
+    ensures ran { RanBare (bare_shown plan.show) (bare_setting bare.now N plan.config.memory) (bare_reset N bare.now plan.config) plan.limit
         (lent (Some []) 0 (O.held out.old) (O.faults out.old) (V.held watch.old))
         (lent (Some []) 0 (O.held out.new) (O.faults out.new) (V.held watch.new)) result }
     ensures leaves { Leaves result → (out.new ≡ out.old) × (watch.new ≡ watch.old) }
@@ -171,7 +171,7 @@ fn run_fitting<O: Sink, V: Watch>(
 ) -> Ending
     requires settings { AreSettings settings.now }
     requires grammar { IsImage bare.now }
-    ensures ran { IsTooLong settings.now bare.now
+    ensures ran { IsCodeTooLong settings.now bare.now
         (lent (Some []) 0 (O.held out.old) (O.faults out.old) (V.held watch.old))
         (lent (Some []) 0 (O.held out.new) (O.faults out.new) (V.held watch.new)) result
         ⊎ RanWith settings.now show bare.now

@@ -2,7 +2,7 @@
 ghost use Rattle.std.specs.Prelude.{◌≡◌, ◌≤◌, ℕ, length};
 ghost use Rattle.jop_words.specs.Range.{AreSettings};
 ghost use Rattle.program_tables.specs.Resolved.{resolved};
-ghost use Rattle.linked_methods.specs.Fitting.{Fits};
+ghost use Rattle.linked_methods.specs.Fitting.{MethodFits};
 ghost use Rattle.jop_cli.specs.declared.program_end.ImageEnd.TheVariants as ends;
 ghost use Rattle.stream_devices.specs.Lent.{lent};
 ghost use Rattle.jop_cli.specs.LinkedSettings.{LeavesDevices, RanWith, RunsLinked};
@@ -42,7 +42,7 @@ fn run_held<S: Source, O: Sink, V: Watch>(
     watch: &mut V,
 ) -> ProgramEnd
     requires settings { AreSettings settings.now }
-    requires codes { (m : ℕ) → Fits (resolved linked.now.classes) settings.now.blocks settings.now.block_words m }
+    requires codes { (m : ℕ) → MethodFits (resolved linked.now.classes) settings.now.blocks settings.now.block_words m }
     requires memory { length linked.now.laid.words ≤ settings.now.memory }
     ensures ran { RanWith settings.now show linked.now
         (lent (S.left input.old) (S.faults input.old) (O.held out.old) (O.faults out.old) (V.held watch.old))

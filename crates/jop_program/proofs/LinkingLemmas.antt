@@ -24,7 +24,7 @@ use Rattle.jop_program.specs.declared.refusal.LinkRefusal.TheVariants as answers
 use Rattle.jop_program.specs.Linked.{most_files, main_class, main_name, declares_main, main_signature, initialized, first_on_cycle, calls_of, linked_classes, files_in}
 use Rattle.jop_program.specs.Refusals.{Names, Support, Supertypes, Places, Mentions, passes, causes_in, too_many, without_main, refusals}
 use Rattle.jop_program.specs.Resolving.{AreClassesOf, IsFirstRefusal, IsProgramOf}
-use Rattle.jop_program.specs.Linking.{refusals_of, IsFirstOr, AreToLink, AreLinked, IsLinked}
+use Rattle.jop_program.specs.Linking.{refusals_of, IsFirstOr, AreToLink, AreAccepted, IsLinked}
 use Rattle.jop_program.proofs.NameLemmas.{main_is_static}
 use Rattle.jop_program.proofs.OrderedLemmas.{all_along}
 use Rattle.jop_program.proofs.ResolvedLemmas.{Laws, core_long, item_there, left_none, right_none, core_off_cycle, none_on_cycle, are_resolved}
@@ -265,7 +265,7 @@ module _ (laws : Laws) (have : MethodsHaveCode) (ks : List ClassFile) (grammar :
         ∙ (ap₂ (λ (n : ℕ) (b : Bool). refusals_of full n b) counted declared
         ∙ ap (λ (xs : List ClassFile). flat_map (λ pass. causes_in full pass xs) passes ++ (too_many ks ++ without_main ks main)) files_are)
 
-    pub is_linked : (made : List ClassFile) → AreLinked cs count d made → IsLinked ks main made
+    pub is_linked : (made : List ClassFile) → AreAccepted cs count d made → IsLinked ks main made
     unfolding linked_classes
     is_linked made h = record { none = sym same_refusals ∙ h.none; program = h.program ∙ is_full }
 

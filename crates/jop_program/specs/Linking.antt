@@ -35,7 +35,7 @@ pub record AreToLink (cs : List ClassFile) (files : ℕ) (declares : Bool) : Typ
   pub resolved : refusals_of cs files declares ≡ [] → IsAcyclic cs → AreResolved cs
 
 -- nothing refuses the classes, and they are the program
-pub record AreLinked (cs : List ClassFile) (files : ℕ) (declares : Bool) (made : List ClassFile) : Type 0 where
+pub record AreAccepted (cs : List ClassFile) (files : ℕ) (declares : Bool) (made : List ClassFile) : Type 0 where
   pub none : refusals_of cs files declares ≡ []
   pub program : made ≡ cs
 

@@ -9,7 +9,7 @@ ghost use Rattle.core_classes.specs.Laws.{CoreClassesAreClasses, CoreHasBytes, C
 ghost use Rattle.core_classes.specs.Linkage.{CoreIsLinkable, CoreStandsFirst, CoreIsSupported, BootIsLinkable, BootIsSupported, BootIsOnNoCycle};
 ghost use Rattle.jop_program.specs.Linked.{most_files, calls_of, files_in};
 ghost use Rattle.jop_program.specs.Refusals.{Names, Support, Supertypes, Places, causes_in, refusals};
-ghost use Rattle.jop_program.specs.Linking.{AreToLink, AreLinked, IsLinked, IsFirstOr, refusals_of};
+ghost use Rattle.jop_program.specs.Linking.{AreToLink, AreAccepted, IsLinked, IsFirstOr, refusals_of};
 ghost use Rattle.program_tables.specs.Resolving.{HasBytes};
 ghost use Rattle.jop_program.specs.declared.refusal.Counted.TheVariants.{Classes as AClass};
 ghost use Rattle.jop_program.specs.declared.refusal.LinkRefusal.TheVariants.{NoMain, TooLarge};
@@ -157,7 +157,7 @@ fn program_of(
     declares_main: bool,
 ) -> Result<Program, LinkRefusal>
     requires { AreToLink classes files declares_main }
-    ensures linked { IfOk result (AreLinked classes files declares_main) }
+    ensures linked { IfOk result (AreAccepted classes files declares_main) }
     ensures refused { IfErr result (IsFirstOr (refusals_of classes files declares_main)) }
 {
     if let Some(refusal) = first_before_mentions(alloc, &classes, files)? {

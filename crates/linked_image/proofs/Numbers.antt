@@ -5,7 +5,7 @@ use Rattle.std.proofs.lemmas.List.{take_at, drop_at, take-append-drop, length-ap
 use Rattle.std.proofs.lemmas.Nat.{be_bytes_2, be_bytes_4, from_be_bytes-to_be_bytes_2, from_be_bytes-to_be_bytes_4}
 use Rattle.std.specs.Prelude.{MatchOption}
 use Rattle.std.specs.List.{IsSplitAt}
-use Rattle.linked_image.specs.Front.{Finds}
+use Rattle.linked_image.specs.Front.{FindsItem}
 use Rattle.std.specs.Int.{w16, w32, from_be_bytes}
 use Rattle.linked_image.specs.Linked.{IsHalf, IsWord, IsName, IsFile, u2, u4, name_bytes, file_bytes}
 
@@ -121,7 +121,7 @@ split_parts xs mid front back split = sym (take-append-drop mid xs) ∙ ap (λ (
 
 -- what the split behind a length gives is the run, or too few bytes stand there
 counted_split : (number : ℕ → List ℕ) (Fits : ℕ → Type 0) → Unique number Fits → (bytes : List ℕ) (n : ℕ) (behind : List ℕ) (r : Option (Bor (List ℕ) × Bor (List ℕ))) → Fits n → bytes ≡ number n ++ behind
-    → MatchOption r (length behind < n) (λ p. IsSplitAt behind n p.0.now p.1.now) → Finds (λ x. (x.0.now, x.1.now)) (counted number) (λ run. Fits (length run)) bytes r
+    → MatchOption r (length behind < n) (λ p. IsSplitAt behind n p.0.now p.1.now) → FindsItem (λ x. (x.0.now, x.1.now)) (counted number) (λ run. Fits (length run)) bytes r
 counted_split number Fits unique bytes n behind None fits is short = counted_cut number Fits unique bytes n behind fits is short
 counted_split number Fits unique bytes n behind (Some p) fits is split =
     (subst Fits (sym split.3) fits, counted_found number bytes n behind p.0.now p.1.now is split.3 (split_parts behind n p.0.now p.1.now split))
@@ -130,12 +130,12 @@ pub name_absent : (bytes : List ℕ) → ((n : ℕ) (rest : List ℕ) → IsHalf
 name_absent = counted_absent u2 IsHalf
 
 pub name_split : (bytes : List ℕ) (n : ℕ) (behind : List ℕ) (r : Option (Bor (List ℕ) × Bor (List ℕ))) → IsHalf n → bytes ≡ u2 n ++ behind
-    → MatchOption r (length behind < n) (λ p. IsSplitAt behind n p.0.now p.1.now) → Finds (λ x. (x.0.now, x.1.now)) name_bytes IsName bytes r
+    → MatchOption r (length behind < n) (λ p. IsSplitAt behind n p.0.now p.1.now) → FindsItem (λ x. (x.0.now, x.1.now)) name_bytes IsName bytes r
 name_split = counted_split u2 IsHalf u2_unique
 
 pub file_absent : (bytes : List ℕ) → ((n : ℕ) (rest : List ℕ) → IsWord n → bytes ≡ u4 n ++ rest → ⊥) → (run rest : List ℕ) → IsFile run → bytes ≡ file_bytes run ++ rest → ⊥
 file_absent = counted_absent u4 IsWord
 
 pub file_split : (bytes : List ℕ) (n : ℕ) (behind : List ℕ) (r : Option (Bor (List ℕ) × Bor (List ℕ))) → IsWord n → bytes ≡ u4 n ++ behind
-    → MatchOption r (length behind < n) (λ p. IsSplitAt behind n p.0.now p.1.now) → Finds (λ x. (x.0.now, x.1.now)) file_bytes IsFile bytes r
+    → MatchOption r (length behind < n) (λ p. IsSplitAt behind n p.0.now p.1.now) → FindsItem (λ x. (x.0.now, x.1.now)) file_bytes IsFile bytes r
 file_split = counted_split u4 IsWord u4_unique

@@ -4,9 +4,9 @@ use Rattle.std.specs.List.{flat_map, AllByRecursion}
 use Rattle.linked_image.specs.Linked.{Image, IsLinked, IsFile, u4, file_bytes}
 
 -- a value that has such bytes, and the bytes behind it; or no such value stands there
-abbrev pub Finds : {R X : Type 0} → (R → X × List ℕ) → (X → List ℕ) → (X → Type 0) → List ℕ → Option R → Type 0
-Finds {R} {X} view spelled Fits bytes (Some found) = Fits (view found).0 × (bytes ≡ spelled (view found).0 ++ (view found).1)
-Finds {R} {X} view spelled Fits bytes None = (x : X) (rest : List ℕ) → Fits x → bytes ≡ spelled x ++ rest → ⊥
+abbrev pub FindsItem : {R X : Type 0} → (R → X × List ℕ) → (X → List ℕ) → (X → Type 0) → List ℕ → Option R → Type 0
+FindsItem {R} {X} view spelled Fits bytes (Some found) = Fits (view found).0 × (bytes ≡ spelled (view found).0 ++ (view found).1)
+FindsItem {R} {X} view spelled Fits bytes None = (x : X) (rest : List ℕ) → Fits x → bytes ≡ spelled x ++ rest → ⊥
 
 -- all of the bytes are so many files
 pub record AreFiles (count : ℕ) (bytes : List ℕ) : Type 0 where

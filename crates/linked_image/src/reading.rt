@@ -2,7 +2,7 @@
 ghost use Rattle.std.specs.Prelude.{◌≡◌, ◌↔◌, IsTrue, MatchOption, IfOk, List, ℕ};
 ghost use Rattle.std.specs.List.{flat_map, AllByRecursion};
 ghost use Rattle.linked_image.specs.Linked.{Image, IsHalf, IsWord, IsName, IsFile, u2, u4, name_bytes, file_bytes, IsLinked, contents};
-ghost use Rattle.linked_image.specs.Front.{Finds, AreFiles, AreRegions};
+ghost use Rattle.linked_image.specs.Front.{FindsItem, AreFiles, AreRegions};
 
 use crate::{LinkedFault, LinkedImage, MARK};
 use std::alloc::{AllocError, Global};
@@ -16,14 +16,14 @@ struct Regions<'a> {
 }
 
 fn u16_at(bytes: &[u8]) -> Option<(u16, &[u8])>
-    ensures { Finds (λ x. (x.0, x.1.now)) u2 IsHalf bytes.now result }
+    ensures { FindsItem (λ x. (x.0, x.1.now)) u2 IsHalf bytes.now result }
 {
     let (number, rest) = bytes.split_first_chunk::<2>()?;
     Some((u16::from_be_bytes(*number), rest))
 }
 
 fn u32_at(bytes: &[u8]) -> Option<(u32, &[u8])>
-    ensures { Finds (λ x. (x.0, x.1.now)) u4 IsWord bytes.now result }
+    ensures { FindsItem (λ x. (x.0, x.1.now)) u4 IsWord bytes.now result }
 {
     let (number, rest) = bytes.split_first_chunk::<4>()?;
     Some((u32::from_be_bytes(*number), rest))
@@ -31,7 +31,7 @@ fn u32_at(bytes: &[u8]) -> Option<(u32, &[u8])>
 
 // A length of 16 bits and so many bytes.
 fn name_at(bytes: &[u8]) -> Option<(&[u8], &[u8])>
-    ensures { Finds (λ x. (x.0.now, x.1.now)) name_bytes IsName bytes.now result }
+    ensures { FindsItem (λ x. (x.0.now, x.1.now)) name_bytes IsName bytes.now result }
 {
     let (length, rest) = u16_at(bytes)?;
     rest.split_at_checked(length as usize)
@@ -39,7 +39,7 @@ fn name_at(bytes: &[u8]) -> Option<(&[u8], &[u8])>
 
 // A length of 32 bits and so many bytes.
 fn file_at(bytes: &[u8]) -> Option<(&[u8], &[u8])>
-    ensures { Finds (λ x. (x.0.now, x.1.now)) file_bytes IsFile bytes.now result }
+    ensures { FindsItem (λ x. (x.0.now, x.1.now)) file_bytes IsFile bytes.now result }
 {
     let (length, rest) = u32_at(bytes)?;
     rest.split_at_checked(length as usize)

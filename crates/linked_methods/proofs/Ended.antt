@@ -15,7 +15,7 @@ use Rattle.program_tables.specs.Laws.{MethodsStandByNumber}
 use Rattle.program_tables.specs.Numbers.{methods_by_number}
 use Rattle.program_tables.specs.Resolved.{resolved}
 use Rattle.image_words.specs.Regions.{places_of}
-use Rattle.linked_methods.specs.Fitting.{Fits, code_blocks}
+use Rattle.linked_methods.specs.Fitting.{MethodFits, code_blocks}
 use Rattle.linked_methods.specs.Placed.{ArePlaced}
 use Rattle.linked_methods.proofs.Coded.{code_at, body_of_code, code_of_body, coded_first}
 use Rattle.linked_methods.proofs.Filled.{AreFilled, one_more, all_filled, some_case, if_in}
@@ -46,7 +46,7 @@ before stand cs n none m b h = ⊎_elim (λ lt. lt) (λ le. let k = code_of_body
 pub whole : MethodsStandByNumber → (cs : List ClassFile) (items : List CodedMethod) (n : ℕ) → AreFilled cs items n → n < 2 ^ 32 → code_at cs n ≡ None → AreMethods (resolved cs) (places_of cs) items
 whole stand cs items n filled few none = all_filled cs items n filled few (before stand cs n none)
 
-pub all_fit : MethodsStandByNumber → (cs : List ClassFile) (blocks block_words n : ℕ) → ((m : ℕ) → m < n → Fits (resolved cs) blocks block_words m) → code_at cs n ≡ None → (m : ℕ) → Fits (resolved cs) blocks block_words m
+pub all_fit : MethodsStandByNumber → (cs : List ClassFile) (blocks block_words n : ℕ) → ((m : ℕ) → m < n → MethodFits (resolved cs) blocks block_words m) → code_at cs n ≡ None → (m : ℕ) → MethodFits (resolved cs) blocks block_words m
 all_fit stand cs blocks block_words n fit none m =
     some_case (body_of (resolved cs) m) (λ b. code_blocks block_words b ≤ blocks) (λ b h.
     if_in (body_of (resolved cs) m) b (λ b. code_blocks block_words b ≤ blocks) h (fit m (before stand cs n none m b h)))

@@ -16,7 +16,7 @@ abbrev pub bound_at : Found → LoopBound
 bound_at found = record { name = found.name.now; pc = found.pc; bound = found.bound }
 
 -- what a line was found to say
-abbrev pub Finds : (line : List ℕ) → Said → Type 0
-Finds line Nothing = Says line []
-Finds line (Loop found) = Says line (bound_at found ∷ [])
-Finds line Malformed = IsMalformed line
+abbrev pub FindsBound : (line : List ℕ) → Said → Type 0
+FindsBound line Nothing = Says line []
+FindsBound line (Loop found) = Says line (bound_at found ∷ [])
+FindsBound line Malformed = IsMalformed line

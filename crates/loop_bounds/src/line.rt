@@ -3,7 +3,7 @@ ghost use Rattle.std.specs.Prelude.{◌≡◌, ◌==◌, ℕ, position, List, []
 ghost use Rattle.std.specs.List.{slice_split};
 ghost use Rattle.loop_bounds.specs.Bounds.{LoopBound};
 ghost use Rattle.loop_bounds.specs.Grammar.{IsNumber, IsLoopLine};
-ghost use Rattle.loop_bounds.specs.Meaning.{Finds, bound_at};
+ghost use Rattle.loop_bounds.specs.Meaning.{FindsBound, bound_at};
 
 use jop_text::read_u64;
 
@@ -28,7 +28,7 @@ pub(crate) struct Loop<'a> {
 
 /// What a line says.
 pub(crate) fn read_line<'a>(line: &'a [u8]) -> Said<'a>
-    ensures { Finds line.now result }
+    ensures { FindsBound line.now result }
 {
     match line {
         [] | [b'#', ..] => Said::Nothing,

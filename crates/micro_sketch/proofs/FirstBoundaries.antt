@@ -7,7 +7,7 @@ use Rattle.jop_core.specs.Cycle.{at_boundary, asks_input}
 use Rattle.jop_core.specs.Scene.{Scene, begun, left_over, next_scene, run, output_during}
 use Rattle.jop_device.specs.Told.{Told}
 use Rattle.micro_sketch.specs.Ends.{ComesToBoundary}
-use Rattle.micro_sketch.specs.Step.{Ran, Arrived}
+use Rattle.micro_sketch.specs.Step.{RanCycles, Arrived}
 use Rattle.micro_sketch.proofs.Scenes.{run-begun}
 use Rattle.micro_sketch.proofs.During.{output-reversed}
 use Rattle.micro_sketch.proofs.Stepping.{below_or_from, Ran-state, Ran-output}
@@ -48,7 +48,7 @@ Arrived-comes old new t0 t1 more far = record {
   positive = far.positive;
   holds = ap at_boundary (far.ran.state more) ∙ far.boundary;
   before = λ i below.
-      let R : ℕ → Type 0 = λ k. Ran k old new t0 t1 far.answers in
+      let R : ℕ → Type 0 = λ k. RanCycles k old new t0 t1 far.answers in
       let whole : far.cycles ≡ suc i + (far.cycles - suc i) = omega (arith, below) in
       ap at_boundary (Ran-state (suc i) (far.cycles - suc i) old new t0 t1 far.answers (subst R whole far.ran) more) ∙ far.quiet i below;
 }
@@ -128,7 +128,7 @@ run-asks_none (suc k) c none =
     run-asks_none k (next_scene c) (λ i below. none (suc i) (omega (arith, below)))
     ∙ ap (λ asks. left_over asks c.answers) (none 0 (omega arith))
 
-pub Ran-takes_none : (n : ℕ) (old new : State) (t0 t1 : Told) (answers : List (Option ℕ)) → Ran n old new t0 t1 answers → ((i : ℕ) → i < n → asks_input (run i (begun old answers)).state ≡ false) → answers ≡ []
+pub Ran-takes_none : (n : ℕ) (old new : State) (t0 t1 : Told) (answers : List (Option ℕ)) → RanCycles n old new t0 t1 answers → ((i : ℕ) → i < n → asks_input (run i (begun old answers)).state ≡ false) → answers ≡ []
 Ran-takes_none n old new t0 t1 answers far none =
     sym (run-asks_none n (begun old answers) none)
     ∙ ap (λ (all : List (Option ℕ)). (run n (begun old all)).answers) (sym (append-nil answers))

@@ -13,7 +13,7 @@ use Rattle.micro_sketch.specs.Sketch.{Sketch, exec, among}
 use Rattle.micro_sketch.specs.Stands.{Env, Shaped, Reaches, PortFits, IsDone, conc, scene, stalls}
 use Rattle.micro_sketch.specs.Laws.{StartsAt}
 use Rattle.micro_sketch.specs.Ends.{ComesToBoundary}
-use Rattle.micro_sketch.specs.Step.{Ran, IsQuiet, Arrived}
+use Rattle.micro_sketch.specs.Step.{RanCycles, IsQuiet, Arrived}
 use Rattle.micro_sketch.specs.Rows.{expecting}
 use Rattle.micro_sketch.specs.RowLaws.{AlwaysSilent, ReadsNothing, WritesNothing}
 use Rattle.micro_sketch.proofs.Scenes.{run-add, run-length}
@@ -87,13 +87,13 @@ putting_adds_one i k c below puts =
     )
 
 -- a run that a fault cut short was on its way to the boundary
-pub broke_before : (cycles m : ℕ) (old new : State) (t0 t1 : Told) (answers more : List (Option ℕ)) → Ran m old new t0 t1 answers → IsQuiet (suc m) old answers
+pub broke_before : (cycles m : ℕ) (old new : State) (t0 t1 : Told) (answers more : List (Option ℕ)) → RanCycles m old new t0 t1 answers → IsQuiet (suc m) old answers
     → ComesAfter cycles old (answers ++ more) → m < cycles
 broke_before cycles m old new t0 t1 answers more ran quiet comes =
     ⊎_elim
     (λ early. early)
     (λ late.
-    let R : ℕ → Type 0 = λ k. Ran k old new t0 t1 answers in
+    let R : ℕ → Type 0 = λ k. RanCycles k old new t0 t1 answers in
     let positive = comes.positive in
     let place : suc (pred cycles) ≡ cycles = omega (arith, positive) in
     let whole : m ≡ cycles + (m - cycles) = omega (arith, late) in

@@ -13,7 +13,7 @@ use Rattle.micro_sketch.specs.Ends.{AreGiven, EndsSoon}
 use Rattle.micro_sketch.specs.declared.step.Stepped.{Stepped}
 use Rattle.micro_sketch.specs.declared.step.Stepped.TheVariants.{Next, Raise, Halted, ReadFault, WriteFault, SeenFault}
 use Rattle.micro_sketch.specs.Step.{StandsAs}
-use Rattle.micro_sketch.specs.Step.{Ran, IsQuiet, Arrived, Went as WentOn}
+use Rattle.micro_sketch.specs.Step.{RanCycles, IsQuiet, Arrived, Went as WentOn}
 use Rattle.micro_sketch.specs.StepLaws.{StepsAddUp}
 use Rattle.micro_sketch.proofs.Scenes.{run-add, run-begun, scene_is, after_output, UsesUp}
 use Rattle.micro_sketch.proofs.During.{output_during-zero, seen_during-zero, notes_during-zero, output_during-one, seen_during-one, notes_during-one, output_during-add, seen_during-add, notes_during-add, output_during-after_output, seen_during-after_output, notes_during-after_output, output_during-followed, seen_during-followed, notes_during-followed, state-followed}
@@ -21,7 +21,7 @@ use Rattle.micro_sketch.proofs.Attends.{asked_for, Attended-refl, Attended-one, 
 
 -- no cycle
 
-pub Ran-none : (s : State) (told : Told) → Ran 0 s s told told []
+pub Ran-none : (s : State) (told : Told) → RanCycles 0 s s told told []
 Ran-none s told = record {
   state = λ more. refl;
   left = λ more. refl;
@@ -39,7 +39,7 @@ left_over-asked : (asks : Bool) (input : Option ℕ) (more : List (Option ℕ)) 
 left_over-asked true input more = refl
 left_over-asked false input more = refl
 
-pub Ran-one : (old new : State) (t0 t1 : Told) (tick : Ticked old new t0 t1 Went) → Ran 1 old new t0 t1 (asked_for (asks_input old) tick.1)
+pub Ran-one : (old new : State) (t0 t1 : Told) (tick : Ticked old new t0 t1 Went) → RanCycles 1 old new t0 t1 (asked_for (asks_input old) tick.1)
 Ran-one old new t0 t1 tick = let answers = asked_for (asks_input old) tick.1 in record {
   state = λ more. ap (λ answer. cycle_of answer old) (given-asked (asks_input old) t0.left t1.left tick.1 more tick.3.left) ∙ sym tick.2;
   left = λ more. left_over-asked (asks_input old) tick.1 more;
@@ -51,11 +51,11 @@ Ran-one old new t0 t1 tick = let answers = asked_for (asks_input old) tick.1 in 
 -- cycles after others
 
 -- where the scene stands after the cycles so far
-run-parts : (m : ℕ) (old mid : State) (t0 t1 : Told) (earlier later : List (Option ℕ)) → Ran m old mid t0 t1 earlier
+run-parts : (m : ℕ) (old mid : State) (t0 t1 : Told) (earlier later : List (Option ℕ)) → RanCycles m old mid t0 t1 earlier
     → run m (begun old (earlier ++ later)) ≡ after_output (run m (begun old (earlier ++ later))).output (begun mid later)
 run-parts m old mid t0 t1 earlier later first = scene_is (run m (begun old (earlier ++ later))) mid later (run m (begun old (earlier ++ later))).output (first.state later) (first.left later) refl
 
-module _ (m n : ℕ) (old mid new : State) (t0 t1 t2 : Told) (earlier later : List (Option ℕ)) (first : Ran m old mid t0 t1 earlier) (second : Ran n mid new t1 t2 later) where
+module _ (m n : ℕ) (old mid new : State) (t0 t1 t2 : Told) (earlier later : List (Option ℕ)) (first : RanCycles m old mid t0 t1 earlier) (second : RanCycles n mid new t1 t2 later) where
   pub run-both : (more : List (Option ℕ)) → run (m + n) (begun old ((earlier ++ later) ++ more)) ≡ after_output (run m (begun old (earlier ++ (later ++ more)))).output (run n (begun mid (later ++ more)))
   run-both more =
       let start = begun old (earlier ++ (later ++ more)) in
@@ -99,16 +99,16 @@ Ran-add m n old mid new t0 t1 t2 earlier later first second = record {
 
 -- What a run's states are doesn't hang on the answers behind it.
 
-pub Ran-state : (i k : ℕ) (old new : State) (t0 t1 : Told) (answers : List (Option ℕ)) → Ran (i + k) old new t0 t1 answers → (more : List (Option ℕ))
+pub Ran-state : (i k : ℕ) (old new : State) (t0 t1 : Told) (answers : List (Option ℕ)) → RanCycles (i + k) old new t0 t1 answers → (more : List (Option ℕ))
     → (run i (begun old (answers ++ more))).state ≡ (run i (begun old answers)).state
 Ran-state i k old new t0 t1 answers far more = state-followed i k (begun old answers) far.left more
 
 -- and the last is where it ends
-pub Ran-end : (n : ℕ) (old new : State) (t0 t1 : Told) (answers : List (Option ℕ)) → Ran n old new t0 t1 answers → (run n (begun old answers)).state ≡ new
+pub Ran-end : (n : ℕ) (old new : State) (t0 t1 : Told) (answers : List (Option ℕ)) → RanCycles n old new t0 t1 answers → (run n (begun old answers)).state ≡ new
 Ran-end n old new t0 t1 answers far = ap (λ (all : List (Option ℕ)). (run n (begun old all)).state) (sym (append-nil answers)) ∙ far.state []
 
 -- What a run puts out doesn't hang on the answers behind it either, nor on what was put out before.
-pub Ran-output : (n : ℕ) (old new : State) (t0 t1 : Told) (answers more : List (Option ℕ)) (before : List ℕ) → Ran n old new t0 t1 answers
+pub Ran-output : (n : ℕ) (old new : State) (t0 t1 : Told) (answers more : List (Option ℕ)) (before : List ℕ) → RanCycles n old new t0 t1 answers
     → output_during n (record { state = old; answers = answers ++ more; output = before }) ≡ output_during n (begun old answers)
 Ran-output n old new t0 t1 answers more before far =
     let uses : UsesUp (n + 0) (begun old answers) = λ others. ap (λ k. (run k (begun old (answers ++ others))).answers) (add-zero n) ∙ far.left others in
@@ -118,7 +118,7 @@ Ran-output n old new t0 t1 answers more before far =
 pub record Underway (old new : State) (told told' : Told) : Type 0 where
   pub cycles : ℕ
   pub answers : List (Option ℕ)
-  pub ran : Ran cycles old new told told' answers
+  pub ran : RanCycles cycles old new told told' answers
   pub quiet : IsQuiet (suc cycles) old answers
   pub clock : new.clock ≡ old.clock + cycles
   pub running : new.halt ≡ Running
@@ -139,9 +139,9 @@ below_or_from zero (suc n) = inl (omega arith)
 below_or_from (suc k) (suc n) = ⊎_elim (λ below. inl (omega (arith, below))) (λ from. inr (omega (arith, from))) (below_or_from k n)
 
 -- no boundary on the way, also where further answers stand behind
-quiet_more : (n : ℕ) (old mid : State) (t0 t1 : Told) (answers more : List (Option ℕ)) → Ran n old mid t0 t1 answers → IsQuiet (suc n) old answers → IsQuiet (suc n) old (answers ++ more)
+quiet_more : (n : ℕ) (old mid : State) (t0 t1 : Told) (answers more : List (Option ℕ)) → RanCycles n old mid t0 t1 answers → IsQuiet (suc n) old answers → IsQuiet (suc n) old (answers ++ more)
 quiet_more n old mid t0 t1 answers more far quiet i below =
-    let R : ℕ → Type 0 = λ k. Ran k old mid t0 t1 answers in
+    let R : ℕ → Type 0 = λ k. RanCycles k old mid t0 t1 answers in
     let whole : n ≡ suc i + (n - suc i) = omega arith in
     ap at_boundary (Ran-state (suc i) (n - suc i) old mid t0 t1 answers (subst R whole far) more) ∙ quiet i below
 

@@ -15,7 +15,7 @@ use Rattle.micro_sketch.specs.declared.step.Stepped.TheVariants.{Next, Raise, Ha
 
 -- So many cycles lead from old to new, where the device gave just these answers: it was handed each state from which a cycle was done, in
 -- order, and given each byte after its state.
-pub record Ran (cycles : ℕ) (old new : State) (told told' : Told) (answers : List (Option ℕ)) : Type 0 where
+pub record RanCycles (cycles : ℕ) (old new : State) (told told' : Told) (answers : List (Option ℕ)) : Type 0 where
   pub state : (more : List (Option ℕ)) → (run cycles (begun old (answers ++ more))).state ≡ new
   pub left : (more : List (Option ℕ)) → (run cycles (begun old (answers ++ more))).answers ≡ more
   pub device : Attended told told' answers (output_during cycles (begun old answers)) (seen_during cycles (begun old answers)) (notes_during cycles (begun old answers))
@@ -29,7 +29,7 @@ pub record Arrived (old new : State) (told told' : Told) : Type 0 where
   pub cycles : ℕ
   pub positive : 0 < cycles
   pub answers : List (Option ℕ)
-  pub ran : Ran cycles old new told told' answers
+  pub ran : RanCycles cycles old new told told' answers
   pub boundary : at_boundary new ≡ true
   pub quiet : IsQuiet cycles old answers
 
@@ -38,7 +38,7 @@ pub record Broke (old new : State) (told told' : Told) (tick : Tick) : Type 0 wh
   pub cycles : ℕ
   pub answers : List (Option ℕ)
   pub before : Told
-  pub ran : Ran cycles old new told before answers
+  pub ran : RanCycles cycles old new told before answers
   pub quiet : IsQuiet (suc cycles) old answers
   pub tried : Ticked new new before told' tick
 

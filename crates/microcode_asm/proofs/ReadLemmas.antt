@@ -18,7 +18,7 @@ use Rattle.microcode_asm.specs.declared.AsmFault.{AsmFault}
 use Rattle.microcode_asm.specs.declared.AsmFault.TheVariants.{Line as AtLine, TooLong, NoMemory}
 use Rattle.microcode_asm.specs.declared.Rom.{Rom}
 use Rattle.microcode_asm.specs.Programs.{Places, places_of, read_lines, labels_at, labels_from, size_at, address, word_count, fault_of, KeepRules, is_entry, is_raise, repeats}
-use Rattle.microcode_asm.specs.Roms.{named_from, constant_in, IsProgram, IsAssembled, IsFirstRefused, IsTooLong, IsRefused}
+use Rattle.microcode_asm.specs.Roms.{named_from, constant_in, IsProgram, IsAssembled, IsFirstRefused, HasTooManyWords, IsRefused}
 use Rattle.microcode_asm.specs.SoFar.{Kept, IsAssembledSoFar, IsRomOf, IsTooLongFor, HasRange, TextHasRange, with_text, text_fault_by, statement_fault_by}
 use Rattle.microcode_asm.proofs.LabelLemmas.{or_none, lookup_append, labels_more, words_in, words_more, words_few}
 use Rattle.microcode_asm.proofs.LineLemmas.{count_words, few_words}

@@ -88,7 +88,7 @@ pub record IsFirstRefused (text : List ℕ) (number : ℕ) (kind : AsmKind) : Ty
   pub broken : fault_of (places_of text) before line ≡ Some kind
 
 -- no line is refused, and the words are more than the ROM has
-pub record IsTooLong (text : List ℕ) (words : ℕ) : Type 0 where
+pub record HasTooManyWords (text : List ℕ) (words : ℕ) : Type 0 where
   pub lines : List Line
   pub program : IsProgram text lines
   pub count : words ≡ word_count lines
@@ -97,5 +97,5 @@ pub record IsTooLong (text : List ℕ) (words : ℕ) : Type 0 where
 -- the cause of a fault
 abbrev pub IsRefused : (text : List ℕ) → AsmFault → Type 0
 IsRefused text (AtLine number kind) = IsFirstRefused text number kind
-IsRefused text (TooLong words) = IsTooLong text words
+IsRefused text (TooLong words) = HasTooManyWords text words
 IsRefused text NoMemory = Unit {0}

@@ -1,6 +1,6 @@
 use Rattle.std.proofs.Common.{◌≡◌, length, ◌∙◌, arith}
 use Rattle.jop_program.specs.Refusals.{refusals}
-use Rattle.jop_program.specs.Linking.{AreLinked, IsLinked, IsFirstOr, refusals_of}
+use Rattle.jop_program.specs.Linking.{AreAccepted, IsLinked, IsFirstOr, refusals_of}
 use Rattle.jop_program.proofs.ResolvedLemmas.{Laws}
 use Rattle.jop_program.proofs.LinkingLemmas.{named_by, declared_by, to_link, is_linked, is_first, if_linked, if_refused}
 use Rattle.jop_program.proofs.resolving.link.Goals as goal
@@ -28,7 +28,7 @@ returns-clause-linked c =
     let ok = c.args.files.ok in
     let count = c.len-count.ensures in
     let n : c.len-count.result ≡ length ks = omega arith in
-    if_linked (AreLinked cs c.len-count.result class.declares_main) (IsLinked ks main) c.program_of.result
+    if_linked (AreAccepted cs c.len-count.result class.declares_main) (IsLinked ks main) c.program_of.result
     (λ made h. is_linked laws c.methods_have_code.ensures ks c.requires.grammar c.requires.bytes main cs c.len-count.result class.name class.declares_main (c.in_ok-class.ensures.name ∙ named_by main c.deref.ensures.value)
     (c.in_ok-classes.ensures ∙ c.in_ok-all.ensures.all) n (c.in_ok-class.ensures.declares ∙ declared_by main c.deref.ensures.value) made h) c.program_of.ensures.linked
 
