@@ -17,7 +17,7 @@ use outcome_lines::Sizes;
 use image_layout::coded_methods;
 use jop_base::NoMemory;
 use jop_outside::{Files, Sink, put_all};
-use jop_program::LinkRefusal as Unresolved;
+use jop_program::ProgramRefusal;
 use jopizer::{LinkRefusal, Linked, link, write_image};
 use operand_files::{FilesFault, read_files};
 use refusal_lines::name_in;
@@ -62,7 +62,7 @@ fn read_operands<F: Files>(
 }
 
 // The ending where this refuses the resolving of the files.
-fn not_resolved(alloc: Global, files: &[Vec<u8>], unresolved: Unresolved) -> Ending
+fn not_resolved(alloc: Global, files: &[Vec<u8>], unresolved: ProgramRefusal) -> Ending
     ensures { (main : List ℕ) → IsRefusal (contents files.now) main (LinkRefusal.Resolving unresolved) → LinkFault (contents files.now) main result }
 {
     match name_in(alloc, files, unresolved) {

@@ -19,8 +19,8 @@ use Rattle.resolved_program.specs.Resolved.{AreResolved}
 use Rattle.core_classes.specs.Core.{core, boot}
 use Rattle.core_classes.specs.Laws.{CoreIsNamed}
 use Rattle.jop_program.specs.declared.refusal.Counted.TheVariants.{Classes}
-use Rattle.jop_program.specs.declared.refusal.LinkRefusal.{LinkRefusal}
-use Rattle.jop_program.specs.declared.refusal.LinkRefusal.TheVariants as answers
+use Rattle.jop_program.specs.declared.refusal.ProgramRefusal.{ProgramRefusal}
+use Rattle.jop_program.specs.declared.refusal.ProgramRefusal.TheVariants as answers
 use Rattle.jop_program.specs.Linked.{most_files, main_class, main_name, declares_main, main_signature, initialized, first_on_cycle, calls_of, linked_classes, files_in}
 use Rattle.jop_program.specs.Refusals.{Names, Support, Supertypes, Places, Mentions, passes, causes_in, too_many, without_main, refusals}
 use Rattle.jop_program.specs.Resolving.{AreClassesOf, IsFirstRefusal, IsProgramOf}
@@ -32,7 +32,7 @@ use Rattle.jop_program.proofs.RefusalLemmas.{in_files, few_calls, calls_are_init
 
 -- ---- the first refusal
 
-first_or : (rs : List LinkRefusal) (r : LinkRefusal) → first rs ≡ Some r → IsFirstOr rs r
+first_or : (rs : List ProgramRefusal) (r : ProgramRefusal) → first rs ≡ Some r → IsFirstOr rs r
 first_or rs answers.NoMemory h = tt
 first_or rs (answers.BadClass a) h = h
 first_or rs (answers.UnsupportedVersion a b) h = h
@@ -80,25 +80,25 @@ none_at_all n s t p m a b h =
     }
 
 module _ (cs : List ClassFile) (files : ℕ) (declares : Bool) where
-  abbrev pub early : List LinkRefusal
+  abbrev pub early : List ProgramRefusal
   early = causes_in cs Names (files_in cs files) ++ (causes_in cs Support (files_in cs files) ++ (causes_in cs Supertypes (files_in cs files) ++ causes_in cs Places (files_in cs files)))
 
-  abbrev pub mentions : List LinkRefusal
+  abbrev pub mentions : List ProgramRefusal
   mentions = causes_in cs Mentions (files_in cs files)
 
-  abbrev pub together : List LinkRefusal
+  abbrev pub together : List ProgramRefusal
   together = (if nat_le files most_files then [] else answers.TooLarge Classes files most_files ∷ []) ++ (if declares then [] else answers.NoMain ∷ [])
 
   nothing_early : first early ≡ None → NoneEarly (causes_in cs Names (files_in cs files)) (causes_in cs Support (files_in cs files)) (causes_in cs Supertypes (files_in cs files)) (causes_in cs Places (files_in cs files))
   nothing_early h = none_early (causes_in cs Names (files_in cs files)) (causes_in cs Support (files_in cs files)) (causes_in cs Supertypes (files_in cs files)) (causes_in cs Places (files_in cs files)) h
 
-  pub early_refuses : (r : LinkRefusal) → Some r ≡ first early → IsFirstOr (refusals_of cs files declares) r
+  pub early_refuses : (r : ProgramRefusal) → Some r ≡ first early → IsFirstOr (refusals_of cs files declares) r
   unfolding refusals_of
   early_refuses r h =
       first_or (refusals_of cs files declares) r
       (first_early (causes_in cs Names (files_in cs files)) (causes_in cs Support (files_in cs files)) (causes_in cs Supertypes (files_in cs files)) (causes_in cs Places (files_in cs files)) (mentions ++ []) together r (sym h))
 
-  pub mention_refuses : (r : LinkRefusal) → None ≡ first early → Some r ≡ first mentions → IsFirstOr (refusals_of cs files declares) r
+  pub mention_refuses : (r : ProgramRefusal) → None ≡ first early → Some r ≡ first mentions → IsFirstOr (refusals_of cs files declares) r
   unfolding refusals_of
   mention_refuses r none h =
       first_or (refusals_of cs files declares) r
@@ -109,7 +109,7 @@ module _ (cs : List ClassFile) (files : ℕ) (declares : Bool) where
   rest_is none later =
       rest_alone (causes_in cs Names (files_in cs files)) (causes_in cs Support (files_in cs files)) (causes_in cs Supertypes (files_in cs files)) (causes_in cs Places (files_in cs files)) mentions together (nothing_early (sym none)) (nothing_first mentions (sym later))
 
-  pub all_refuse : (r : LinkRefusal) → None ≡ first early → None ≡ first mentions → Some r ≡ first together → IsFirstOr (refusals_of cs files declares) r
+  pub all_refuse : (r : ProgramRefusal) → None ≡ first early → None ≡ first mentions → Some r ≡ first together → IsFirstOr (refusals_of cs files declares) r
   all_refuse r none later h = first_or (refusals_of cs files declares) r (ap first (rest_is none later) ∙ sym h)
 
   pub nothing_refuses : None ≡ first early → None ≡ first mentions → None ≡ first together → refusals_of cs files declares ≡ []
@@ -269,15 +269,15 @@ module _ (laws : Laws) (have : MethodsHaveCode) (ks : List ClassFile) (grammar :
     unfolding linked_classes
     is_linked made h = record { none = sym same_refusals ∙ h.none; program = h.program ∙ is_full }
 
-    pub is_first : (r : LinkRefusal) → IsFirstOr (refusals_of cs count d) r → IsFirstOr (refusals ks main) r
-    is_first r h = subst (λ (rs : List LinkRefusal). IsFirstOr rs r) same_refusals h
+    pub is_first : (r : ProgramRefusal) → IsFirstOr (refusals_of cs count d) r → IsFirstOr (refusals ks main) r
+    is_first r h = subst (λ (rs : List ProgramRefusal). IsFirstOr rs r) same_refusals h
 
 -- ---- what is answered
 
 pub program_is : (files : List (List ℕ)) (main : List ℕ) (ks made : List ClassFile) → AreClassesOf files ks → IsLinked ks main made → IsProgramOf files main made
 program_is files main ks made read h = record { classes = ks; read = read; none = h.none; program = h.program }
 
-pub first_is : (files : List (List ℕ)) (main : List ℕ) (ks : List ClassFile) (r : LinkRefusal) → AreClassesOf files ks → IsFirstOr (refusals ks main) r → IsFirstRefusal files main r
+pub first_is : (files : List (List ℕ)) (main : List ℕ) (ks : List ClassFile) (r : ProgramRefusal) → AreClassesOf files ks → IsFirstOr (refusals ks main) r → IsFirstRefusal files main r
 first_is files main ks answers.NoMemory read h = tt
 first_is files main ks (answers.BadClass a) read h = inr (record { classes = ks; read = read; first = h })
 first_is files main ks (answers.UnsupportedVersion a b) read h = inr (record { classes = ks; read = read; first = h })

@@ -4,8 +4,8 @@ use Rattle.std.specs.Prelude.{slice_get}
 use Rattle.class_pool.specs.declared.class.ClassFile.{ClassFile}
 use Rattle.class_rules.specs.Grammar.{IsClassOf}
 use Rattle.class_places.proofs.ItemLemmas.{got}
-use Rattle.jop_program.specs.declared.refusal.LinkRefusal.{LinkRefusal}
-use Rattle.jop_program.specs.declared.refusal.LinkRefusal.TheVariants as answers
+use Rattle.jop_program.specs.declared.refusal.ProgramRefusal.{ProgramRefusal}
+use Rattle.jop_program.specs.declared.refusal.ProgramRefusal.TheVariants as answers
 use Rattle.jop_program.specs.Resolving.{AreClassesOf, IsUnreadOr, IsUnreadAmong}
 
 -- one file more
@@ -16,7 +16,7 @@ one_more (f ∷ files) [] bytes k all one = elim all [ ]
 one_more (f ∷ files) (x ∷ ks) bytes k all one = (all.0, one_more files ks bytes k all.1 one)
 
 -- the first file that isn't read, or want of memory
-pub first_unread : (files : List (List ℕ)) (ks : List ClassFile) (i number : ℕ) (bytes : List ℕ) (r : LinkRefusal) → number ≡ i → AreClassesOf (take i files) ks → slice_get files i ≡ Some bytes → IsUnreadOr number bytes r → IsUnreadAmong files r
+pub first_unread : (files : List (List ℕ)) (ks : List ClassFile) (i number : ℕ) (bytes : List ℕ) (r : ProgramRefusal) → number ≡ i → AreClassesOf (take i files) ks → slice_get files i ≡ Some bytes → IsUnreadOr number bytes r → IsUnreadAmong files r
 first_unread files ks i number bytes (answers.BadClass f) same read at un = record { file = i; before = ks; read = read; bytes = bytes; there = at; unread = (un.0 ∙ same, un.1, un.2) }
 first_unread files ks i number bytes (answers.UnsupportedVersion f major) same read at un = record { file = i; before = ks; read = read; bytes = bytes; there = at; unread = (un.0 ∙ same, un.1) }
 first_unread files ks i number bytes (answers.Duplicate f e) same read at un = elim un [ ]

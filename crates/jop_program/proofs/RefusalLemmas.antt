@@ -9,8 +9,8 @@ use Rattle.class_pool.specs.declared.class.ClassFile.{ClassFile}
 use Rattle.class_rules.specs.Grammar.{IsClass}
 use Rattle.core_classes.specs.Core.{core}
 use Rattle.core_classes.specs.Laws.{CoreIsNamed}
-use Rattle.jop_program.specs.declared.refusal.LinkRefusal.{LinkRefusal}
-use Rattle.jop_program.specs.declared.refusal.LinkRefusal.TheVariants as answers
+use Rattle.jop_program.specs.declared.refusal.ProgramRefusal.{ProgramRefusal}
+use Rattle.jop_program.specs.declared.refusal.ProgramRefusal.TheVariants as answers
 use Rattle.jop_program.specs.Linked.{most_files, initialized, first_on_cycle, calls_of, files_in}
 use Rattle.jop_program.specs.Resolving.{AreClassesOf, IsUnreadAmong, IsFirstOfRead, IsFirstRefusal}
 use Rattle.jop_program.proofs.AnyLemmas.{first_tells}
@@ -124,7 +124,7 @@ where_none (Err e) p Q h f = tt
 
 -- ---- what is answered
 
-pub unread_first : (files : List (List ℕ)) (main : List ℕ) (r : LinkRefusal) → IsUnreadAmong files r → IsFirstRefusal files main r
+pub unread_first : (files : List (List ℕ)) (main : List ℕ) (r : ProgramRefusal) → IsUnreadAmong files r → IsFirstRefusal files main r
 unread_first files main answers.NoMemory h = tt
 unread_first files main (answers.BadClass a) h = inl h
 unread_first files main (answers.UnsupportedVersion a b) h = inl h
@@ -135,7 +135,7 @@ unread_first files main (answers.BadHierarchy a) h = inl h
 unread_first files main answers.NoMain h = inl h
 unread_first files main (answers.TooLarge a b c) h = inl h
 
-pub read_first : (files : List (List ℕ)) (main : List ℕ) (r : LinkRefusal) → IsFirstOfRead files main r → IsFirstRefusal files main r
+pub read_first : (files : List (List ℕ)) (main : List ℕ) (r : ProgramRefusal) → IsFirstOfRead files main r → IsFirstRefusal files main r
 read_first files main answers.NoMemory h = tt
 read_first files main (answers.BadClass a) h = inr h
 read_first files main (answers.UnsupportedVersion a b) h = inr h

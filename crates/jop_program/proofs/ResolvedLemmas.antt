@@ -26,7 +26,7 @@ use Rattle.program_tables.specs.Unsupported.{unsupported_in}
 use Rattle.program_tables.specs.Resolving.{HasBytes, HasCore, IsLinkable, IsResolved}
 use Rattle.unresolved_names.specs.Causes.{signature_seen, refused_entry, refused_class, refused_mention, unresolved_supertypes, unresolved_mentions}
 use Rattle.core_classes.specs.Linkage.{CoreIsLinkable, CoreStandsFirst, CoreIsSupported, DeclaresStatic, initializer, main_signature, BootIsLinkable, BootIsSupported, BootIsOnNoCycle}
-use Rattle.jop_program.specs.declared.refusal.LinkRefusal.TheVariants.{Duplicate, Unsupported, Unresolved, BadHierarchy}
+use Rattle.jop_program.specs.declared.refusal.ProgramRefusal.TheVariants.{Duplicate, Unsupported, Unresolved, BadHierarchy}
 use Rattle.jop_program.specs.Linked.{number_of}
 use Rattle.jop_program.specs.Refusals.{Names, Support, Supertypes, Places, Mentions, causes, causes_in}
 use Rattle.jop_program.proofs.FileLemmas.{all_at}

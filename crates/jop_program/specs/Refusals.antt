@@ -8,8 +8,8 @@ use Rattle.program_tables.specs.Placed.{duplicate_of, is_badly_placed}
 use Rattle.program_tables.specs.Unsupported.{unsupported_in}
 use Rattle.unresolved_names.specs.Causes.{unresolved_supertypes, unresolved_mentions}
 use Rattle.jop_program.specs.declared.refusal.Counted.TheVariants.{Classes}
-use Rattle.jop_program.specs.declared.refusal.LinkRefusal.{LinkRefusal}
-use Rattle.jop_program.specs.declared.refusal.LinkRefusal.TheVariants.{Duplicate, Unsupported, Unresolved, BadHierarchy, NoMain, TooLarge}
+use Rattle.jop_program.specs.declared.refusal.ProgramRefusal.{ProgramRefusal}
+use Rattle.jop_program.specs.declared.refusal.ProgramRefusal.TheVariants.{Duplicate, Unsupported, Unresolved, BadHierarchy, NoMain, TooLarge}
 use Rattle.jop_program.specs.Linked.{most_files, main_class, declares_main, linked_classes, number_of}
 
 -- what is looked at in turn, once all files are read: names of classes; what isn't supported; superclasses and superinterfaces, whether they are there; the
@@ -25,7 +25,7 @@ abbrev pub passes : List Pass
 passes = Names ∷ Support ∷ Supertypes ∷ Places ∷ Mentions ∷ []
 
 -- what holds of a file in a pass, in the order of its places, and at a place in the order in which it is tried
-abbrev pub causes : List ClassFile → Pass → (file : ℕ) → ClassFile → List LinkRefusal
+abbrev pub causes : List ClassFile → Pass → (file : ℕ) → ClassFile → List ProgramRefusal
 causes cs Names file k = option_to_list (option_map (Duplicate file) (duplicate_of cs (number_of file)))
 causes cs Support file k = map (λ u. Unsupported file u.0 u.1) (unsupported_in k)
 causes cs Supertypes file k = map (λ u. Unresolved file u.0 u.1) (unresolved_supertypes cs (number_of file) k)
@@ -33,18 +33,18 @@ causes cs Places file k = if is_badly_placed cs (number_of file) then BadHierarc
 causes cs Mentions file k = map (λ u. Unresolved file u.0 u.1) (unresolved_mentions cs (number_of file) k)
 
 -- of all files
-abbrev pub causes_in : List ClassFile → Pass → List ClassFile → List LinkRefusal
+abbrev pub causes_in : List ClassFile → Pass → List ClassFile → List ProgramRefusal
 causes_in cs pass ks = flat_map (λ e. causes cs pass e.0 e.1) (enumerate_from 0 ks)
 
 -- of the files together: more than there may be; no main
-abbrev pub too_many : List ClassFile → List LinkRefusal
+abbrev pub too_many : List ClassFile → List ProgramRefusal
 too_many ks = if nat_le (length ks) most_files then [] else TooLarge Classes (length ks) most_files ∷ []
 
-abbrev pub without_main : List ClassFile → (main : List ℕ) → List LinkRefusal
+abbrev pub without_main : List ClassFile → (main : List ℕ) → List ProgramRefusal
 without_main ks main = if option_map_or declares_main (main_class ks main) false then [] else NoMain ∷ []
 
 -- everything that refuses these class files, in order
-unfoldable pub refusals : List ClassFile → (main : List ℕ) → List LinkRefusal
+unfoldable pub refusals : List ClassFile → (main : List ℕ) → List ProgramRefusal
 refusals ks main =
     let cs = linked_classes ks main in
     flat_map (λ pass. causes_in cs pass ks) passes ++ (too_many ks ++ without_main ks main)

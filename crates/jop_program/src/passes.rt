@@ -10,7 +10,7 @@ ghost use Rattle.class_lookup.specs.Hierarchy.{is_on_a_cycle};
 ghost use Rattle.jop_program.specs.Linked.{files_in, number_of};
 ghost use Rattle.jop_program.specs.Refusals.{Names, Support, Supertypes, Places, Mentions, causes, causes_in};
 
-use crate::refusal::LinkRefusal;
+use crate::refusal::ProgramRefusal;
 use class_hierarchy::Hierarchy;
 use class_lookup::Classes;
 use class_lookup::parts::name_of;
@@ -59,20 +59,20 @@ fn duplicate_of(classes: &Classes, class: u32) -> Option<u32>
 }
 
 /// The file, if its class's name is taken.
-fn refused_name(classes: &Classes, file: u32, class: &ClassFile) -> Option<LinkRefusal>
+fn refused_name(classes: &Classes, file: u32, class: &ClassFile) -> Option<ProgramRefusal>
     requires { number_of file < length classes.now }
     ensures { result ≡ first_of (causes classes.now Names file class.now) }
 {
     let _ = class;
     let _ = classes.class_count();
     match duplicate_of(classes, CORE + file) {
-        Some(earlier) => Some(LinkRefusal::Duplicate(file, earlier)),
+        Some(earlier) => Some(ProgramRefusal::Duplicate(file, earlier)),
         None => None,
     }
 }
 
 /// The first file whose name is taken.
-pub(crate) fn first_duplicate(classes: &Classes, files: u32) -> Option<LinkRefusal>
+pub(crate) fn first_duplicate(classes: &Classes, files: u32) -> Option<ProgramRefusal>
     requires { 23 + files ≤ length classes.now }
     ensures { result ≡ first_of (causes_in classes.now Names (files_in classes.now files)) }
 {
@@ -92,13 +92,13 @@ fn refused_item(
     classes: &Classes,
     file: u32,
     class: &ClassFile,
-) -> Result<Option<LinkRefusal>, NoMemory>
+) -> Result<Option<ProgramRefusal>, NoMemory>
     requires { IsClass class.now }
     ensures { IfOk result (λ found. found ≡ first_of (causes classes.now Support file class.now)) }
 {
     let _ = classes;
     match first_unsupported(alloc, class)? {
-        Some((site, item)) => Ok(Some(LinkRefusal::Unsupported(file, site, item))),
+        Some((site, item)) => Ok(Some(ProgramRefusal::Unsupported(file, site, item))),
         None => Ok(None),
     }
 }
@@ -108,7 +108,7 @@ pub(crate) fn first_unsupported_item(
     alloc: Global,
     classes: &Classes,
     files: u32,
-) -> Result<Option<LinkRefusal>, NoMemory>
+) -> Result<Option<ProgramRefusal>, NoMemory>
     requires there { 23 + files ≤ length classes.now }
     requires grammar { AllByRecursion IsClass (files_in classes.now files) }
     ensures { IfOk result (λ found. found ≡ first_of (causes_in classes.now Support (files_in classes.now files))) }
@@ -124,20 +124,20 @@ pub(crate) fn first_unsupported_item(
 
 /// The first superclass or superinterface of a file's class that isn't resolved.
 #[tactic(auto, using(crate::proofs::FileLemmas::first_mapped))]
-fn refused_supertype(texts: &TextTypes<'_>, file: u32, class: &ClassFile) -> Option<LinkRefusal>
+fn refused_supertype(texts: &TextTypes<'_>, file: u32, class: &ClassFile) -> Option<ProgramRefusal>
     requires there { number_of file < length texts.now }
     requires own { slice_get texts.now (number_of file) ≡ Some class.now }
     ensures { result ≡ first_of (causes texts.now Supertypes file class.now) }
 {
     let _ = texts.classes().class_count();
     match first_unresolved_supertype(texts, CORE + file, class) {
-        Some((entry, why)) => Some(LinkRefusal::Unresolved(file, entry, why)),
+        Some((entry, why)) => Some(ProgramRefusal::Unresolved(file, entry, why)),
         None => None,
     }
 }
 
 /// The first superclass or superinterface that isn't resolved, by what the texts mean.
-fn first_supertype_by(texts: &TextTypes<'_>, files: u32) -> Option<LinkRefusal>
+fn first_supertype_by(texts: &TextTypes<'_>, files: u32) -> Option<ProgramRefusal>
     requires { 23 + files ≤ length texts.now }
     ensures { result ≡ first_of (causes_in texts.now Supertypes (files_in texts.now files)) }
 {
@@ -155,7 +155,7 @@ pub(crate) fn first_supertype(
     alloc: Global,
     classes: &Classes,
     files: u32,
-) -> Result<Option<LinkRefusal>, NoMemory>
+) -> Result<Option<ProgramRefusal>, NoMemory>
     requires { 23 + files ≤ length classes.now }
     ensures { IfOk result (λ found. found ≡ first_of (causes_in classes.now Supertypes (files_in classes.now files))) }
 {
@@ -170,7 +170,7 @@ fn refused_place(
     file: u32,
     class: &ClassFile,
     on_cycle: bool,
-) -> Result<Option<LinkRefusal>, NoMemory>
+) -> Result<Option<ProgramRefusal>, NoMemory>
     requires there { number_of file < length classes.now }
     requires cycle { on_cycle ≡ is_on_a_cycle classes.now (number_of file) }
     ensures { IfOk result (λ found. found ≡ first_of (causes classes.now Places file class.now)) }
@@ -178,7 +178,7 @@ fn refused_place(
     let _ = class;
     let _ = classes.class_count();
     if is_badly_placed(alloc, classes, CORE + file, on_cycle)? {
-        Ok(Some(LinkRefusal::BadHierarchy(file)))
+        Ok(Some(ProgramRefusal::BadHierarchy(file)))
     } else {
         Ok(None)
     }
@@ -204,7 +204,7 @@ pub(crate) fn first_misplaced(
     classes: &Classes,
     files: u32,
     first: Option<u32>,
-) -> Result<Option<LinkRefusal>, NoMemory>
+) -> Result<Option<ProgramRefusal>, NoMemory>
     requires there { 23 + files ≤ length classes.now }
     requires first { first ≡ find (is_on_a_cycle classes.now) (range_with_len 0 (length classes.now)) }
     requires behind_core { IfSome first (λ d. 23 ≤ d) }
@@ -230,7 +230,7 @@ fn refused_mention(
     file: u32,
     class: &ClassFile,
     implements_all: bool,
-) -> Result<Option<LinkRefusal>, NoMemory>
+) -> Result<Option<ProgramRefusal>, NoMemory>
     requires there { number_of file < length classes.now }
     requires own { slice_get classes.now (number_of file) ≡ Some class.now }
     requires texts { texts.now ≡ classes.now }
@@ -240,7 +240,7 @@ fn refused_mention(
 {
     let _ = classes.classes().class_count();
     match first_unresolved(alloc, classes, texts, CORE + file, class, implements_all)? {
-        Some((entry, why)) => Ok(Some(LinkRefusal::Unresolved(file, entry, why))),
+        Some((entry, why)) => Ok(Some(ProgramRefusal::Unresolved(file, entry, why))),
         None => Ok(None),
     }
 }
@@ -264,7 +264,7 @@ fn first_mention_by(
     texts: &TextTypes<'_>,
     files: u32,
     implementing: &[bool],
-) -> Result<Option<LinkRefusal>, NoMemory>
+) -> Result<Option<ProgramRefusal>, NoMemory>
     requires there { 23 + files ≤ length classes.now }
     requires texts { texts.now ≡ classes.now }
     requires bounds { AllByRecursion HasBounds (files_in classes.now files) }
@@ -287,7 +287,7 @@ pub(crate) fn first_mention(
     alloc: Global,
     classes: &Hierarchy,
     files: u32,
-) -> Result<Option<LinkRefusal>, NoMemory>
+) -> Result<Option<ProgramRefusal>, NoMemory>
     requires there { 23 + files ≤ length classes.now }
     requires bounds { AllByRecursion HasBounds (files_in classes.now files) }
     ensures { IfOk result (λ found. found ≡ first_of (causes_in classes.now Mentions (files_in classes.now files))) }

@@ -5,22 +5,22 @@ ghost use Rattle.class_rules.specs.Grammar.{IsClassOf};
 ghost use Rattle.program_tables.specs.Resolving.{HasBytes};
 ghost use Rattle.jop_program.specs.Resolving.{AreClassesOf, IsUnreadOr, IsUnreadAmong};
 
-use crate::refusal::LinkRefusal;
+use crate::refusal::ProgramRefusal;
 use class_file::{ClassFault, ClassFile, read_class};
 use jop_base::NoMemory;
 use std::alloc::Global;
 
 /// A class file, or why the file of this number isn't one.
-fn read_file(alloc: Global, number: u32, bytes: &[u8]) -> Result<ClassFile, LinkRefusal>
+fn read_file(alloc: Global, number: u32, bytes: &[u8]) -> Result<ClassFile, ProgramRefusal>
     ensures read { IfOk result (IsClassOf bytes.now) }
     ensures bytes { IfOk result (λ k. AllByRecursion HasBytes k.methods) }
     ensures refused { IfErr result (IsUnreadOr number bytes.now) }
 {
     match read_class(alloc, bytes) {
         Ok(class) => Ok(class),
-        Err(ClassFault::Version(major)) => Err(LinkRefusal::UnsupportedVersion(number, major)),
-        Err(ClassFault::Bad) => Err(LinkRefusal::BadClass(number)),
-        Err(ClassFault::NoMemory) => Err(LinkRefusal::NoMemory),
+        Err(ClassFault::Version(major)) => Err(ProgramRefusal::UnsupportedVersion(number, major)),
+        Err(ClassFault::Bad) => Err(ProgramRefusal::BadClass(number)),
+        Err(ClassFault::NoMemory) => Err(ProgramRefusal::NoMemory),
     }
 }
 
@@ -32,7 +32,7 @@ fn put_class(classes: &mut Vec<ClassFile>, class: ClassFile) -> Result<(), NoMem
 }
 
 /// The class files of these bytes, or the first file that is none.
-pub(crate) fn read_files(alloc: Global, files: &[Vec<u8>]) -> Result<Vec<ClassFile>, LinkRefusal>
+pub(crate) fn read_files(alloc: Global, files: &[Vec<u8>]) -> Result<Vec<ClassFile>, ProgramRefusal>
     requires { length files.now < 2 ^ 32 }
     ensures read { IfOk result (λ ks. AreClassesOf (map (λ f. f.items) files.now) ks.items) }
     ensures bytes { IfOk result (λ ks. AllByRecursion (λ k. AllByRecursion HasBytes k.methods) ks.items) }

@@ -12,7 +12,7 @@ pub enum Counted {
 
 /// Why files aren't a program. Files are counted from 0, and places in a file as they stand there.
 #[derive(Clone, Copy)]
-pub enum LinkRefusal {
+pub enum ProgramRefusal {
     /// The file is no class file, and its version isn't the reason.
     BadClass(u32),
     /// The file begins with the header of a class file of this major version, which isn't read.
@@ -36,13 +36,13 @@ pub enum LinkRefusal {
     NoMemory,
 }
 
-impl From<NoMemory> for LinkRefusal {
+impl From<NoMemory> for ProgramRefusal {
     ghost use Rattle.std.specs.Prelude.{◌≡◌};
-    ghost use Rattle.jop_program.specs.declared.refusal.LinkRefusal.TheVariants as answers;
+    ghost use Rattle.jop_program.specs.declared.refusal.ProgramRefusal.TheVariants as answers;
 
     ghost from_gives = { λ _ refusal. refusal ≡ answers.NoMemory };
 
     fn from(_: NoMemory) -> Self {
-        LinkRefusal::NoMemory
+        ProgramRefusal::NoMemory
     }
 }

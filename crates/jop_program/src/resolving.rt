@@ -12,7 +12,7 @@ ghost use Rattle.jop_program.specs.Refusals.{Names, Support, Supertypes, Places,
 ghost use Rattle.jop_program.specs.Linking.{AreToLink, AreAccepted, IsLinked, IsFirstOr, refusals_of};
 ghost use Rattle.program_tables.specs.Resolving.{HasBytes};
 ghost use Rattle.jop_program.specs.declared.refusal.Counted.TheVariants.{Classes as AClass};
-ghost use Rattle.jop_program.specs.declared.refusal.LinkRefusal.TheVariants.{NoMain, TooLarge};
+ghost use Rattle.jop_program.specs.declared.refusal.ProgramRefusal.TheVariants.{NoMain, TooLarge};
 ghost use Rattle.jop_program.specs.Resolving.{IsFirstRefusal, IsProgramOf};
 
 use crate::initialization::{MOST_FILES, calls_of};
@@ -21,7 +21,7 @@ use crate::passes::{
     first_duplicate, first_mention, first_misplaced, first_supertype, first_unsupported_item,
 };
 use crate::reading::read_files;
-use crate::refusal::{Counted, LinkRefusal};
+use crate::refusal::{Counted, ProgramRefusal};
 use class_hierarchy::{Hierarchy, first_on_cycle};
 use class_lookup::Classes;
 use class_pool::{ClassFile, Units};
@@ -115,7 +115,7 @@ fn first_before_mentions(
     alloc: Global,
     classes: &Classes,
     files: u32,
-) -> Result<Option<LinkRefusal>, NoMemory>
+) -> Result<Option<ProgramRefusal>, NoMemory>
     requires there { 23 + files ≤ length classes.now }
     requires grammar { AllByRecursion IsClass (files_in classes.now files) }
     requires core { causes_in classes.now Names (files_in classes.now files) ≡ [] → (c : ℕ) → c < 23 → is_on_a_cycle classes.now c ≡ false }
@@ -137,13 +137,13 @@ fn first_before_mentions(
 }
 
 /// What refuses the files together.
-fn refusal_of_all(files: u32, declares_main: bool) -> Option<LinkRefusal>
+fn refusal_of_all(files: u32, declares_main: bool) -> Option<ProgramRefusal>
     ensures { result ≡ first_of ((if nat_le files most_files then [] else TooLarge AClass files most_files ∷ []) ++ (if declares_main then [] else NoMain ∷ [])) }
 {
     if files > MOST_FILES {
-        Some(LinkRefusal::TooLarge(Counted::Classes, files, MOST_FILES))
+        Some(ProgramRefusal::TooLarge(Counted::Classes, files, MOST_FILES))
     } else if !declares_main {
-        Some(LinkRefusal::NoMain)
+        Some(ProgramRefusal::NoMain)
     } else {
         None
     }
@@ -155,7 +155,7 @@ fn program_of(
     classes: Classes,
     files: u32,
     declares_main: bool,
-) -> Result<Program, LinkRefusal>
+) -> Result<Program, ProgramRefusal>
     requires { AreToLink classes files declares_main }
     ensures linked { IfOk result (AreAccepted classes files declares_main) }
     ensures refused { IfErr result (IsFirstOr (refusals_of classes files declares_main)) }
@@ -174,7 +174,7 @@ fn program_of(
 }
 
 /// The program of these class files and of the class whose main is run, or what refuses them first.
-fn link(alloc: Global, files: Vec<ClassFile>, main: &[u8]) -> Result<Program, LinkRefusal>
+fn link(alloc: Global, files: Vec<ClassFile>, main: &[u8]) -> Result<Program, ProgramRefusal>
     requires few { length files.items < 2 ^ 32 }
     requires grammar { AllByRecursion IsClass files.items }
     requires bytes { AllByRecursion (λ k. AllByRecursion HasBytes k.methods) files.items }
@@ -192,7 +192,7 @@ fn link(alloc: Global, files: Vec<ClassFile>, main: &[u8]) -> Result<Program, Li
 
 /// The program of these files, which are class files, and of the class whose main is run, by the bytes of its name (4.4.7): the
 /// core classes, the files' classes in order, and last `jop/Boot`. Or what refuses the files first.
-pub fn resolve(alloc: Global, files: &[Vec<u8>], main: &[u8]) -> Result<Program, LinkRefusal>
+pub fn resolve(alloc: Global, files: &[Vec<u8>], main: &[u8]) -> Result<Program, ProgramRefusal>
     requires { length files.now < 2 ^ 32 }
     ensures linked { IfOk result (IsProgramOf (map (λ f. f.items) files.now) main.now) }
     ensures refused { IfErr result (IsFirstRefusal (map (λ f. f.items) files.now) main.now) }

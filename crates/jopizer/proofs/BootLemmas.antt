@@ -20,7 +20,7 @@ use Rattle.program_tables.specs.Numbers.{methods_by_number}
 use Rattle.program_tables.specs.Placed.{duplicate_of}
 use Rattle.bytecode_verifier.specs.CoreLaws.{BootIsVerified}
 use Rattle.bytecode_verifier.specs.Failure.{method_failure}
-use Rattle.jop_program.specs.declared.refusal.LinkRefusal.TheVariants as resolving
+use Rattle.jop_program.specs.declared.refusal.ProgramRefusal.TheVariants as resolving
 use Rattle.jop_program.specs.Linked.{main_class, main_name, declares_main, calls_of, linked_classes, number_of}
 use Rattle.jop_program.specs.Refusals.{Names, Support, Supertypes, Places, Mentions, causes, causes_in, too_many, without_main, refusals}
 use Rattle.jop_program.specs.Resolving.{AreClassesOf, IsProgramOf}

@@ -8,7 +8,7 @@ use Rattle.class_pool.specs.Utf8.{utf8_bytes}
 use Rattle.class_pool.specs.declared.class.ClassFile.{ClassFile}
 use Rattle.class_rules.specs.Grammar.{IsClass}
 use Rattle.class_lookup.specs.Parts.{same_text, name_of}
-use Rattle.jop_program.specs.declared.refusal.LinkRefusal.TheVariants as resolving
+use Rattle.jop_program.specs.declared.refusal.ProgramRefusal.TheVariants as resolving
 use Rattle.jop_program.specs.Linked.{linked_classes, main_class, declares_main}
 use Rattle.jop_program.specs.Refusals.{passes, causes_in, too_many, without_main, refusals}
 use Rattle.jop_program.specs.Resolving.{AreClassesOf, IsProgramOf}

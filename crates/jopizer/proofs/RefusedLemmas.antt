@@ -14,8 +14,8 @@ use Rattle.lists.specs.Lemmas.{none≢some}
 use Rattle.image_words.specs.Regions.{image_words_of}
 use Rattle.image_layout.specs.Layout.{first_passed}
 use Rattle.bytecode_verifier.specs.Failure.{method_failure, IsVerified}
-use Rattle.jop_program.specs.declared.refusal.LinkRefusal.{LinkRefusal as Unresolved}
-use Rattle.jop_program.specs.declared.refusal.LinkRefusal.TheVariants as resolving
+use Rattle.jop_program.specs.declared.refusal.ProgramRefusal.{ProgramRefusal}
+use Rattle.jop_program.specs.declared.refusal.ProgramRefusal.TheVariants as resolving
 use Rattle.jop_program.specs.Refusals.{refusals}
 use Rattle.jop_program.specs.Resolving.{AreClassesOf, IsUnread, IsFirstUnread, IsFirstOfRead, IsProgramOf}
 use Rattle.jopizer.specs.declared.refusal.LinkRefusal.{LinkRefusal}
@@ -47,7 +47,7 @@ not_other bytes k major is other =
       | inr gt ↦ absurd (omega arith)
     ]
 
-read : (file : ℕ) (bytes : List ℕ) (k : ClassFile) (r : Unresolved) → IsClassOf bytes k → IsUnread file bytes r → ⊥
+read : (file : ℕ) (bytes : List ℕ) (k : ClassFile) (r : ProgramRefusal) → IsClassOf bytes k → IsUnread file bytes r → ⊥
 read file bytes k (resolving.BadClass f) is h = h.1 k is
 read file bytes k (resolving.UnsupportedVersion f major) is h = not_other bytes k major is h.1
 read file bytes k (resolving.Duplicate a b) is h = h
@@ -61,13 +61,13 @@ read file bytes k resolving.NoMemory is h = h
 -- ---- nothing refuses them
 
 module _ (law : OneClass) (files : List (List ℕ)) (main : List ℕ) (cs : List ClassFile) where
-  resolves : IsProgramOf files main cs → (r : Unresolved) → IsFirstUnread files r ⊎ IsFirstOfRead files main r → ⊥
+  resolves : IsProgramOf files main cs → (r : ProgramRefusal) → IsFirstUnread files r ⊎ IsFirstOfRead files main r → ⊥
   resolves p r (inl u) = let k = class_at files p.classes u.file u.bytes p.read u.there in read u.file u.bytes k.0 r k.1 u.unread
   resolves p r (inr f) =
       let same = same_classes law files f.classes p.classes f.read p.read in
       none≢some r (ap first (sym p.none) ∙ (ap (λ (ks : List ClassFile). first (refusals ks main)) (sym same) ∙ f.first))
 
-  is_resolved : IsProgramOf files main cs → (r : Unresolved) → IsRefusal files main (answers.Resolving r) → ⊥
+  is_resolved : IsProgramOf files main cs → (r : ProgramRefusal) → IsRefusal files main (answers.Resolving r) → ⊥
   is_resolved p (resolving.BadClass f) h = resolves p (resolving.BadClass f) h
   is_resolved p (resolving.UnsupportedVersion f major) h = resolves p (resolving.UnsupportedVersion f major) h
   is_resolved p (resolving.Duplicate a b) h = resolves p (resolving.Duplicate a b) h

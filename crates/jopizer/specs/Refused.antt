@@ -6,7 +6,7 @@ use Rattle.program_tables.specs.Numbers.{methods_by_number}
 use Rattle.linked_image.specs.Linked.{Image}
 use Rattle.image_layout.specs.Layout.{first_passed}
 use Rattle.jop_program.specs.Resolving.{IsFirstRefusal, IsProgramOf}
-use Rattle.jop_program.specs.declared.refusal.LinkRefusal.TheVariants as resolving
+use Rattle.jop_program.specs.declared.refusal.ProgramRefusal.TheVariants as resolving
 use Rattle.jop_program.specs.Linked.{number_of}
 use Rattle.bytecode_verifier.specs.Failure.{IsVerified, FailsFirst, broken_seen}
 use Rattle.jopizer.specs.declared.refusal.LinkRefusal.{LinkRefusal}

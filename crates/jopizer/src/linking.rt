@@ -14,7 +14,7 @@ use bytecode_verifier::laws::core_is_verified;
 use bytecode_verifier::{MethodRule, Verified, VerifyFault, verify};
 use image_layout::{LayFault, Layout, lay_out};
 use jop_base::NoMemory;
-use jop_program::{LinkRefusal as Unresolved, Program, resolve};
+use jop_program::{ProgramRefusal, Program, resolve};
 use program_tables::laws::members_are_there;
 use std::alloc::Global;
 
@@ -29,7 +29,7 @@ fn resolved(alloc: Global, files: &[Vec<u8>], main: &[u8]) -> Result<Program, Li
 {
     match resolve(alloc, files, main) {
         Ok(program) => Ok(program),
-        Err(Unresolved::NoMemory) => Err(LinkRefusal::NoMemory),
+        Err(ProgramRefusal::NoMemory) => Err(LinkRefusal::NoMemory),
         Err(refusal) => Err(LinkRefusal::Resolving(refusal)),
     }
 }

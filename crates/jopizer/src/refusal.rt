@@ -3,13 +3,13 @@
 use bytecode_verifier::MethodRule;
 use image_layout::Counted;
 use jop_base::NoMemory;
-use jop_program::LinkRefusal as Unresolved;
+use jop_program::ProgramRefusal;
 
 /// Why files aren't linked. Files are counted from 0, and methods as they stand in their file.
 #[derive(Clone, Copy)]
 pub enum LinkRefusal {
     /// They are no program.
-    Resolving(Unresolved),
+    Resolving(ProgramRefusal),
     /// In this file and method, at this place of the code, this rule of the verifier fails first.
     NotVerified(u32, u32, u32, MethodRule),
     /// The image has so many, past the limit.

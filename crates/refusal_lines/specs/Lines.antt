@@ -9,8 +9,8 @@ use Rattle.program_tables.specs.declared.refusal.Site.TheVariants as sites
 use Rattle.bytecode_verifier.specs.declared.fault.MethodRule.{MethodRule}
 use Rattle.image_builder.specs.declared.fault.Counted.{Counted}
 use Rattle.jop_program.specs.declared.refusal.Counted.TheVariants.{Classes}
-use Rattle.jop_program.specs.declared.refusal.LinkRefusal.{LinkRefusal}
-use Rattle.jop_program.specs.declared.refusal.LinkRefusal.TheVariants.{BadClass, UnsupportedVersion, Duplicate, Unsupported, Unresolved, BadHierarchy, NoMain, TooLarge, NoMemory}
+use Rattle.jop_program.specs.declared.refusal.ProgramRefusal.{ProgramRefusal}
+use Rattle.jop_program.specs.declared.refusal.ProgramRefusal.TheVariants.{BadClass, UnsupportedVersion, Duplicate, Unsupported, Unresolved, BadHierarchy, NoMain, TooLarge, NoMemory}
 use Rattle.refusal_lines.specs.Names.{item_name, why_name, rule_name, limit_name}
 
 abbrev pub place_of : Site → Place
@@ -19,7 +19,7 @@ place_of (sites.Method i) = places.Method i
 place_of (sites.Code i pc) = places.Code i pc
 
 -- why files are no program; some of the lines name a class or a member
-abbrev pub refusal_parts : LinkRefusal → (name : List ℕ) → List (List ℕ)
+abbrev pub refusal_parts : ProgramRefusal → (name : List ℕ) → List (List ℕ)
 refusal_parts (BadClass file) name = codes "link: bad class file=" ∷ decimal file ∷ codes "\n" ∷ []
 refusal_parts (UnsupportedVersion file major) name = codes "link: unsupported version file=" ∷ decimal file ∷ codes " major=" ∷ decimal major ∷ codes "\n" ∷ []
 refusal_parts (Duplicate file earlier) name = codes "link: duplicate file=" ∷ decimal file ∷ codes " name=" ∷ name ∷ codes "\n" ∷ []
@@ -33,7 +33,7 @@ refusal_parts (TooLarge Classes count limit) name = codes "link: too large " ∷
 refusal_parts NoMemory name = codes "no memory\n" ∷ []
 
 -- where its line can't be put, nothing else is said
-abbrev pub is_want_of_memory : LinkRefusal → Bool
+abbrev pub is_want_of_memory : ProgramRefusal → Bool
 is_want_of_memory NoMemory = true
 is_want_of_memory refusal = false
 

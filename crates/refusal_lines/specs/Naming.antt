@@ -7,25 +7,25 @@ use Rattle.class_pool.specs.declared.class.ClassFile.{ClassFile}
 use Rattle.class_lookup.specs.Parts.{name_of}
 use Rattle.core_classes.specs.Core.{core}
 use Rattle.jop_program.specs.Resolving.{AreClassesOf}
-use Rattle.jop_program.specs.declared.refusal.LinkRefusal.{LinkRefusal}
-use Rattle.jop_program.specs.declared.refusal.LinkRefusal.TheVariants.{Duplicate, Unresolved}
+use Rattle.jop_program.specs.declared.refusal.ProgramRefusal.{ProgramRefusal}
+use Rattle.jop_program.specs.declared.refusal.ProgramRefusal.TheVariants.{Duplicate, Unresolved}
 use Rattle.refusal_lines.specs.Entries.{unresolved_bytes}
 
 -- the refusal's name in the files' classes; nothing where it names no class or member
-abbrev pub named_bytes : List ClassFile → LinkRefusal → List ℕ
+abbrev pub named_bytes : List ClassFile → ProgramRefusal → List ℕ
 named_bytes files (Duplicate file earlier) = option_map_or (λ k. utf8_bytes (name_of k)) (slice_get files file) []
 named_bytes files (Unresolved file entry why) =
     option_map_or (λ k. option_map_or (unresolved_bytes core files k.pool why) (entry_at k.pool entry) []) (slice_get files file) []
 named_bytes files refusal = []
 
 -- the files are these classes, and the refusal's name in them is this one
-pub record IsNamedIn (files : List (List ℕ)) (refusal : LinkRefusal) (name : List ℕ) : Type 0 where
+pub record IsNamedIn (files : List (List ℕ)) (refusal : ProgramRefusal) (name : List ℕ) : Type 0 where
   pub classes : List ClassFile
   pub read : AreClassesOf files classes
   pub is : name ≡ named_bytes classes refusal
 
 -- only the lines of these two refusals name something, of files that are class files
-abbrev pub IsNamed : (files : List (List ℕ)) → LinkRefusal → (name : List ℕ) → Type 0
+abbrev pub IsNamed : (files : List (List ℕ)) → ProgramRefusal → (name : List ℕ) → Type 0
 IsNamed files (Duplicate file earlier) name = IsNamedIn files (Duplicate file earlier) name
 IsNamed files (Unresolved file entry why) name = IsNamedIn files (Unresolved file entry why) name
 IsNamed files refusal name = name ≡ []

@@ -9,7 +9,7 @@ use crate::names::{item_name, limit_name, rule_name, why_name};
 use bytecode_verifier::MethodRule;
 use outcome_lines::{Line, LinkLine, Named, Place, say};
 use jop_outside::{Failed, Sink};
-use jop_program::{Counted as Limited, LinkRefusal};
+use jop_program::{Counted as Limited, ProgramRefusal};
 use program_tables::{Item, Site, Why};
 use image_builder::Counted;
 
@@ -24,7 +24,7 @@ fn place_of(site: Site) -> Place
 }
 
 fn say_item<O: Sink>(sink: &mut O, file: u32, site: Site, item: Item) -> Result<(), Failed>
-    ensures said { Said false (concat (refusal_parts (LinkRefusal.Unsupported file site item) [])) (O.held sink.old) (O.held sink.new) (O.faults sink.old) (O.faults sink.new) result }
+    ensures said { Said false (concat (refusal_parts (ProgramRefusal.Unsupported file site item) [])) (O.held sink.old) (O.held sink.new) (O.faults sink.old) (O.faults sink.new) result }
     ensures cause { HasCause (O.faults sink.old) (O.faults sink.new) result }
 {
     let place = place_of(site);
@@ -39,7 +39,7 @@ fn say_entry<O: Sink>(
     why: Why,
     name: &[u8],
 ) -> Result<(), Failed>
-    ensures said { Said false (concat (refusal_parts (LinkRefusal.Unresolved file entry why) name.now)) (O.held sink.old) (O.held sink.new) (O.faults sink.old) (O.faults sink.new) result }
+    ensures said { Said false (concat (refusal_parts (ProgramRefusal.Unresolved file entry why) name.now)) (O.held sink.old) (O.held sink.new) (O.faults sink.old) (O.faults sink.new) result }
     ensures cause { HasCause (O.faults sink.old) (O.faults sink.new) result }
 {
     let why = why_name(why).as_bytes();
@@ -50,25 +50,25 @@ fn say_entry<O: Sink>(
 }
 
 /// Puts the line of why files are no program, with what it names in them.
-pub fn say_refusal<O: Sink>(sink: &mut O, refusal: LinkRefusal, name: &[u8]) -> Result<(), Failed>
+pub fn say_refusal<O: Sink>(sink: &mut O, refusal: ProgramRefusal, name: &[u8]) -> Result<(), Failed>
     ensures said { Said (is_want_of_memory refusal) (concat (refusal_parts refusal name.now)) (O.held sink.old) (O.held sink.new) (O.faults sink.old) (O.faults sink.new) result }
     ensures cause { HasCause (O.faults sink.old) (O.faults sink.new) result }
 {
     match refusal {
-        LinkRefusal::BadClass(file) => say(sink, &Line::Link(LinkLine::BadClass(file))),
-        LinkRefusal::UnsupportedVersion(file, major) => {
+        ProgramRefusal::BadClass(file) => say(sink, &Line::Link(LinkLine::BadClass(file))),
+        ProgramRefusal::UnsupportedVersion(file, major) => {
             say(sink, &Line::Link(LinkLine::UnsupportedVersion(file, major)))
         }
-        LinkRefusal::Duplicate(file, _) => say(sink, &Line::Link(LinkLine::Duplicate(file, name))),
-        LinkRefusal::Unsupported(file, site, item) => say_item(sink, file, site, item),
-        LinkRefusal::Unresolved(file, entry, why) => say_entry(sink, file, entry, why, name),
-        LinkRefusal::BadHierarchy(file) => say(sink, &Line::Link(LinkLine::BadHierarchy(file))),
-        LinkRefusal::NoMain => say(sink, &Line::Link(LinkLine::NoMain)),
-        LinkRefusal::TooLarge(Limited::Classes, count, limit) => say(
+        ProgramRefusal::Duplicate(file, _) => say(sink, &Line::Link(LinkLine::Duplicate(file, name))),
+        ProgramRefusal::Unsupported(file, site, item) => say_item(sink, file, site, item),
+        ProgramRefusal::Unresolved(file, entry, why) => say_entry(sink, file, entry, why, name),
+        ProgramRefusal::BadHierarchy(file) => say(sink, &Line::Link(LinkLine::BadHierarchy(file))),
+        ProgramRefusal::NoMain => say(sink, &Line::Link(LinkLine::NoMain)),
+        ProgramRefusal::TooLarge(Limited::Classes, count, limit) => say(
             sink,
             &Line::Link(LinkLine::TooLarge(b"Classes", count as u64, limit as u64)),
         ),
-        LinkRefusal::NoMemory => say(sink, &Line::NoMemory),
+        ProgramRefusal::NoMemory => say(sink, &Line::NoMemory),
     }
 }
 

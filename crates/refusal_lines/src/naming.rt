@@ -18,7 +18,7 @@ use class_lookup::parts::name_of;
 use class_pool::ClassFile;
 use core_classes::core_classes;
 use jop_base::NoMemory;
-use jop_program::LinkRefusal;
+use jop_program::ProgramRefusal;
 use program_tables::Why;
 use std::alloc::Global;
 
@@ -85,7 +85,7 @@ fn entry_told(
     entry: u32,
     why: Why,
 ) -> Result<Vec<u8>, NoMemory>
-    ensures { IfOk result (λ bytes. bytes.items ≡ named_bytes files.now (LinkRefusal.Unresolved file entry why)) }
+    ensures { IfOk result (λ bytes. bytes.items ≡ named_bytes files.now (ProgramRefusal.Unresolved file entry why)) }
 {
     let before = core_classes(alloc)?;
     let known = Known {
@@ -105,15 +105,15 @@ fn entry_told(
 /// # Errors
 ///
 /// There was no memory; or one of the files is no class file, and then no refusal of them names anything.
-pub fn name_in(alloc: Global, files: &[Vec<u8>], refusal: LinkRefusal) -> Result<Vec<u8>, NoMemory>
+pub fn name_in(alloc: Global, files: &[Vec<u8>], refusal: ProgramRefusal) -> Result<Vec<u8>, NoMemory>
     ensures { IfOk result (λ name. IsNamed (map (λ f. f.items) files.now) refusal name.items) }
 {
     match refusal {
-        LinkRefusal::Duplicate(file, _) => {
+        ProgramRefusal::Duplicate(file, _) => {
             let classes = read_files(alloc, files)?;
             class_named(alloc, &classes, file)
         }
-        LinkRefusal::Unresolved(file, entry, why) => {
+        ProgramRefusal::Unresolved(file, entry, why) => {
             let classes = read_files(alloc, files)?;
             entry_told(alloc, &classes, file, entry, why)
         }

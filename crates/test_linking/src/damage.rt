@@ -1,6 +1,6 @@
 //! Files of images with damage: how many of them are told as they have to be.
 
-use jop_program::LinkRefusal as Unresolved;
+use jop_program::ProgramRefusal;
 use jopizer::{ImageFault, LinkRefusal, read_image};
 use std::alloc::{AllocError, Global};
 use std::io;
@@ -36,7 +36,7 @@ fn file_told(alloc: Global, bytes: &[u8]) -> Option<u32> {
             drop(linked);
             None
         }
-        Err(ImageFault::Link(LinkRefusal::Resolving(Unresolved::BadClass(file)))) => Some(file),
+        Err(ImageFault::Link(LinkRefusal::Resolving(ProgramRefusal::BadClass(file)))) => Some(file),
         Err(_) => None,
     }
 }

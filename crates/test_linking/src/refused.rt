@@ -1,7 +1,7 @@
 //! Why files aren't linked, and why bytes aren't the file of an image, printed.
 
 use bytecode_verifier::{MethodRule, Rule};
-use jop_program::LinkRefusal as Unresolved;
+use jop_program::ProgramRefusal;
 use jopizer::{ImageFault, LinkRefusal};
 use std::io;
 
@@ -16,17 +16,17 @@ fn rule_text(rule: MethodRule) -> &'static str {
     }
 }
 
-fn print_unresolved(rt: &HostRuntime, refusal: Unresolved) -> io::Result<()> {
+fn print_unresolved(rt: &HostRuntime, refusal: ProgramRefusal) -> io::Result<()> {
     match refusal {
-        Unresolved::UnsupportedVersion(file, major) => {
+        ProgramRefusal::UnsupportedVersion(file, major) => {
             println!(rt; "version {major} of file {file}")
         }
-        Unresolved::Duplicate(file, earlier) => {
+        ProgramRefusal::Duplicate(file, earlier) => {
             println!(rt; "file {file} has the name of class {earlier}")
         }
-        Unresolved::BadClass(file) => println!(rt; "file {file} is no class file"),
-        Unresolved::BadHierarchy(file) => println!(rt; "file {file} stands wrongly"),
-        Unresolved::NoMain => println!(rt; "no main"),
+        ProgramRefusal::BadClass(file) => println!(rt; "file {file} is no class file"),
+        ProgramRefusal::BadHierarchy(file) => println!(rt; "file {file} stands wrongly"),
+        ProgramRefusal::NoMain => println!(rt; "no main"),
         _ => println!(rt; "not resolved"),
     }
 }

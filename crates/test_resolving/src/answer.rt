@@ -2,12 +2,12 @@
 
 use crate::row::Row;
 use jop_outside::MemSink;
-use jop_program::{LinkRefusal, Program, core_classes, resolve};
+use jop_program::{ProgramRefusal, Program, core_classes, resolve};
 use refusal_lines::{name_in, say_refusal};
 use std::alloc::{AllocError, Global};
 
 // The line of a refusal, without its end.
-fn line_text(alloc: Global, refusal: LinkRefusal, name: &[u8]) -> Result<String, AllocError> {
+fn line_text(alloc: Global, refusal: ProgramRefusal, name: &[u8]) -> Result<String, AllocError> {
     let mut line = MemSink::new(alloc, Vec::new(alloc));
     if say_refusal(&mut line, refusal, name).is_err() {
         return Err(AllocError);
@@ -21,15 +21,15 @@ fn line_text(alloc: Global, refusal: LinkRefusal, name: &[u8]) -> Result<String,
 fn refusal_text(
     alloc: Global,
     files: &[Vec<u8>],
-    refusal: LinkRefusal,
+    refusal: ProgramRefusal,
 ) -> Result<String, AllocError> {
     let Ok(name) = name_in(alloc, files, refusal) else {
         return Err(AllocError);
     };
     let line = line_text(alloc, refusal, &name)?;
     match refusal {
-        LinkRefusal::Duplicate(_, earlier) => format!(in alloc; "{line} earlier={earlier}"),
-        LinkRefusal::NoMemory => Err(AllocError),
+        ProgramRefusal::Duplicate(_, earlier) => format!(in alloc; "{line} earlier={earlier}"),
+        ProgramRefusal::NoMemory => Err(AllocError),
         _ => Ok(line),
     }
 }

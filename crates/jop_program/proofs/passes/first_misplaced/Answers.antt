@@ -1,7 +1,7 @@
 use Rattle.std.proofs.Common.{◌+◌, ℕ, length, sym, ◌∙◌, arith}
 use Rattle.class_lookup.specs.Hierarchy.{is_on_a_cycle}
 use Rattle.program_tables.specs.Placed.{lacks_superclass, has_bad_superclass, has_bad_superinterface, is_bad_interface, has_overridden_final, is_badly_placed}
-use Rattle.jop_program.specs.declared.refusal.LinkRefusal.TheVariants as answers
+use Rattle.jop_program.specs.declared.refusal.ProgramRefusal.TheVariants as answers
 use Rattle.jop_program.proofs.AnyLemmas.{no_cause, second_of, beyond}
 use Rattle.class_pool.specs.declared.class.ClassFile.{ClassFile}
 use Rattle.jop_program.specs.Linked.{files_in}

@@ -2,7 +2,7 @@ use Rattle.std.proofs.Common.{List, Some, refl, ◌∙◌, arith}
 use Rattle.lists.specs.Lists.{first}
 use Rattle.lists.specs.FirstLemmas.{ok_same}
 use Rattle.class_lookup.specs.Hierarchy.{IsAcyclic}
-use Rattle.jop_program.specs.declared.refusal.LinkRefusal.{LinkRefusal}
+use Rattle.jop_program.specs.declared.refusal.ProgramRefusal.{ProgramRefusal}
 use Rattle.jop_program.specs.Linked.{files_in}
 use Rattle.jop_program.specs.Refusals.{Places, causes_in}
 use Rattle.jop_program.proofs.RefusalLemmas.{in_first, in_later, nothing_in, first_behind_core, where_none}
@@ -28,7 +28,7 @@ first_misplaced-requires-clause-behind_core c =
 
 pub returns-clause-first : goal.returns-clause-first
 returns-clause-first c =
-    let places : List LinkRefusal = causes_in c.args.classes.now Places (files_in c.args.classes.now c.args.files) in
+    let places : List ProgramRefusal = causes_in c.args.classes.now Places (files_in c.args.classes.now c.args.files) in
     ok_same c.first_misplaced.result (first places) _
     (in_later c.first_duplicate.result _ _ (first places) c.first_duplicate.ensures c.in_default.not-Some
     (in_later c.in_ok-refusal.field-0 _ _ (first places) c.in_ok-refusal.ensures c.in_default-2.not-Some
