@@ -18,7 +18,6 @@ use Rattle.program_tables.specs.Resolving.{HasBytes}
 use Rattle.resolved_program.specs.Resolved.{AreResolved}
 use Rattle.core_classes.specs.Core.{core, boot}
 use Rattle.core_classes.specs.Laws.{CoreIsNamed}
-use Rattle.jop_program.specs.declared.refusal.Counted.TheVariants.{Classes}
 use Rattle.jop_program.specs.declared.refusal.ProgramRefusal.{ProgramRefusal}
 use Rattle.jop_program.specs.declared.refusal.ProgramRefusal.TheVariants as answers
 use Rattle.jop_program.specs.Linked.{most_files, main_class, main_name, declares_main, main_signature, initialized, first_on_cycle, calls_of, linked_classes, files_in}
@@ -41,7 +40,7 @@ first_or rs (answers.Unsupported a b c) h = h
 first_or rs (answers.Unresolved a b c) h = h
 first_or rs (answers.BadHierarchy a) h = h
 first_or rs answers.NoMain h = h
-first_or rs (answers.TooLarge a b c) h = h
+first_or rs (answers.TooManyClasses a b) h = h
 
 nothing_first : {A : Type 0} (xs : List A) → first xs ≡ None → xs ≡ []
 nothing_first [] h = refl
@@ -87,7 +86,7 @@ module _ (cs : List ClassFile) (files : ℕ) (declares : Bool) where
   mentions = causes_in cs Mentions (files_in cs files)
 
   abbrev pub together : List ProgramRefusal
-  together = (if nat_le files most_files then [] else answers.TooLarge Classes files most_files ∷ []) ++ (if declares then [] else answers.NoMain ∷ [])
+  together = (if nat_le files most_files then [] else answers.TooManyClasses files most_files ∷ []) ++ (if declares then [] else answers.NoMain ∷ [])
 
   nothing_early : first early ≡ None → NoneEarly (causes_in cs Names (files_in cs files)) (causes_in cs Support (files_in cs files)) (causes_in cs Supertypes (files_in cs files)) (causes_in cs Places (files_in cs files))
   nothing_early h = none_early (causes_in cs Names (files_in cs files)) (causes_in cs Support (files_in cs files)) (causes_in cs Supertypes (files_in cs files)) (causes_in cs Places (files_in cs files)) h
@@ -286,4 +285,4 @@ first_is files main ks (answers.Unsupported a b c) read h = inr (record { classe
 first_is files main ks (answers.Unresolved a b c) read h = inr (record { classes = ks; read = read; first = h })
 first_is files main ks (answers.BadHierarchy a) read h = inr (record { classes = ks; read = read; first = h })
 first_is files main ks answers.NoMain read h = inr (record { classes = ks; read = read; first = h })
-first_is files main ks (answers.TooLarge a b c) read h = inr (record { classes = ks; read = read; first = h })
+first_is files main ks (answers.TooManyClasses a b) read h = inr (record { classes = ks; read = read; first = h })

@@ -24,7 +24,7 @@ first_unread files ks i number bytes (answers.Unsupported f s e) same read at un
 first_unread files ks i number bytes (answers.Unresolved f e w) same read at un = elim un [ ]
 first_unread files ks i number bytes (answers.BadHierarchy f) same read at un = elim un [ ]
 first_unread files ks i number bytes answers.NoMain same read at un = elim un [ ]
-first_unread files ks i number bytes (answers.TooLarge c a b) same read at un = elim un [ ]
+first_unread files ks i number bytes (answers.TooManyClasses a b) same read at un = elim un [ ]
 first_unread files ks i number bytes answers.NoMemory same read at un = tt
 
 got_mapped : {X Y : Type 0} (f : X → Y) (xs : List X) (i : ℕ) (x : X) → slice_get xs i ≡ Some x → slice_get (map f xs) i ≡ Some (f x)

@@ -133,7 +133,7 @@ unread_first files main (answers.Unsupported a b c) h = inl h
 unread_first files main (answers.Unresolved a b c) h = inl h
 unread_first files main (answers.BadHierarchy a) h = inl h
 unread_first files main answers.NoMain h = inl h
-unread_first files main (answers.TooLarge a b c) h = inl h
+unread_first files main (answers.TooManyClasses a b) h = inl h
 
 pub read_first : (files : List (List ℕ)) (main : List ℕ) (r : ProgramRefusal) → IsFirstOfRead files main r → IsFirstRefusal files main r
 read_first files main answers.NoMemory h = tt
@@ -144,7 +144,7 @@ read_first files main (answers.Unsupported a b c) h = inr h
 read_first files main (answers.Unresolved a b c) h = inr h
 read_first files main (answers.BadHierarchy a) h = inr h
 read_first files main answers.NoMain h = inr h
-read_first files main (answers.TooLarge a b c) h = inr h
+read_first files main (answers.TooManyClasses a b) h = inr h
 
 -- each is of the class grammar
 pub are_classes : (files : List (List ℕ)) (ks : List ClassFile) → AreClassesOf files ks → AllByRecursion IsClass ks

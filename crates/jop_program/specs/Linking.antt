@@ -7,7 +7,6 @@ use Rattle.class_rules.specs.Grammar.{IsClass}
 use Rattle.class_lookup.specs.Hierarchy.{is_on_a_cycle, IsAcyclic}
 use Rattle.program_tables.specs.Tables.{HasBounds}
 use Rattle.resolved_program.specs.Resolved.{AreResolved}
-use Rattle.jop_program.specs.declared.refusal.Counted.TheVariants.{Classes}
 use Rattle.jop_program.specs.declared.refusal.ProgramRefusal.{ProgramRefusal}
 use Rattle.jop_program.specs.declared.refusal.ProgramRefusal.TheVariants as answers
 use Rattle.jop_program.specs.Linked.{most_files, linked_classes, files_in}
@@ -17,7 +16,7 @@ use Rattle.jop_program.specs.Refusals.{Names, Places, passes, causes_in, refusal
 unfoldable pub refusals_of : List ClassFile → (files : ℕ) → (declares : Bool) → List ProgramRefusal
 refusals_of cs files declares =
     flat_map (λ pass. causes_in cs pass (files_in cs files)) passes
-    ++ ((if nat_le files most_files then [] else answers.TooLarge Classes files most_files ∷ []) ++ (if declares then [] else answers.NoMain ∷ []))
+    ++ ((if nat_le files most_files then [] else answers.TooManyClasses files most_files ∷ []) ++ (if declares then [] else answers.NoMain ∷ []))
 
 -- the first of what refuses, or there was no memory
 abbrev pub IsFirstOr : List ProgramRefusal → ProgramRefusal → Type 0

@@ -7,9 +7,8 @@ use Rattle.class_pool.specs.declared.class.ClassFile.{ClassFile}
 use Rattle.program_tables.specs.Placed.{duplicate_of, is_badly_placed}
 use Rattle.program_tables.specs.Unsupported.{unsupported_in}
 use Rattle.unresolved_names.specs.Causes.{unresolved_supertypes, unresolved_mentions}
-use Rattle.jop_program.specs.declared.refusal.Counted.TheVariants.{Classes}
 use Rattle.jop_program.specs.declared.refusal.ProgramRefusal.{ProgramRefusal}
-use Rattle.jop_program.specs.declared.refusal.ProgramRefusal.TheVariants.{Duplicate, Unsupported, Unresolved, BadHierarchy, NoMain, TooLarge}
+use Rattle.jop_program.specs.declared.refusal.ProgramRefusal.TheVariants.{Duplicate, Unsupported, Unresolved, BadHierarchy, NoMain, TooManyClasses}
 use Rattle.jop_program.specs.Linked.{most_files, main_class, declares_main, linked_classes, number_of}
 
 -- what is looked at in turn, once all files are read: names of classes; what isn't supported; superclasses and superinterfaces, whether they are there; the
@@ -38,7 +37,7 @@ causes_in cs pass ks = flat_map (λ e. causes cs pass e.0 e.1) (enumerate_from 0
 
 -- of the files together: more than there may be; no main
 abbrev pub too_many : List ClassFile → List ProgramRefusal
-too_many ks = if nat_le (length ks) most_files then [] else TooLarge Classes (length ks) most_files ∷ []
+too_many ks = if nat_le (length ks) most_files then [] else TooManyClasses (length ks) most_files ∷ []
 
 abbrev pub without_main : List ClassFile → (main : List ℕ) → List ProgramRefusal
 without_main ks main = if option_map_or declares_main (main_class ks main) false then [] else NoMain ∷ []

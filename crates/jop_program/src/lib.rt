@@ -9,6 +9,6 @@ mod refusal;
 mod resolving;
 
 pub use core_classes::core_classes;
-pub use refusal::{Counted, ProgramRefusal};
+pub use refusal::ProgramRefusal;
 pub use resolved_program::Program;
 pub use resolving::resolve;

@@ -3,13 +3,6 @@
 use jop_base::NoMemory;
 use program_tables::{Item, Site, Why};
 
-/// What has a limit.
-#[derive(Clone, Copy)]
-pub enum Counted {
-    /// The files of classes.
-    Classes,
-}
-
 /// Why files aren't a program. Files are counted from 0, and places in a file as they stand there.
 #[derive(Clone, Copy)]
 pub enum ProgramRefusal {
@@ -31,7 +24,7 @@ pub enum ProgramRefusal {
     /// None of the files is the named class, or it doesn't declare `public static void main(String[])`.
     NoMain,
     /// So many are more than the limit.
-    TooLarge(Counted, u32, u32),
+    TooManyClasses(u32, u32),
     /// There was no memory.
     NoMemory,
 }

@@ -11,8 +11,7 @@ ghost use Rattle.jop_program.specs.Linked.{most_files, calls_of, files_in};
 ghost use Rattle.jop_program.specs.Refusals.{Names, Support, Supertypes, Places, causes_in, refusals};
 ghost use Rattle.jop_program.specs.Linking.{AreToLink, AreAccepted, IsLinked, IsFirstOr, refusals_of};
 ghost use Rattle.program_tables.specs.Resolving.{HasBytes};
-ghost use Rattle.jop_program.specs.declared.refusal.Counted.TheVariants.{Classes as AClass};
-ghost use Rattle.jop_program.specs.declared.refusal.ProgramRefusal.TheVariants.{NoMain, TooLarge};
+ghost use Rattle.jop_program.specs.declared.refusal.ProgramRefusal.TheVariants.{NoMain, TooManyClasses};
 ghost use Rattle.jop_program.specs.Resolving.{IsFirstRefusal, IsProgramOf};
 
 use crate::initialization::{MOST_FILES, calls_of};
@@ -21,7 +20,7 @@ use crate::passes::{
     first_duplicate, first_mention, first_misplaced, first_supertype, first_unsupported_item,
 };
 use crate::reading::read_files;
-use crate::refusal::{Counted, ProgramRefusal};
+use crate::refusal::ProgramRefusal;
 use class_hierarchy::{Hierarchy, first_on_cycle};
 use class_lookup::Classes;
 use class_pool::{ClassFile, Units};
@@ -138,10 +137,10 @@ fn first_before_mentions(
 
 /// What refuses the files together.
 fn refusal_of_all(files: u32, declares_main: bool) -> Option<ProgramRefusal>
-    ensures { result ≡ first_of ((if nat_le files most_files then [] else TooLarge AClass files most_files ∷ []) ++ (if declares_main then [] else NoMain ∷ [])) }
+    ensures { result ≡ first_of ((if nat_le files most_files then [] else TooManyClasses files most_files ∷ []) ++ (if declares_main then [] else NoMain ∷ [])) }
 {
     if files > MOST_FILES {
-        Some(ProgramRefusal::TooLarge(Counted::Classes, files, MOST_FILES))
+        Some(ProgramRefusal::TooManyClasses(files, MOST_FILES))
     } else if !declares_main {
         Some(ProgramRefusal::NoMain)
     } else {

@@ -55,7 +55,7 @@ read file bytes k (resolving.Unsupported a b c) is h = h
 read file bytes k (resolving.Unresolved a b c) is h = h
 read file bytes k (resolving.BadHierarchy a) is h = h
 read file bytes k resolving.NoMain is h = h
-read file bytes k (resolving.TooLarge a b c) is h = h
+read file bytes k (resolving.TooManyClasses a b) is h = h
 read file bytes k resolving.NoMemory is h = h
 
 -- ---- nothing refuses them
@@ -75,7 +75,7 @@ module _ (law : OneClass) (files : List (List ℕ)) (main : List ℕ) (cs : List
   is_resolved p (resolving.Unresolved a b c) h = resolves p (resolving.Unresolved a b c) h
   is_resolved p (resolving.BadHierarchy a) h = resolves p (resolving.BadHierarchy a) h
   is_resolved p resolving.NoMain h = resolves p resolving.NoMain h
-  is_resolved p (resolving.TooLarge a b c) h = resolves p (resolving.TooLarge a b c) h
+  is_resolved p (resolving.TooManyClasses a b) h = resolves p (resolving.TooManyClasses a b) h
   is_resolved p resolving.NoMemory h = h
 
   is_verified : AreLinked files main cs → (file method pc : ℕ) (rule : _) → FailsInFile files main file method pc rule → ⊥

@@ -8,9 +8,8 @@ use Rattle.program_tables.specs.declared.refusal.Site.{Site}
 use Rattle.program_tables.specs.declared.refusal.Site.TheVariants as sites
 use Rattle.bytecode_verifier.specs.declared.fault.MethodRule.{MethodRule}
 use Rattle.image_builder.specs.declared.fault.Counted.{Counted}
-use Rattle.jop_program.specs.declared.refusal.Counted.TheVariants.{Classes}
 use Rattle.jop_program.specs.declared.refusal.ProgramRefusal.{ProgramRefusal}
-use Rattle.jop_program.specs.declared.refusal.ProgramRefusal.TheVariants.{BadClass, UnsupportedVersion, Duplicate, Unsupported, Unresolved, BadHierarchy, NoMain, TooLarge, NoMemory}
+use Rattle.jop_program.specs.declared.refusal.ProgramRefusal.TheVariants.{BadClass, UnsupportedVersion, Duplicate, Unsupported, Unresolved, BadHierarchy, NoMain, TooManyClasses, NoMemory}
 use Rattle.refusal_lines.specs.Names.{item_name, why_name, rule_name, limit_name}
 
 abbrev pub place_of : Site → Place
@@ -29,7 +28,7 @@ refusal_parts (Unresolved file entry why) name =
     codes "link: unresolved file=" ∷ decimal file ∷ codes " entry=" ∷ decimal entry ∷ codes " why=" ∷ why_name why ∷ codes " name=" ∷ name ∷ codes "\n" ∷ []
 refusal_parts (BadHierarchy file) name = codes "link: bad hierarchy file=" ∷ decimal file ∷ codes "\n" ∷ []
 refusal_parts NoMain name = codes "link: no main\n" ∷ []
-refusal_parts (TooLarge Classes count limit) name = codes "link: too large " ∷ codes "Classes" ∷ codes " count=" ∷ decimal count ∷ codes " limit=" ∷ decimal limit ∷ codes "\n" ∷ []
+refusal_parts (TooManyClasses count limit) name = codes "link: too large " ∷ codes "Classes" ∷ codes " count=" ∷ decimal count ∷ codes " limit=" ∷ decimal limit ∷ codes "\n" ∷ []
 refusal_parts NoMemory name = codes "no memory\n" ∷ []
 
 -- where its line can't be put, nothing else is said

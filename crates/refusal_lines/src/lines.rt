@@ -9,7 +9,7 @@ use crate::names::{item_name, limit_name, rule_name, why_name};
 use bytecode_verifier::MethodRule;
 use outcome_lines::{Line, LinkLine, Named, Place, say};
 use jop_outside::{Failed, Sink};
-use jop_program::{Counted as Limited, ProgramRefusal};
+use jop_program::ProgramRefusal;
 use program_tables::{Item, Site, Why};
 use image_builder::Counted;
 
@@ -64,7 +64,7 @@ pub fn say_refusal<O: Sink>(sink: &mut O, refusal: ProgramRefusal, name: &[u8]) 
         ProgramRefusal::Unresolved(file, entry, why) => say_entry(sink, file, entry, why, name),
         ProgramRefusal::BadHierarchy(file) => say(sink, &Line::Link(LinkLine::BadHierarchy(file))),
         ProgramRefusal::NoMain => say(sink, &Line::Link(LinkLine::NoMain)),
-        ProgramRefusal::TooLarge(Limited::Classes, count, limit) => say(
+        ProgramRefusal::TooManyClasses(count, limit) => say(
             sink,
             &Line::Link(LinkLine::TooLarge(b"Classes", count as u64, limit as u64)),
         ),
