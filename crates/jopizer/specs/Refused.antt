@@ -29,7 +29,7 @@ pub record PassesLimit (files : List (List ℕ)) (main : List ℕ) (what : _) (c
   pub passed : first_passed classes ≡ Some (what, count, limit)
 
 -- the file of this image has so many bytes, past the limit
-pub record PassesLimit (image : Image) (count limit : ℕ) : Type 0 where
+pub record FilePassesLimit (image : Image) (count limit : ℕ) : Type 0 where
   pub counted : count ≡ file_length image
   pub limited : limit ≡ most_bytes
   pub passed : most_bytes < count
@@ -40,7 +40,7 @@ pub record FileIsTooLong (files : List (List ℕ)) (main : List ℕ) (count limi
   pub program : IsProgramOf files main classes
   pub verified : IsVerified classes
   pub within : first_passed classes ≡ None
-  pub long : PassesLimit (image_with files main classes) count limit
+  pub long : FilePassesLimit (image_with files main classes) count limit
 
 -- what refuses the files first; nothing is said of want of memory
 abbrev pub IsRefusal : (files : List (List ℕ)) (main : List ℕ) → LinkRefusal → Type 0
@@ -72,6 +72,6 @@ IsTooLarge cs refusal = ⊥
 
 -- the file of this image is too long; or there was no memory
 abbrev pub IsTooLongOr : Image → LinkRefusal → Type 0
-IsTooLongOr image (FileTooLarge count limit) = PassesLimit image count limit
+IsTooLongOr image (FileTooLarge count limit) = FilePassesLimit image count limit
 IsTooLongOr image NoMemory = Unit {0}
 IsTooLongOr image refusal = ⊥
