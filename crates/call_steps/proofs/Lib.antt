@@ -13,7 +13,6 @@ mod TableRuns
 mod ReturnRows
 mod Returning
 mod ReturnRuns
-mod Steps
 mod MethodRead
 mod Arguments
 mod Scenes

@@ -4,7 +4,6 @@ pub mod Entry
 pub mod Calls
 pub mod Tables
 pub mod Returns
-pub mod Stepped
 pub mod Laws
 pub mod Family
 pub mod Coming

@@ -1,5 +1,4 @@
 pub mod Rows
-pub mod AtOnce
 pub mod Steps
 pub mod Examples
 mod DeviceStates

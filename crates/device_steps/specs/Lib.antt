@@ -1,3 +1,2 @@
 pub mod Opcodes
-pub mod Stepped
 pub mod Family

@@ -8,5 +8,4 @@ pub mod BranchOps
 pub mod SwitchOps
 pub mod WideOps
 pub mod Opcodes
-pub mod Stepped
 pub mod Laws
