@@ -2,8 +2,8 @@
 use Rattle.std.specs.Prelude.{◌≡◌, ℕ, ◌<◌, ◌≤◌, List, length, take}
 use Rattle.jop_outside.specs.Outside.{Grew, Rose}
 use Rattle.microcode_asm.specs.declared.Rom.{Rom}
-use Rattle.microcode_asm.specs.Roms.{IsAssembled, IsFirstRefused, HasTooManyWords as HasTooManyWords}
-use Rattle.rom_lines.specs.Lines.{listing_of}
+use Rattle.microcode_asm.specs.Roms.{IsAssembled, IsFirstRefused, HasTooManyWords}
+use Rattle.microcode_asm.specs.Listing.{listing_of}
 use Rattle.jop_cli.specs.declared.outcome.AsmRefusal.{AsmRefusal}
 use Rattle.jop_cli.specs.declared.outcome.AsmRefusal.TheVariants.{Line, TooLong}
 use Rattle.jop_cli.specs.declared.outcome.Refusal.{Refusal}

@@ -8,8 +8,7 @@ ghost use Rattle.jop_cli.specs.Leaving.{Leaves};
 use crate::load::load;
 use crate::outcome::{AsmRefusal, Ending, Refusal};
 use jop_outside::{Files, Sink, put_all};
-use microcode_asm::{AsmFault, assemble};
-use rom_lines::listing_of;
+use microcode_asm::{AsmFault, assemble, listing_of};
 use std::alloc::Global;
 
 // The lines of the words of the microprogram that a text is.

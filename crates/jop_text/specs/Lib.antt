@@ -1,2 +1,3 @@
 pub mod Number
 pub mod Line
+pub mod Hex

@@ -1,12 +1,14 @@
-//! Numbers and lines in texts.
+//! Numbers, in decimal and in hexadecimal digits, and lines in texts.
 #![tactic(auto)]
 
+mod hex;
 mod number;
 mod pieces;
 
 ghost use Rattle.std.specs.Prelude.{◌≡◌};
 ghost use Rattle.jop_text.specs.Line.{lines_of, AreLines};
 
+pub use hex::{hex_digits, short_hex};
 pub use jop_base::NoMemory;
 pub use number::{put_u64, read_u64};
 pub use pieces::Lines;

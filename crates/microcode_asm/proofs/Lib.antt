@@ -3,3 +3,4 @@ pub mod NameLemmas
 pub mod LineLemmas
 pub mod SoFarLemmas
 pub mod ReadLemmas
+mod WordLines

@@ -1,3 +1,4 @@
 pub mod Programs
 pub mod Roms
 pub mod SoFar
+pub mod Listing

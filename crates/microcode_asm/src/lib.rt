@@ -5,6 +5,7 @@
 
 mod assembly;
 mod labels;
+mod listing;
 mod state;
 
 ghost use Rattle.std.specs.Prelude.{◌≡◌, ◌≤◌, ◌<◌, ◌^◌, ℕ, List, IfOk, IfErr, length, map, nat_eq, unwrap_or};
@@ -20,6 +21,7 @@ use items::Items;
 use jop_base::NoMemory;
 use jop_text::lines;
 use labels::{Labels, read_labels};
+pub use listing::listing_of;
 use micro_isa::Turns;
 use state::Assembly;
 use std::alloc::Global;

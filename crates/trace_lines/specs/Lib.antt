@@ -1,4 +1,3 @@
-pub mod Hex
 pub mod Put
 pub mod Lines
 pub mod Traced

@@ -6,7 +6,7 @@ use Rattle.jop_opcodes.specs.Row.{row_of}
 use Rattle.jop_device.specs.declared.seen.Seen.{Seen}
 use Rattle.jop_device.specs.Told.{Note, Wrote, Saw}
 use Rattle.trace_lines.specs.declared.lines.AtBoundary.{AtBoundary}
-use Rattle.trace_lines.specs.Hex.{hex, short_hex}
+use Rattle.jop_text.specs.Hex.{hex, short_hex}
 
 -- the mnemonic of the instruction, or that an object is raised
 abbrev pub step_name : Option ℕ → List ℕ

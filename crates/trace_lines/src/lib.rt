@@ -3,10 +3,8 @@
 #![tactic(auto)]
 
 mod device;
-mod hex;
 mod lines;
 mod pieces;
 
 pub use device::TraceDevice;
-pub use hex::hex as hex_digits;
 pub use lines::{AtBoundary, put_boundary, put_cycle, put_write};

@@ -4,11 +4,11 @@ ghost use Rattle.jop_outside.specs.Outside.{HasCause};
 ghost use Rattle.trace_lines.specs.Lines.{boundary_line, cycle_line, registers_line, step_line, step_name, write_line};
 ghost use Rattle.trace_lines.specs.Put.{PutLine};
 
-use crate::hex::{hex, short};
 use crate::pieces::put_pieces;
 use itoa::Buffer;
 use jop_device::Seen;
 use jop_outside::{Failed, Sink};
+use jop_text::{hex_digits, short_hex};
 
 /// A boundary of a run, and the state for which the machine stands there.
 #[derive(Clone, Copy)]
@@ -98,7 +98,7 @@ pub fn put_write<O: Sink>(sink: &mut O, byte: u8) -> Result<(), Failed>
     ensures put { PutLine (O.held sink.old) (O.held sink.new) (write_line byte) result }
     ensures cause { HasCause (O.faults sink.old) (O.faults sink.new) result }
 {
-    let digits = hex(byte as u32);
+    let digits = hex_digits(byte as u32);
     put_pieces(sink, &[b"write ", &digits[6..], b"\n"])
 }
 
@@ -107,19 +107,19 @@ pub fn put_cycle<O: Sink>(sink: &mut O, at: Seen) -> Result<(), Failed>
     ensures put { PutLine (O.held sink.old) (O.held sink.new) (cycle_line at) result }
     ensures cause { HasCause (O.faults sink.old) (O.faults sink.new) result }
 {
-    let mpc = hex(at.mpc as u32);
-    let a = hex(at.a);
-    let b = hex(at.b);
-    let sp = hex(at.sp);
-    let vp = hex(at.vp);
+    let mpc = hex_digits(at.mpc as u32);
+    let a = hex_digits(at.a);
+    let b = hex_digits(at.b);
+    let sp = hex_digits(at.sp);
+    let vp = hex_digits(at.vp);
     put_registers(
         sink,
         at.clock,
-        short(at.mpc as u32, &mpc),
+        short_hex(at.mpc as u32, &mpc),
         &a,
         &b,
-        short(at.sp, &sp),
-        short(at.vp, &vp),
+        short_hex(at.sp, &sp),
+        short_hex(at.vp, &vp),
     )
 }
 

@@ -1,6 +1,6 @@
 //! Numbers in hexadecimal digits, lower case.
 ghost use Rattle.std.specs.Prelude.{◌≡◌, ◌%◌};
-ghost use Rattle.trace_lines.specs.Hex.{hex, hex_digit, short_hex};
+ghost use Rattle.jop_text.specs.Hex.{hex, hex_digit, short_hex};
 
 // The digit of a number's last four bits.
 fn digit(n: u32) -> u8
@@ -15,7 +15,7 @@ fn digit(n: u32) -> u8
 }
 
 /// The eight digits of a word.
-pub fn hex(n: u32) -> [u8; 8]
+pub fn hex_digits(n: u32) -> [u8; 8]
     ensures { result ≡ hex 8 n }
 {
     let second = n / 16;
@@ -38,7 +38,7 @@ pub fn hex(n: u32) -> [u8; 8]
 }
 
 /// Three of these, or all where the others aren't 0.
-pub fn short(n: u32, digits: &[u8; 8]) -> &[u8]
+pub fn short_hex(n: u32, digits: &[u8; 8]) -> &[u8]
     requires { digits.now ≡ hex 8 n }
     ensures { result.now ≡ short_hex n }
 {

@@ -1,12 +1,10 @@
-//! The text of a microprogram's words, a line for each. It stands in `specs/Lines.antt`.
-#![tactic(auto)]
-
+//! The text of a microprogram's words, a line for each. It stands in `specs/Listing.antt`.
 ghost use Rattle.std.specs.Prelude.{◌≡◌, ◌≤◌, length, IfOk};
-ghost use Rattle.rom_lines.specs.Lines.{word_line, listing_of};
+ghost use Rattle.microcode_asm.specs.Listing.{word_line, listing_of};
 
 use jop_base::NoMemory;
+use jop_text::hex_digits;
 use std::alloc::Global;
-use trace_lines::hex_digits;
 
 // The line of a word: three hexadecimal digits of its address, and its four.
 fn word_line(address: u16, word: u16) -> [u8; 9]

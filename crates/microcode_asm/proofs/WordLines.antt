@@ -1,6 +1,6 @@
 -- One line more.
 use Rattle.std.proofs.Common.{◌≡◌, ℕ, zero, suc, ◌+◌, ◌<◌, List, [], ◌∷◌, ◌++◌, length, take, get_or, sym, ap, ◌∙◌, subst, arith, add-one, append-nil, append_assoc}
-use Rattle.rom_lines.specs.Lines.{word_line, lines_from, listing_of}
+use Rattle.microcode_asm.specs.Listing.{word_line, lines_from, listing_of}
 
 from_suc : (a : ℕ) (ws : List ℕ) (i d : ℕ) → i < length ws → lines_from a (take (suc i) ws) ≡ lines_from a (take i ws) ++ word_line (a + i) (get_or ws i d)
 from_suc a [] i d within = absurd (omega (arith, within))

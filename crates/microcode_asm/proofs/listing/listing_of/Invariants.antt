@@ -1,6 +1,6 @@
 use Rattle.std.proofs.Common.{◌≡◌, take}
-use Rattle.rom_lines.specs.Lines.{listing_of}
-use Rattle.rom_lines.proofs.listing_of.Given as goal
+use Rattle.microcode_asm.specs.Listing.{listing_of}
+use Rattle.microcode_asm.proofs.listing.listing_of.Given as goal
 
 abbrev pub invariant-loop-address : goal.invariant-loop-address
 invariant-loop-address l = l.text.items ≡ listing_of (take l.address l.words)

@@ -1,5 +1,5 @@
-use Rattle.rom_lines.proofs.Listing.{one_more}
-use Rattle.rom_lines.proofs.listing_of.Goals as goal
+use Rattle.microcode_asm.proofs.WordLines.{one_more}
+use Rattle.microcode_asm.proofs.listing.listing_of.Goals as goal
 
 pub loop-address-preserved : goal.loop-address-preserved
 loop-address-preserved c =
