@@ -12,3 +12,4 @@ pub mod EarlyLemmas
 pub mod SelectedLemmas
 pub mod Closure
 pub mod CycleLemmas
+pub mod EachOnceLemmas

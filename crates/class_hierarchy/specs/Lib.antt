@@ -5,3 +5,4 @@ pub mod Tables
 pub mod Selecting
 pub mod Deciding
 pub mod Cycles
+pub mod EachOnce

@@ -1,4 +1,5 @@
-ghost use Rattle.std.specs.Prelude.{◌≡◌, ℕ, ◌<◌, List, Some, ◌++◌, length, map, slice_index_or, IfOk};
+ghost use Rattle.std.specs.Prelude.{◌≡◌, ℕ, ◌<◌, List, Some, ◌++◌, length, map, slice_index_or, nat_eq, IfOk};
+ghost use Rattle.std.specs.List.{IsDistinct};
 ghost use Rattle.class_lookup.specs.Hierarchy.{is_subclass, extends, supertypes, superclasses, all_superinterfaces, IsAcyclic};
 ghost use Rattle.class_lookup.specs.Lists.{first_some};
 ghost use Rattle.class_lookup.specs.Lookup.{declared_method, find_field, find_method};
@@ -6,6 +7,7 @@ ghost use Rattle.class_lookup.specs.Parts.{Signature, is_init};
 ghost use Rattle.class_lookup.specs.Selection.{select, is_of_superclass, special};
 ghost use Rattle.upward_order.specs.Numbers.{IsSameSearch};
 ghost use Rattle.class_lookup.specs.Symbols.{symbol};
+ghost use Rattle.class_hierarchy.specs.EachOnce.{each_once};
 
 use crate::above::{Above, above_of};
 use crate::marks::{field_marks, method_marks};
@@ -90,9 +92,13 @@ impl Hierarchy {
     /// The class with all its superclasses and superinterfaces, each once, in the order in which they are first met.
     pub fn supertypes(&self, class: u32) -> &[u32]
         requires { class < length self.now }
-        ensures { IsSameSearch result.now (supertypes self.now class) }
+        ensures list { result.now ≡ each_once (supertypes self.now class) }
+        ensures once { IsDistinct nat_eq result.now }
+        ensures search { IsSameSearch result.now (supertypes self.now class) }
     {
-        self.above.supertypes[class as usize].as_slice()
+        let list = &self.above.supertypes[class as usize];
+        list.is_distinct();
+        list.as_slice()
     }
 
     /// The method of this name and descriptor that the class declares.
