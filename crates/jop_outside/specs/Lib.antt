@@ -2,3 +2,4 @@ pub mod Outside
 pub mod Growing
 pub mod Memory
 pub mod ReadAll
+pub mod Host

@@ -1,7 +1,7 @@
 //! What is outside of the program, as traits: files that are named by words, a source of bytes and a sink.
 //!
 //! Each object may tell what it holds, and counts its faults. Objects in memory tell; the adapters over
-//! the real files and streams don't.
+//! files and streams tell what the writer, the reader and the system below them tell.
 #![tactic(auto)]
 
 mod files;
@@ -12,7 +12,7 @@ mod sink;
 mod source;
 
 pub use files::{Files, LONGEST_FILE, ReadAll, read_all};
-pub use host::{HostFiles, HostSink, HostSource};
+pub use host::{DirectWrite, FileSystem, HostFiles, HostSink, HostSource, SteadyRead};
 pub use jop_base::NoMemory;
 pub use memory::{MemFiles, MemSink, MemSource, SureFiles, SureSink, SureSource};
 pub use sink::{Sink, put_all};
