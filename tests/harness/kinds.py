@@ -1,0 +1,17 @@
+"""The kinds of tables, by the ending of the file of their rows. README.md, one folder up, has their formats."""
+import asm_text
+import calls
+import class_files
+import images
+import opcodes
+
+KINDS = {
+    'calls': calls.Calls(),
+    'resolved': class_files.Resolved(),
+    'verified': class_files.Verified(),
+    'read': class_files.Read(),
+    'linked': images.Linked(),
+    'images': images.Words(),
+    'opcodes': opcodes.Opcodes(),
+    'asm': asm_text.Assembled(),
+}
