@@ -53,7 +53,7 @@ class Call:
             self.streams.out = item[1:]
         elif item.startswith('room='):
             self.room = int(item[5:])
-        elif item.startswith('+'):
+        elif item.startswith('+') and '=' in item:
             self.files.append(item[1:].split('=', 1))
         else:
             word, found, value = item.partition('=')
