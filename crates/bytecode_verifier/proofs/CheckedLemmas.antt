@@ -32,6 +32,7 @@ has_this_code law x n k h e = record { body = body_of x.program.now n k h; there
 pub record HasParts (x : Checking) (n : ℕ) (k : Code) (h : IsCodeOf x.program.now n k) (s : MethodShape) : Type 0 where
   pub classes : x.around.classes.now ≡ x.program.now
   pub owner : x.around.owner ≡ h.place.0
+  pub init : x.around.is_init ≡ s.is_init
   pub made : x.around.made.now ≡ map (made_at (resolved x.program.now) n) (range_with_len 0 (length k.code))
   pub locals : k.max_locals ≡ x.max_locals
   pub stack : k.max_stack ≡ x.max_stack
@@ -45,6 +46,7 @@ pub is_method : MethodsStandByNumber → ((code : List ℕ) (pc : ℕ) → Whole
 is_method law ends x n k h shape p given same = record {
   classes = ap resolved p.classes;
   owner = sym p.owner;
+  init = (has_shape law x n k h shape p.shape).is_init ∙ sym p.init;
   made = λ place. ap (λ (l : List (Option ℕ)). made_in l place) p.made
       ∙ table_has (made_at (resolved x.program.now) n) (length k.code) place (λ past. none_behind ends (resolved x.program.now) n place (body_of x.program.now n k h) (body_there law x.program.now n k h) past);
   maps = same;

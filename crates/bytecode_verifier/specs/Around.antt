@@ -14,4 +14,5 @@ made_in made place = onto (slice_get made place) (λ c. c)
 pub record StandsAt (a : Around) (s : Site) : Type 0 where
   pub program : s.program ≡ resolved a.classes.now
   pub owner : s.method.owner ≡ a.owner
+  pub init : s.method.is_init ≡ a.is_init
   pub made : (place : ℕ) → made_in a.made.now place ≡ made_at s.program s.number place

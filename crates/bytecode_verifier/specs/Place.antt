@@ -29,6 +29,7 @@ pub record HasCode (c : Checking) (number : ℕ) : Type 0 where
 pub record IsMethodOf (c : Checking) (number : ℕ) (m : Method) (b : Body) (given : ℕ → Option TypeFrame) : Type 0 where
   pub classes : resolved c.around.classes.now ≡ resolved c.program.now
   pub owner : m.owner ≡ c.around.owner
+  pub init : m.is_init ≡ c.around.is_init
   pub made : (place : ℕ) → made_in c.around.made.now place ≡ made_at (resolved c.program.now) number place
   pub maps : (place : ℕ) → given place ≡ frames_at c.maps.now place
   pub locals : b.max_locals ≡ c.max_locals

@@ -225,6 +225,13 @@ fn returns(init: bool) -> Checked
     })
 }
 
+/// Whether a return may come now, where the flag says that `this` isn't initialised.
+fn may_return(around: &Around<'_>, flag: bool) -> bool
+    ensures { (s : Site) (f : typing.TypeFrame) → StandsAt around.now s → f.flag ≡ flag → result ≡ checks.may_return s.program s.number s.method s.body s.maps s.place f }
+{
+    !(around.is_init && flag)
+}
+
 /// A return of a value from a method with this result.
 fn check_value(
     around: &Around<'_>,
@@ -241,7 +248,7 @@ fn check_value(
     if !both(item.is_moved(sort), is_seen_for(around, declared, item)) {
         return Checked::Fails(Rule::Stack);
     }
-    returns(both(item.is_initialized(), !frame.flag))
+    returns(both(item.is_initialized(), may_return(around, frame.flag)))
 }
 
 /// A return of a method with this result.
@@ -254,7 +261,7 @@ pub fn check_return(
     ensures { (s : Site) → StandsAt around.now s → s.method.result ≡ option_map declared_seen declared → Checks s (rows.Return (option_map moved_seen given)) frame.old result frame.new }
 {
     match (declared, given) {
-        (None, None) => returns(!frame.flag),
+        (None, None) => returns(may_return(around, frame.flag)),
         (Some(declared), Some(sort)) => check_value(around, frame, declared, sort),
         (None, Some(_)) => Checked::Fails(Rule::Stack),
         (Some(_), None) => Checked::Fails(Rule::Stack),

@@ -220,11 +220,13 @@ fn walk_method(
     let starts = starts(alloc, bytes)?;
     let made = made_classes(alloc, program, number, bytes.len() as u32)?;
     let handlers = handlers_of(alloc, program, class, code.handlers.as_slice())?;
+    let shape = program.shape(number);
     let checking = Checking {
         program,
         around: Around {
             classes: program.hierarchy(),
             owner: class,
+            is_init: shape.is_init,
             made: &made,
         },
         maps,
@@ -232,7 +234,7 @@ fn walk_method(
         handlers: &handlers,
         max_locals: code.max_locals,
         max_stack: code.max_stack,
-        result: program.shape(number).result,
+        result: shape.result,
     };
     match walk_places(alloc, &checking, number, &starts, first)? {
         Some((place, rule)) => Ok(Some((place, MethodRule::Walk(rule)))),

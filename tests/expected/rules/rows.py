@@ -263,6 +263,13 @@ row('this_by_its_own', 'ok', '<init>(I)V', 2, 1, '2a b7{mT.<init>()V} b1', flags
 row('own_field_before_init', 'ok', '<init>(I)V', 2, 2, '2a 1b b5{fT.f:I} 2a b7{m%s.<init>()V} b1' % O, flags=1, fields=[(1, 'f', 'I')])
 row('own_field_read_before_init', '1 init', '<init>(I)V', 2, 2, '2a b4{fT.f:I} 57 2a b7{m%s.<init>()V} b1' % O, flags=1, fields=[(1, 'f', 'I')])
 row('superclass_s_field_before_init', '2 init', '<init>(I)V', 2, 2, '2a 1b b5{fT.f:I} 2a b7{mp/A.<init>()V} b1', flags=1, parent='p/A', files=[A])
+THIS = '0001 ff 0001 0001 06 0000'
+row('dead_return_with_the_flag', 'ok', 'f()V', 1, 0, 'b1 b1', map=THIS)
+row('dead_ireturn_with_the_flag', 'ok', 'f()I', 1, 1, '03 ac 03 ac', map='0001 ff 0002 0001 06 0000')
+row('dead_return_with_the_flag_of_an_instance', 'ok', 'f()V', 1, 0, 'b1 b1', map=THIS, flags=1)
+row('dead_return_with_the_flag_of_init', '5 init', '<init>()V', 1, 1, '2a b7{m%s.<init>()V} b1 b1' % O, map='0001 ff 0005 0001 06 0000', flags=1, bare=True)
+row('handler_behind_a_return_with_the_flag', '1 handler', 'f()V', 1, 1, 'b1 b1 57 b1', handlers=[(1, 2, 2, None)], map='0002 ff 0001 0001 06 0000 ff 0000 0001 01 0001 07{c%s}' % T)
+row('stack_behind_a_return_with_the_flag', '2 stack', 'f()V', 1, 1, 'b1 b1 57 b1', map='0002 ff 0001 0001 06 0000 fb 0000')
 
 # ---- target
 row('no_frame_at_the_target', '1 target', 'm()V', 0, 1, '03 99 0003 b1')

@@ -1,4 +1,4 @@
-use Rattle.std.proofs.Common.{sym, ap, ap₂, ◌∙◌, ◌&&◌, not, true, None}
+use Rattle.std.proofs.Common.{sym, ap, ap₂, ◌∙◌, ◌&&◌, true, None, refl}
 use Rattle.bytecode_typing.specs.Rules.{Leaves}
 use Rattle.verifier_types.specs.Frame.{frame_seen, operands_seen}
 use Rattle.verifier_types.specs.Seen.{type_seen}
@@ -15,6 +15,6 @@ pub returns : goal.returns
 returns c = λ s st.
     let f = frame_seen c.args.frame.now in
     c.returns.ensures _
-    ∙ (ap (λ b. Leaves None true b true) (c.both-2.ensures ∙ ap (λ b. b && not c.args.frame.now.flag) c.is_initialized.ensures)
+    ∙ (ap (λ b. Leaves None true b true) (c.both-2.ensures ∙ ap₂ (λ a b. a && b) c.is_initialized.ensures (c.may_return.ensures s f st refl))
     ∙ sym (item_found (operands_seen c.args.frame.now.operands) (type_seen c.in-Some.item) (operands_seen c.pop.new.self) _ c.in-Some.ensures
     ∙ need_holds _ _ _ (ap₂ (λ a b. a && b) (sym c.is_moved.ensures) (sym (c.is_seen_for.ensures s f st)) ∙ (sym c.both.ensures ∙ c.if-not-both.false))))
