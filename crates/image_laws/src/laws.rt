@@ -7,10 +7,10 @@ use class_lookup::laws::{
     superclasses_stand_above, the_first_method_is_selected,
 };
 use class_rules::laws::methods_have_code;
-use word32::laws::packed_has_words;
 use descriptors::laws::field_descriptors;
 use image_words::laws::image_words_lie;
 use program_laws::laws::{fields_come_after_those_above, resolved_programs_are_lawful};
+use word32::laws::packed_has_words;
 
 /// The slots of a class begin with those of its superclasses.
 pub fn slots_are_inherited()

@@ -23,13 +23,13 @@ use crate::methods::argument_words;
 use crate::uses::{Use, uses_of};
 use class_lookup::Place;
 use class_pool::Entry;
+use image_builder::{add, count, times};
 use image_words::{Outline, index_of_place};
 use jop_base::NoMemory;
 use program_tables::laws::{members_are_there, methods_stand_by_number};
 use program_tables::{Declared, ObjectKind, is_static_field};
 use resolved_program::Program;
 use std::alloc::Global;
-use image_builder::{add, count, times};
 
 /// The words of the arguments stand above a number of 24 bits.
 const ARGUMENTS: u32 = 1 << 24;

@@ -18,12 +18,12 @@ use crate::methods::add_methods;
 use crate::outline::outline_of;
 use crate::statics::add_statics;
 use crate::tables::{add_interfaces, add_tables};
-use word32::laws::packed_has_words;
+use image_builder::{LayFault, Layout};
 use image_words::{Outline, add_raised, add_strings, add_types};
 use jop_base::NoMemory;
 use resolved_program::Program;
 use std::alloc::Global;
-use image_builder::{LayFault, Layout};
+use word32::laws::packed_has_words;
 
 /// The words, region by region.
 fn words_of(alloc: Global, program: &Program, outline: &Outline) -> Result<Vec<u32>, NoMemory>

@@ -12,6 +12,6 @@ mod statics;
 mod tables;
 mod uses;
 
+pub use image_builder::{Counted, LayFault, Layout};
 pub use layout::lay_out;
 pub use limits::coded_methods;
-pub use image_builder::{Counted, LayFault, Layout};

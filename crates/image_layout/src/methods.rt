@@ -12,12 +12,12 @@ ghost use Rattle.image_words.specs.Layout.{outline_of};
 ghost use Rattle.image_words.specs.Regions.{method_image, methods_region};
 ghost use Rattle.image_words.specs.Outline.{IsOutline};
 
+use image_builder::{add, add_bytes, count, halves, times};
 use image_words::{Outline, counted_type, declared_words};
 use jop_base::NoMemory;
 use program_tables::Declared;
 use program_tables::laws::{members_are_there, methods_stand_by_number};
 use resolved_program::Program;
-use image_builder::{add, add_bytes, count, halves, times};
 
 /// What stands in the upper half of a word counts so many times.
 const UPPER: u32 = 65536;

@@ -3,6 +3,7 @@ ghost use Rattle.std.specs.Prelude.{IfOk};
 ghost use Rattle.image_words.specs.Outline.{IsOutline};
 
 use crate::sizes::{instances_of, method_sizes, static_sizes};
+use image_builder::{add, count, run_from, times};
 use image_words::{
     Outline, Slots, interface_methods, interface_sizes, object_sizes, pool_sizes, table_sizes,
     type_words,
@@ -10,7 +11,6 @@ use image_words::{
 use jop_base::NoMemory;
 use resolved_program::Program;
 use std::alloc::Global;
-use image_builder::{add, count, run_from, times};
 
 /// The words of the header and of the two lists behind it.
 const FRONT: u32 = 16 + 8 + 9;

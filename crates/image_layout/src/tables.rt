@@ -7,12 +7,12 @@ ghost use Rattle.image_words.specs.Regions.{code_place, selected_place, implemen
 ghost use Rattle.image_words.specs.Outline.{IsOutline};
 
 use class_lookup::{Classes, Place};
+use image_builder::add_zeros;
 use image_words::{Outline, is_interface};
 use jop_base::NoMemory;
 use program_tables::method_at;
 use resolved_program::Program;
 use std::alloc::Global;
-use image_builder::add_zeros;
 
 /// Whether the method has code.
 pub(crate) fn is_coded(classes: &Classes, place: Place) -> bool

@@ -15,9 +15,9 @@ use crate::signatures::{Signatures, symbols_at};
 use class_hierarchy::Hierarchy;
 use class_lookup::laws::{members_have_symbols, superclasses_stand_above, symbols_stand_for_texts};
 use class_lookup::{Classes, Place};
+use image_builder::{add, count};
 use jop_base::NoMemory;
 use std::alloc::Global;
-use image_builder::{add, count};
 
 /// The slots of a class.
 #[derive(Drop)]

@@ -15,10 +15,10 @@ use crate::members::is_interface;
 use crate::slots::Slots;
 use class_hierarchy::Hierarchy;
 use class_lookup::{ClassFile, Classes};
+use image_builder::{Run, add, count, times};
 use jop_base::NoMemory;
 use program_tables::{Declared, Types};
 use std::alloc::Global;
-use image_builder::{Run, add, count, times};
 
 /// A value of type long takes two words.
 pub fn declared_words(declared: Declared) -> u32

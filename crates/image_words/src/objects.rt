@@ -10,10 +10,10 @@ ghost use Rattle.program_tables.specs.Resolving.{IsResolved};
 ghost use Rattle.image_words.specs.Outline.{AreInstances};
 
 use crate::item_sizes::class_words;
+use image_builder::{Run, add, count};
 use jop_base::NoMemory;
 use program_tables::Strings;
 use std::alloc::Global;
-use image_builder::{Run, add, count};
 
 /// The classes of the objects that instructions raise, in their order.
 pub(crate) fn raised_classes() -> [u32; 9]

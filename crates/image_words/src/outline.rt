@@ -13,9 +13,9 @@ ghost use Rattle.image_words.specs.Regions.{first_place};
 
 use crate::slots::Slots;
 use class_lookup::Place;
+use image_builder::{Run, add, times};
 use jop_base::NoMemory;
 use program_tables::{ObjectKind, Types};
-use image_builder::{Run, add, times};
 
 /// Where the parts of an image lie, and for which methods the tables have words.
 #[derive(Drop)]

@@ -13,9 +13,9 @@ ghost use Rattle.image_words.specs.Regions.{first_place, raised_region, strings_
 use crate::item_sizes::class_words;
 use crate::objects::raised_classes;
 use crate::outline::Outline;
+use image_builder::{add, add_units, add_zeros, count};
 use jop_base::NoMemory;
 use program_tables::Strings;
-use image_builder::{add, add_units, add_zeros, count};
 
 /// Before the classes stand the eight arrays of numbers, of which the second are those of char.
 const FIRST_CLASS: u32 = 8;

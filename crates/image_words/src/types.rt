@@ -19,9 +19,9 @@ use crate::item_sizes::class_words;
 use crate::members::is_interface;
 use crate::outline::Outline;
 use class_hierarchy::Hierarchy;
+use image_builder::add;
 use jop_base::NoMemory;
 use program_tables::{Base, ObjectKind, Types};
-use image_builder::add;
 
 /// The classes that arrays are.
 const OBJECT: u32 = 0;

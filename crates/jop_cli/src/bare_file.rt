@@ -22,8 +22,8 @@ use jop_base::NoMemory;
 use jop_core::{Bare, BareFault, Config, Watch, read_bare};
 use jop_outside::Sink;
 use jop_words::Settings;
-use stream_devices::NoSource;
 use std::alloc::Global;
+use stream_devices::NoSource;
 
 // The image that the bytes are.
 fn image_of(alloc: Global, bytes: &[u8]) -> Result<Bare, Ending>

@@ -7,10 +7,10 @@ ghost use Rattle.jop_words.specs.Command.{texts};
 ghost use Rattle.jop_cli.specs.Line.{text_at, kind_name, link_parts, too_long_parts, is_memory, line_of, is_fault};
 
 use crate::outcome::{AsmRefusal, Ending, Refusal};
-use outcome_lines::{AsmLine, Line, LinkLine, say};
 use jop_outside::{Failed, Sink};
 use jopizer::LinkRefusal;
 use microcode_asm::AsmKind;
+use outcome_lines::{AsmLine, Line, LinkLine, say};
 use refusal_lines::{say_failure, say_limit};
 
 /// The text of a word, and an empty one where there is no such word.

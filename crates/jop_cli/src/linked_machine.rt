@@ -17,6 +17,7 @@ use crate::settings::Plan;
 use crate::show::{NamedShow, linked_show};
 use boundary::{CodedMethod, Running};
 use bytecode_verifier::Verified;
+use image_builder::Layout;
 use jop_base::NoMemory;
 use jop_core::{Config, Watch};
 use jop_outside::{Sink, Source};
@@ -24,7 +25,6 @@ use linked_methods::methods_of;
 use linked_start::{boot_takes_six_words, uncaught_classes_are_there, verified_programs_are_told};
 use program_tables::laws::methods_stand_by_number;
 use std::alloc::Global;
-use image_builder::Layout;
 
 /// A machine at reset over the image of a verified program that is laid out, with these methods. The only error is that there
 /// was no memory.

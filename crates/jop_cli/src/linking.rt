@@ -13,13 +13,13 @@ ghost use Rattle.jop_cli.specs.Leaving.{Leaves};
 
 use crate::lines::text_of;
 use crate::outcome::{Ending, Refusal};
-use outcome_lines::Sizes;
 use image_layout::coded_methods;
 use jop_base::NoMemory;
 use jop_outside::{Files, Sink, put_all};
 use jop_program::ProgramRefusal;
 use jopizer::{LinkRefusal, Linked, link, write_image};
 use operand_files::{FilesFault, read_files};
+use outcome_lines::Sizes;
 use refusal_lines::name_in;
 use std::alloc::Global;
 

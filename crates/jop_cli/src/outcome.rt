@@ -1,8 +1,8 @@
 //! How a call of the program ends.
 
-use outcome_lines::{Counts, Sizes};
 use jopizer::LinkRefusal;
 use microcode_asm::AsmKind;
+use outcome_lines::{Counts, Sizes};
 
 /// Why a command was refused.
 #[derive(Clone, Copy)]

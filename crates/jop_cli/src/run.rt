@@ -13,9 +13,9 @@ ghost use Rattle.jop_cli.specs.Run.{AreCounts, Started, HasStarted, RunsAsAll, R
 use crate::program_end::ProgramEnd;
 use crate::show::NamedShow;
 use boundary::{RunEnd, Running, trace};
-use outcome_lines::Counts;
 use jop_core::{Machine, Watch};
 use jop_outside::{Sink, Source};
+use outcome_lines::Counts;
 use stream_devices::RunDevice;
 use trace_lines::TraceDevice;
 

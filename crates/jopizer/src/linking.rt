@@ -14,7 +14,7 @@ use bytecode_verifier::laws::core_is_verified;
 use bytecode_verifier::{MethodRule, Verified, VerifyFault, verify};
 use image_layout::{LayFault, Layout, lay_out};
 use jop_base::NoMemory;
-use jop_program::{ProgramRefusal, Program, resolve};
+use jop_program::{Program, ProgramRefusal, resolve};
 use program_tables::laws::members_are_there;
 use std::alloc::Global;
 

@@ -6,11 +6,11 @@ ghost use Rattle.image_words.specs.Regions.{places_of};
 ghost use Rattle.linked_methods.specs.Placed.{AreOnly, ArePlaced};
 
 use coded_methods::CodedMethod;
+use image_builder::Layout;
 use jop_base::NoMemory;
 use program_tables::laws::methods_stand_by_number;
 use resolved_program::Program;
 use std::alloc::Global;
-use image_builder::Layout;
 
 /// The methods of a program that have code, by number, with their places in its image.
 pub fn methods_of<'a>(

@@ -7,11 +7,11 @@ ghost use Rattle.refusal_lines.specs.Lines.{place_of, refusal_parts, is_want_of_
 
 use crate::names::{item_name, limit_name, rule_name, why_name};
 use bytecode_verifier::MethodRule;
-use outcome_lines::{Line, LinkLine, Named, Place, say};
+use image_builder::Counted;
 use jop_outside::{Failed, Sink};
 use jop_program::ProgramRefusal;
+use outcome_lines::{Line, LinkLine, Named, Place, say};
 use program_tables::{Item, Site, Why};
-use image_builder::Counted;
 
 fn place_of(site: Site) -> Place
     ensures { result ≡ place_of site }
@@ -50,7 +50,11 @@ fn say_entry<O: Sink>(
 }
 
 /// Puts the line of why files are no program, with what it names in them.
-pub fn say_refusal<O: Sink>(sink: &mut O, refusal: ProgramRefusal, name: &[u8]) -> Result<(), Failed>
+pub fn say_refusal<O: Sink>(
+    sink: &mut O,
+    refusal: ProgramRefusal,
+    name: &[u8],
+) -> Result<(), Failed>
     ensures said { Said (is_want_of_memory refusal) (concat (refusal_parts refusal name.now)) (O.held sink.old) (O.held sink.new) (O.faults sink.old) (O.faults sink.new) result }
     ensures cause { HasCause (O.faults sink.old) (O.faults sink.new) result }
 {
@@ -59,7 +63,10 @@ pub fn say_refusal<O: Sink>(sink: &mut O, refusal: ProgramRefusal, name: &[u8]) 
         ProgramRefusal::UnsupportedVersion(file, major) => {
             say(sink, &Line::Link(LinkLine::UnsupportedVersion(file, major)))
         }
-        ProgramRefusal::Duplicate(file, _) => say(sink, &Line::Link(LinkLine::Duplicate(file, name))),
+        ProgramRefusal::Duplicate(file, _) => say(
+            sink,
+            &Line::Link(LinkLine::Duplicate(file, name)),
+        ),
         ProgramRefusal::Unsupported(file, site, item) => say_item(sink, file, site, item),
         ProgramRefusal::Unresolved(file, entry, why) => say_entry(sink, file, entry, why, name),
         ProgramRefusal::BadHierarchy(file) => say(sink, &Line::Link(LinkLine::BadHierarchy(file))),

@@ -3,9 +3,9 @@ ghost use Rattle.std.specs.Prelude.{◌≡◌};
 ghost use Rattle.refusal_lines.specs.Names.{item_name, why_name, walk_rule_name, rule_name, limit_name};
 
 use bytecode_verifier::{MethodRule, Rule};
+use image_builder::Counted;
 use jop_opcodes::name;
 use program_tables::{Item, Why};
-use image_builder::Counted;
 
 /// The name of an item that this machine doesn't support.
 pub(crate) fn item_name(item: Item) -> &'static str

@@ -105,7 +105,11 @@ fn entry_told(
 /// # Errors
 ///
 /// There was no memory; or one of the files is no class file, and then no refusal of them names anything.
-pub fn name_in(alloc: Global, files: &[Vec<u8>], refusal: ProgramRefusal) -> Result<Vec<u8>, NoMemory>
+pub fn name_in(
+    alloc: Global,
+    files: &[Vec<u8>],
+    refusal: ProgramRefusal,
+) -> Result<Vec<u8>, NoMemory>
     ensures { IfOk result (λ name. IsNamed (map (λ f. f.items) files.now) refusal name.items) }
 {
     match refusal {

@@ -7,8 +7,8 @@ use crate::halt::Halt;
 use crate::machine::Machine;
 use crate::places::STACK;
 use crate::steps::Action;
-use word32::{branch_holds, number, shift_right, sign_extend8, sign_extend16, signed_less};
 use micro_isa::Operation;
+use word32::{branch_holds, number, shift_right, sign_extend8, sign_extend16, signed_less};
 
 impl<const N: usize> Machine<N> {
     // Pops, and sets A: what an operation on B and A does with its result.

@@ -10,14 +10,14 @@ use crate::halt::Halt;
 use crate::machine::{Machine, NOT_FETCHED};
 use crate::places;
 use bare_image::Bare;
-use word32::laws::packed_has_words;
-use word32::pack;
 use jop_base::NoMemory;
 use memory_timing::{Config, Memory};
 use method_cache::MethodCache;
 use microcode_rom::{constant, entry};
 use stack_cache::StackCache;
 use std::alloc::Global;
+use word32::laws::packed_has_words;
+use word32::pack;
 
 // What a machine begins with, but for the words of its image and of its code.
 #[derive(Clone, Copy)]
