@@ -1,30 +1,21 @@
 -- The row of a plain opcode, or the way to the raise routine, from the sketch as it stands at the entry.
-use Rattle.std.proofs.Common.{◌≡◌, ◌≢◌, ℕ, ◌==◌, Bool, true, false, List, [], refl, sym, subst, ap, ◌∙◌, arith, eq-eqb, eqb-true}
-use Rattle.std.specs.declared.option.Option.{Option}
-use Rattle.microcode_rom.specs.declared.TheConstants.{RAISE}
+use Rattle.std.proofs.Common.{◌≡◌, ◌≢◌, ℕ, ◌==◌, true, false, sym, subst, ap, ◌∙◌, arith, eq-eqb, eqb-true}
 use Rattle.micro_flow.specs.declared.CostParams.{CostParams}
-use Rattle.jop_core.specs.declared.halt.Halt.TheVariants.{Running}
 use Rattle.jop_core.specs.State.{State}
 use Rattle.micro_sketch.specs.Sketch.{Sketch}
-use Rattle.micro_sketch.specs.Stands.{Env, Reaches, IsDone, stalls, stalls_for}
-use Rattle.micro_sketch.specs.Ends.{EndsSoon}
-use Rattle.micro_sketch.specs.Step.{Arrived, Went}
-use Rattle.micro_sketch.specs.Row.{StandsAt, DidRow, Effect, WasSilent}
-use Rattle.micro_sketch.specs.declared.step.Stepped.{Stepped}
-use Rattle.micro_sketch.specs.declared.step.Stepped.TheVariants.{Next, Raise, Halted, ReadFault, WriteFault, SeenFault}
-use Rattle.micro_sketch.specs.Rows.{Makes, finishes, end_of, expecting, Silent, TakesNone, PutsNone, DidRaise, LandsAt}
-use Rattle.micro_sketch.specs.RowLaws.{AreRowLaws, AlwaysSilent}
-use Rattle.jop_core.specs.declared.tick.Tick.TheVariants as ticks
-use Rattle.micro_plain.specs.Opcodes.{PlainOp, OfNumber, OfLocal, OfStack, OfLong, OfDivision, OfBranch, OfSwitch, OfWide, code_of, effect, IsReady, raises, raised_by}
-use Rattle.micro_plain.specs.NumberOps.{NumberOp, Nop, number_code, number_effect}
-use Rattle.micro_plain.specs.LocalOps.{LocalOp, Iload, Lload, Lload0, Lload1, Lload2, Lload3, Lstore, Lstore0, Lstore1, Lstore2, Lstore3, local_code, local_effect, local_ready}
-use Rattle.micro_plain.specs.StackOps.{StackOp, Pop, Dup2X2, stack_code, stack_effect, stack_ready}
-use Rattle.micro_plain.specs.LongOps.{LongOp, Ladd, Lsub, Lneg, Lshl, Lshr, Lushr, Land, Lor, Lxor, I2l, L2i, Lcmp, long_code, long_effect, long_ready, HasTwoLongs, HasLongBelow}
-use Rattle.micro_plain.specs.DivisionOps.{DivisionOp, Idiv, Irem, division_effect, CanDivide, HasOperands}
-use Rattle.micro_plain.specs.BranchOps.{BranchOp, Ifeq, branch_code, branch_effect}
-use Rattle.micro_plain.specs.SwitchOps.{SwitchOp, Tableswitch, Lookupswitch, switch_effect, switch_ready}
-use Rattle.micro_plain.specs.WideOps.{WideOp, WideIload, WideLload, WideAload, WideIstore, WideLstore, WideAstore, WideIinc, wide_effect, wide_ready, HasWide, HasWideLong}
-use Rattle.micro_plain.specs.Stepped.{IsPlain, DoesRow, ComesToRaise, DidPlain}
+use Rattle.micro_sketch.specs.Stands.{Env, stalls, stalls_for}
+use Rattle.micro_sketch.specs.Row.{StandsAt, Effect}
+use Rattle.micro_sketch.specs.Rows.{Makes, finishes, end_of}
+use Rattle.micro_sketch.specs.RowLaws.{AreRowLaws}
+use Rattle.micro_plain.specs.Opcodes.{PlainOp, OfNumber, OfLocal, OfStack, OfLong, OfDivision, OfBranch, OfSwitch, OfWide, code_of, effect, IsReady, raises}
+use Rattle.micro_plain.specs.NumberOps.{number_code, number_effect}
+use Rattle.micro_plain.specs.LocalOps.{local_code, local_effect, local_ready}
+use Rattle.micro_plain.specs.StackOps.{stack_code, stack_effect}
+use Rattle.micro_plain.specs.LongOps.{long_code, long_effect, long_ready}
+use Rattle.micro_plain.specs.DivisionOps.{Idiv, Irem, CanDivide, HasOperands}
+use Rattle.micro_plain.specs.BranchOps.{branch_code, branch_effect}
+use Rattle.micro_plain.specs.SwitchOps.{Tableswitch, Lookupswitch, switch_effect, switch_ready}
+use Rattle.micro_plain.specs.WideOps.{wide_effect, wide_ready}
 use Rattle.micro_plain.proofs.Shaping.{Row}
 use Rattle.micro_plain.proofs.RowRuns.{RowRun, RaiseRun}
 use Rattle.micro_plain.proofs.Numbers.{number_row}
