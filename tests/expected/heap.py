@@ -1,4 +1,8 @@
-"""Images by hand and the states of the JVM Specification SE 8 at each boundary, for the program test_heap."""
+"""Writes images by hand, and the states of the JVM Specification SE 8 at each boundary of their runs: the last rows of crates/test_machine.
+
+    python3 heap.py FILE
+
+It interprets bytecode (chapter 6), and knows neither microcode nor the words of frames."""
 import sys
 
 M32 = 1 << 32
@@ -270,7 +274,7 @@ def run(name, b, out):
     assert len(b.code) < 4000, (name, len(b.code))
     words, objs, places, total = layout(b)
     size = total + b.heap
-    out.append('image %s %d %s' % (name, size, ' '.join(map(str, words))))
+    out.append('course %s %d %s' % (name, size, ' '.join(map(str, words))))
     objs, places = list(objs), list(places)
     free = [total]
     statics = {n: zero(t) for n, t in STATICS}
@@ -308,7 +312,7 @@ def run(name, b, out):
         if shown[0] != free[0]:
             shown[0] = free[0]
             out.append('free %d' % free[0])
-        out.append(' '.join(['at', str(pc)] + list(ls) + [':'] + ops))
+        out.append(' '.join(['at', '0', str(pc)] + list(ls) + [':'] + ops))
 
     def step(op):
         nonlocal pc

@@ -5,7 +5,7 @@ ghost use Rattle.jop_device.specs.Told.{Told, silent};
 use jop_core::{DeviceFault, Devices, MemWatch, Seen, Watch};
 use std::alloc::Global;
 
-/// A device that has one byte of input, and keeps what it is given. It tells nothing.
+/// A device that has at most one byte of input, and keeps what it is given. It tells nothing.
 #[derive(Drop)]
 pub struct Keeper {
     given: bool,
@@ -15,13 +15,21 @@ pub struct Keeper {
 }
 
 impl Keeper {
-    /// A device that was given nothing yet.
+    /// A device that was given nothing yet, with its byte of input.
     pub fn new(alloc: Global) -> Keeper {
         Keeper {
             given: false,
             output: Vec::new(alloc),
             watch: MemWatch::new(alloc),
             failed: 0,
+        }
+    }
+
+    /// The same without input.
+    pub fn without_input(alloc: Global) -> Keeper {
+        Keeper {
+            given: true,
+            ..Keeper::new(alloc)
         }
     }
 }

@@ -1,16 +1,17 @@
 //! Machines at reset, and cycle by cycle.
 
 use crate::device::Keeper;
-use crate::words::{LineFault, bytes, numbers, parted};
+use crate::words::{bytes, parted};
 use jop_core::{
     BareFault, Config, Halt, Machine, Tick, can_start, can_start_bare, places, read_bare,
 };
 use microcode_rom::entry;
+use test_rows::{RowFault, numbers};
 
 /// Reads a bare image.
-pub fn show_bare(rt: &HostRuntime, words: &[&str]) -> Result<(), LineFault> {
+pub fn show_bare(rt: &HostRuntime, words: &[&str]) -> Result<(), RowFault> {
     let [word] = words else {
-        return Err(LineFault::Malformed);
+        return Err(RowFault::Malformed);
     };
     match read_bare(rt.alloc(), &bytes(rt.alloc(), word)?) {
         Ok(bare) => println!(*rt;
@@ -20,13 +21,13 @@ pub fn show_bare(rt: &HostRuntime, words: &[&str]) -> Result<(), LineFault> {
             bare.code().len()
         )?,
         Err(BareFault::Bad) => println!(*rt; "bad image")?,
-        Err(BareFault::NoMemory) => return Err(LineFault::NoMemory),
+        Err(BareFault::NoMemory) => return Err(RowFault::NoMemory),
     }
     Ok(())
 }
 
 /// Runs a bare image that has this code and no locals.
-pub fn show_run(rt: &HostRuntime, words: &[&str]) -> Result<(), LineFault> {
+pub fn show_run(rt: &HostRuntime, words: &[&str]) -> Result<(), RowFault> {
     let (parts, clocks) = parted(words)?;
     let mut code = Vec::new(rt.alloc());
     for part in parts {
@@ -43,18 +44,15 @@ pub fn show_run(rt: &HostRuntime, words: &[&str]) -> Result<(), LineFault> {
             let mut machine = Machine::<1024>::bare(rt.alloc(), &bare, config)?;
             show_clocks(rt, &mut machine, clocks)
         }
-        Err(BareFault::NoMemory) => Err(LineFault::NoMemory),
-        _ => Err(LineFault::Malformed),
+        Err(BareFault::NoMemory) => Err(RowFault::NoMemory),
+        _ => Err(RowFault::Malformed),
     }
 }
 
 /// Runs an image of words.
-pub fn show_image(rt: &HostRuntime, words: &[&str]) -> Result<(), LineFault> {
+pub fn show_image(rt: &HostRuntime, words: &[&str]) -> Result<(), RowFault> {
     let (parts, clocks) = parted(words)?;
-    let mut image = Vec::new(rt.alloc());
-    for number in numbers(rt.alloc(), parts)?.iter() {
-        image.push((*number % (1 << 32)) as u32)?;
-    }
+    let image: Vec<u32> = numbers(rt.alloc(), parts)?;
     let config = Config::default();
     if !can_start(&image, config) {
         println!(*rt; "can't start")?;
@@ -81,9 +79,9 @@ fn show_clocks(
     rt: &HostRuntime,
     machine: &mut Machine<1024>,
     clocks: &[&str],
-) -> Result<(), LineFault> {
+) -> Result<(), RowFault> {
     let mut device = Keeper::new(rt.alloc());
-    for clock in numbers(rt.alloc(), clocks)?.iter() {
+    for clock in numbers::<u64>(rt.alloc(), clocks)?.iter() {
         let last = run_to(machine, &mut device, *clock);
         show_registers(rt, machine, last)?;
     }
@@ -111,7 +109,7 @@ fn run_to(machine: &mut Machine<1024>, device: &mut Keeper, clock: u64) -> Tick 
     Tick::Went
 }
 
-fn show_registers(rt: &HostRuntime, machine: &Machine<1024>, last: Tick) -> Result<(), LineFault> {
+fn show_registers(rt: &HostRuntime, machine: &Machine<1024>, last: Tick) -> Result<(), RowFault> {
     let answer = match last {
         Tick::Went => "went",
         Tick::Halted => "halted",

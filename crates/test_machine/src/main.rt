@@ -1,53 +1,94 @@
-//! Shows on a table what the parts of the machine and the machine do where memory is found: each line of the
-//! input is something to do, and the output has a line or more of what came of it.
+//! Shows on a table what the parts of the machine and the machine do where memory is found, cycle by cycle and boundary by
+//! boundary: each line of the input is something to do, and the output has a line or more of what came of it.
 //!
 //! - `stack PLACE WORD` writes a word into 1,024 on-chip words, and reads words at both ends.
 //! - `read WAIT PLACE` reads a place of the words 5, 6, 7 and 8, and counts the cycles to the pushed value.
 //! - `past` writes and reads past the end of four words.
 //! - `settings` shows the settings that nobody chose.
-//! - `methods BLOCKS WORDS M:N ..` fetches methods of N words into a method cache, and shows the blocks.
+//! - `cache BLOCKS WORDS M:N ..` fetches methods of N words into a method cache, and shows the blocks.
 //! - `bare HEX` reads a bare image.
 //! - `run HEX .. at CLOCK ..` runs a bare image, whose code is given, and shows the registers at these clocks.
 //! - `image WORD .. at CLOCK ..` does so with an image of words, of which the first 16 and boot's record are given.
 //!
-//! The registers of the machine were worked out by hand from the definition of a cycle.
+//! The registers of the machine were worked out by hand from the definition of a cycle. The other rows compare it with states of
+//! programs that were worked out from the JVM Specification SE 8 by another program, `tests/expected/heap.py` for those with objects:
+//!
+//! - `course NAME MEMORY WORD ..` gives the words of an image, and begins its run in a memory of so many words.
+//! - `methods PLACE ..` has the places of the records of its methods, by number; without it there is boot's alone.
+//! - `at FRAME / FRAME ..` is the state at the next boundary, the first frame first. A frame is `METHOD PC W .. : W ..`: the
+//!   words of its local variables, `?` for any, and those of its operands.
+//! - `raise PLACE` says that the object at this place is being raised at the next boundary.
+//! - `free PLACE` says where the next object would be made, at the boundary before.
+//! - `ended BYTE ..` says that the machine has halted as ended, and what it has put out.
 #![tactic(auto)]
 
+mod course;
 mod device;
+mod frames;
 mod machines;
 mod parts;
 mod words;
 
-use std::alloc::AllocError;
+use course::Course;
 use std::io;
-use words::LineFault;
+use test_rows::RowFault;
 
-/// Does what a line says.
-fn show(rt: &HostRuntime, line: &str) -> Result<(), LineFault> {
-    let all: Vec<&str> = line.split_whitespace().collect(rt.alloc())?;
-    let [word, rest @ ..] = all.as_slice() else {
-        return Err(LineFault::Malformed);
-    };
-    match *word {
+// Does what a line says of a machine on its way.
+fn follow(rt: &HostRuntime, course: &mut Course, word: &str, rest: &[&str]) -> Result<(), RowFault> {
+    match word {
+        "methods" => course.set_methods(rt.alloc(), rest),
+        "at" => course.compare_frames(rt, rest),
+        "raise" => course.compare_raised(rt, rest),
+        "free" => course.compare_free(rt, rest),
+        "ended" => course.show_end(rt, rest),
+        _ => Err(RowFault::Malformed),
+    }
+}
+
+// Does what a line says of a part of the machine, or of a machine at some clocks.
+fn show(rt: &HostRuntime, word: &str, rest: &[&str]) -> Result<(), RowFault> {
+    match word {
         "stack" => parts::show_stack(rt, rest),
         "read" => parts::show_read(rt, rest),
         "past" => parts::show_past(rt),
         "settings" => parts::show_settings(rt),
-        "methods" => parts::show_methods(rt, rest),
+        "cache" => parts::show_methods(rt, rest),
         "bare" => machines::show_bare(rt, rest),
         "run" => machines::show_run(rt, rest),
         "image" => machines::show_image(rt, rest),
-        _ => Err(LineFault::Malformed),
+        _ => Err(RowFault::Malformed),
+    }
+}
+
+// Begins the run of an image.
+fn begin(rt: &HostRuntime, course: &mut Option<Course>, rest: &[&str]) -> Result<(), RowFault> {
+    let [name, memory, image @ ..] = rest else {
+        return Err(RowFault::Malformed);
+    };
+    *course = Some(Course::new(rt.alloc(), name, memory, image)?);
+    Ok(())
+}
+
+// Does what a line says.
+fn do_line(rt: &HostRuntime, course: &mut Option<Course>, line: &str) -> Result<(), RowFault> {
+    let words: Vec<&str> = line.split_whitespace().collect(rt.alloc())?;
+    let [word, rest @ ..] = words.as_slice() else {
+        return Err(RowFault::Malformed);
+    };
+    match (*word, course) {
+        ("course", course) => begin(rt, course, rest),
+        ("methods" | "at" | "raise" | "free" | "ended", Some(course)) => {
+            follow(rt, course, word, rest)
+        }
+        _ => show(rt, word, rest),
     }
 }
 
 fn main(rt: HostRuntime) -> io::Result<()> {
+    let mut course = None;
     for line in rt.lines(rt.alloc()) {
-        match show(&rt, line?.as_str()) {
-            Ok(()) => {}
-            Err(LineFault::Malformed) => println!(rt; "bad line")?,
-            Err(LineFault::NoMemory) => return Err(io::Error::from(AllocError)),
-            Err(LineFault::Output(fault)) => return Err(fault),
+        if let Err(fault) = do_line(&rt, &mut course, line?.as_str()) {
+            fault.told(&rt)?;
         }
     }
     Ok(())

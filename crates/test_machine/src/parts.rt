@@ -1,19 +1,19 @@
 //! The on-chip words, the memory behind its port and the method cache.
 
-use crate::words::{LineFault, numbers};
 use memory_timing::{Config, Memory};
 use method_cache::MethodCache;
 use stack_cache::StackCache;
+use test_rows::RowFault;
 
 /// Writes a word into the on-chip words.
-pub fn show_stack(rt: &HostRuntime, words: &[&str]) -> Result<(), LineFault> {
+pub fn show_stack(rt: &HostRuntime, words: &[&str]) -> Result<(), RowFault> {
     let [place, word] = words else {
-        return Err(LineFault::Malformed);
+        return Err(RowFault::Malformed);
     };
     let place = place.parse::<u32>()?;
     let word = word.parse::<u32>()?;
     if place >= 1024 {
-        return Err(LineFault::Malformed);
+        return Err(RowFault::Malformed);
     }
     let mut stack: StackCache<1024> = StackCache::new(rt.alloc())?;
     stack.write(place, word);
@@ -40,25 +40,25 @@ fn cycles_of_a_read(memory: &mut Memory, place: u32) -> Option<u32> {
 }
 
 /// Reads a place of four words.
-pub fn show_read(rt: &HostRuntime, words: &[&str]) -> Result<(), LineFault> {
+pub fn show_read(rt: &HostRuntime, words: &[&str]) -> Result<(), RowFault> {
     let [wait, place] = words else {
-        return Err(LineFault::Malformed);
+        return Err(RowFault::Malformed);
     };
     let wait = wait.parse::<u32>()?;
     let place = place.parse::<u32>()?;
     if wait > 63 {
-        return Err(LineFault::Malformed);
+        return Err(RowFault::Malformed);
     }
     let mut memory = Memory::with_image(rt.alloc(), &[5, 6, 7, 8], 4, wait, 0)?;
     let Some(cycles) = cycles_of_a_read(&mut memory, place) else {
-        return Err(LineFault::Malformed);
+        return Err(RowFault::Malformed);
     };
     println!(*rt; "{cycles} cycles, {}", memory.value())?;
     Ok(())
 }
 
 /// Writes and reads past the end of four words.
-pub fn show_past(rt: &HostRuntime) -> Result<(), LineFault> {
+pub fn show_past(rt: &HostRuntime) -> Result<(), RowFault> {
     let mut memory = Memory::new(rt.alloc(), 4, 3, 2)?;
     memory.start_write(4, 9);
     memory.set(0, 1);
@@ -73,7 +73,7 @@ pub fn show_past(rt: &HostRuntime) -> Result<(), LineFault> {
 }
 
 /// Shows the settings that nobody chose.
-pub fn show_settings(rt: &HostRuntime) -> Result<(), LineFault> {
+pub fn show_settings(rt: &HostRuntime) -> Result<(), RowFault> {
     let config = Config::default();
     println!(*rt;
         "memory {}, read {}, write {}, {} blocks of {}",
@@ -91,18 +91,18 @@ fn fetch(cache: &mut MethodCache, m: u32, count: u32) {
 }
 
 /// Fetches methods into a method cache, and shows what each block holds and the words of the last method.
-pub fn show_methods(rt: &HostRuntime, words: &[&str]) -> Result<(), LineFault> {
+pub fn show_methods(rt: &HostRuntime, words: &[&str]) -> Result<(), RowFault> {
     let [blocks, block_words, methods @ ..] = words else {
-        return Err(LineFault::Malformed);
+        return Err(RowFault::Malformed);
     };
     let blocks = blocks.parse::<u32>()?;
     let block_words = block_words.parse::<u32>()?;
     if blocks == 0 || blocks > 256 || block_words == 0 || block_words > 1024 {
-        return Err(LineFault::Malformed);
+        return Err(RowFault::Malformed);
     }
     let mut cache = MethodCache::new(rt.alloc(), blocks, block_words)?;
     for method in methods {
-        let (m, count) = method.split_once(':').ok_or(LineFault::Malformed)?;
+        let (m, count) = method.split_once(':').ok_or(RowFault::Malformed)?;
         let m = m.parse::<u32>()?;
         fetch(&mut cache, m, count.parse::<u32>()?);
         show_blocks(rt, &cache)?;
@@ -118,7 +118,7 @@ pub fn show_methods(rt: &HostRuntime, words: &[&str]) -> Result<(), LineFault> {
     Ok(())
 }
 
-fn show_blocks(rt: &HostRuntime, cache: &MethodCache) -> Result<(), LineFault> {
+fn show_blocks(rt: &HostRuntime, cache: &MethodCache) -> Result<(), RowFault> {
     for block in 0..cache.blocks() {
         match cache.tag(block) {
             Some(m) => print!(*rt; "{m} ")?,

@@ -1,18 +1,15 @@
 //! The frames of a machine at a boundary, read from its words.
 
-use crate::LineFault;
-use jop_core::Machine;
+use jop_core::{Machine, places};
 use std::alloc::Global;
+use test_rows::RowFault;
 
-/// What the frames' words rest on: the words of the image, and the places of its methods.
+/// What the frames' words rest on: the words of the image, and the places of its methods by number.
 #[derive(Drop)]
 pub struct Layout {
-    image: Vec<u32>,
-    methods: Vec<u32>,
+    pub image: Vec<u32>,
+    pub methods: Vec<u32>,
 }
-
-/// The on-chip place of the first word of the first frame.
-const STACK: u32 = 64;
 
 /// How many words a frame saves: its caller's SP, the place that its caller goes on at, its caller's VP, pool and method.
 const SAVED: usize = 5;
@@ -21,19 +18,6 @@ const SAVED: usize = 5;
 const INVOKE: u32 = 3;
 
 impl Layout {
-    /// Over these words, with no methods yet.
-    pub fn new(alloc: Global, image: Vec<u32>) -> Layout {
-        Layout {
-            image,
-            methods: Vec::new(alloc),
-        }
-    }
-
-    /// The places of the methods, by number.
-    pub fn set_methods(&mut self, methods: Vec<u32>) {
-        self.methods = methods;
-    }
-
     // How many local variables the method at a place has.
     fn max_locals(&self, place: u32) -> Option<usize> {
         self.image
@@ -52,8 +36,8 @@ struct Frame {
     end: usize,
 }
 
-// Whether a word is the one that is written, or any.
-fn is_word(word: u32, written: &str) -> bool {
+/// Whether a word is the one that is written, or any.
+pub fn is_word(word: u32, written: &str) -> bool {
     written == "?" || written.parse::<u32>() == Ok(word)
 }
 
@@ -95,16 +79,16 @@ fn frame_agrees(
         Frame {
             method: *caller,
             pc: next.wrapping_sub(INVOKE),
-            first: vp.wrapping_sub(STACK) as usize,
+            first: vp.wrapping_sub(places::STACK) as usize,
             end: frame.first,
         },
     ))
 }
 
 // The words of the stack, the first frame's first.
-fn stack_of(alloc: Global, machine: &Machine<1024>) -> Result<Vec<u32>, LineFault> {
+fn stack_of(alloc: Global, machine: &Machine<1024>) -> Result<Vec<u32>, RowFault> {
     let mut words = Vec::new(alloc);
-    for place in STACK..=machine.sp() {
+    for place in places::STACK..=machine.sp() {
         if place < 1024 {
             words.push(machine.on_chip(place))?;
         }
@@ -114,18 +98,18 @@ fn stack_of(alloc: Global, machine: &Machine<1024>) -> Result<Vec<u32>, LineFaul
     Ok(words)
 }
 
-/// Whether the frames of a machine that runs are those that are written.
+/// Whether the frames of a machine are those that are written.
 pub fn agrees(
     alloc: Global,
     machine: &Machine<1024>,
     layout: &Layout,
     written: &[&str],
-) -> Result<bool, LineFault> {
+) -> Result<bool, RowFault> {
     let words = stack_of(alloc, machine)?;
     let mut frame = Frame {
         method: machine.method(),
         pc: u32::from(machine.jpc()).wrapping_sub(1),
-        first: machine.vp().wrapping_sub(STACK) as usize,
+        first: machine.vp().wrapping_sub(places::STACK) as usize,
         end: words.len(),
     };
     for text in written.rsplit(|word| *word == "/") {
