@@ -1,43 +1,49 @@
-//! Shows what no clause of the top call says: that there is an answer with ample memory, that a watch goes on
-//! telling, and the machine's registers against tables that were worked out by hand. It prints a line for
-//! each call: its words, the outcome and its status, what out holds and what err holds.
+//! Shows on a table what the commands of the program do with files and streams in memory of which a call fails, and what a watch
+//! holds. What each row has to give was worked out from the formats: `tests/expected/programs/README.md`.
+//!
+//! Each line of the input is a call; its items stand between blanks:
+//!
+//! - `<HEX`: the bytes of the input.
+//! - `!N`, `^N` and `?N`: the call of this number on the input, on out or on err fails.
+//! - `WORD=HEX`: a word, and the bytes of the file that it names.
+//! - `WORD=@`: the same, with the bytes that the last call of `link` put out.
+//! - `WORD`: a word; a file of this name can't be read.
+//!
+//! Two lines come of each: the words with the status and what was put out, and what stands on err. Behind those of a trace come its
+//! lines, of a long one the first and the last. Of a line `watch HEX` come the states that a watch holds after a run of this image, of
+//! many the first and the last, and once more those of one that was made with room for 4,096.
 #![tactic(auto)]
 
-mod calls;
-mod images;
-mod links;
-mod machine;
-mod rows;
-mod texts;
-mod traces;
-mod watches;
+mod call;
+mod row;
+mod watch;
 
+use call::show;
+use std::alloc::Global;
 use std::io;
+use test_rows::RowFault;
+use watch::show_watches;
+
+// Does what a line says, and gives what the last call of `link` put out.
+fn do_line(rt: &HostRuntime, line: &str, last: Vec<u8>) -> Result<Vec<u8>, RowFault> {
+    if let Some(digits) = line.strip_prefix("watch ") {
+        show_watches(rt, digits)?;
+        return Ok(last);
+    }
+    let out = show(rt, line, &last)?;
+    Ok(if line.starts_with("link ") { out } else { last })
+}
 
 fn main(rt: HostRuntime) -> io::Result<()> {
-    rows::show_ends(&rt)?;
-    rows::show_limits(&rt)?;
-    rows::show_refusals(&rt)?;
-    rows::show_other_files(&rt)?;
-    rows::show_machines(&rt)?;
-    rows::show_others(&rt)?;
-    rows::show_usages(&rt)?;
-    rows::show_faults(&rt)?;
-    links::show_images(&rt)?;
-    links::show_refused_files(&rt)?;
-    links::show_link_faults(&rt)?;
-    texts::show_listings(&rt)?;
-    texts::show_broken_rules(&rt)?;
-    texts::show_text_faults(&rt)?;
-    texts::show_longest_listing(&rt)?;
-    texts::show_long_text(&rt)?;
-    traces::show_steps(&rt)?;
-    traces::show_limited_steps(&rt)?;
-    traces::show_untraced(&rt)?;
-    traces::show_trace_faults(&rt)?;
-    traces::show_all_cuts(&rt)?;
-    watches::show_states(&rt)?;
-    watches::show_long_watches(&rt)?;
-    machine::show_reset(&rt)?;
-    machine::show_thousand_cycles(&rt)
+    let mut last: Vec<u8, Global> = Vec::new(rt.alloc());
+    for line in rt.lines(rt.alloc()) {
+        match do_line(&rt, line?.as_str(), last) {
+            Ok(out) => last = out,
+            Err(fault) => {
+                fault.told(&rt)?;
+                last = Vec::new(rt.alloc());
+            }
+        }
+    }
+    Ok(())
 }

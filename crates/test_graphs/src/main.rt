@@ -9,6 +9,15 @@
 //! what an iteration costs and the members, as `1:7:1,2`. At last `regions` and `check` have for each loop
 //! `1` where it is a region, else `0`. In place of a graph, `chain` has how many nodes follow one another.
 //!
+//! The rows of `walks` have the fields of `longest`. What is found is the greatest walk from node 0 to an exit that keeps all
+//! bounds, whether its section is accepted, and the greatest of all such walks, made one after another. Their values were found by
+//! brute force from the definitions, with no code of this repository. So in
+//!
+//!     walks | 4 | 0-1 1-2 1-3 2-1 | 3 | 2 3 4 1 | 10 | 100
+//!
+//! the nodes 1 and 2 are a loop. The greatest walk enters it once, with the load 100, makes ten iterations and leaves it for the
+//! exit: 2 + 100 + 10 * (3 + 4) + 3 + 1 = 176.
+//!
 //! Each row of `check` goes through both checks, with an index of the section's loops and without. Where they
 //! differ, that is printed.
 //!
@@ -19,25 +28,40 @@
 
 mod question;
 mod show;
+mod walks;
 
-use question::{Question, RowFault};
+use question::Question;
 use show::{show_blocks, show_chain, show_check, show_longest, show_nest, show_regions};
-use std::alloc::AllocError;
 use std::io;
+use test_rows::RowFault;
+use walks::show_walks;
+
+// Prints what is found of what a line asks.
+fn answer(rt: &HostRuntime, question: &Question) -> io::Result<()> {
+    match question {
+        Question::Nest(graph) => show_nest(rt, graph),
+        Question::Blocks(graph) => show_blocks(rt, graph),
+        Question::Longest(problem) => show_longest(rt, problem),
+        Question::Regions(problem, regions) => show_regions(rt, problem, regions),
+        Question::Walks(problem) => show_walks(rt, problem),
+        Question::Check(problem, section) => show_check(rt, problem, section),
+        Question::Chain(nodes) => show_chain(rt, *nodes),
+    }
+}
+
+// Answers a line.
+fn answer_line(rt: &HostRuntime, line: &str) -> Result<(), RowFault> {
+    let question = Question::parse(rt.alloc(), line)?;
+    answer(rt, &question)?;
+    Ok(())
+}
 
 fn main(rt: HostRuntime) -> io::Result<()> {
     for (number, line) in (1..u64::MAX).zip(rt.lines(rt.alloc())) {
         let line = line?;
         println!(rt; "{number}: {line}")?;
-        match Question::parse(rt.alloc(), line.as_str()) {
-            Ok(Question::Nest(g)) => show_nest(&rt, &g)?,
-            Ok(Question::Blocks(g)) => show_blocks(&rt, &g)?,
-            Ok(Question::Longest(problem)) => show_longest(&rt, &problem)?,
-            Ok(Question::Regions(problem, regions)) => show_regions(&rt, &problem, &regions)?,
-            Ok(Question::Check(problem, section)) => show_check(&rt, &problem, &section)?,
-            Ok(Question::Chain(nodes)) => show_chain(&rt, nodes)?,
-            Err(RowFault::Malformed) => println!(rt; "  bad line")?,
-            Err(RowFault::NoMemory) => return Err(io::Error::from(AllocError)),
+        if let Err(fault) = answer_line(&rt, line.as_str()) {
+            fault.told(&rt)?;
         }
     }
     Ok(())

@@ -2,36 +2,8 @@
 
 use loop_nest::{Graph, is_graph};
 use path_solver::section::{CertLoop, Section};
-use std::alloc::{AllocError, AllocFailed, Global};
-use std::num::ParseIntError;
-use std::str::FromStr;
-
-/// Why nothing is asked by a line.
-#[derive(Clone, Copy)]
-pub enum RowFault {
-    /// It isn't a row of the table.
-    Malformed,
-    /// There is no memory.
-    NoMemory,
-}
-
-impl From<AllocError> for RowFault {
-    fn from(_: AllocError) -> Self {
-        RowFault::NoMemory
-    }
-}
-
-impl<T: Drop> From<AllocFailed<T>> for RowFault {
-    fn from(_: AllocFailed<T>) -> Self {
-        RowFault::NoMemory
-    }
-}
-
-impl From<ParseIntError> for RowFault {
-    fn from(_: ParseIntError) -> Self {
-        RowFault::Malformed
-    }
-}
+use std::alloc::Global;
+use test_rows::{RowFault, numbers};
 
 /// A graph with the cost of each node, the bound of each loop and what an entry of it loads: nothing is
 /// said of a region that doesn't fit.
@@ -54,22 +26,12 @@ pub enum Question {
     Longest(Problem),
     /// The greatest walk, where it is said of each loop whether it is a region.
     Regions(Problem, Vec<bool>),
+    /// The greatest walk, found in two ways.
+    Walks(Problem),
     /// The check of a section.
     Check(Problem, Section),
     /// So many nodes, one after another.
     Chain(u32),
-}
-
-/// The numbers in a field.
-fn numbers<N: FromStr<Err = ParseIntError> + Drop>(
-    alloc: Global,
-    words: &[&str],
-) -> Result<Vec<N>, RowFault> {
-    let mut numbers = Vec::new(alloc);
-    for word in words {
-        numbers.push(word.parse::<N>()?)?;
-    }
-    Ok(numbers)
 }
 
 /// The words of a field.
@@ -120,8 +82,11 @@ fn certified_loop(alloc: Global, word: &str) -> Result<CertLoop, RowFault> {
     Ok(CertLoop::new(header.parse()?, cost.parse()?, members, false))
 }
 
-/// The graph with these nodes, edges and exits.
-fn graph(alloc: Global, nodes: &str, edges: &str, exits: &str) -> Result<Graph, RowFault> {
+/// The graph of three fields: its nodes, edges and exits.
+fn graph(alloc: Global, fields: &[&str]) -> Result<Graph, RowFault> {
+    let [nodes, edges, exits] = fields else {
+        return Err(RowFault::Malformed);
+    };
     let nodes = nodes.parse::<u32>()?;
     let edges: Vec<(u32, u32)> = edges.split_whitespace().map(edge).try_collect(alloc)?;
     let exits = numbers::<u32>(alloc, &words(alloc, exits)?)?;
@@ -131,20 +96,26 @@ fn graph(alloc: Global, nodes: &str, edges: &str, exits: &str) -> Result<Graph, 
     Ok(Graph::new(nodes, edges, exits))
 }
 
-/// The graph with these costs, bounds and loads.
-fn make_problem(
-    alloc: Global,
-    graph: Graph,
-    costs: &str,
-    bounds: &str,
-    loads: &str,
-) -> Result<Problem, RowFault> {
+/// The costs, bounds and loads of three fields, for a graph.
+fn problem_of(alloc: Global, graph: Graph, fields: &[&str]) -> Result<Problem, RowFault> {
+    let [costs, bounds, loads] = fields else {
+        return Err(RowFault::Malformed);
+    };
     Ok(Problem {
         graph,
         costs: numbers(alloc, &words(alloc, costs)?)?,
         bounds: numbers(alloc, &words(alloc, bounds)?)?,
         loads: loads.split_whitespace().map(load).try_collect(alloc)?,
     })
+}
+
+/// The problem of six fields: its graph, and then its costs, bounds and loads.
+fn problem(alloc: Global, fields: &[&str]) -> Result<Problem, RowFault> {
+    if fields.len() != 6 {
+        return Err(RowFault::Malformed);
+    }
+    let graph = graph(alloc, &fields[..3])?;
+    problem_of(alloc, graph, &fields[3..])
 }
 
 /// The section with these nodes and loops, of which these are regions.
@@ -162,39 +133,37 @@ fn section(alloc: Global, nodes: &str, loops: &str, regions: &str) -> Result<Sec
     Ok(section.with_regions(&regions))
 }
 
+/// A problem, and of each loop whether it is a region.
+fn regions(alloc: Global, fields: &[&str]) -> Result<Question, RowFault> {
+    if fields.len() != 7 {
+        return Err(RowFault::Malformed);
+    }
+    let problem = problem(alloc, &fields[..6])?;
+    Ok(Question::Regions(problem, flags(alloc, fields[6])?))
+}
+
+/// A problem and a section.
+fn check(alloc: Global, fields: &[&str]) -> Result<Question, RowFault> {
+    if fields.len() != 9 {
+        return Err(RowFault::Malformed);
+    }
+    let problem = problem(alloc, &fields[..6])?;
+    let section = section(alloc, fields[6], fields[7], fields[8])?;
+    Ok(Question::Check(problem, section))
+}
+
 impl Question {
     /// What a line asks.
     pub fn parse(alloc: Global, line: &str) -> Result<Question, RowFault> {
         let fields: Vec<&str> = line.split('|').map(|field| field.trim()).collect(alloc)?;
         match fields.as_slice() {
             ["chain", nodes] => Ok(Question::Chain(nodes.parse()?)),
-            ["nest", n, es, xs] => Ok(Question::Nest(graph(alloc, n, es, xs)?)),
-            ["blocks", n, es, xs] => Ok(Question::Blocks(graph(alloc, n, es, xs)?)),
-            ["longest", n, es, xs, costs, bounds, loads] => {
-                let g = graph(alloc, n, es, xs)?;
-                Ok(Question::Longest(make_problem(alloc, g, costs, bounds, loads)?))
-            }
-            ["regions", n, es, xs, costs, bounds, loads, regions] => {
-                let g = graph(alloc, n, es, xs)?;
-                let problem = make_problem(alloc, g, costs, bounds, loads)?;
-                Ok(Question::Regions(problem, flags(alloc, regions)?))
-            }
-            [
-                "check",
-                n,
-                es,
-                xs,
-                costs,
-                bounds,
-                loads,
-                nodes,
-                loops,
-                regions,
-            ] => {
-                let g = graph(alloc, n, es, xs)?;
-                let problem = make_problem(alloc, g, costs, bounds, loads)?;
-                Ok(Question::Check(problem, section(alloc, nodes, loops, regions)?))
-            }
+            ["nest", rest @ ..] => Ok(Question::Nest(graph(alloc, rest)?)),
+            ["blocks", rest @ ..] => Ok(Question::Blocks(graph(alloc, rest)?)),
+            ["longest", rest @ ..] => Ok(Question::Longest(problem(alloc, rest)?)),
+            ["walks", rest @ ..] => Ok(Question::Walks(problem(alloc, rest)?)),
+            ["regions", rest @ ..] => regions(alloc, rest),
+            ["check", rest @ ..] => check(alloc, rest),
             _ => Err(RowFault::Malformed),
         }
     }

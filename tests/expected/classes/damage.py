@@ -1,14 +1,9 @@
-"""Writes tests/tables/classes: classes that javac compiled, and the same with one thing changed. The rows of pools, descriptors and names
-are those of crates/test_classes.
+"""Writes tests/tables/classes: classes that javac compiled, and the same with one thing changed.
 
     javac --release 8 -d OUT *.java
-    python3 damage.py OUT           # the table
-    python3 damage.py OUT stdin     # the other rows
-    python3 damage.py OUT stdout    # and what they have to give
+    python3 damage.py OUT
 
-Each row has a word, a title, and bytes or a text. What is a class file, a pool or a descriptor follows
-from the section of the JVM Specification (SE 8) that the title names, and stands below in WANTED by hand; what a class
-has is counted here, from its own reading of the bytes.
+What is a class file follows from the section of the JVM Specification (SE 8) that the title names, and stands below in WANTED by hand.
 """
 import copy, struct, sys, os
 
@@ -76,7 +71,7 @@ class CodeParts:
 
 rows = []
 def row(title, base, change=lambda c: None):
-    c = copy.deepcopy(base); change(c); rows.append(('class', title, c.bytes().hex()))
+    c = copy.deepcopy(base); change(c); rows.append((title, c.bytes().hex()))
 
 def code_of(name, edit):
     def change(c):
@@ -119,9 +114,9 @@ def main(out):
     owner = lambda c: u2(c.this)
     # the header and the structure
     for v in (49, 50, 51, 53): row('version_%d_4.1' % v, shape, sets(major=v))
-    row('another_magic_number_4.1', shape); rows[-1] = rows[-1][:2] + ('cafebabf' + rows[-1][2][8:],)
+    row('another_magic_number_4.1', shape); rows[-1] = (rows[-1][0], 'cafebabf' + rows[-1][1][8:])
     row('a_byte_behind_the_end_4.1', shape, sets(tail=b'\0'))
-    row('a_byte_less_4.1', shape); rows[-1] = rows[-1][:2] + (rows[-1][2][:-2],)
+    row('a_byte_less_4.1', shape); rows[-1] = (rows[-1][0], rows[-1][1][:-2])
     row('an_undefined_flag_4.1', shape, sets(flags=lambda c: c.flags | 0x0040))
     row('a_second_place_of_a_long_4.4.5', shape, adds(lambda c: c.add(5, bytes(8))))
     row('an_unknown_tag_4.4', shape, adds(lambda c: c.pool.append([2, b'']) or True))
@@ -238,25 +233,23 @@ def main(out):
     row('two_methods_alike_by_other_entries_4.6', shape, twice('methods', 'area', name=lambda c: c.text('area'), descriptor=lambda c: c.text('()I')))
     row('two_methods_of_one_name_4.6', shape, twice('methods', 'area', descriptor=lambda c: c.text('()J')))
     row('two_methods_of_one_descriptor_4.6', shape, twice('methods', 'area', name=lambda c: c.text('size')))
-    # values made by hand
-    rows.append(('hand', 'values_made_by_hand', shape.bytes().hex()))
-    # pools
+    # texts of the pool
     for title, text in (
-        ('a_zero_takes_two_bytes_4.4.7', '0002010002c080'), ('a_raw_zero_4.4.7', '000201000100'), ('a_form_of_four_bytes_4.4.7', '0002010004f09f9880'),
-        ('a_long_form_of_a_letter_4.4.7', '0002010002c181'), ('a_euro_sign_4.4.7', '0002010003e282ac'), ('a_long_form_of_three_bytes_4.4.7', '0002010003e08080'),
-        ('half_of_a_pair_4.4.7', '0002010003eda080'), ('a_text_cut_off_4.4.7', '0002010002c3'), ('nothing_behind_the_count_4.1', 'ffff'), ('a_count_of_zero_4.1', '0000'),
-        ('a_count_of_one_4.1', '0001'), ('a_long_in_the_last_place_4.4.5', '0002050000000000000001'), ('a_class_named_by_a_class_4.4.1', '0002070001'),
-        ('entries_and_a_byte_behind_them_4.4', '000605000000000000000107000401000141' + '0c0004000463')):
-        rows.append(('pool', title, text))
+        ('a_zero_takes_two_bytes', 'c080'), ('a_raw_zero', '00'), ('a_form_of_four_bytes', 'f09f9880'), ('a_long_form_of_a_letter', 'c181'), ('a_euro_sign', 'e282ac'),
+        ('a_long_form_of_three_bytes', 'e08080'), ('half_of_a_pair', 'eda080'), ('a_text_cut_off', 'c3')):
+        row(title + '_4.4.7', shape, lambda c: c.text(bytes.fromhex(text)))
+    row('a_long_in_the_last_place_4.4.5', shape, lambda c: c.pool.append([5, bytes(8)]))
+    rows.append(('nothing_behind_the_count_4.1', 'cafebabe00000034ffff'))
+    rows.append(('a_count_of_zero_4.1', 'cafebabe000000340000' + shape.bytes().hex()[20:]))
+    # descriptors and names
     for title, text in (
         ('an_int', 'I'), ('a_long', 'J'), ('an_array_of_longs', '[J'), ('a_string_array', '[[Ljava/lang/String;'), ('a_void_field', 'V'), ('two_types', 'II'),
-        ('an_unended_class', 'Ljava/lang/String'), ('a_class_with_an_empty_part', 'La//b;'), ('no_element', '[')): rows.append(('field', title + '_4.3.2', text))
+        ('an_unended_class', 'Ljava/lang/String'), ('a_class_with_an_empty_part', 'La//b;'), ('no_element', '[')): row(title + '_4.3.2', shape, f('sum', descriptor=lambda c: c.text(text)))
     for title, text in (
         ('four_parameters', '(IDLThread;[J)V'), ('none', '()I'), ('unended', '(I'), ('without_a_result', '(I)'), ('a_void_parameter', '(V)I'), ('a_result_and_more', '()VI'), ('no_parenthesis', 'I')):
-        rows.append(('method', title + '_4.3.3', text))
-    rows.append(('make', 'a_pool_in_order_of_first_mention', 'ABm'))
+        row(title + '_4.3.3', shape, m('area', descriptor=lambda c: c.text(text)))
     for title, text in (('a_class', 'java/lang/Object'), ('an_empty_part', 'java//Object'), ('dots', 'java.lang.Object'), ('angles', '<x>'), ('init', '<init>'), ('clinit', '<clinit>'), ('a_parenthesis', 'a(')):
-        rows.append(('name', title + '_4.2', text))
+        row(title + '_4.2', shape, lambda c: c.klass(text))
 
 # what is accepted; all else is refused
 WANTED = """
@@ -273,36 +266,16 @@ static_method_of_127_longs_and_an_int_4.3.3 static_method_of_255_arrays_of_longs
 abstract_and_protected_method_4.6 abstract_and_varargs_method_4.6 class_initializer_of_an_interface_2.9 private_initializer_4.6
 native_method_without_code_4.7.3 constant_on_a_method_4.7.2 code_of_one_byte_4.7.3 handler_of_any_class_4.7.3 handler_of_an_array_class_4.7.3
 a_table_of_frames_of_any_bytes_4.7.4 two_methods_of_one_name_4.6 two_methods_of_one_descriptor_4.6
+a_zero_takes_two_bytes_4.4.7 a_euro_sign_4.4.7 half_of_a_pair_4.4.7 an_int_4.3.2 a_long_4.3.2 an_array_of_longs_4.3.2 a_string_array_4.3.2
+four_parameters_4.3.3 none_4.3.3 a_class_4.2 angles_4.2 init_4.2 clinit_4.2 a_parenthesis_4.2
 """.split()
 
-# what is found of pools, descriptors and names
-TOLD = {
-    'version_49_4.1': 'version 49', 'version_53_4.1': 'version 53',
-    'values_made_by_hand': 'a class; with no class for itself: none; of version 53: none; with an odd pool: none',
-    'a_zero_takes_two_bytes_4.4.7': '7 bytes: text 0', 'a_euro_sign_4.4.7': '8 bytes: text 8364', 'half_of_a_pair_4.4.7': '8 bytes: text 55296',
-    'a_count_of_one_4.1': '2 bytes:', 'entries_and_a_byte_behind_them_4.4': '23 bytes: - - class 4 text 65 names 4 4',
-    'an_int_4.3.2': '0 dimensions, 1 words', 'a_long_4.3.2': '0 dimensions, 2 words', 'an_array_of_longs_4.3.2': '1 dimensions, 1 words',
-    'a_string_array_4.3.2': '2 dimensions, 1 words', 'four_parameters_4.3.3': '4 parameters, 5 words', 'none_4.3.3': '0 parameters, 0 words and a result',
-    # method A.m()V, string m, class A, field A.m I, int 7, interface method B.m()V, the pair m ()V, text B
-    'a_pool_in_order_of_first_mention': 'indexes 1 7 2 8 11 12 4 14: - class 3 text 65 names 5 6 text 109 text of 3 units - - names 5 10 text 73 - - class 14 text 66',
-    'a_class_4.2': 'class', 'an_empty_part_4.2': '', 'dots_4.2': '', 'angles_4.2': 'class unqualified', 'init_4.2': 'class unqualified method initializer',
-    'clinit_4.2': 'class unqualified method class initializer', 'a_parenthesis_4.2': 'class unqualified method parenthesis',
-}
-
-def told(word, title, text):
-    if title in TOLD: return TOLD[title]
-    if title not in WANTED: return 'bad'
-    return 'a class file'
+VERSIONS = {'version_49_4.1': 'version 49', 'version_53_4.1': 'version 53'}
 
 main(sys.argv[1])
-assert len({r[1] for r in rows}) == len(rows) and set(WANTED) | set(TOLD) <= {r[1] for r in rows}
-if len(sys.argv) > 2:
-    for r in rows:
-        if r[0] != 'class': print(' '.join(r) if sys.argv[2] == 'stdin' else (r[1] + ': ' + told(*r)).rstrip())
-else:
-    tables = os.path.join(os.path.dirname(os.path.abspath(__file__)), '../../tables')
-    with open(os.path.join(tables, 'classes.read'), 'w') as given, open(os.path.join(tables, 'classes.wanted'), 'w') as wants:
-        for word, title, text in rows:
-            if word != 'class': continue
-            given.write(title + ' ' + text + '\n')
-            wants.write(title + ': ' + told(word, title, text) + '\n')
+assert len({title for title, _ in rows}) == len(rows) and set(WANTED) | set(VERSIONS) <= {title for title, _ in rows}
+tables = os.path.join(os.path.dirname(os.path.abspath(__file__)), '../../tables')
+with open(os.path.join(tables, 'classes.read'), 'w') as given, open(os.path.join(tables, 'classes.wanted'), 'w') as wants:
+    for title, digits in rows:
+        given.write(title + ' ' + digits + '\n')
+        wants.write(title + ': ' + VERSIONS.get(title, 'a class file' if title in WANTED else 'bad') + '\n')

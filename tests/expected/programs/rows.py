@@ -359,6 +359,17 @@ def by_hand(table, runner):
     run(longs, b'', 1, memory=words_of(longs) + 9)
 
 
+def pieces_of_hello(table, runner):
+    """the traces of a bare image, of which each piece fails in turn, and the call behind the last one doesn't"""
+    image = b'JOPB\0\1\0\0\0\1\0\0\0\4\x10A\xff\xb1'
+    for micro in (False, True):
+        status, text, line = trace_plainly(runner, image, b'', micro, memory=16)
+        parts = list(pieces(text))
+        for number in range(len(parts) + 1):
+            whole = number == len(parts)
+            table.call(['^%d' % number, 'trace', '--memory', '16'] + ['--micro'] * micro + [('b', image)], status if whole else 4, ''.join(parts[:number]).encode(), line if whole else 'write fault')
+
+
 def main():
     table, runner = Table(), sys.argv[3:5]
     links(table)
@@ -366,6 +377,7 @@ def main():
     programs(table, sys.argv[1], sys.argv[2], runner)
     failing(table, sys.argv[1], runner)
     by_hand(table, runner)
+    pieces_of_hello(table, runner)
     tables = os.path.join(HERE, '../../tables')
     write(table.typed, os.path.join(tables, 'programs.calls'), os.path.join(tables, 'programs.wanted'))
     write(table.failing, 'stdin', 'stdout')

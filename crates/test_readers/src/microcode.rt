@@ -1,0 +1,78 @@
+//! Microprograms.
+ghost use Rattle.std.specs.Prelude.{ℕ, ◌≤◌, length};
+
+use micro_isa::Turns;
+use microcode_asm::{AsmFault, Rom, assemble};
+use microcode_listing::listing;
+use microcode_rom::{CONSTANTS, ENTRIES, TURNS, WORDS, raise_entry};
+use std::alloc::AllocError;
+use std::io;
+
+// Shows a microprogram.
+fn show_rom(rt: &HostRuntime, rom: &Rom) -> io::Result<()> {
+    print!(rt; "asm")?;
+    for word in rom.words.as_slice() {
+        print!(rt; " {word:04x}")?;
+    }
+    for (op, entry) in rom.entries.as_slice().iter().enumerate() {
+        if *entry != 0 {
+            print!(rt; " entry {op}={entry}")?;
+        }
+    }
+    if rom.raise != 0 {
+        print!(rt; " raise={}", rom.raise)?;
+    }
+    for (number, value) in rom.consts.as_slice().iter().enumerate() {
+        if *value != 0 {
+            print!(rt; " const {number}={value}")?;
+        }
+    }
+    for (from, turns) in rom.turns.as_slice() {
+        match *turns {
+            Turns::Count(count) => print!(rt; " turns {from}={count}")?,
+            Turns::PerPair => print!(rt; " turns {from}=pairs")?,
+            Turns::PerEntry => print!(rt; " turns {from}=entries")?,
+        }
+    }
+    println!(rt;)
+}
+
+/// Shows what a microprogram is assembled to.
+pub fn show_assembled(rt: &HostRuntime, text: &[u8]) -> io::Result<()>
+    requires { length text.now ≤ 33554432 }
+{
+    match assemble(rt.alloc(), text) {
+        Ok(rom) => show_rom(rt, &rom),
+        Err(AsmFault::Line(line, kind)) => println!(rt; "line={line} {kind:?}"),
+        Err(AsmFault::TooLong(words)) => println!(rt; "too long words={words}"),
+        Err(AsmFault::NoMemory) => Err(io::Error::from(AllocError)),
+    }
+}
+
+// Shows which parts of a microprogram are those of the shipped one.
+fn show_shipped(rt: &HostRuntime, rom: &Rom) -> io::Result<()> {
+    let words = rom.words.as_slice() == WORDS.as_slice();
+    let entries = rom.entries.as_slice() == ENTRIES.as_slice();
+    let raise = rom.raise == raise_entry();
+    let consts = rom.consts.as_slice() == CONSTANTS.as_slice();
+    let turns = rom.turns.as_slice() == TURNS.as_slice();
+    println!(rt;
+        "listing words={words} entries={entries} raise={raise} consts={consts} turns={turns}"
+    )
+}
+
+/// Shows what the text of the shipped microcode is assembled to.
+pub fn show_listing(rt: &HostRuntime) -> io::Result<()> {
+    let text = match listing(rt.alloc()) {
+        Ok(text) => text,
+        Err(_) => return Err(io::Error::from(AllocError)),
+    };
+    if text.len() > crate::MOST {
+        return println!(rt; "too long");
+    }
+    match assemble(rt.alloc(), &text) {
+        Ok(rom) => show_shipped(rt, &rom),
+        Err(AsmFault::NoMemory) => Err(io::Error::from(AllocError)),
+        Err(fault) => println!(rt; "{fault}"),
+    }
+}
