@@ -5,6 +5,7 @@ use Rattle.std.specs.List.{sum_by}
 use Rattle.std.proofs.lemmas.Bool.{and_parts}
 use Rattle.std.proofs.lemmas.Option.{none-some}
 use Rattle.std.proofs.lemmas.List.Sums.{sum_by-cons}
+use Rattle.lists.specs.Lemmas.{onto_some, some_same}
 use mathlib.Core.List.{reverse_aux, reverse_aux-eq}
 use Rattle.bytecode_model.specs.declared.Value.{Value}
 use Rattle.bytecode_model.specs.declared.Value.TheVariants.{Int, Long, Ref, Null, Unset}
@@ -19,13 +20,6 @@ use Rattle.bytecode_model.specs.Steps.{applied, first_frame, called, taken_types
 use Rattle.image_facts.specs.Words.{declared_words}
 
 -- ---- what is taken
-
-pub some_same : {X : Type 0} (x y : X) → Some x ≡ Some y → x ≡ y
-some_same x y e = cc
-
-pub onto_defined : {A B : Type 0} (o : Option A) (go : A → Option B) (y : B) → onto o go ≡ Some y → (x : A) × (o ≡ Some x) × (go x ≡ Some y)
-onto_defined None go y h = absurd (none-some y h)
-onto_defined (Some x) go y h = (x, refl, h)
 
 pub on_defined : (P : Program) (limits : Limits) (answer : Option ℕ) (s : State) (f : Frame) (callers : List Frame) (s' : State) {A : Type 0} (o : Option A) (go : A → Effect)
     → applied P limits answer s f callers (on o go) ≡ Some s' → (x : A) × (o ≡ Some x) × (applied P limits answer s f callers (go x) ≡ Some s')
@@ -68,13 +62,13 @@ if_defined false o x h = absurd (none-some x h)
 pub entered : (P : Program) (limits : Limits) (answer : Option ℕ) (s : State) (f : Frame) (callers : List Frame) (s' : State) (t : ℕ) (args rest : List Value)
     → applied P limits answer s f callers (Call t args rest) ≡ Some s' → Entered P limits s f callers s' t args rest
 entered P limits answer s f callers s' t args rest h =
-    let g = onto_defined (first_frame P t args) (λ g. Some (called P limits s (record f { operands = rest }) callers g)) s' h in
-    let k = onto_defined (slice_get P.methods t) (λ k. onto k.body (λ b.
+    let g = onto_some (first_frame P t args) (λ g. Some (called P limits s (record f { operands = rest }) callers g)) s' h in
+    let k = onto_some (slice_get P.methods t) (λ k. onto k.body (λ b.
     if all_suit (taken_types k) args then onto (padded Unset b.max_locals (spread is_long Unset args)) (λ ls. Some (record { method = t; pc = 0; locals = ls; operands = [] })) else None)) g.0 g.1 in
-    let b = onto_defined k.0.body (λ b.
+    let b = onto_some k.0.body (λ b.
     if all_suit (taken_types k.0) args then onto (padded Unset b.max_locals (spread is_long Unset args)) (λ ls. Some (record { method = t; pc = 0; locals = ls; operands = [] })) else None) g.0 k.2 in
     let c = if_defined (all_suit (taken_types k.0) args) (onto (padded Unset b.0.max_locals (spread is_long Unset args)) (λ ls. Some (record { method = t; pc = 0; locals = ls; operands = [] }))) g.0 b.2 in
-    let l = onto_defined (padded Unset b.0.max_locals (spread is_long Unset args)) (λ ls. Some (record { method = t; pc = 0; locals = ls; operands = [] })) g.0 c.1 in
+    let l = onto_some (padded Unset b.0.max_locals (spread is_long Unset args)) (λ ls. Some (record { method = t; pc = 0; locals = ls; operands = [] })) g.0 c.1 in
     record {
       method = k.0;
       is_method = k.1;
@@ -131,7 +125,7 @@ padded_fits : (n : ℕ) (vs ls : List Value) → padded Unset n vs ≡ Some ls �
 padded_fits zero [] ls h = omega arith
 padded_fits zero (v ∷ vs) ls h = absurd (none-some ls h)
 padded_fits (suc n) [] ls h = omega arith
-padded_fits (suc n) (v ∷ vs) ls h = let r = onto_defined (padded Unset n vs) (λ ws. Some (v ∷ ws)) ls h in omega (arith, padded_fits n vs r.0 r.1)
+padded_fits (suc n) (v ∷ vs) ls h = let r = onto_some (padded Unset n vs) (λ ws. Some (v ∷ ws)) ls h in omega (arith, padded_fits n vs r.0 r.1)
 
 pub arguments_fit : (n : ℕ) (vs ls : List Value) → padded Unset n (spread is_long Unset vs) ≡ Some ls → sum_by value_words vs ≤ n
 arguments_fit n vs ls h = omega (arith, padded_fits n (spread is_long Unset vs) ls h, spread_long vs)

@@ -1,6 +1,7 @@
 -- The opcodes of the family, one by one.
 use Rattle.std.proofs.Common.{◌≡◌, ◌⊎◌, ℕ, ◌==◌, ◌||◌, Bool, true, false, inl, inr, ⊎_elim, subst, eqb-true}
 use Rattle.std.specs.Prelude.{IsTrue}
+use Rattle.lists.specs.Tests.{either}
 use Rattle.bytecode_model.specs.Program.{Program}
 use Rattle.machine_stands.specs.Simulates.{Simulates, is_bare}
 use Rattle.call_steps.specs.Family.{calls_or_returns}
@@ -8,10 +9,6 @@ use Rattle.call_steps.specs.Returns.{Return, Ireturn, Areturn, Lreturn}
 use Rattle.call_steps.proofs.Scenes.{StateLaws}
 use Rattle.call_steps.proofs.StaticCalls.{static_call_comes}
 use Rattle.call_steps.proofs.ReturnStates.{return_comes}
-
-either : (a b : Bool) → IsTrue (a || b) → IsTrue a ⊎ IsTrue b
-either true b h = inl h
-either false b h = inr h
 
 is_number : (op k : ℕ) → IsTrue (op == k) → op ≡ k
 is_number op k h = eqb-true op k h

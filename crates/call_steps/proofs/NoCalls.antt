@@ -3,6 +3,7 @@ use Rattle.std.proofs.Common.{◌≡◌, ℕ, ◌+◌, ℤ, pos, negsuc, ◌==�
 use Rattle.std.specs.Prelude.{IsSomeAnd}
 use Rattle.std.specs.List.{list_all, list_any}
 use Rattle.std.proofs.lemmas.Bool.{and_parts}
+use Rattle.lists.specs.Lemmas.{onto_some, some_is, some_same}
 use Rattle.jop_opcodes.specs.declared.instruction.Instr.{Instr}
 use Rattle.bytecode_model.specs.Lists.{onto}
 use Rattle.bytecode_model.specs.Types.{t_boolean, t_char, t_byte, t_short, t_int, t_long}
@@ -12,7 +13,6 @@ use Rattle.bytecode_model.specs.Program.{Program, Body, NoOperand, body_of, inst
 use Rattle.bytecode_model.specs.Table.{Meaning, instructions, row_among, row_of}
 use Rattle.bytecode_model.specs.Steps.{row_at}
 use Rattle.bytecode_model.specs.WellFormed.{is_call, AreCallers}
-use Rattle.call_steps.proofs.Arguments.{some_same, onto_defined}
 
 abbrev calls : Option Row → Bool
 calls None = false
@@ -54,17 +54,13 @@ names_nothing : (code : List ℕ) (i : Instr) (r : Row) → row_of code i NoOper
 unfolding row_of
 names_nothing code i r h = sym (ap calls h) ∙ calm_among code i instructions (all_calm code i i.first i.second)
 
-some_is : {A : Type 0} (o : Option A) (Q : A → Type 0) → IsSomeAnd o Q → (x : A) × (o ≡ Some x) × Q x
-some_is None Q h = absurd h
-some_is (Some x) Q h = (x, refl, h)
-
 -- no frame waits at an instruction that names nothing
 pub none_calls : (P : Program) (f : Frame) (fs : List Frame) → P.operand f.method f.pc ≡ NoOperand → AreCallers P (f ∷ fs) → ⊥
 none_calls P f fs bare h =
     let y = some_is (row_at P f) (λ (x : ℕ × Row). is_call x.1 ≡ true) h.0 in
-    let b = onto_defined (body_of P f.method) (λ (b : Body). onto (instr_at P f.method f.pc) (λ i. onto (row_of b.code i (P.operand f.method f.pc)) (λ r. Some (f.pc + i.length, r)))) y.0 y.1 in
-    let i = onto_defined (instr_at P f.method f.pc) (λ i. onto (row_of b.0.code i (P.operand f.method f.pc)) (λ r. Some (f.pc + i.length, r))) y.0 b.2 in
-    let r = onto_defined (row_of b.0.code i.0 (P.operand f.method f.pc)) (λ r. Some (f.pc + i.0.length, r)) y.0 i.2 in
+    let b = onto_some (body_of P f.method) (λ (b : Body). onto (instr_at P f.method f.pc) (λ i. onto (row_of b.code i (P.operand f.method f.pc)) (λ r. Some (f.pc + i.length, r)))) y.0 y.1 in
+    let i = onto_some (instr_at P f.method f.pc) (λ i. onto (row_of b.0.code i (P.operand f.method f.pc)) (λ r. Some (f.pc + i.length, r))) y.0 b.2 in
+    let r = onto_some (row_of b.0.code i.0 (P.operand f.method f.pc)) (λ r. Some (f.pc + i.0.length, r)) y.0 i.2 in
     let same : r.0 ≡ y.0.1 = ap (λ (x : ℕ × Row). x.1) (some_same (f.pc + i.0.length, r.0) y.0 r.2) in
     let none = names_nothing b.0.code i.0 r.0 (sym (ap (λ o. row_of b.0.code i.0 o) bare) ∙ r.1) in
     let clash : true ≡ false = sym y.2 ∙ ap is_call (sym same) ∙ none in

@@ -4,6 +4,7 @@ use Rattle.std.specs.Prelude.{slice_get, slice_index, All, IfSome, IsSomeAnd}
 use Rattle.std.proofs.lemmas.Option.{none-some}
 use Rattle.std.proofs.lemmas.List.{get_or-drop, length-reverse, reverse-append, reverse-reverse}
 use Rattle.std.proofs.lemmas.List.Sums.{sum_by-cons}
+use Rattle.lists.specs.Lemmas.{holds_at, onto_some, some_is, some_same}
 use Rattle.word32.specs.Packed.{words_of_bytes}
 use Rattle.stack_cache.specs.Size.{IsSize}
 use Rattle.method_cache.specs.Contents.{Cache, is_cached, loaded}
@@ -46,7 +47,7 @@ use Rattle.call_steps.specs.Method.{with_method, looked_up, as_it_stands}
 use Rattle.call_steps.specs.Returns.{Saved, saved_words}
 use Rattle.call_steps.specs.Coming.{IsRead, MethodsAreRead}
 use Rattle.call_steps.specs.Raise.{IsRaising, method_of, type_of, HasTable, handler_of, HasFrame, handle, HandlersRun, HasCaller, FramesDrop, LastStops, AreEntries, target_for}
-use Rattle.call_steps.proofs.RaiseTables.{TableLaws, some_same, onto_defined, type_read, entries_of, HasType, has_type, Inside, handler_is, HasHandlers, has_handlers}
+use Rattle.call_steps.proofs.RaiseTables.{TableLaws, type_read, entries_of, HasType, has_type, Inside, handler_is, HasHandlers, has_handlers}
 
 pub record StateLaws : Type 0 where
   pub seen : RaisesAreSeen
@@ -65,13 +66,6 @@ pub record StateLaws : Type 0 where
   pub last_stops : LastStops
 
 -- ---- options and lists
-
-holds_at : {A : Type 0} (o : Option A) (x : A) (Q : A → Type 0) → o ≡ Some x → IsSomeAnd o Q → Q x
-holds_at o x Q e h = subst (λ o. IsSomeAnd o Q) e h
-
-some_is : {A : Type 0} (o : Option A) (Q : A → Type 0) → IsSomeAnd o Q → (x : A) × (o ≡ Some x) × Q x
-some_is None Q h = absurd h
-some_is (Some x) Q h = (x, refl, h)
 
 -- an instruction is a whole one
 whole_is : {E : Type 0} (r : Result Instr E) (i : Instr) → as_instr r ≡ Some i → r ≡ Ok i
@@ -193,7 +187,7 @@ module _ (laws : StateLaws) (P : Program) (pl : Places) (n size : ℕ) (m : mach
 
   owned : Owned
   owned =
-      let j = onto_defined (slice_get P.methods top.method) (λ (u : Method). u.body) body h.stands.is_body in
+      let j = onto_some (slice_get P.methods top.method) (λ (u : Method). u.body) body h.stands.is_body in
       record {
         method = j.0;
         is_method = j.1;
@@ -220,8 +214,8 @@ module _ (laws : StateLaws) (P : Program) (pl : Places) (n size : ℕ) (m : mach
       let steps : step P limits answer s ≡ onto (body_of P top.method) in_object =
       ap (λ (md : Ending). step_in P limits answer s s.frames md) mode ∙ ap (λ (fs : List Frame). step_in P limits answer s fs (Raising object)) h.stands.frames in
       let here : in_object body ≡ Some s' = sym (steps ∙ ap (λ b. onto b in_object) h.stands.is_body) ∙ h.step in
-      let o = onto_defined (slice_get s.objects object) (λ o. onto (kind_of P o) (λ j. in_kind body o j)) s' here in
-      let j = onto_defined (kind_of P o.0) (λ j. in_kind body o.0 j) s' o.2 in
+      let o = onto_some (slice_get s.objects object) (λ o. onto (kind_of P o) (λ j. in_kind body o j)) s' here in
+      let j = onto_some (kind_of P o.0) (λ j. in_kind body o.0 j) s' o.2 in
       record { o = o.0; there = o.1; kind = j.0; is_kind = j.1; goes = j.2 }
 
   type_is : (r : Raised) → type_of x ≡ pl.type r.o.kind
@@ -471,7 +465,7 @@ module _ (laws : StateLaws) (P : Program) (pl : Places) (n size : ℕ) (m : mach
   comes_to_end : (r : Raised) → h.stands.callers ≡ [] → h.stands.below ≡ [] → handler_for P r.kind top.pc body.handlers ≡ None → ComesTo P pl n size m s s'
   comes_to_end r callers belows none =
       let ends : ℕ → State = λ c. record s { frames = top ∷ []; mode = Uncaught c } in
-      let c = onto_defined (class_of r.kind) (λ c. Some (ends c)) s' (sym (ap (λ o. unwound s object r.kind top h.stands.callers o) none ∙ ap (λ (gs : List Frame). unwound s object r.kind top gs None) callers) ∙ r.goes) in
+      let c = onto_some (class_of r.kind) (λ c. Some (ends c)) s' (sym (ap (λ o. unwound s object r.kind top h.stands.callers o) none ∙ ap (λ (gs : List Frame). unwound s object r.kind top gs None) callers) ∙ r.goes) in
       let next : s' ≡ ends c.0 = sym (some_same (ends c.0) s' c.2) in
       let vp : x.vp ≡ 64 = h.stands.vp ∙ ap vp_over belows in
       let run = laws.last_stops n x (env_of m) is_raising (table_of r) vp (handler_found r ∙ none) in

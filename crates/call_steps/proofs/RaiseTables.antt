@@ -6,6 +6,7 @@ use Rattle.std.specs.Int.{div_ceil}
 use Rattle.std.proofs.lemmas.Option.{none-some}
 use Rattle.std.proofs.lemmas.List.{get_or-drop}
 use Rattle.std.proofs.lemmas.Bool.Decides.{nat_tests}
+use Rattle.lists.specs.Lemmas.{onto_some, some_same}
 use Rattle.jop_opcodes.specs.declared.instruction.Instr.{Instr}
 use Rattle.jop_opcodes.specs.Instruction.{decoded}
 use Rattle.jop_opcodes.specs.Start.{IsStart}
@@ -36,13 +37,6 @@ pub record TableLaws : Type 0 where
   pub read : WordsAreRead
 
 -- ---- options
-
-pub some_same : {X : Type 0} (x y : X) → Some x ≡ Some y → x ≡ y
-some_same x y e = cc
-
-pub onto_defined : {A B : Type 0} (o : Option A) (go : A → Option B) (y : B) → onto o go ≡ Some y → (x : A) × (o ≡ Some x) × (go x ≡ Some y)
-onto_defined None go y h = absurd (none-some y h)
-onto_defined (Some x) go y h = (x, refl, h)
 
 pub is_there : {A : Type 0} (o : Option A) → IsSome o → (x : A) × (o ≡ Some x)
 is_there None h = absurd (cc)
@@ -94,7 +88,7 @@ number_of_kind (l ∷ types) k t h = by (λ j e. number_of_kind types k j e) (sa
     by : ((j : ℕ) → index_of (same_kind k) types ≡ Some j → (slice_get types j ≡ Some k) × (j < length types)) → (b : Bool) → same_kind k l ≡ b → (if b then Some 0 else onto (index_of (same_kind k) types) (λ j. Some (suc j))) ≡ Some t → (slice_get (l ∷ types) t ≡ Some k) × (t < length (l ∷ types))
     by others true e g = first t e g
     by others false e g =
-        let j = onto_defined (index_of (same_kind k) types) (λ j. Some (suc j)) t g in
+        let j = onto_some (index_of (same_kind k) types) (λ j. Some (suc j)) t g in
         let rest = others j.0 j.1 in
         let same : suc j.0 ≡ t = some_same (suc j.0) t j.2 in
         (subst (λ (i : ℕ). slice_get (l ∷ types) i ≡ Some k) same rest.0, subst (λ (i : ℕ). i < length (l ∷ types)) same (omega (arith, rest.1)))

@@ -4,6 +4,7 @@ use Rattle.std.specs.Prelude.{slice_get}
 use Rattle.std.specs.List.{sum_by}
 use Rattle.std.proofs.lemmas.Option.{none-some}
 use Rattle.std.proofs.lemmas.List.Sums.{sum_by-cons, sum_by-append}
+use Rattle.lists.specs.Lemmas.{some_same}
 use mathlib.Core.List.{reverse_aux, reverse_aux-eq}
 use Rattle.jop_opcodes.specs.Bytes.{u2}
 use Rattle.jop_opcodes.specs.Form.{Operands, UnsignedShort, UnsignedByte, one}
@@ -60,9 +61,6 @@ unfolding row_of
 row_by_method Invokevirtual code pc o = refl
 row_by_method Invokespecial code pc o = refl
 row_by_method Invokeinterface code pc o = refl
-
-some_same : {X : Type 0} (x y : X) → Some x ≡ Some y → x ≡ y
-some_same x y e = cc
 
 method_named : (rows : ℕ → ℕ → Row) (o : Operand) (r : Row) → by_method rows [] (plain_instr 182 [] 0 (one UnsignedShort)) o ≡ Some r → (named : ℕ) × (t : ℕ) × (o ≡ AMethod named t) × (r ≡ rows named t)
 method_named rows NoOperand r h = absurd (none-some r h)

@@ -5,6 +5,7 @@ use Rattle.std.proofs.lemmas.Bool.Decides.{nat_tests}
 use Rattle.std.proofs.lemmas.Option.{none-some}
 use Rattle.std.proofs.lemmas.List.{length-reverse, reverse-append, reverse-reverse}
 use Rattle.std.proofs.lemmas.List.Sums.{sum_by-cons}
+use Rattle.lists.specs.Lemmas.{onto_some, some_is, some_same}
 use Rattle.word32.specs.Packed.{words_of_bytes}
 use Rattle.method_cache.specs.Contents.{is_cached}
 use Rattle.micro_flow.specs.Walk.{IsCost}
@@ -44,7 +45,6 @@ use Rattle.call_steps.specs.Method.{with_method, looked_up, as_it_stands}
 use Rattle.call_steps.specs.Returns as returns
 use Rattle.call_steps.specs.Returns.{ReturnOp, Return, Ireturn, Areturn, Lreturn, return_code, result, Saved, saved_words, CanReturn}
 use Rattle.call_steps.specs.Coming.{IsRead}
-use Rattle.call_steps.proofs.Arguments.{some_same, onto_defined}
 use Rattle.call_steps.proofs.Scenes.{StateLaws, size_small, register, Counted, counted, finds}
 use Rattle.call_steps.proofs.ReturnSteps.{Leaves, leaves, form_read, is_return, returned, leaving}
 use Rattle.call_steps.proofs.NoCalls.{none_calls}
@@ -56,10 +56,6 @@ stack_parts : (w : FrameWords) (ws : List FrameWords) → stacked (w ∷ ws) ≡
 stack_parts w ws =
     sym (append_assoc (stacked ws) w.locals (w.saved ++ reverse w.operands))
     ∙ ap (λ (xs : List ℕ). (stacked ws ++ w.locals) ++ xs) (sym (reverse-append w.operands (reverse w.saved) ∙ ap (λ (xs : List ℕ). xs ++ reverse w.operands) (reverse-reverse w.saved)))
-
-some_is : {A : Type 0} (o : Option A) (Q : A → Type 0) → IsSomeAnd o Q → (x : A) × (o ≡ Some x) × Q x
-some_is None Q h = absurd h
-some_is (Some x) Q h = (x, refl, h)
 
 -- an instruction is a whole one
 whole : {E : Type 0} (r : Result Instr E) (i : Instr) → as_instr r ≡ Some i → r ≡ Ok i
@@ -110,7 +106,7 @@ module _ (laws : StateLaws) (P : Program) (pl : Places) (n size : ℕ) (m : mach
 
   owned : P.linked ≡ true → (f : Frame) (b : Body) → body_of P f.method ≡ Some b → Owned f b
   owned linked f b body =
-      let k = onto_defined (slice_get P.methods f.method) (λ (k : Method). k.body) b body in
+      let k = onto_some (slice_get P.methods f.method) (λ (k : Method). k.body) b body in
       record {
         method = k.0;
         is_method = k.1;

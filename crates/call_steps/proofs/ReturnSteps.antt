@@ -1,6 +1,8 @@
 -- A return, from the step to where the machine stands for the next state.
 use Rattle.std.proofs.Common.{◌≡◌, ℕ, true, false, ℤ, List, [], ◌∷◌, ◌++◌, Option, Some, None, refl, sym, ap, ◌∙◌, subst}
 use Rattle.std.proofs.lemmas.Option.{none-some}
+use Rattle.lists.specs.Lemmas.{some_same}
+use Rattle.lists.specs.Members.{heads}
 use Rattle.jop_opcodes.specs.Form.{one, Absent}
 use Rattle.jop_opcodes.specs.Row as opcodes
 use Rattle.jop_opcodes.specs.Reading.{plain_instr}
@@ -20,7 +22,7 @@ use Rattle.image_facts.specs.Words.{high_word, low_word}
 use Rattle.machine_stands.specs.Frames.{AreOperands}
 use Rattle.machine_stands.specs.Reading.{operands_of}
 use Rattle.call_steps.specs.Returns.{ReturnOp, Return, Ireturn, Areturn, Lreturn, return_code, result}
-use Rattle.call_steps.proofs.Arguments.{some_same, only_if_defined}
+use Rattle.call_steps.proofs.Arguments.{only_if_defined}
 use Rattle.call_steps.proofs.Scenes.{StateLaws}
 
 -- ---- the instruction
@@ -81,9 +83,6 @@ pub record Given (place : ℕ → ℕ) (op : ReturnOp) (x : Sketch) (operands : 
   pub split : operands ≡ words ++ others
   pub on_stack : result op x ≡ words
   pub given : (ops : List Value) (ws : List ℕ) → AreOperands place ops ws → AreOperands place (with_result value ops) (words ++ ws)
-
-heads : (a b : ℕ) (xs ys : List ℕ) → a ∷ xs ≡ b ∷ ys → a ≡ b
-heads a b xs ys e = cc
 
 seconds : (a b c d : ℕ) (xs ys : List ℕ) → a ∷ b ∷ xs ≡ c ∷ d ∷ ys → b ≡ d
 seconds a b c d xs ys e = cc

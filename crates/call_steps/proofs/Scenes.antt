@@ -3,6 +3,7 @@ use Rattle.std.proofs.Common.{◌≡◌, ℕ, ◌+◌, ◌-◌, ◌*◌, ◌%◌
 use Rattle.std.specs.Prelude.{slice_index, IsSomeAnd}
 use Rattle.std.proofs.lemmas.List.{get_or-drop}
 use Rattle.std.proofs.lemmas.List.Sums.{sum_by-cons}
+use Rattle.lists.specs.Lemmas.{holds_at}
 use Rattle.stack_cache.specs.Size.{IsSize}
 use Rattle.method_cache.specs.Contents.{Cache, is_cached, loaded}
 use Rattle.micro_flow.specs.declared.CostParams.{CostParams}
@@ -61,9 +62,6 @@ pub record StateLaws : Type 0 where
   pub come : CallsCome
   pub returns : ReturnsRun
   pub last : ReturnsEnd
-
-pub holds_at : {A : Type 0} (o : Option A) (x : A) (Q : A → Type 0) → o ≡ Some x → IsSomeAnd o Q → Q x
-holds_at o x Q e h = subst (λ o. IsSomeAnd o Q) e h
 
 pub is_some_and : {A : Type 0} (o : Option A) (x : A) (Q : A → Type 0) → o ≡ Some x → Q x → IsSomeAnd o Q
 is_some_and o x Q e h = subst (λ o. IsSomeAnd o Q) (sym e) h

@@ -3,6 +3,7 @@ use Rattle.std.proofs.Common.{◌≡◌, ℕ, ◌+◌, ◌*◌, ◌%◌, ◌^◌
 use Rattle.std.specs.Prelude.{slice_get, slice_index, IsSome}
 use Rattle.std.proofs.Math.Nat.{mod-eq_of_lt}
 use Rattle.std.proofs.lemmas.Option.{none-some}
+use Rattle.lists.specs.Lemmas.{holds_at, onto_some, some_same}
 use Rattle.jop_opcodes.specs.declared.instruction.Instr.{Instr}
 use Rattle.jop_opcodes.specs.Bytes.{u1, u2}
 use Rattle.jop_opcodes.specs.Form.{one, UnsignedShort}
@@ -34,8 +35,8 @@ use Rattle.call_steps.specs.Entry.{CanEnter, Enters}
 use Rattle.call_steps.specs.Coming.{RowEnters}
 use Rattle.call_steps.specs.Method.{argument_words}
 use Rattle.call_steps.specs.Calls.{Invokestatic, called, CanCall}
-use Rattle.call_steps.proofs.Arguments.{some_same, onto_defined, on_defined, values_taken, reversed}
-use Rattle.call_steps.proofs.Scenes.{StateLaws, holds_at, register}
+use Rattle.call_steps.proofs.Arguments.{on_defined, values_taken, reversed}
+use Rattle.call_steps.proofs.Scenes.{StateLaws, register}
 use Rattle.call_steps.proofs.CallStates.{there}
 
 -- ---- the instruction
@@ -141,7 +142,7 @@ module _ (laws : StateLaws) (P : Program) (pl : Places) (n size : ℕ) (m : mach
     where
       of : (o : Option Body) → body_of P c.t ≡ o → IsSome o → called Invokestatic x ≡ pl.method c.t
       of None e h = absurd (cc)
-      of (Some b) e h = let k = onto_defined (slice_get P.methods c.t) (λ (k : Method). k.body) b e in called_is c k.0 k.1 (there k.0.body b k.2)
+      of (Some b) e h = let k = onto_some (slice_get P.methods c.t) (λ (k : Method). k.body) b e in called_is c k.0 k.1 (there k.0.body b k.2)
 
   -- its row goes on
   enters : (c : Callee) → RowEnters P pl n size m s h.stands instr c.upper c.t

@@ -1,15 +1,12 @@
 -- The opcodes of the family, one by one.
 use Rattle.std.proofs.Common.{◌≡◌, ◌⊎◌, ℕ, ◌==◌, ◌||◌, Bool, true, false, inl, inr, ⊎_elim, subst, eqb-true}
 use Rattle.std.specs.Prelude.{IsTrue}
+use Rattle.lists.specs.Tests.{either}
 use Rattle.bytecode_model.specs.Program.{Program}
 use Rattle.machine_stands.specs.Simulates.{Simulates, is_bare}
 use Rattle.call_steps.specs.Tables.{Invokevirtual, Invokespecial, Invokeinterface}
 use Rattle.call_steps.specs.Family.{calls_by_receiver}
 use Rattle.call_steps.proofs.TableStates.{StateLaws, table_call_comes}
-
-either : (a b : Bool) → IsTrue (a || b) → IsTrue a ⊎ IsTrue b
-either true b h = inl h
-either false b h = inr h
 
 is_number : (op k : ℕ) → IsTrue (op == k) → op ≡ k
 is_number op k h = eqb-true op k h

@@ -8,6 +8,7 @@ use Rattle.std.proofs.lemmas.Bool.Decides.{nat_tests}
 use Rattle.std.proofs.lemmas.List.{reverse-append, get_or-drop}
 use Rattle.stack_cache.specs.Size.{IsSize}
 use Rattle.std.proofs.lemmas.List.Sums.{sum_by-cons, sum_by-append}
+use Rattle.lists.specs.Lemmas.{holds_at, onto_some, some_is, some_same}
 use Rattle.jop_opcodes.specs.declared.instruction.Instr.{Instr}
 use Rattle.jop_opcodes.specs.Bytes.{u1, u2}
 use Rattle.jop_opcodes.specs.Reading.{plain_instr}
@@ -68,23 +69,9 @@ pub record StateLaws : Type 0 where
 
 -- ---- options and lists
 
-some_same : {X : Type 0} (x y : X) → Some x ≡ Some y → x ≡ y
-some_same x y e = cc
-
-holds_at : {A : Type 0} (o : Option A) (x : A) (Q : A → Type 0) → o ≡ Some x → IsSomeAnd o Q → Q x
-holds_at o x Q e h = subst (λ o. IsSomeAnd o Q) e h
-
-some_is : {A : Type 0} (o : Option A) (Q : A → Type 0) → IsSomeAnd o Q → (x : A) × (o ≡ Some x) × Q x
-some_is None Q h = absurd h
-some_is (Some x) Q h = (x, refl, h)
-
 is_there : {A : Type 0} (o : Option A) → IsSome o → (x : A) × (o ≡ Some x)
 is_there None h = absurd (cc)
 is_there (Some x) h = (x, refl)
-
-onto_defined : {A B : Type 0} (o : Option A) (go : A → Option B) (y : B) → onto o go ≡ Some y → (x : A) × (o ≡ Some x) × (go x ≡ Some y)
-onto_defined None go y h = absurd (none-some y h)
-onto_defined (Some x) go y h = (x, refl, h)
 
 size_small : (n : ℕ) → IsSize n → n ≤ 1024
 size_small n h = ⊎_elim (λ (e : n ≡ 256). omega (arith, e)) (λ other. ⊎_elim (λ (e : n ≡ 512). omega (arith, e)) (λ (e : n ≡ 1024). omega (arith, e)) other) h
@@ -389,7 +376,7 @@ module _ (laws : StateLaws) (P : Program) (pl : Places) (n size : ℕ) (m : mach
   method_above : (u : ℕ) → IsSome (body_of P u) → 0 < pl.method u
   method_above u some =
       let b = is_there (body_of P u) some in
-      let k = onto_defined (slice_get P.methods u) (λ (k : Method). k.body) b.0 b.1 in
+      let k = onto_some (slice_get P.methods u) (λ (k : Method). k.body) b.0 b.1 in
       (says_linked.methods u k.0 b.0 k.1 k.2).nonzero
 
   -- the method that the tables have is the one that is chosen

@@ -5,6 +5,7 @@ use Rattle.std.proofs.Math.Nat.{mod-eq_of_lt}
 use Rattle.std.proofs.lemmas.Option.{none-some}
 use Rattle.std.proofs.lemmas.Bool.Decides.{nat_tests}
 use Rattle.std.proofs.lemmas.List.{get_or-drop}
+use Rattle.lists.specs.Lemmas.{some_same}
 use Rattle.micro_flow.specs.declared.CostParams.{CostParams}
 use Rattle.jop_opcodes.specs.declared.instruction.Instr.{Instr}
 use Rattle.jop_opcodes.specs.Form.{one, Absent}
@@ -144,9 +145,6 @@ throws_null laws n p x e s h none =
 form_read : operands_of (opcodes.row_of 191).form ≡ Some (one Absent)
 unfolding opcodes.row_of
 form_read = refl
-
-some_same : {X : Type 0} (x y : X) → Some x ≡ Some y → x ≡ y
-some_same x y e = cc
 
 is_throw : (code : List ℕ) (pc : ℕ) (o : Operand) (r : Row) → row_of code (plain_instr 191 code pc (one Absent)) o ≡ Some r → r ≡ Throw
 unfolding row_of

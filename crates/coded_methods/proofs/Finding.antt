@@ -12,13 +12,11 @@ use Rattle.std.proofs.lemmas.Cmp.{ranked}
 use Rattle.std.proofs.lemmas.List.{get_or-map, length-map}
 use Rattle.std.proofs.lemmas.List.Sorted.{IsNonDecreasingBy-from_default}
 use Rattle.std.proofs.lemmas.Option.{slice_get_within, slice_get_cases, get_or_from_slice_get}
+use Rattle.lists.specs.Lemmas.{some_in}
 use Rattle.coded_methods.specs.declared.method.CodedMethod.{CodedMethod}
 use Rattle.coded_methods.specs.Methods.{places}
 
 -- ---- what is there
-
-pub some_in : {A : Type 0} (o : Option A) (x : A) (K : A → Type 0) → o ≡ Some x → K x → IsSomeAnd o K
-some_in o x K e k = subst (λ o. IsSomeAnd o K) (sym e) k
 
 pub is_some_and : {A : Type 0} (o : Option A) (K : A → Type 0) → IsSomeAnd o K → (x : A) × (o ≡ Some x) × K x
 is_some_and None K h = absurd h

@@ -5,6 +5,9 @@ use Rattle.std.specs.Int.{w8, w32, int_wrap, cast_signed, cast_unsigned}
 use Rattle.std.proofs.lemmas.Int.{of_z-to_z}
 use Rattle.std.proofs.lemmas.List.Sums.{sum_by-cons}
 use Rattle.std.proofs.lemmas.Option.{none-some}
+use Rattle.lists.specs.Tests.{either}
+use Rattle.lists.specs.Lemmas.{holds_at, some_same}
+use Rattle.lists.specs.Members.{heads, tails}
 use Rattle.jop_opcodes.specs.declared.instruction.Instr.{Instr}
 use Rattle.jop_opcodes.specs.Form.{one, Absent}
 use Rattle.jop_opcodes.specs.Row as opcodes
@@ -54,9 +57,6 @@ pub record DeviceLaws : Type 0 where
   pub comes : RowsCome
   pub one : OneWordIsOnTop
   pub pushed : OneWordIsPushed
-
-some_same : {X : Type 0} (x y : X) → Some x ≡ Some y → x ≡ y
-some_same x y e = cc
 
 -- ---- the instructions
 
@@ -115,15 +115,6 @@ int_on_top P limits answer s f callers s' (Long k ∷ rest) go h = absurd (none-
 int_on_top P limits answer s f callers s' (Ref p ∷ rest) go h = absurd (none-some s' h)
 int_on_top P limits answer s f callers s' (Null ∷ rest) go h = absurd (none-some s' h)
 int_on_top P limits answer s f callers s' (Unset ∷ rest) go h = absurd (none-some s' h)
-
-heads : (a b : ℕ) (xs ys : List ℕ) → a ∷ xs ≡ b ∷ ys → a ≡ b
-heads a b xs ys e = cc
-
-tails : (a b : ℕ) (xs ys : List ℕ) → a ∷ xs ≡ b ∷ ys → xs ≡ ys
-tails a b xs ys e = cc
-
-holds_at : {A : Type 0} (o : Option A) (x : A) (Q : A → Type 0) → o ≡ Some x → IsSomeAnd o Q → Q x
-holds_at o x Q e h = subst (λ o. IsSomeAnd o Q) e h
 
 module _ (laws : DeviceLaws) (P : Program) (pl : Places) (n size : ℕ) (m : machine.State) (answer : Option ℕ) (s s' : State) (h : IsStep P pl n size m answer s s') (mode : s.mode ≡ Running) where
   abbrev instr : DeviceOp → Instr
@@ -240,10 +231,6 @@ module _ (laws : DeviceLaws) (P : Program) (pl : Places) (n size : ℕ) (m : mac
       (ap (λ (u : State). u.output) next ∙ ap (λ (b : ℕ). s.output ++ b ∷ []) (sym byte)) goes (runs Impdep2 answers opcode)
 
 -- ---- either
-
-either : (a b : Bool) → IsTrue (a || b) → IsTrue a ⊎ IsTrue b
-either true b h = inl h
-either false b h = inr h
 
 pub simulates : DeviceLaws → Simulates is_device
 simulates laws P pl n size m answer s s' h mode family linked =

@@ -4,6 +4,7 @@ use Rattle.std.specs.Prelude.{IsSomeAnd, slice_get}
 use Rattle.std.specs.List.{list_any}
 use Rattle.std.proofs.lemmas.Option.{none-some}
 use Rattle.std.proofs.lemmas.Bool.Decides.{nat_tests}
+use Rattle.lists.specs.Lemmas.{onto_some, some_same}
 use Rattle.bytecode_model.specs.declared.Value.{Value}
 use Rattle.bytecode_model.specs.declared.Value.TheVariants.{Int, Long, Ref, Null, Unset}
 use Rattle.bytecode_model.specs.Lists.{onto, replaced}
@@ -14,28 +15,18 @@ use Rattle.bytecode_model.specs.Effects.{Effect, ArrayIndexOutOfBoundsException,
 use Rattle.bytecode_model.specs.Steps.{applied, written}
 use Rattle.heap_steps.specs.Widths.{has_longs}
 
-pub some_same : {X : Type 0} (x y : X) → Some x ≡ Some y → x ≡ y
-some_same x y e = cc
-
-pub onto_defined : {A B : Type 0} (o : Option A) (go : A → Option B) (y : B) → onto o go ≡ Some y → (x : A) × (o ≡ Some x) × (go x ≡ Some y)
-onto_defined None go y h = absurd (none-some y h)
-onto_defined (Some x) go y h = (x, refl, h)
-
 -- an item is replaced where there is one
 pub item_at : {X : Type 0} (xs ys : List X) (k : ℕ) (y : X) → replaced xs k y ≡ Some ys → (x : X) × (slice_get xs k ≡ Some x)
 item_at [] ys k y h = absurd (none-some ys h)
 item_at (x ∷ xs) ys zero y h = (x, refl)
-item_at (x ∷ xs) ys (suc k) y h = let r = onto_defined (replaced xs k y) (λ zs. Some (x ∷ zs)) ys h in item_at xs r.0 k y r.1
+item_at (x ∷ xs) ys (suc k) y h = let r = onto_some (replaced xs k y) (λ zs. Some (x ∷ zs)) ys h in item_at xs r.0 k y r.1
 
 -- so a value of an object
 pub part_at : (objects changed : List Object) (p k : ℕ) (o : Object) (w : Value) → slice_get objects p ≡ Some o → written objects p k w ≡ Some changed → (v : Value) × (slice_get o.parts k ≡ Some v)
 part_at objects changed p k o w e h =
-    let r = onto_defined (replaced o.parts k w) (λ vs. replaced objects p (record o { parts = vs })) changed
+    let r = onto_some (replaced o.parts k w) (λ vs. replaced objects p (record o { parts = vs })) changed
     (sym (ap (λ x. onto x (λ (u : Object). onto (replaced u.parts k w) (λ vs. replaced objects p (record u { parts = vs })))) e) ∙ h) in
     item_at o.parts r.0 k w r.1
-
-pub holds_at : {A : Type 0} (o : Option A) (x : A) (Q : A → Type 0) → o ≡ Some x → IsSomeAnd o Q → Q x
-holds_at o x Q e h = subst (λ o. IsSomeAnd o Q) e h
 
 -- ---- indexes
 

@@ -1,6 +1,7 @@
 -- A machine at an opcode of arrays, as a sketch, and how its rows end.
 use Rattle.std.proofs.Common.{◌≡◌, ℕ, ◌+◌, ◌<◌, ◌≤◌, Bool, true, false, ℤ, List, [], ◌∷◌, ◌++◌, Option, None, length, reverse, refl, ◌∙◌, ap, subst, arith, eq-eqb, ◌==◌, ◌&&◌}
 use Rattle.std.proofs.lemmas.Bool.Decides.{nat_tests}
+use Rattle.lists.specs.Lemmas.{holds_at}
 use Rattle.jop_opcodes.specs.declared.instruction.Instr.{Instr}
 use Rattle.jop_opcodes.specs.Form.{one, Absent}
 use Rattle.jop_opcodes.specs.Reading.{plain_instr}
@@ -34,7 +35,6 @@ use Rattle.heap_steps.specs.Widths.{ArraysAreShort, ElementsHaveWidths, Elements
 use Rattle.heap_steps.specs.Writing.{PartsAreWritten, LongPartsAreWritten, SamePlaces, PlacesStay}
 use Rattle.heap_steps.specs.Ending.{RowsAreMade, RaisesAreMade, RowsGoOn, RowsWrite, RowsRaise}
 use Rattle.heap_steps.proofs.ArrayRows.{with_words, with_memory, raised, Row, RaiseRow}
-use Rattle.heap_steps.proofs.ArrayDefined.{holds_at}
 
 pub record Laws : Type 0 where
   pub plain : PlainOnesAreRead
@@ -58,12 +58,6 @@ pub record Laws : Type 0 where
   pub goes : RowsGoOn
   pub writes : RowsWrite
   pub raises : RowsRaise
-
-pub heads : (a b : ℕ) (xs ys : List ℕ) → a ∷ xs ≡ b ∷ ys → a ≡ b
-heads a b xs ys e = cc
-
-pub tails : (a b : ℕ) (xs ys : List ℕ) → a ∷ xs ≡ b ∷ ys → xs ≡ ys
-tails a b xs ys e = cc
 
 -- ---- tests
 

@@ -2,6 +2,7 @@
 use Rattle.std.proofs.Common.{◌≡◌, ℕ, zero, suc, Bool, true, false, ℤ, List, [], ◌∷◌, Option, Some, None, refl, sym, ap, ◌∙◌, subst}
 use Rattle.std.specs.Prelude.{IsSomeAnd, slice_get}
 use Rattle.std.proofs.lemmas.Option.{none-some}
+use Rattle.lists.specs.Lemmas.{onto_some}
 use Rattle.bytecode_model.specs.declared.Value.{Value}
 use Rattle.bytecode_model.specs.declared.Value.TheVariants.{Int, Long, Ref, Null, Unset}
 use Rattle.bytecode_model.specs.Lists.{onto, replaced}
@@ -12,32 +13,18 @@ use Rattle.bytecode_model.specs.Effects.{Effect, NullPointerException, fault, on
 use Rattle.bytecode_model.specs.Steps.{applied, written}
 use Rattle.image_facts.specs.Words.{is_long_type}
 
-pub some_same : {X : Type 0} (x y : X) → Some x ≡ Some y → x ≡ y
-some_same x y e = cc
-
-pub onto_defined : {A B : Type 0} (o : Option A) (go : A → Option B) (y : B) → onto o go ≡ Some y → (x : A) × (o ≡ Some x) × (go x ≡ Some y)
-onto_defined None go y h = absurd (none-some y h)
-onto_defined (Some x) go y h = (x, refl, h)
-
-pub some_is : {A : Type 0} (o : Option A) (Q : A → Type 0) → IsSomeAnd o Q → (x : A) × (o ≡ Some x) × Q x
-some_is None Q h = absurd h
-some_is (Some x) Q h = (x, refl, h)
-
 -- an item is replaced where there is one
 pub item_at : {X : Type 0} (xs ys : List X) (k : ℕ) (y : X) → replaced xs k y ≡ Some ys → (x : X) × (slice_get xs k ≡ Some x)
 item_at [] ys k y h = absurd (none-some ys h)
 item_at (x ∷ xs) ys zero y h = (x, refl)
-item_at (x ∷ xs) ys (suc k) y h = let r = onto_defined (replaced xs k y) (λ zs. Some (x ∷ zs)) ys h in item_at xs r.0 k y r.1
+item_at (x ∷ xs) ys (suc k) y h = let r = onto_some (replaced xs k y) (λ zs. Some (x ∷ zs)) ys h in item_at xs r.0 k y r.1
 
 -- so a value of an object
 pub part_at : (objects changed : List Object) (p k : ℕ) (o : Object) (w : Value) → slice_get objects p ≡ Some o → written objects p k w ≡ Some changed → (v : Value) × (slice_get o.parts k ≡ Some v)
 part_at objects changed p k o w e h =
-    let r = onto_defined (replaced o.parts k w) (λ vs. replaced objects p (record o { parts = vs })) changed
+    let r = onto_some (replaced o.parts k w) (λ vs. replaced objects p (record o { parts = vs })) changed
     (sym (ap (λ x. onto x (λ (u : Object). onto (replaced u.parts k w) (λ vs. replaced objects p (record u { parts = vs })))) e) ∙ h) in
     item_at o.parts r.0 k w r.1
-
-pub holds_at : {A : Type 0} (o : Option A) (x : A) (Q : A → Type 0) → o ≡ Some x → IsSomeAnd o Q → Q x
-holds_at o x Q e h = subst (λ o. IsSomeAnd o Q) e h
 
 module _ (P : Program) (limits : Limits) (answer : Option ℕ) (s : State) (f : Frame) (callers : List Frame) (s' : State) where
   -- the effect leads to the next state

@@ -2,6 +2,7 @@
 use Rattle.std.proofs.Common.{◌≡◌, ◌⊎◌, ℕ, ◌==◌, ◌||◌, Bool, true, false, List, [], ◌∷◌, inl, inr, ⊎_elim, refl, sym, ◌∙◌, subst, eqb-true}
 use Rattle.std.specs.Prelude.{IsTrue}
 use Rattle.std.specs.List.{list_any}
+use Rattle.lists.specs.Tests.{either}
 use Rattle.bytecode_model.specs.Program.{Program}
 use Rattle.machine_stands.specs.Simulates.{Simulates, is_bare}
 use Rattle.heap_steps.specs.Family.{field_opcodes, is_of_field}
@@ -9,10 +10,6 @@ use Rattle.heap_steps.proofs.FieldScenes.{Laws, Scene, Comes}
 use Rattle.heap_steps.proofs.Statics.{getstatic_comes, putstatic_comes}
 use Rattle.heap_steps.proofs.Getting.{getfield_comes}
 use Rattle.heap_steps.proofs.Putting.{putfield_comes}
-
-either : (a b : Bool) → IsTrue (a || b) → IsTrue a ⊎ IsTrue b
-either true b h = inl h
-either false b h = inr h
 
 -- ---- a property of each opcode of a list
 

@@ -65,12 +65,6 @@ pub record Laws : Type 0 where
   pub writes : RowsWrite
   pub raises : RowsRaise
 
-pub heads : (a b : ℕ) (xs ys : List ℕ) → a ∷ xs ≡ b ∷ ys → a ≡ b
-heads a b xs ys e = cc
-
-pub tails : (a b : ℕ) (xs ys : List ℕ) → a ∷ xs ≡ b ∷ ys → xs ≡ ys
-tails a b xs ys e = cc
-
 two_bytes : (a b : ℕ) → a < 2 ^ 8 → b < 2 ^ 8 → ((0 * 2 ^ 8 + a) % 2 ^ 32 * 2 ^ 8 + b) % 2 ^ 32 ≡ a * 2 ^ 8 + b
 two_bytes a b h k = omega arith
 

@@ -2,6 +2,7 @@
 use Rattle.std.proofs.Common.{◌≡◌, ℕ, zero, suc, ◌+◌, ◌-◌, ◌<◌, List, [], ◌∷◌, ◌++◌, Option, Some, None, length, replicate, refl, sym, ◌∙◌, ap, subst, arith, add-zero, length-append}
 use Rattle.std.specs.Prelude.{slice_get, slice_index, IsSomeAnd}
 use Rattle.std.proofs.lemmas.Option.{none-some}
+use Rattle.lists.specs.Lemmas.{some_same}
 use Rattle.memory_timing.specs.Port.{padded}
 use Rattle.jop_core.specs.State as machine
 use Rattle.bytecode_model.specs.Lists.{onto}
@@ -15,16 +16,6 @@ use Rattle.machine_stands.specs.StandsFor.{StandsFor}
 use Rattle.heap_steps.specs.Reading.{Reads}
 
 -- ---- options and lists
-
-pub some_same : {X : Type 0} (x y : X) → Some x ≡ Some y → x ≡ y
-some_same x y e = cc
-
-pub onto_defined : {A B : Type 0} (o : Option A) (go : A → Option B) (y : B) → onto o go ≡ Some y → (x : A) × (o ≡ Some x) × (go x ≡ Some y)
-onto_defined None go y h = absurd (none-some y h)
-onto_defined (Some x) go y h = (x, refl, h)
-
-pub holds_at : {A : Type 0} (o : Option A) (x : A) (Q : A → Type 0) → o ≡ Some x → IsSomeAnd o Q → Q x
-holds_at o x Q e h = subst (λ o. IsSomeAnd o Q) e h
 
 pub object_at : (P : Program) (n : ℕ) (os : List Object) (p : ℕ) (o : Object) → AreObjects P n os → slice_get os p ≡ Some o → IsObject P n o
 object_at P n [] p o h e = absurd (none-some o e)

@@ -1,6 +1,7 @@
 -- arraylength, from the step to where the machine stands for the next state.
 use Rattle.std.proofs.Common.{◌≡◌, ℕ, ◌+◌, true, pos, List, ◌∷◌, ◌++◌, Some, length, refl, ◌∙◌, ap, arith}
 use Rattle.std.specs.Prelude.{slice_get, slice_index}
+use Rattle.lists.specs.Members.{heads, tails}
 use Rattle.jop_opcodes.specs.Row as opcodes
 use Rattle.bytecode_model.specs.declared.Value.{Value}
 use Rattle.bytecode_model.specs.declared.Value.TheVariants.{Int, Ref, Null}
@@ -11,7 +12,7 @@ use Rattle.bytecode_model.specs.Table.{row_of}
 use Rattle.bytecode_model.specs.Effects.{Effect, Go, NullPointerException, fault, only_if, is_array}
 use Rattle.heap_steps.proofs.ArrayRows.{length_at, has_length, no_length, arraylength, arraylength_null}
 use Rattle.heap_steps.proofs.ArrayDefined.{only_if_defined, on_object_defined}
-use Rattle.heap_steps.proofs.ArrayScenes.{Laws, Scene, Comes, limits, top, x, place, saved, operands, At, effect_of, goes_by, raises_by, one_on_top, words_are, heads, tails, null_test}
+use Rattle.heap_steps.proofs.ArrayScenes.{Laws, Scene, Comes, limits, top, x, place, saved, operands, At, effect_of, goes_by, raises_by, one_on_top, words_are, null_test}
 use Rattle.heap_steps.proofs.Elements.{next_is, array_there}
 use Rattle.heap_steps.proofs.Loads.{at_row}
 

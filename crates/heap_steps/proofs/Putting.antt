@@ -3,6 +3,8 @@ use Rattle.std.proofs.Common.{◌≡◌, ℕ, ◌+◌, ◌%◌, ◌^◌, ◌<◌
 use Rattle.std.specs.Prelude.{slice_get, slice_set}
 use Rattle.std.proofs.lemmas.Option.{none-some}
 use Rattle.std.proofs.lemmas.List.{length-set}
+use Rattle.lists.specs.Members.{heads, tails}
+use Rattle.lists.specs.Lemmas.{holds_at, onto_some, some_same}
 use Rattle.jop_opcodes.specs.Form.{one, UnsignedShort}
 use Rattle.jop_opcodes.specs.Row as opcodes
 use Rattle.jop_opcodes.specs.Reading.{plain_instr}
@@ -24,8 +26,8 @@ use Rattle.machine_stands.specs.Frames.{IsWordOf, AreOperands}
 use Rattle.machine_stands.specs.Reading.{operands_of}
 use Rattle.heap_steps.specs.Writing.{SamePlaces}
 use Rattle.heap_steps.proofs.FieldRows.{first, second, field_at, is_word, is_double, puts_word, puts_double, puts_word_null, puts_double_null, putfield_word, putfield_double, putfield_word_null, putfield_double_null}
-use Rattle.heap_steps.proofs.FieldDefined.{some_same, onto_defined, holds_at, part_at, on_defined, only_if_defined, on_top_defined, on_object_defined, class_is, suits_wide, suits_set, declared_wide, long_is}
-use Rattle.heap_steps.proofs.FieldScenes.{Laws, Scene, Comes, limits, top, code, x, place, saved, operands, At, effect_of, named, writes_by, null_by, has_entry, one_on_top, long_on_top, words_are, heads, tails, null_test, there_test, sum_is, next_is}
+use Rattle.heap_steps.proofs.FieldDefined.{part_at, on_defined, only_if_defined, on_top_defined, on_object_defined, class_is, suits_wide, suits_set, declared_wide, long_is}
+use Rattle.heap_steps.proofs.FieldScenes.{Laws, Scene, Comes, limits, top, code, x, place, saved, operands, At, effect_of, named, writes_by, null_by, has_entry, one_on_top, long_on_top, words_are, null_test, there_test, sum_is, next_is}
 
 -- ---- the instruction
 
@@ -229,7 +231,7 @@ wrote laws g t p o rest object leads =
     let well = g.h.well_formed in
     let gone_on : List Object → State = λ os. with_top (record g.s { objects = os }) callers (record f { pc = f.pc + 3; locals = f.locals; operands = rest }) in
     let b = only_if_defined g.P limit g.answer g.s f callers g.s' (has_class g.P (kind_of g.P o) t.owner) (WritePart p t.k t.v (f.pc + 3) f.locals rest) leads in
-    let r = onto_defined (written g.s.objects p t.k t.v) (λ os. Some (gone_on os)) g.s' b.2 in
+    let r = onto_some (written g.s.objects p t.k t.v) (λ os. Some (gone_on os)) g.s' b.2 in
     let c = class_is g.P (kind_of g.P o) t.owner b.0 in
     let old = part_at g.s.objects r.0 p t.k o t.v object r.1 in
     let declared = t.means.inherited c.0 c.2 ∙ t.declared in

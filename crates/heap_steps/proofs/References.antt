@@ -3,6 +3,7 @@ use Rattle.std.proofs.Common.{◌≡◌, ℕ, ◌+◌, ◌-◌, ◌/◌, ◌%◌
 use Rattle.std.specs.Prelude.{slice_get, slice_index}
 use Rattle.std.proofs.lemmas.Nat.{and_mask}
 use Rattle.std.proofs.Math.Nat.{mod-eq_of_lt}
+use Rattle.lists.specs.Lemmas.{onto_some, some_same}
 use Rattle.jop_opcodes.specs.Row as opcodes
 use Rattle.micro_sketch.specs.Rows.{head_of, tail_of}
 use Rattle.bytecode_model.specs.declared.Value.{Value}
@@ -19,7 +20,7 @@ use Rattle.image_facts.specs.Words.{int_word}
 use Rattle.image_facts.specs.Says.{SaysAll, SaysLinked, bit_of}
 use Rattle.machine_stands.specs.Frames.{IsWordOf}
 use Rattle.heap_steps.proofs.ArrayRows.{kept_int, component_at, supertype_bit, store_null, store_outside, store_inside, store_nothing, store_something, store_other, store_same, aastore_null, aastore_outside, aastore_nothing, aastore_other, aastore_same}
-use Rattle.heap_steps.proofs.ArrayDefined.{some_same, on_defined, only_if_defined, on_top_defined, on_int_defined, on_object_defined, on_element_defined, IsOutside, IsArray, references, references_are, onto_defined}
+use Rattle.heap_steps.proofs.ArrayDefined.{on_defined, only_if_defined, on_top_defined, on_int_defined, on_object_defined, on_element_defined, IsOutside, IsArray, references, references_are}
 use Rattle.heap_steps.proofs.ArrayScenes.{Laws, Scene, Comes, limits, top, x, place, At, effect_of, raises_by, null_test, there_test}
 use Rattle.heap_steps.proofs.Elements.{outside, inside}
 use Rattle.heap_steps.proofs.Types.{type_at, component_read, supertype_read}
@@ -181,8 +182,8 @@ module _ (laws : Laws) (g : Scene 83) (at : At 83 g StoreReference) where
       null_stored Null moved i p o rest w object c of k old is part refl (put_by 83 g p o k Null rest leads)
   inside_comes (Ref q) moved i p o rest w object c of k old is part goes leads =
       let b = on_defined g.P (limits 83 g) g.answer g.s (top 83 g) g.h.stands.callers g.s' (is_instance g.P g.s.objects true c (Ref q)) (tested (Ref q) p rest k) leads in
-      let there = onto_defined (slice_get g.s.objects q) (λ u. onto (kind_of g.P u) (λ l. Some (is_of g.P l c))) b.0 b.1 in
-      let l = onto_defined (kind_of g.P there.0) (λ l. Some (is_of g.P l c)) b.0 there.2 in
+      let there = onto_some (slice_get g.s.objects q) (λ u. onto (kind_of g.P u) (λ l. Some (is_of g.P l c))) b.0 b.1 in
+      let l = onto_some (kind_of g.P there.0) (λ l. Some (is_of g.P l c)) b.0 there.2 in
       by_test q moved i p o rest w object c of k old is part there.0 there.1 l.0 l.1 b.0 (some_same (is_of g.P l.0 c) b.0 l.2) (goes ∙ b.2) b.3
   inside_comes (Int n) moved i p o rest w object c of k old is part goes leads = absurd (cc)
   inside_comes (Long n) moved i p o rest w object c of k old is part goes leads = absurd (cc)

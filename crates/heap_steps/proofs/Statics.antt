@@ -3,6 +3,8 @@ use Rattle.std.proofs.Common.{◌≡◌, ℕ, ◌+◌, ◌%◌, ◌^◌, ◌<◌
 use Rattle.std.specs.Prelude.{slice_get, slice_index, slice_set}
 use Rattle.std.proofs.lemmas.Option.{none-some}
 use Rattle.std.proofs.lemmas.List.{length-set}
+use Rattle.lists.specs.Members.{heads, tails}
+use Rattle.lists.specs.Lemmas.{holds_at, onto_some, some_is, some_same}
 use Rattle.jop_opcodes.specs.Form.{one, UnsignedShort}
 use Rattle.jop_opcodes.specs.Row as opcodes
 use Rattle.jop_opcodes.specs.Reading.{plain_instr}
@@ -25,8 +27,8 @@ use Rattle.machine_stands.specs.Frames.{IsWordOf}
 use Rattle.machine_stands.specs.Reading.{operands_of}
 use Rattle.heap_steps.specs.Writing.{SamePlaces}
 use Rattle.heap_steps.proofs.FieldRows.{first, second, is_word, is_double, getstatic_word, getstatic_double, putstatic_word, putstatic_double}
-use Rattle.heap_steps.proofs.FieldDefined.{some_same, onto_defined, some_is, holds_at, item_at, on_defined, only_if_defined, on_top_defined, suits_wide, suits_set, declared_wide, long_is}
-use Rattle.heap_steps.proofs.FieldScenes.{Laws, Scene, Comes, limits, top, code, x, place, saved, operands, At, effect_of, named, shows, goes_by, writes_by, has_entry, one_on_top, long_on_top, words_are, heads, tails, null_test, there_test, next_is}
+use Rattle.heap_steps.proofs.FieldDefined.{item_at, on_defined, only_if_defined, on_top_defined, suits_wide, suits_set, declared_wide, long_is}
+use Rattle.heap_steps.proofs.FieldScenes.{Laws, Scene, Comes, limits, top, code, x, place, saved, operands, At, effect_of, named, shows, goes_by, writes_by, has_entry, one_on_top, long_on_top, words_are, null_test, there_test, next_is}
 
 -- ---- the instructions
 
@@ -171,7 +173,7 @@ puts laws g =
     let d = on_defined g.P limit g.answer g.s f callers g.s' (slice_get g.P.statics k) (λ d. only_if (suits d v.0) (WriteStatic k v.0 (f.pc + 3) f.locals v.1)) v.4 in
     let w = only_if_defined g.P limit g.answer g.s f callers g.s' (suits d.0 v.0) (WriteStatic k v.0 (f.pc + 3) f.locals v.1) d.3 in
     let gone_on : List Value → State = λ vs. with_top (record g.s { statics = vs }) callers (record f { pc = f.pc + 3; locals = f.locals; operands = v.1 }) in
-    let r = onto_defined (replaced g.s.statics k v.0) (λ vs. Some (gone_on vs)) g.s' w.2 in
+    let r = onto_some (replaced g.s.statics k v.0) (λ vs. Some (gone_on vs)) g.s' w.2 in
     let old = item_at g.s.statics r.0 k v.0 r.1 in
     record {
       k = k;

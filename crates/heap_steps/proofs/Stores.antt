@@ -4,6 +4,8 @@ use Rattle.std.specs.Prelude.{slice_get, slice_set}
 use Rattle.std.specs.Int.{w8, w16, w32, int_wrap}
 use Rattle.std.specs.Int.RustNames.{FitsSigned}
 use Rattle.std.proofs.lemmas.List.{length-set}
+use Rattle.lists.specs.Members.{heads, tails}
+use Rattle.lists.specs.Lemmas.{onto_some, some_same}
 use Rattle.jop_opcodes.specs.Form.{one}
 use Rattle.jop_opcodes.specs.Row as opcodes
 use Rattle.micro_sketch.specs.Sketch.{Sketch}
@@ -24,9 +26,9 @@ use Rattle.image_facts.specs.Words.{int_word}
 use Rattle.image_facts.specs.Laws.{part_place}
 use Rattle.machine_stands.specs.Frames.{IsWordOf, AreOperands}
 use Rattle.heap_steps.proofs.ArrayRows.{Row, element_at, kept_int, kept_byte, kept_short, kept_char, store_null, store_outside, store_inside, stores_word, StoreRows, iastore, bastore, castore, sastore}
-use Rattle.heap_steps.proofs.ArrayDefined.{some_same, onto_defined, only_if_defined, on_int_defined, on_object_defined, on_element_defined, IsOutside, IsArray, HaveWidth, numbers}
+use Rattle.heap_steps.proofs.ArrayDefined.{only_if_defined, on_int_defined, on_object_defined, on_element_defined, IsOutside, IsArray, HaveWidth, numbers}
 use Rattle.heap_steps.proofs.Kept.{Keeps, keeps_int, keeps_byte, keeps_short, keeps_char}
-use Rattle.heap_steps.proofs.ArrayScenes.{Laws, Scene, Comes, limits, top, code, x, place, saved, operands, At, effect_of, operand_values, writes_by, raises_by, one_on_top, words_are, heads, tails, null_test}
+use Rattle.heap_steps.proofs.ArrayScenes.{Laws, Scene, Comes, limits, top, code, x, place, saved, operands, At, effect_of, operand_values, writes_by, raises_by, one_on_top, words_are, null_test}
 use Rattle.heap_steps.proofs.Elements.{outside, inside, word_at}
 use Rattle.heap_steps.proofs.Loads.{at_row}
 
@@ -78,7 +80,7 @@ pub put_by : (op : ℕ) (g : Scene op) (p : ℕ) (o : Object) (k : ℕ) (w : Val
 put_by op g p o k w rest leads =
     let f = top op g in
     let gone_on : List Object → State = λ os. with_top (record g.s { objects = os }) g.h.stands.callers (record f { pc = f.pc + 1; locals = f.locals; operands = rest }) in
-    let r = onto_defined (written g.s.objects p k w) (λ os. Some (gone_on os)) g.s' leads in
+    let r = onto_some (written g.s.objects p k w) (λ os. Some (gone_on os)) g.s' leads in
     record { changed = r.0; put = r.1; next = sym (some_same (gone_on r.0) g.s' r.2) }
 
 pub word_stored : (laws : Laws) (op : ℕ) (g : Scene op) (r : bytecode.Row) (kept : ℕ → ℕ) (allowed : Sketch → Bool) (p : ℕ) (o : Object) (k : ℕ) (old w : Value) (rest : List Value) (others : List ℕ) → Row op allowed (stores_word kept)

@@ -3,6 +3,7 @@ use Rattle.std.proofs.Common.{◌≡◌, ℕ, zero, suc, ◌+◌, ◌<◌, ℤ, 
 use Rattle.std.specs.Prelude.{slice_get, slice_set, sum_by}
 use Rattle.std.proofs.lemmas.Option.{none-some}
 use Rattle.std.proofs.lemmas.List.Sums.{sum_by-cons}
+use Rattle.lists.specs.Lemmas.{onto_some, some_same}
 use Rattle.bytecode_model.specs.declared.Value.{Value}
 use Rattle.bytecode_model.specs.declared.Value.TheVariants.{Int, Long, Ref, Null, Unset}
 use Rattle.bytecode_model.specs.Lists.{onto, replaced}
@@ -19,7 +20,7 @@ use Rattle.jop_core.specs.State as machine
 use Rattle.machine_stands.specs.Frames.{IsWordOf}
 use Rattle.machine_stands.specs.StandsFor.{StandsFor, memory_of}
 use Rattle.heap_steps.specs.Writing.{WritesLong, PartsAreWritten, LongPartsAreWritten, StaticsAreWritten, LongStaticsAreWritten, PlacesStay}
-use Rattle.heap_steps.proofs.Kit.{some_same, onto_defined, differ_padded}
+use Rattle.heap_steps.proofs.Kit.{differ_padded}
 
 pub record WriteLaws : Type 0 where
   pub written : WordsAreWritten
@@ -135,10 +136,10 @@ take_sum f (a ∷ xs) ys zero x y (suc q) e h same =
     let one : f y ≡ f a = same ∙ ap f (sym (some_same a x e)) in
     ap (λ zs. sum_by f (take (suc q) zs)) (sym is) ∙ sum_by-cons f y (take q xs) ∙ ap (λ (k : ℕ). k + sum_by f (take q xs)) one ∙ sym (sum_by-cons f a (take q xs))
 take_sum f (a ∷ xs) ys (suc k) x y zero e h same =
-    let r = onto_defined (replaced xs k y) (λ zs. Some (a ∷ zs)) ys h in
+    let r = onto_some (replaced xs k y) (λ zs. Some (a ∷ zs)) ys h in
     ap (λ zs. sum_by f (take 0 zs)) (sym (some_same (a ∷ r.0) ys r.2))
 take_sum f (a ∷ xs) ys (suc k) x y (suc q) e h same =
-    let r = onto_defined (replaced xs k y) (λ zs. Some (a ∷ zs)) ys h in
+    let r = onto_some (replaced xs k y) (λ zs. Some (a ∷ zs)) ys h in
     ap (λ zs. sum_by f (take (suc q) zs)) (sym (some_same (a ∷ r.0) ys r.2)) ∙ sum_by-cons f a (take q r.0)
     ∙ ap (λ (k : ℕ). f a + k) (take_sum f xs r.0 k x y q e r.1 same) ∙ sym (sum_by-cons f a (take q xs))
 
@@ -148,12 +149,12 @@ whole_sum f (a ∷ xs) ys zero x y e h same =
     let one : f y ≡ f a = same ∙ ap f (sym (some_same a x e)) in
     ap (sum_by f) (sym (some_same (y ∷ xs) ys h)) ∙ sum_by-cons f y xs ∙ ap (λ (k : ℕ). k + sum_by f xs) one ∙ sym (sum_by-cons f a xs)
 whole_sum f (a ∷ xs) ys (suc k) x y e h same =
-    let r = onto_defined (replaced xs k y) (λ zs. Some (a ∷ zs)) ys h in
+    let r = onto_some (replaced xs k y) (λ zs. Some (a ∷ zs)) ys h in
     ap (sum_by f) (sym (some_same (a ∷ r.0) ys r.2)) ∙ sum_by-cons f a r.0 ∙ ap (λ (k : ℕ). f a + k) (whole_sum f xs r.0 k x y e r.1 same) ∙ sym (sum_by-cons f a xs)
 
 pub places_stay : PlacesStay
 places_stay P pl objects changed p o k v w at part width h =
-    let r = onto_defined (replaced o.parts k w) (λ ps. replaced objects p (record o { parts = ps })) changed
+    let r = onto_some (replaced o.parts k w) (λ ps. replaced objects p (record o { parts = ps })) changed
     (sym (ap (λ x. onto x (λ (u : Object). onto (replaced u.parts k w) (λ ps. replaced objects p (record u { parts = ps })))) at) ∙ h) in
     let made : Object = record o { parts = r.0 } in
     let same : object_words P made ≡ object_words P o = ap (λ (q : ℕ). header_words (kind_of P o) + q) (whole_sum value_words o.parts r.0 k v w part r.1 (same_words v w width)) in

@@ -6,7 +6,7 @@ use Rattle.std.proofs.lemmas.Bool.{cases_lt}
 use Rattle.std.proofs.lemmas.List.{get_or-map, length-map}
 use Rattle.std.proofs.lemmas.List.Sums.{sum_by_more}
 use Rattle.std.proofs.lemmas.Option.{slice_get_within, get_or_from_slice_get}
-use Rattle.lists.specs.Lemmas.{some_same, onto_some}
+use Rattle.lists.specs.Lemmas.{some_same, onto_some, some_in}
 use Rattle.coded_methods.specs.declared.method.CodedMethod.{CodedMethod}
 use Rattle.coded_methods.specs.Methods.{IsMethod, AreMethods, places}
 use Rattle.class_pool.specs.declared.class.ClassFile.{ClassFile}
@@ -69,9 +69,6 @@ some_case (Some x) K h = h x refl
 
 pub if_in : {A : Type 0} (o : Option A) (x : A) (K : A → Type 0) → o ≡ Some x → IfSome o K → K x
 if_in o x K e h = subst (λ o. IfSome o K) e h
-
-some_in : {A : Type 0} (o : Option A) (x : A) (K : A → Type 0) → o ≡ Some x → K x → IsSomeAnd o K
-some_in o x K e k = subst (λ o. IsSomeAnd o K) (sym e) k
 
 -- and there are no others
 pub only_filled : (cs : List ClassFile) (items : List CodedMethod) (n : ℕ) → AreFilled cs items n → AreOnly cs items

@@ -3,12 +3,13 @@ use Rattle.std.proofs.Common.{◌≡◌, ℕ, ◌<◌, List, Some, None, refl, s
 use Rattle.std.proofs.lemmas.Option.{slice_get_within}
 use Rattle.std.specs.declared.option.Option.{Option}
 use Rattle.std.specs.Prelude.{slice_get, length, IsSomeAnd}
+use Rattle.lists.specs.Lemmas.{some_in, some_is}
 use Rattle.coded_methods.specs.declared.method.CodedMethod.{CodedMethod}
 use Rattle.coded_methods.specs.Methods.{IsMethod, AreMethods}
 use Rattle.bytecode_model.specs.Program.{Program, Body, body_of}
 use Rattle.image_facts.specs.Places.{Places}
 use Rattle.machine_frames.specs.Methods.{IsThere, IsMethodAt}
-use Rattle.machine_frames.proofs.Options.{some_is, some_in, if_at}
+use Rattle.machine_frames.proofs.Options.{if_at}
 
 module _ (P : Program) (pl : Places) (methods : List CodedMethod) (are : AreMethods P pl methods) (m : ℕ) (b : Body) (is : body_of P m ≡ Some b) where
   pub known_at : (e : CodedMethod) × (slice_get methods m ≡ Some e) × IsMethod (pl.method m) b e

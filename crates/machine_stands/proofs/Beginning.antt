@@ -7,6 +7,7 @@ use Rattle.std.proofs.lemmas.List.{append-nil, replicate-append-replicate}
 use Rattle.std.proofs.Math.Nat.{mod-eq_of_lt, mod-lt}
 use Rattle.std.proofs.lemmas.List.{get_or_append_left, take-replicate, length-replicate}
 use Rattle.std.proofs.Math.Seq.{drop-append_seam, take-append_seam}
+use Rattle.lists.specs.Lemmas.{some_same}
 use Rattle.stack_cache.specs.Size.{IsSize}
 use Rattle.microcode_rom.specs.declared.TheConstants.{CONSTANTS as NUMBERS}
 use Rattle.jop_core.specs.declared.places.TheConstants.{CONSTANTS, STACK}
@@ -29,7 +30,6 @@ use Rattle.image_facts.specs.Places.{bare_places}
 use Rattle.machine_stands.specs.Frames.{AreLocals, FrameWords}
 use Rattle.machine_stands.specs.StandsFor.{StandsFor, IsCopy, stack_words}
 use Rattle.machine_stands.specs.Bare as bare
-use Rattle.machine_stands.proofs.Defined.{some_same}
 
 -- ---- the boot state
 

@@ -3,6 +3,7 @@ use Rattle.std.proofs.Common.{◌≡◌, ℕ, zero, suc, ◌+◌, List, [], ◌�
 use mathlib.Core.List.{reverse_aux, reverse_aux-eq}
 use Rattle.std.proofs.lemmas.Option.{none-some}
 use Rattle.std.proofs.lemmas.List.{append-nil, length-reverse}
+use Rattle.lists.specs.Lemmas.{onto_some, some_same}
 use Rattle.bytecode_model.specs.declared.Value.{Value}
 use Rattle.bytecode_model.specs.declared.Value.TheVariants.{Int, Long, Ref, Null, Unset}
 use Rattle.bytecode_model.specs.Types.{is_long}
@@ -10,7 +11,6 @@ use Rattle.bytecode_model.specs.Slots.{spread, padded}
 use Rattle.machine_stands.specs.Frames.{AreLocals, AreOperands}
 use Rattle.machine_stands.specs.Calling.{Passed}
 use Rattle.machine_stands.specs.Operands.{Parts}
-use Rattle.machine_stands.proofs.Defined.{some_same, onto_defined}
 use Rattle.machine_stands.proofs.Counting.{locals_count}
 
 -- ---- the words of some operands, and of the others
@@ -60,14 +60,14 @@ unset_ones place zero locals [] h c = subst (λ (vs : List Value). AreLocals pla
 unset_ones place zero locals (w ∷ ws) h c = absurd (omega (arith, c))
 unset_ones place (suc n) locals [] h c = absurd (omega (arith, c))
 unset_ones place (suc n) locals (w ∷ ws) h c =
-    let r = onto_defined (padded Unset n []) (λ vs. Some (Unset ∷ vs)) locals h in
+    let r = onto_some (padded Unset n []) (λ vs. Some (Unset ∷ vs)) locals h in
     subst (λ (vs : List Value). AreLocals place vs (w ∷ ws)) (some_same (Unset ∷ r.0) locals r.2) (tt, unset_ones place n r.0 ws r.1 (omega (arith, c)))
 
 -- one local variable before others
 before : (place : ℕ → ℕ) (v : Value) (n : ℕ) (vs locals : List Value) (w : ℕ) (ws : List ℕ) → padded Unset (suc n) (v ∷ vs) ≡ Some locals
     → ((ls : List Value) → padded Unset n vs ≡ Some ls → AreLocals place (v ∷ ls) (w ∷ ws)) → AreLocals place locals (w ∷ ws)
 before place v n vs locals w ws h go =
-    let r = onto_defined (padded Unset n vs) (λ us. Some (v ∷ us)) locals h in
+    let r = onto_some (padded Unset n vs) (λ us. Some (v ∷ us)) locals h in
     subst (λ (us : List Value). AreLocals place us (w ∷ ws)) (some_same (v ∷ r.0) locals r.2) (go r.0 r.1)
 
 none_padded : (v : Value) (vs locals : List Value) → padded Unset zero (v ∷ vs) ≡ Some locals → ⊥
@@ -91,8 +91,8 @@ filled place (suc n) (Long k ∷ Null ∷ vs) locals (w ∷ ws) more h g c = abs
 filled place (suc n) (Long k ∷ Unset ∷ vs) locals (w ∷ []) more h g c = absurd h.0
 filled place (suc zero) (Long k ∷ Unset ∷ vs) locals (high ∷ low ∷ ws) more h g c = absurd (omega (arith, c))
 filled place (suc (suc n)) (Long k ∷ Unset ∷ vs) locals (high ∷ low ∷ ws) more h g c =
-    let r = onto_defined (padded Unset (suc n) (Unset ∷ vs)) (λ us. Some (Long k ∷ us)) locals g in
-    let t = onto_defined (padded Unset n vs) (λ us. Some (Unset ∷ us)) r.0 r.1 in
+    let r = onto_some (padded Unset (suc n) (Unset ∷ vs)) (λ us. Some (Long k ∷ us)) locals g in
+    let t = onto_some (padded Unset n vs) (λ us. Some (Unset ∷ us)) r.0 r.1 in
     let rest = filled place n vs t.0 ws more h.2 t.1 (omega (arith, c)) in
     let is : Long k ∷ Unset ∷ t.0 ≡ locals = ap (λ (us : List Value). Long k ∷ us) (some_same (Unset ∷ t.0) r.0 t.2) ∙ some_same (Long k ∷ r.0) locals r.2 in
     subst (λ (us : List Value). AreLocals place us (high ∷ low ∷ (ws ++ more))) is (h.0, h.1, rest)

@@ -3,6 +3,7 @@ use Rattle.std.proofs.Common.{◌≡◌, ◌≢◌, ℕ, zero, suc, ◌+◌, ◌
 use Rattle.std.specs.declared.option.Option.{Option}
 use Rattle.std.proofs.lemmas.List.{append-nil, reverse-reverse}
 use Rattle.std.proofs.lemmas.Bool.Decides.{nat_tests}
+use Rattle.lists.specs.Lemmas.{holds_at}
 use Rattle.micro_flow.specs.declared.CostParams.{CostParams}
 use Rattle.micro_flow.specs.Walk.{IsCost}
 use Rattle.jop_opcodes.specs.declared.instruction.Instr.{Instr}
@@ -28,7 +29,6 @@ use Rattle.machine_stands.specs.Comes.{params, IsFrameCost, IsTopCost, IsStepCos
 use Rattle.machine_stands.specs.Simulates.{IsStep}
 use Rattle.machine_stands.specs.Seen.{seen, MachinesAreSeen}
 use Rattle.machine_stands.specs.Again.{GoesOn, MachinesStandAgain}
-use Rattle.machine_stands.proofs.Defined.{holds_at}
 use Rattle.machine_stands.proofs.Seeing.{at_instruction}
 
 -- what holds of machines that stand for a running state, and of runs

@@ -2,6 +2,7 @@
 use Rattle.std.proofs.Common.{◌≡◌, ℕ, zero, suc, ℤ, Bool, true, false, List, [], ◌∷◌, Option, Some, None, map, refl, sym, ◌∙◌, ap, subst}
 use Rattle.std.specs.Prelude.{slice_get, IsSomeAnd}
 use Rattle.std.proofs.lemmas.Option.{none-some}
+use Rattle.lists.specs.Lemmas.{onto_some, some_same}
 use Rattle.bytecode_model.specs.declared.Value.{Value}
 use Rattle.bytecode_model.specs.declared.Value.TheVariants.{Int, Long, Ref, Null, Unset}
 use Rattle.bytecode_model.specs.declared.Ending.TheVariants.{Running}
@@ -15,16 +16,6 @@ use Rattle.bytecode_model.specs.Steps.{applied, step, step_in, row_at, written}
 use Rattle.bytecode_model.specs.WellFormed.{IsObject, AreObjects, AreAlike}
 
 -- ---- options
-
-pub some_same : {X : Type 0} (x y : X) → Some x ≡ Some y → x ≡ y
-some_same x y e = cc
-
-pub onto_defined : {A B : Type 0} (o : Option A) (go : A → Option B) (y : B) → onto o go ≡ Some y → (x : A) × (o ≡ Some x) × (go x ≡ Some y)
-onto_defined None go y h = absurd (none-some y h)
-onto_defined (Some x) go y h = (x, refl, h)
-
-pub holds_at : {A : Type 0} (o : Option A) (x : A) (Q : A → Type 0) → o ≡ Some x → IsSomeAnd o Q → Q x
-holds_at o x Q e h = subst (λ o. IsSomeAnd o Q) e h
 
 -- ---- the step
 
@@ -60,7 +51,7 @@ object_at P n (u ∷ os) (suc p) o h e = object_at P n os p o h.1 e
 pub item_at : {X : Type 0} (xs ys : List X) (k : ℕ) (y : X) → replaced xs k y ≡ Some ys → (x : X) × (slice_get xs k ≡ Some x)
 item_at [] ys k y h = absurd (none-some ys h)
 item_at (x ∷ xs) ys zero y h = (x, refl)
-item_at (x ∷ xs) ys (suc k) y h = let r = onto_defined (replaced xs k y) (λ zs. Some (x ∷ zs)) ys h in item_at xs r.0 k y r.1
+item_at (x ∷ xs) ys (suc k) y h = let r = onto_some (replaced xs k y) (λ zs. Some (x ∷ zs)) ys h in item_at xs r.0 k y r.1
 
 pub alike_at : (vs : List Value) (ds : List Declared) (k : ℕ) (v : Value) (d : Declared) → AreAlike vs (map default ds) → slice_get vs k ≡ Some v → slice_get ds k ≡ Some d → is_long v ≡ is_long (default d)
 alike_at [] ds k v d h e g = absurd (none-some v e)
@@ -83,6 +74,6 @@ long_suits (Reference k) n h = absurd (cc)
 -- a value is written where there is one
 pub part_at : (objects changed : List Object) (p k : ℕ) (o : Object) (w : Value) → slice_get objects p ≡ Some o → written objects p k w ≡ Some changed → (v : Value) × (slice_get o.parts k ≡ Some v)
 part_at objects changed p k o w e h =
-    let r = onto_defined (replaced o.parts k w) (λ vs. replaced objects p (record o { parts = vs })) changed
+    let r = onto_some (replaced o.parts k w) (λ vs. replaced objects p (record o { parts = vs })) changed
     (sym (ap (λ x. onto x (λ (u : Object). onto (replaced u.parts k w) (λ vs. replaced objects p (record u { parts = vs })))) e) ∙ h) in
     item_at o.parts r.0 k w r.1

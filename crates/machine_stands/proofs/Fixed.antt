@@ -1,6 +1,7 @@
 -- What is read of the words of the image that nothing writes.
 use Rattle.std.proofs.Common.{◌≡◌, ℕ, ◌+◌, ◌*◌, ◌<◌, Bool, true, false, List, [], ◌∷◌, ◌++◌, length, Option, Some, None, refl, sym, ◌∙◌, ap, subst, arith, length-append}
 use Rattle.std.specs.Prelude.{slice_index, slice_get}
+use Rattle.lists.specs.Lemmas.{holds_at, onto_some}
 use Rattle.bytecode_model.specs.State.{Frame}
 use Rattle.bytecode_model.specs.Program.{Program, Method, Operand, NoOperand, AnInt, ALong, AString, AStatic, AField, AMethod, AType, body_of}
 use Rattle.bytecode_model.specs.Effects.{Fault, fault_object, ArithmeticException, ArrayIndexOutOfBoundsException, ArrayStoreException, ClassCastException, IncompatibleClassChangeError, NegativeArraySizeException, NullPointerException, OutOfMemoryError, StackOverflowError}
@@ -13,7 +14,6 @@ use Rattle.image_facts.specs.Laws.{WordsAreRead, ListsGoOn, FixedWordsLie, First
 use Rattle.machine_stands.specs.StandsFor.{memory_of, limits_of}
 use Rattle.machine_stands.specs.Fixed.{FixedWordsAreRead, RaiseListIsRead, PoolsAreRead}
 use Rattle.machine_stands.proofs.Memory.{lie_padded}
-use Rattle.machine_stands.proofs.Defined.{holds_at, onto_defined}
 
 pub record FixedLaws : Type 0 where
   pub read : WordsAreRead
@@ -78,7 +78,7 @@ pool_read laws P pl n size m answer s s' h i r index mode row first named =
     let says = names_in_linked P pl P.linked st.top.method st.top.pc named h.says.all in
     let frames = subst (λ (fs : List Frame). formed.AreFrames P (length s.objects) fs) st.frames h.well_formed.frames in
     let frame = holds_at (body_of P st.top.method) st.body (formed.IsFrame P (length s.objects) st.top) st.is_body frames.0 in
-    let method = onto_defined (slice_get P.methods st.top.method) (λ k. k.body) st.body st.is_body in
+    let method = onto_some (slice_get P.methods st.top.method) (λ k. k.body) st.body st.is_body in
     let place = pl.pool method.0.owner + 2 * index in
     let entry = entry_there P pl i.op place (P.operand st.top.method st.top.pc) named (says.operands st.top.method st.top.pc index method.0 st.body i method.1 method.2 frame.start row.at first) in
     let pool : pool_of P pl st.top.method ≡ pl.pool method.0.owner = ap (λ (o : Option Method). elim o [ None ↦ 0 | Some k ↦ pl.pool k.owner ]) method.1 in

@@ -1,6 +1,7 @@
 -- Rows whose effect is to go on in the frame, or to raise.
 use Rattle.std.proofs.Common.{◌≡◌, ℕ, List, [], ◌∷◌, ◌++◌, None, length, reverse, refl, sym, ◌∙◌, ap, subst}
 use Rattle.std.proofs.lemmas.List.{append-nil}
+use Rattle.lists.specs.Lemmas.{some_same}
 use Rattle.bytecode_model.specs.State.{Frame, State}
 use Rattle.bytecode_model.specs.Effects.{Effect}
 use Rattle.bytecode_model.specs.Steps.{applied, with_top, raising}
@@ -11,7 +12,6 @@ use Rattle.machine_stands.specs.Stopping.{RaisesOn, RaisesCome}
 use Rattle.machine_stands.specs.Shown.{SketchesShow}
 use Rattle.machine_stands.specs.Comes.{params}
 use Rattle.machine_stands.specs.Going.{FramesGoOn, FramesRaise}
-use Rattle.machine_stands.proofs.Defined.{some_same}
 
 pub frame_goes_on : SketchesShow → RowsCome → FramesGoOn
 frame_goes_on shown come P pl n size m answer s s' h i r pc locals operands f mode row goes made runs =

@@ -1,6 +1,7 @@
 -- A `putfield` of a long, over the words of the memory.
 use Rattle.std.proofs.Common.{◌≡◌, ℕ, ◌+◌, ◌*◌, ℤ, pos, Bool, true, false, List, [], ◌∷◌, Option, Some, None, map, length, refl, sym, ◌∙◌, ap, subst, arith}
 use Rattle.std.specs.Prelude.{slice_get, slice_set, IsSomeAnd}
+use Rattle.lists.specs.Lemmas.{holds_at, onto_some, some_same}
 use Rattle.jop_opcodes.specs.declared.instruction.Instr.{Instr}
 use Rattle.jop_core.specs.State as machine
 use Rattle.bytecode_model.specs.declared.Value.{Value}
@@ -23,7 +24,7 @@ use Rattle.machine_stands.specs.StandsFor.{StandsFor, memory_of, limits_of}
 use Rattle.machine_stands.specs.Simulates.{IsStep}
 use Rattle.machine_stands.specs.Memory.{PutsLong}
 use Rattle.machine_stands.proofs.Memory.{lie_padded, differ_padded}
-use Rattle.machine_stands.proofs.Defined.{some_same, onto_defined, holds_at, step_is, on_defined, only_if_defined, class_is, object_at, part_at, alike_at, long_is, long_suits}
+use Rattle.machine_stands.proofs.Defined.{step_is, on_defined, only_if_defined, class_is, object_at, part_at, alike_at, long_is, long_suits}
 
 -- what holds of the words of an image
 pub record ImageLaws : Type 0 where
@@ -108,13 +109,13 @@ long_field_written laws P pl words size m answer s s' f callers i next index nam
     let w = only_if_defined P limits answer s f callers s' (suits d.0 (Long n)) (on (slice_get s.objects p) (λ o. only_if (has_class P (kind_of P o) owner) put)) d.2 in
     let o = on_defined P limits answer s f callers s' (slice_get s.objects p) (λ o. only_if (has_class P (kind_of P o) owner) put) w.1 in
     let b = only_if_defined P limits answer s f callers s' (has_class P (kind_of P o.0) owner) put o.2 in
-    let x = onto_defined (written s.objects p k (Long n)) (λ os. Some (with_top (record s { objects = os }) callers (record f { pc = next; locals = f.locals; operands = rest }))) s' b.1 in
+    let x = onto_some (written s.objects p k (Long n)) (λ os. Some (with_top (record s { objects = os }) callers (record f { pc = next; locals = f.locals; operands = rest }))) s' b.1 in
     let c = class_is P (kind_of P o.0) owner b.0 in
     let long : d.0 ≡ Numeric LongType = long_suits d.0 n w.0 in
     -- the entry
     let top_body = body_of_top P pl words size m s f callers h.stands frames in
     let body = first_frame_is P (length s.objects) s.frames f callers frames well.frames in
-    let method = onto_defined (slice_get P.methods f.method) (λ k. k.body) h.stands.body top_body in
+    let method = onto_some (slice_get P.methods f.method) (λ k. k.body) h.stands.body top_body in
     let start = (holds_at (body_of P f.method) h.stands.body (IsFrame P (length s.objects) f) top_body body).start in
     let linked = named_in P pl P.linked f.method f.pc named owner k operand h.says.all in
     let entry = entry_of P pl i.op (pl.pool method.0.owner + 2 * index) (P.operand f.method f.pc) named owner k operand

@@ -2,6 +2,7 @@
 use Rattle.std.proofs.Common.{◌≡◌, ℕ, ◌+◌, List, Result, Ok, Err, Option, Some, refl, sym, ◌∙◌, ap, subst}
 use Rattle.std.specs.Prelude.{IfSome}
 use Rattle.std.proofs.lemmas.Option.{none-some}
+use Rattle.lists.specs.Lemmas.{onto_some, some_same}
 use Rattle.jop_opcodes.specs.declared.instruction.Instr.{Instr}
 use Rattle.jop_opcodes.specs.declared.instruction.DecodeFault.{DecodeFault}
 use Rattle.jop_opcodes.specs.Bytes.{u1}
@@ -25,7 +26,6 @@ use Rattle.image_facts.specs.Says.{IsCode}
 use Rattle.machine_stands.specs.StandsFor.{limits_of}
 use Rattle.machine_stands.specs.Simulates.{IsStep}
 use Rattle.machine_stands.specs.Reading.{IsAtRow, HasRow, RowsAreRead, Reads, operands_of, PlainOnesAreRead, TableSwitchesAreRead, LookupSwitchesAreRead, WideOnesHaveOpcodes, WideOnesAreRead}
-use Rattle.machine_stands.proofs.Defined.{some_same, onto_defined}
 use Rattle.machine_stands.proofs.Seeing.{at_instruction}
 
 pub record ReadingLaws : Type 0 where
@@ -48,12 +48,12 @@ record RowOf (P : Program) (f : Frame) (b : Body) (next : ℕ) (row : Row) : Typ
 
 row_is : (P : Program) (f : Frame) (b : Body) (x : ℕ × Row) → body_of P f.method ≡ Some b → row_at P f ≡ Some x → RowOf P f b x.0 x.1
 row_is P f b x body h =
-    let u = onto_defined (body_of P f.method) (λ b. onto (instr_at P f.method f.pc) (λ i. onto (row_of b.code i (P.operand f.method f.pc)) (λ r. Some (f.pc + i.length, r)))) x h in
+    let u = onto_some (body_of P f.method) (λ b. onto (instr_at P f.method f.pc) (λ i. onto (row_of b.code i (P.operand f.method f.pc)) (λ r. Some (f.pc + i.length, r)))) x h in
     let same : u.0 ≡ b = some_same u.0 b (sym u.1 ∙ body) in
-    let i = onto_defined (instr_at P f.method f.pc) (λ i. onto (row_of u.0.code i (P.operand f.method f.pc)) (λ r. Some (f.pc + i.length, r))) x u.2 in
-    let r = onto_defined (row_of u.0.code i.0 (P.operand f.method f.pc)) (λ r. Some (f.pc + i.0.length, r)) x i.2 in
+    let i = onto_some (instr_at P f.method f.pc) (λ i. onto (row_of u.0.code i (P.operand f.method f.pc)) (λ r. Some (f.pc + i.length, r))) x u.2 in
+    let r = onto_some (row_of u.0.code i.0 (P.operand f.method f.pc)) (λ r. Some (f.pc + i.0.length, r)) x i.2 in
     let pair : (f.pc + i.0.length, r.0) ≡ x = some_same (f.pc + i.0.length, r.0) x r.2 in
-    let d = onto_defined (body_of P f.method) (λ b. as_instr (decoded b.code f.pc)) i.0 i.1 in
+    let d = onto_some (body_of P f.method) (λ b. as_instr (decoded b.code f.pc)) i.0 i.1 in
     let other : d.0 ≡ b = some_same d.0 b (sym d.1 ∙ body) in
     record {
       instr = i.0;
@@ -70,7 +70,7 @@ row_read laws P pl n size m answer s s' h mode =
     let here = at_instruction P pl m s st.top st.body s.mode mode st.at in
     let run : onto (row_at P st.top) (λ x. applied P limits answer s st.top st.callers (effect P limits s st.top x.0 x.1)) ≡ Some s' =
     sym (ap (λ (md : Ending). step_in P limits answer s s.frames md) mode ∙ ap (λ (fs : List Frame). step_in P limits answer s fs Running) st.frames) ∙ h.step in
-    let x = onto_defined (row_at P st.top) (λ x. applied P limits answer s st.top st.callers (effect P limits s st.top x.0 x.1)) s' run in
+    let x = onto_some (row_at P st.top) (λ x. applied P limits answer s st.top st.callers (effect P limits s st.top x.0 x.1)) s' run in
     let r = row_is P st.top st.body x.0 st.is_body x.1 in
     record {
       instr = r.instr;

@@ -2,6 +2,7 @@
 use Rattle.std.proofs.Common.{◌≡◌, ℕ, zero, suc, ◌+◌, ◌/◌, ◌%◌, ◌^◌, ◌<◌, ◌≤◌, true, List, length, sym, ◌∙◌, ap, subst, arith, add-zero}
 use Rattle.std.specs.Prelude.{IfSome, slice_index}
 use Rattle.std.proofs.Math.Nat.{mod-eq_of_lt}
+use Rattle.lists.specs.Lemmas.{holds_at}
 use Rattle.word32.specs.Packed.{byte_of, PackedHasBytes}
 use Rattle.method_cache.specs.Contents.{is_cached, word_of}
 use Rattle.jop_opcodes.specs.Bytes.{u1}
@@ -14,7 +15,6 @@ use Rattle.image_facts.specs.Places.{object_place}
 use Rattle.image_facts.specs.Says.{IsCode}
 use Rattle.machine_stands.specs.Seen.{seen, MachinesAreSeen}
 use Rattle.machine_stands.specs.Shown.{advanced, SketchesShow}
-use Rattle.machine_stands.proofs.Defined.{holds_at}
 use Rattle.machine_stands.proofs.Counting.{locals_count, operands_count, saved_count}
 use Rattle.machine_stands.proofs.Seeing.{at_instruction, sized}
 use Rattle.machine_stands.proofs.Copies.{byte_is}

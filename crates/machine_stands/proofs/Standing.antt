@@ -5,6 +5,7 @@ use mathlib.Core.List.{reverse_aux, reverse_aux-eq}
 use Rattle.std.proofs.Math.Nat.{mod-eq_of_lt, mod-lt}
 use Rattle.std.proofs.Math.Seq.{take-append-add, drop-append_seam, take-append_seam}
 use Rattle.std.proofs.lemmas.List.{reverse-append, reverse-reverse, length-reverse}
+use Rattle.lists.specs.Lemmas.{holds_at}
 use Rattle.stack_cache.specs.Size.{IsSize}
 use Rattle.microcode_rom.specs.declared.TheConstants.{CONSTANTS as NUMBERS}
 use Rattle.memory_timing.specs.declared.TheConstants.{MAX_MEMORY}
@@ -32,7 +33,6 @@ use Rattle.machine_stands.specs.Frames.{FrameWords, stacked, vp_over, AreFrames,
 use Rattle.machine_stands.specs.StandsFor.{StandsFor, HasRoom, HasRegisters, AreLeft, IsAt, IsAtInstruction, IsCopy, limits_of, stack_words, memory_of}
 use Rattle.machine_stands.specs.Seen.{seen}
 use Rattle.machine_stands.specs.Again.{GoesOn, registers_of}
-use Rattle.machine_stands.proofs.Defined.{holds_at}
 use Rattle.machine_stands.proofs.Seeing.{at_instruction}
 use Rattle.machine_stands.proofs.Copies.{byte_is}
 use Rattle.machine_stands.proofs.Registers.{low_at}

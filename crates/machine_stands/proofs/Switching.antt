@@ -4,6 +4,7 @@ use Rattle.std.specs.Prelude.{IsSomeAnd, IfSome, slice_index}
 use Rattle.std.specs.declared.option.Option.{Option}
 use Rattle.std.proofs.lemmas.List.{append-nil}
 use Rattle.std.proofs.Math.Nat.{mod-eq_of_lt}
+use Rattle.lists.specs.Lemmas.{holds_at}
 use Rattle.word32.specs.Packed.{byte_of, words_of_bytes, PackedHasWords}
 use Rattle.method_cache.specs.Contents.{Cache, is_cached, loaded, word_of}
 use Rattle.microcode_rom.specs.declared.TheConstants.{ENTRIES}
@@ -31,7 +32,6 @@ use Rattle.machine_stands.specs.Comes.{params, found_between, found_by, top_meth
 use Rattle.machine_stands.specs.Simulates.{IsStep}
 use Rattle.machine_stands.specs.Seen.{seen}
 use Rattle.machine_stands.specs.Switching.{FindsBy, SwitchesOn}
-use Rattle.machine_stands.proofs.Defined.{holds_at}
 use Rattle.machine_stands.proofs.Copies.{byte_is}
 use Rattle.machine_stands.proofs.Standing.{StandingLaws, HasCache, stand_there, in_order}
 use Rattle.machine_stands.proofs.Loading.{load}

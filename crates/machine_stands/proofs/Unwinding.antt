@@ -4,6 +4,7 @@ use Rattle.std.specs.Prelude.{slice_get, slice_index, IfSome, IsSomeAnd}
 use Rattle.std.proofs.lemmas.List.Sums.{sum_by-cons}
 use Rattle.std.proofs.lemmas.List.{append-nil, length-reverse, reverse-append, reverse-reverse}
 use Rattle.std.proofs.Math.Nat.{mod-eq_of_lt}
+use Rattle.lists.specs.Lemmas.{holds_at}
 use mathlib.Core.List.{reverse_aux}
 use Rattle.word32.specs.Packed.{byte_of, words_of_bytes, PackedHasWords}
 use Rattle.method_cache.specs.Contents.{Cache, is_cached, word_of}
@@ -39,7 +40,6 @@ use Rattle.machine_stands.specs.Simulates.{IsStep}
 use Rattle.machine_stands.specs.Again.{registers_of}
 use Rattle.machine_stands.specs.Stopping.{SameRest}
 use Rattle.machine_stands.specs.Unwinding.{raise_params, seen_raise, RaisesAreSeen, HandlersCome, DropsCome, UncaughtCome}
-use Rattle.machine_stands.proofs.Defined.{holds_at}
 use Rattle.machine_stands.proofs.Counting.{locals_count, saved_count, frames_count}
 use Rattle.machine_stands.proofs.Seeing.{stack_split, sp_is}
 use Rattle.machine_stands.proofs.Copies.{byte_is}

@@ -1,6 +1,7 @@
 -- A row that jumps where a test of numbers holds, and one that always does (JVM Specification SE 8, 6.5.if<cond>, if_icmp<cond> and goto).
 use Rattle.std.proofs.Common.{◌≡◌, ℕ, ◌+◌, ◌^◌, ◌<◌, Bool, true, false, cond, List, [], ◌∷◌, ◌++◌, Option, Some, None, reverse, refl, sym, ◌∙◌, ap, subst, arith}
 use Rattle.std.specs.Prelude.{ℤ, pos, ◌+ℤ◌}
+use Rattle.lists.specs.Lemmas.{some_same}
 use Rattle.jop_opcodes.specs.declared.instruction.Instr.{Instr}
 use Rattle.jop_opcodes.specs.Bytes.{s2, s4}
 use Rattle.jop_opcodes.specs.Form.{one, Offset, WideOffset}
@@ -30,7 +31,7 @@ use Rattle.machine_stands.specs.Comes.{params, ComesTo}
 use Rattle.machine_stands.specs.Seen.{seen}
 use Rattle.machine_stands.specs.Reading.{operands_of}
 use Rattle.number_steps.proofs.Taken.{Numbers, given, Fit, words_on}
-use Rattle.number_steps.proofs.Scenes.{Laws, Line, Scene, scene, comes, placed, some_same}
+use Rattle.number_steps.proofs.Scenes.{Laws, Line, Scene, scene, comes, placed}
 use Rattle.number_steps.proofs.Computing.{takes, shown_words}
 use Rattle.number_steps.proofs.Results.{top_is}
 use Rattle.number_steps.proofs.Tests.{TestsOne, TestsTwo}

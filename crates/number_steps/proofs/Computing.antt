@@ -2,6 +2,7 @@
 use Rattle.std.proofs.Common.{◌≡◌, ℕ, ◌+◌, ◌≤◌, false, List, [], ◌∷◌, ◌++◌, Option, Some, None, length, reverse, refl, sym, ◌∙◌, ap, arith}
 use Rattle.std.proofs.lemmas.List.{length-append, length-reverse}
 use Rattle.std.specs.Prelude.{ℤ}
+use Rattle.lists.specs.Lemmas.{some_same}
 use Rattle.jop_opcodes.specs.declared.instruction.Instr.{Instr}
 use Rattle.jop_opcodes.specs.Form.{one, Absent}
 use Rattle.jop_opcodes.specs.Row as opcodes
@@ -26,7 +27,7 @@ use Rattle.machine_stands.specs.Comes.{params, ComesTo}
 use Rattle.machine_stands.specs.Seen.{seen}
 use Rattle.machine_stands.specs.Reading.{operands_of}
 use Rattle.number_steps.proofs.Taken.{Numbers, given, Fit, words_on, words_on-append, result_words, result-append, result_is, Taken, taken}
-use Rattle.number_steps.proofs.Scenes.{Laws, Line, Scene, scene, comes, some_same}
+use Rattle.number_steps.proofs.Scenes.{Laws, Line, Scene, scene, comes}
 
 -- of a sketch the opcode makes these words
 pub record Made (op : PlainOp) (x : Sketch) (words : List ℕ) : Type 0 where

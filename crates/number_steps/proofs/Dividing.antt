@@ -5,6 +5,7 @@ use Rattle.std.specs.Int.{w32, int_wrap}
 use Rattle.std.specs.Int.RustNames.{FitsSigned}
 use Rattle.std.proofs.lemmas.Bool.{ne_eqb}
 use Rattle.std.proofs.lemmas.List.{get_or-drop}
+use Rattle.lists.specs.Lemmas.{some_same}
 use Rattle.jop_opcodes.specs.declared.instruction.Instr.{Instr}
 use Rattle.jop_opcodes.specs.Form.{one, Absent}
 use Rattle.jop_opcodes.specs.Row as opcodes
@@ -38,7 +39,7 @@ use Rattle.machine_stands.specs.Reading.{operands_of}
 use Rattle.number_steps.proofs.Wrapping.{word_fits}
 use Rattle.number_steps.proofs.Numbers.{quotient_word, remainder_word}
 use Rattle.number_steps.proofs.Taken.{result_words, result_is}
-use Rattle.number_steps.proofs.Scenes.{Laws, Line, Scene, scene, comes, some_same, only_linked}
+use Rattle.number_steps.proofs.Scenes.{Laws, Line, Scene, scene, comes, only_linked}
 use Rattle.number_steps.proofs.Computing.{takes, shown_words}
 use Rattle.number_steps.proofs.Results.{top_is}
 

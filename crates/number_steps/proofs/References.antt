@@ -1,5 +1,6 @@
 -- The branches on references (JVM Specification SE 8, 6.5.if_acmp<cond>, ifnull and ifnonnull).
 use Rattle.std.proofs.Common.{◌≡◌, ℕ, ◌+◌, Bool, true, false, List, [], ◌∷◌, ◌++◌, Option, Some, None, reverse, refl, sym, ◌∙◌, ap, subst}
+use Rattle.lists.specs.Lemmas.{some_same}
 use Rattle.jop_opcodes.specs.declared.instruction.Instr.{Instr}
 use Rattle.jop_opcodes.specs.Bytes.{s2}
 use Rattle.jop_opcodes.specs.Form.{one, Offset}
@@ -24,7 +25,7 @@ use Rattle.machine_stands.specs.Comes.{params, ComesTo}
 use Rattle.machine_stands.specs.Simulates.{is_bare}
 use Rattle.machine_stands.specs.Seen.{seen}
 use Rattle.machine_stands.specs.Reading.{operands_of}
-use Rattle.number_steps.proofs.Scenes.{Laws, Line, Scene, scene, some_same, only_linked}
+use Rattle.number_steps.proofs.Scenes.{Laws, Line, Scene, scene, only_linked}
 use Rattle.number_steps.proofs.Results.{top_is}
 use Rattle.number_steps.proofs.Branching.{Branched, BranchesOne, BranchesTwo, branches_to}
 use Rattle.number_steps.proofs.Objects.{Tells, equal_words, unequal_words, is_zero, is_some, on_two, on_one, two_compared, one_compared}

@@ -3,6 +3,7 @@ use Rattle.std.proofs.Common.{◌≡◌, ◌⊎◌, ⊎_elim, ℕ, ◌+◌, ◌<
 use Rattle.std.specs.Prelude.{IsTrue, IfSome}
 use Rattle.std.specs.Option.{IsSomeAnd}
 use Rattle.std.proofs.lemmas.Option.{none-some}
+use Rattle.lists.specs.Lemmas.{some_same}
 use Rattle.micro_flow.specs.Walk.{turns_at}
 use Rattle.jop_opcodes.specs.declared.instruction.Instr.{Instr}
 use Rattle.jop_opcodes.specs.Start.{AreStarts}
@@ -83,9 +84,6 @@ pub record Scene (P : Program) (pl : Places) (n size : ℕ) (m : machine.State) 
       → RunsRow n (params m i.count 0) m.opcode f x (env_of m) → ComesTo P pl n size m s s'
   pub breaks : (object : ℕ) (f : rows.Raising) → effect P (limits_of P pl n size) s st.top (st.top.pc + i.length) r ≡ Raise object → LeavesFrame P pl n size m s st i object f
       → RunsToRaise n (params m i.count 0) m.opcode f x (env_of m) → ComesTo P pl n size m s s'
-
-pub some_same : {X : Type 0} (x y : X) → Some x ≡ Some y → x ≡ y
-some_same x y e = cc
 
 pub scene : Laws → (P : Program) (pl : Places) (n size : ℕ) (m : machine.State) (answer : Option ℕ) (s s' : State) (h : IsStep P pl n size m answer s s') (i : Instr) (r : Row) → s.mode ≡ Running
     → IsAtRow P pl n size m answer s s' h.stands i r → Scene P pl n size m answer s s' h.stands i r (seen (params m i.count 0) (None ∷ []) m h.stands.words h.stands.below)

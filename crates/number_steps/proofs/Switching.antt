@@ -6,6 +6,7 @@ use Rattle.std.specs.Int.{w32, cast_signed}
 use Rattle.std.specs.Int.RustNames.{FitsSigned}
 use Rattle.std.proofs.Math.Nat.{mod-eq_of_lt}
 use Rattle.std.proofs.lemmas.Bool.Decides.{nat_tests}
+use Rattle.lists.specs.Lemmas.{some_same}
 use Rattle.microcode_rom.specs.declared.addresses.TheConstants.{LOOKUP_HIT}
 use Rattle.jop_opcodes.specs.declared.instruction.Instr.{Instr}
 use Rattle.jop_opcodes.specs.declared.instruction.Case.{Case}
@@ -39,7 +40,7 @@ use Rattle.number_steps.proofs.Longs.{ints_compare}
 use Rattle.number_steps.proofs.Tests.{if_icmpeq}
 use Rattle.number_steps.proofs.Landing.{far_place}
 use Rattle.number_steps.proofs.Cases.{counted, counted_found, counted_missed, lies, lies_not, word_distance, word_of_read, read_fits}
-use Rattle.number_steps.proofs.Scenes.{Laws, Line, Scene, scene, comes, some_same}
+use Rattle.number_steps.proofs.Scenes.{Laws, Line, Scene, scene, comes}
 use Rattle.number_steps.proofs.Computing.{takes, shown_words}
 use Rattle.number_steps.proofs.Results.{top_is}
 use Rattle.number_steps.proofs.Jumping.{landed, four_bytes, jpc_is}

@@ -5,6 +5,7 @@ use Rattle.std.specs.List.{sum_by, flat_map}
 use Rattle.std.proofs.lemmas.List.{length-set}
 use Rattle.std.proofs.lemmas.Option.{none-some}
 use Rattle.std.proofs.Math.Nat.{mod-eq_of_lt}
+use Rattle.lists.specs.Lemmas.{holds_at, some_same}
 use Rattle.memory_timing.specs.Port.{padded}
 use Rattle.jop_opcodes.specs.Form.{one, UnsignedShort}
 use Rattle.jop_opcodes.specs.Row as opcodes
@@ -27,7 +28,7 @@ use Rattle.machine_stands.specs.Reading.{operands_of}
 use Rattle.object_steps.proofs.Raising.{MakesRaise}
 use Rattle.object_steps.proofs.TypeRows.{raising}
 use Rattle.object_steps.proofs.Types.{type_at, instance_read}
-use Rattle.object_steps.proofs.Scenes.{StateLaws, Here, Line, Comes, line_of, some_same, holds_at, code, instr, x, place, next, effect_of, says_linked, shows, at_entry, comes_to_raise, entry_read}
+use Rattle.object_steps.proofs.Scenes.{StateLaws, Here, Line, Comes, line_of, code, instr, x, place, next, effect_of, says_linked, shows, at_entry, comes_to_raise, entry_read}
 use Rattle.object_steps.proofs.TypeTests.{a_type_is_named}
 use Rattle.object_steps.proofs.Made.{AreZeros, defaults_are, default_zeros, one_written}
 use Rattle.object_steps.proofs.Making.{MakingLaws, at_most, more_than, end, heap_is, memory_end_is, whole, whole_ends, image, room, top_fits, makes_object}

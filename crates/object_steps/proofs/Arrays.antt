@@ -7,6 +7,7 @@ use Rattle.std.proofs.lemmas.Bool.Decides.{nat_tests}
 use Rattle.std.proofs.lemmas.List.{length-set, length-replicate}
 use Rattle.std.proofs.lemmas.Option.{none-some}
 use Rattle.std.proofs.Math.Nat.{mod-eq_of_lt}
+use Rattle.lists.specs.Lemmas.{some_same}
 use Rattle.memory_timing.specs.Port.{padded}
 use Rattle.jop_opcodes.specs.Bytes.{u1}
 use Rattle.jop_opcodes.specs.Form.{Operands, one, UnsignedByte, UnsignedShort}
@@ -33,7 +34,7 @@ use Rattle.machine_stands.specs.Reading.{operands_of}
 use Rattle.object_steps.proofs.Raising.{MakesRaise}
 use Rattle.object_steps.proofs.TypeRows.{raising}
 use Rattle.object_steps.proofs.Types.{if_there, type_at}
-use Rattle.object_steps.proofs.Scenes.{StateLaws, Here, Line, Comes, line_of, some_same, code, instr, x, place, next, effect_of, says_linked, shows, at_entry, comes_to_raise, topped, Topped, entry_read}
+use Rattle.object_steps.proofs.Scenes.{StateLaws, Here, Line, Comes, line_of, code, instr, x, place, next, effect_of, says_linked, shows, at_entry, comes_to_raise, topped, Topped, entry_read}
 use Rattle.object_steps.proofs.TypeTests.{a_type_is_named}
 use Rattle.object_steps.proofs.Made.{AreZeros, zeros_are, nulls_are, int_zeros, long_zeros, null_zeros, two_written}
 use Rattle.object_steps.proofs.Making.{MakingLaws, at_most, more_than, end, heap_is, memory_end_is, whole, whole_ends, image, room, top_fits, makes_object}

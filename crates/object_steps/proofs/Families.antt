@@ -1,6 +1,7 @@
 -- The opcodes of each family, one by one.
 use Rattle.std.proofs.Common.{◌≡◌, ◌⊎◌, ℕ, ◌==◌, ◌||◌, Bool, true, false, inl, inr, ⊎_elim, subst, eqb-true}
 use Rattle.std.specs.Prelude.{IsTrue}
+use Rattle.lists.specs.Tests.{either}
 use Rattle.bytecode_model.specs.Program.{Program}
 use Rattle.machine_stands.specs.Simulates.{Simulates, is_bare}
 use Rattle.object_steps.specs.Family.{allocates, is_monitor, tests_types}
@@ -10,10 +11,6 @@ use Rattle.object_steps.proofs.TypeTests.{checkcast, instanceof}
 use Rattle.object_steps.proofs.Monitors.{monitorenter, monitorexit}
 use Rattle.object_steps.proofs.Allocation.{new}
 use Rattle.object_steps.proofs.Arrays.{newarray, anewarray}
-
-either : (a b : Bool) → IsTrue (a || b) → IsTrue a ⊎ IsTrue b
-either true b h = inl h
-either false b h = inr h
 
 is_number : (op k : ℕ) → IsTrue (op == k) → op ≡ k
 is_number op k h = eqb-true op k h

@@ -3,6 +3,7 @@ use Rattle.std.proofs.Common.{◌≡◌, ℕ, ◌+◌, ◌-◌, ◌<◌, ◌≤�
 use Rattle.std.specs.Prelude.{slice_set}
 use Rattle.std.proofs.lemmas.Bool.Decides.{nat_tests}
 use Rattle.std.proofs.lemmas.List.Sums.{sum_by-cons}
+use Rattle.lists.specs.Lemmas.{holds_at, some_same}
 use Rattle.memory_timing.specs.Port.{padded}
 use Rattle.jop_opcodes.specs.Form.{Operands}
 use Rattle.micro_sketch.specs.View.{env_of}
@@ -24,7 +25,7 @@ use Rattle.machine_stands.specs.Frames.{AreOperands}
 use Rattle.machine_stands.specs.StandsFor.{limits_of, memory_of}
 use Rattle.machine_stands.specs.Comes.{params}
 use Rattle.machine_stands.specs.Again.{GoesOn, registers_of}
-use Rattle.object_steps.proofs.Scenes.{StateLaws, Here, Comes, some_same, holds_at, instr, x, place, next, effect_of, saved, shows, stands, registers, jpc_is}
+use Rattle.object_steps.proofs.Scenes.{StateLaws, Here, Comes, instr, x, place, next, effect_of, saved, shows, stands, registers, jpc_is}
 use Rattle.object_steps.proofs.Made.{places_stay, made_place, made_end, end_is}
 use Rattle.object_steps.proofs.Staying.{locals_stay, operands_stay, frames_stay}
 use Rattle.object_steps.proofs.MakingRows.{heap, memory_end, made}

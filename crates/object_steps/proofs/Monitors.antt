@@ -2,6 +2,7 @@
 use Rattle.std.proofs.Common.{◌≡◌, ℕ, ◌==◌, false, List, [], ◌∷◌, Option, Some, None, refl, sym, ap, ◌∙◌, subst, arith}
 use Rattle.std.specs.Prelude.{slice_get}
 use Rattle.std.proofs.lemmas.Option.{none-some}
+use Rattle.lists.specs.Lemmas.{some_same}
 use Rattle.jop_opcodes.specs.Form.{one, Absent}
 use Rattle.jop_opcodes.specs.Row as opcodes
 use Rattle.jop_opcodes.specs.Reading.{plain_instr}
@@ -20,7 +21,7 @@ use Rattle.machine_stands.specs.Reading.{operands_of}
 use Rattle.object_steps.proofs.Raising.{MakesRaise}
 use Rattle.object_steps.proofs.TypeRows.{raising, drops, monitor_is_entered, enter_raises, monitor_is_left, exit_raises}
 use Rattle.object_steps.proofs.Objects.{objects_behind, not_zero}
-use Rattle.object_steps.proofs.Scenes.{StateLaws, Here, Line, Comes, line_of, some_same, code, x, next, effect_of, says_linked, at_entry, comes_on, comes_to_raise, topped}
+use Rattle.object_steps.proofs.Scenes.{StateLaws, Here, Line, Comes, line_of, code, x, next, effect_of, says_linked, at_entry, comes_on, comes_to_raise, topped}
 
 enter_form : operands_of (opcodes.row_of 194).form ≡ Some (one Absent)
 unfolding opcodes.row_of

@@ -2,6 +2,7 @@
 use Rattle.std.proofs.Common.{◌≡◌, ℕ, ◌+◌, ◌*◌, ◌%◌, ◌^◌, ◌<◌, ◌≤◌, true, false, pos, List, [], ◌∷◌, ◌++◌, Option, Some, None, length, reverse, refl, sym, ap, ◌∙◌, subst, arith}
 use Rattle.std.specs.Prelude.{slice_index, IsSomeAnd}
 use Rattle.std.proofs.lemmas.List.{get_or-drop}
+use Rattle.lists.specs.Members.{heads, tails}
 use Rattle.jop_opcodes.specs.declared.instruction.Instr.{Instr}
 use Rattle.jop_opcodes.specs.Bytes.{u1, u2}
 use Rattle.jop_opcodes.specs.Form.{Operands}
@@ -57,12 +58,6 @@ pub record StateLaws : Type 0 where
   pub pools : PoolsAreRead
   pub objects : ObjectLaws
 
-pub some_same : {X : Type 0} (x y : X) → Some x ≡ Some y → x ≡ y
-some_same x y e = cc
-
-pub holds_at : {A : Type 0} (o : Option A) (x : A) (Q : A → Type 0) → o ≡ Some x → IsSomeAnd o Q → Q x
-holds_at o x Q e h = subst (λ o. IsSomeAnd o Q) e h
-
 -- a byte more in the operand register
 byte_taken : (b : ℕ) → b < 2 ^ 8 → (0 * 2 ^ 8 + b) % 2 ^ 32 ≡ b
 byte_taken b h = omega arith
@@ -75,12 +70,6 @@ byte_small x = omega arith
 
 pub index_is_operand : (x : Sketch) → index x ≡ two_byte_operand x
 index_is_operand x = two_taken (abyte x) (abyte (past 1 x)) (byte_small x) (byte_small (past 1 x))
-
-heads : (a b : ℕ) (xs ys : List ℕ) → a ∷ xs ≡ b ∷ ys → a ≡ b
-heads a b xs ys e = cc
-
-tails : (a b : ℕ) (xs ys : List ℕ) → a ∷ xs ≡ b ∷ ys → xs ≡ ys
-tails a b xs ys e = cc
 
 -- The machine stands for a state of a program that comes of class files, and is about to run an instruction of this opcode, with so many bytes behind it.
 pub record Here (op : ℕ) (o : Operands) (j : ℕ) : Type 0 where

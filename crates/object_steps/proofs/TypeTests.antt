@@ -3,7 +3,7 @@ use Rattle.std.proofs.Common.{◌≡◌, ℕ, ◌+◌, ◌/◌, ◌%◌, ◌^◌
 use Rattle.std.specs.Prelude.{slice_get, slice_index, IsSomeAnd}
 use Rattle.std.proofs.lemmas.Option.{none-some}
 use Rattle.std.proofs.lemmas.Nat.{and_mask}
-use Rattle.lists.specs.Lemmas.{onto_some}
+use Rattle.lists.specs.Lemmas.{onto_some, some_same}
 use Rattle.jop_opcodes.specs.Form.{one, UnsignedShort}
 use Rattle.jop_opcodes.specs.Row as opcodes
 use Rattle.jop_opcodes.specs.Reading.{plain_instr}
@@ -29,7 +29,7 @@ use Rattle.object_steps.proofs.Raising.{MakesRaise}
 use Rattle.object_steps.proofs.TypeRows.{index, asked, bit_place, bit_of_top, supertype_bit, raising, answers, null_is_cast, object_is_cast, cast_raises, null_is_tested, object_is_tested}
 use Rattle.object_steps.proofs.Types.{type_at, type_number_read, supertype_read}
 use Rattle.object_steps.proofs.Objects.{type_read, objects_behind, not_zero}
-use Rattle.object_steps.proofs.Scenes.{StateLaws, Here, Line, Comes, line_of, some_same, code, instr, x, place, next, effect_of, says_linked, shows, at_entry, comes_on, comes_to_raise, topped, entry_read}
+use Rattle.object_steps.proofs.Scenes.{StateLaws, Here, Line, Comes, line_of, code, instr, x, place, next, effect_of, says_linked, shows, at_entry, comes_on, comes_to_raise, topped, entry_read}
 
 -- ---- the instruction
 

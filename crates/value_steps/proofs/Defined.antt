@@ -9,16 +9,6 @@ use Rattle.bytecode_model.specs.Effects.{Effect, on, only_if, on_top}
 use Rattle.bytecode_model.specs.Lists.{onto}
 use Rattle.bytecode_model.specs.Steps.{applied}
 
-pub some_same : {X : Type 0} (x y : X) → Some x ≡ Some y → x ≡ y
-some_same x y e = cc
-
-pub onto_defined : {A B : Type 0} (o : Option A) (go : A → Option B) (y : B) → onto o go ≡ Some y → (x : A) × (o ≡ Some x) × (go x ≡ Some y)
-onto_defined None go y h = absurd (none-some y h)
-onto_defined (Some x) go y h = (x, refl, h)
-
-pub holds_at : {A : Type 0} (o : Option A) (x : A) (Q : A → Type 0) → o ≡ Some x → IsSomeAnd o Q → Q x
-holds_at o x Q e h = subst (λ o. IsSomeAnd o Q) e h
-
 -- the effect of what is taken, where there is some
 pub on_defined : (P : Program) (limits : Limits) (answer : Option ℕ) (s : State) (f : Frame) (callers : List Frame) (s' : State) {A : Type 0} (o : Option A) (go : A → Effect)
     → applied P limits answer s f callers (on o go) ≡ Some s' → (x : A) × (o ≡ Some x) × (on o go ≡ go x) × (applied P limits answer s f callers (go x) ≡ Some s')

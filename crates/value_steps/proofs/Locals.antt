@@ -2,6 +2,7 @@
 use Rattle.std.proofs.Common.{◌≡◌, ℕ, zero, suc, ◌+◌, ◌<◌, Bool, true, false, ℤ, List, [], ◌∷◌, Option, Some, None, length, set, refl, sym, ◌∙◌, ap, subst, arith, if◌then◌else◌}
 use Rattle.std.specs.Prelude.{slice_get, slice_index}
 use Rattle.std.proofs.lemmas.Option.{none-some}
+use Rattle.lists.specs.Lemmas.{onto_some, some_same}
 use Rattle.bytecode_model.specs.declared.Value.{Value}
 use Rattle.bytecode_model.specs.declared.Value.TheVariants.{Int, Long, Ref, Null, Unset}
 use Rattle.bytecode_model.specs.Lists.{onto, replaced}
@@ -10,7 +11,6 @@ use Rattle.bytecode_model.specs.Slots.{stored_at}
 use Rattle.bytecode_model.specs.Effects.{stored}
 use Rattle.image_facts.specs.Words.{int_word, high_word, low_word}
 use Rattle.machine_stands.specs.Frames.{IsWordOf, AreLocals}
-use Rattle.value_steps.proofs.Defined.{some_same, onto_defined}
 
 -- a value that takes one word and is set
 abbrev pub is_word : Value → Bool
@@ -128,15 +128,15 @@ int_replaced place vs ws h = by_locals place (IntReplaced place) (λ k x y ls e 
     one : (u : Value) (vs : List Value) (w : ℕ) (ws : List ℕ) → is_long u ≡ false → IsWordOf place u w → AreLocals place vs ws → IntReplaced place vs ws → IntReplaced place (u ∷ vs) (w ∷ ws)
     one u vs w ws short is h rest zero x y ls e g = subst (λ (us : List Value). AreLocals place us (int_word y ∷ ws)) (some_same (Int y ∷ vs) ls g) (refl, h)
     one u vs w ws short is h rest (suc k) x y ls e g =
-        let r = onto_defined (replaced vs k (Int y)) (λ zs. Some (u ∷ zs)) ls g in
+        let r = onto_some (replaced vs k (Int y)) (λ zs. Some (u ∷ zs)) ls g in
         subst (λ (us : List Value). AreLocals place us (w ∷ set ws k (int_word y))) (some_same (u ∷ r.0) ls r.2) (one_more place u r.0 w (set ws k (int_word y)) short is (rest k x y r.0 e r.1))
 
     two : (n : ℤ) (vs : List Value) (high low : ℕ) (ws : List ℕ) → high ≡ high_word n → low ≡ low_word n → AreLocals place vs ws → IntReplaced place vs ws → IntReplaced place (Long n ∷ Unset ∷ vs) (high ∷ low ∷ ws)
     two n vs high low ws a b h rest zero x y ls e g = absurd (let same : Long n ≡ Int x = some_same (Long n) (Int x) e in cc)
     two n vs high low ws a b h rest (suc zero) x y ls e g = absurd (let same : Unset ≡ Int x = some_same Unset (Int x) e in cc)
     two n vs high low ws a b h rest (suc (suc k)) x y ls e g =
-        let r = onto_defined (replaced (Unset ∷ vs) (suc k) (Int y)) (λ zs. Some (Long n ∷ zs)) ls g in
-        let q = onto_defined (replaced vs k (Int y)) (λ zs. Some (Unset ∷ zs)) r.0 r.1 in
+        let r = onto_some (replaced (Unset ∷ vs) (suc k) (Int y)) (λ zs. Some (Long n ∷ zs)) ls g in
+        let q = onto_some (replaced vs k (Int y)) (λ zs. Some (Unset ∷ zs)) r.0 r.1 in
         let whole : Long n ∷ Unset ∷ q.0 ≡ ls = ap (λ (us : List Value). Long n ∷ us) (some_same (Unset ∷ q.0) r.0 q.2) ∙ some_same (Long n ∷ r.0) ls r.2 in
         subst (λ (us : List Value). AreLocals place us (high ∷ low ∷ set ws k (int_word y))) whole (a, b, rest k x y q.0 e q.1)
 
@@ -185,7 +185,7 @@ one_stored place vs ws h = by_locals place (OneStored place) none one two vs ws 
     one u vs x ws a b h rest zero v w ls short is g =
         (omega arith, subst (λ (us : List Value). AreLocals place us (w ∷ ws)) (some_same (v ∷ vs) ls (sym (first_stored u v vs a short) ∙ g)) (one_more place v vs w ws short is h))
     one u vs x ws a b h rest (suc k) v w ls short is g =
-        let r = onto_defined (stored vs k v) (λ zs. Some (u ∷ zs)) ls (sym (on_stored u v vs k a) ∙ g) in
+        let r = onto_some (stored vs k v) (λ zs. Some (u ∷ zs)) ls (sym (on_stored u v vs k a) ∙ g) in
         let s = rest k v w r.0 short is r.1 in
         (omega (arith, s.0), subst (λ (us : List Value). AreLocals place us (x ∷ set ws k w)) (some_same (u ∷ r.0) ls r.2) (one_more place u r.0 x (set ws k w) a b s.1))
 
@@ -197,8 +197,8 @@ one_stored place vs ws h = by_locals place (OneStored place) none one two vs ws 
         let whole : Some (Unset ∷ v ∷ vs) ≡ Some ls = ap (λ o. onto o (λ zs. Some (Unset ∷ zs))) (sym (first_stored Unset v vs refl short)) ∙ sym (half_stored n v vs) ∙ g in
         (omega arith, subst (λ (us : List Value). AreLocals place us (high ∷ w ∷ ws)) (some_same (Unset ∷ v ∷ vs) ls whole) (tt, one_more place v vs w ws short is h))
     two n vs high low ws a b h rest (suc (suc k)) v w ls short is g =
-        let r = onto_defined (stored (Unset ∷ vs) (suc k) v) (λ zs. Some (Long n ∷ zs)) ls (sym (later_stored (Long n) v (Unset ∷ vs) k) ∙ g) in
-        let q = onto_defined (stored vs k v) (λ zs. Some (Unset ∷ zs)) r.0 (sym (on_stored Unset v vs k refl) ∙ r.1) in
+        let r = onto_some (stored (Unset ∷ vs) (suc k) v) (λ zs. Some (Long n ∷ zs)) ls (sym (later_stored (Long n) v (Unset ∷ vs) k) ∙ g) in
+        let q = onto_some (stored vs k v) (λ zs. Some (Unset ∷ zs)) r.0 (sym (on_stored Unset v vs k refl) ∙ r.1) in
         let whole : Long n ∷ Unset ∷ q.0 ≡ ls = ap (λ (us : List Value). Long n ∷ us) (some_same (Unset ∷ q.0) r.0 q.2) ∙ some_same (Long n ∷ r.0) ls r.2 in
         let s = rest k v w q.0 short is q.1 in
         (omega (arith, s.0), subst (λ (us : List Value). AreLocals place us (high ∷ low ∷ set ws k w)) whole (a, b, s.1))
@@ -233,7 +233,7 @@ two_stored place vs ws h = by_locals place (TwoStored place) none one two vs ws 
     one : (u : Value) (vs : List Value) (x : ℕ) (ws : List ℕ) → is_long u ≡ false → IsWordOf place u x → AreLocals place vs ws → TwoStored place vs ws → TwoStored place (u ∷ vs) (x ∷ ws)
     one u vs x ws a b h rest zero j ls g = first_pair place u vs x ws j ls h g
     one u vs x ws a b h rest (suc k) j ls g =
-        let r = onto_defined (stored vs k (Long j)) (λ zs. Some (u ∷ zs)) ls (sym (on_stored u (Long j) vs k a) ∙ g) in
+        let r = onto_some (stored vs k (Long j)) (λ zs. Some (u ∷ zs)) ls (sym (on_stored u (Long j) vs k a) ∙ g) in
         let s = rest k j r.0 r.1 in (
           omega (arith, s.0),
           subst (λ (us : List ℕ). AreLocals place ls us) (behind k x ws j)
@@ -243,15 +243,15 @@ two_stored place vs ws h = by_locals place (TwoStored place) none one two vs ws 
     two : (n : ℤ) (vs : List Value) (high low : ℕ) (ws : List ℕ) → high ≡ high_word n → low ≡ low_word n → AreLocals place vs ws → TwoStored place vs ws → TwoStored place (Long n ∷ Unset ∷ vs) (high ∷ low ∷ ws)
     two n vs high low ws a b h rest zero j ls g = first_pair place (Long n) (Unset ∷ vs) high (low ∷ ws) j ls (tt, h) g
     two n vs high low ws a b h rest (suc zero) j ls g =
-        let r = onto_defined (stored (Unset ∷ vs) 0 (Long j)) (λ zs. Some (Unset ∷ zs)) ls (sym (half_stored n (Long j) vs) ∙ g) in
+        let r = onto_some (stored (Unset ∷ vs) 0 (Long j)) (λ zs. Some (Unset ∷ zs)) ls (sym (half_stored n (Long j) vs) ∙ g) in
         let s = first_pair place Unset vs low ws j r.0 h r.1 in (
           omega (arith, s.0),
           subst (λ (us : List ℕ). AreLocals place ls us) (behind 0 high (low ∷ ws) j)
               (subst (λ (us : List Value). AreLocals place us (high ∷ set (set (low ∷ ws) (0 + 1) (low_word j)) 0 (high_word j))) (some_same (Unset ∷ r.0) ls r.2) (tt, s.1)),
         )
     two n vs high low ws a b h rest (suc (suc k)) j ls g =
-        let r = onto_defined (stored (Unset ∷ vs) (suc k) (Long j)) (λ zs. Some (Long n ∷ zs)) ls (sym (later_stored (Long n) (Long j) (Unset ∷ vs) k) ∙ g) in
-        let q = onto_defined (stored vs k (Long j)) (λ zs. Some (Unset ∷ zs)) r.0 (sym (on_stored Unset (Long j) vs k refl) ∙ r.1) in
+        let r = onto_some (stored (Unset ∷ vs) (suc k) (Long j)) (λ zs. Some (Long n ∷ zs)) ls (sym (later_stored (Long n) (Long j) (Unset ∷ vs) k) ∙ g) in
+        let q = onto_some (stored vs k (Long j)) (λ zs. Some (Unset ∷ zs)) r.0 (sym (on_stored Unset (Long j) vs k refl) ∙ r.1) in
         let s = rest k j q.0 q.1 in
         let whole : Long n ∷ Unset ∷ q.0 ≡ ls = ap (λ (us : List Value). Long n ∷ us) (some_same (Unset ∷ q.0) r.0 q.2) ∙ some_same (Long n ∷ r.0) ls r.2 in (
           omega (arith, s.0),

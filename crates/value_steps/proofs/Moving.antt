@@ -7,6 +7,7 @@ use Rattle.std.proofs.Math.ListN.{length-set}
 use Rattle.std.specs.Int.{w32, int_wrap}
 use Rattle.std.specs.Int.RustNames.{FitsSigned}
 use Rattle.std.proofs.lemmas.Option.{none-some}
+use Rattle.lists.specs.Lemmas.{holds_at, some_same}
 use Rattle.jop_opcodes.specs.declared.instruction.Instr.{Instr}
 use Rattle.jop_core.specs.State as machine
 use Rattle.micro_sketch.specs.Sketch.{Sketch, inside}
@@ -28,7 +29,7 @@ use Rattle.image_facts.specs.Places.{Places, object_place}
 use Rattle.machine_stands.specs.Frames.{IsWordOf, AreOperands, stacked}
 use Rattle.machine_stands.specs.StandsFor.{StandsFor, limits_of}
 use Rattle.machine_stands.specs.Comes.{ComesTo}
-use Rattle.value_steps.proofs.Defined.{some_same, holds_at, on_defined, only_if_defined, on_top_defined}
+use Rattle.value_steps.proofs.Defined.{on_defined, only_if_defined, on_top_defined}
 use Rattle.value_steps.proofs.Locals.{is_word, word_is_short, word_at, long_at, one_stored, two_stored, int_replaced}
 use Rattle.value_steps.proofs.Ints.{added}
 use Rattle.value_steps.proofs.Scenes.{Laws, Scene, moved, comes}

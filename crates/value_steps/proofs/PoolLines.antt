@@ -4,6 +4,7 @@ use Rattle.std.specs.Prelude.{slice_index}
 use Rattle.std.proofs.lemmas.List.{get_or-drop}
 use Rattle.std.proofs.lemmas.Option.{none-some}
 use Rattle.std.proofs.Math.Nat.{mod-eq_of_lt}
+use Rattle.lists.specs.Lemmas.{some_same}
 use Rattle.jop_opcodes.specs.declared.instruction.Instr.{Instr}
 use Rattle.jop_opcodes.specs.Bytes.{u1, u2}
 use Rattle.jop_opcodes.specs.Form.{Operands, one, UnsignedByte, UnsignedShort}
@@ -31,7 +32,6 @@ use Rattle.machine_stands.specs.Comes.{ComesTo}
 use Rattle.machine_stands.specs.Simulates.{IsStep}
 use Rattle.machine_stands.specs.Reading.{operands_of}
 use Rattle.machine_stands.specs.Fixed.{IsPoolEntry}
-use Rattle.value_steps.proofs.Defined.{some_same}
 use Rattle.value_steps.proofs.Scenes.{Laws, Line, HasBytes, Scene, scene, moved}
 use Rattle.value_steps.proofs.Pushing.{pushes_one, pushes_long}
 use Rattle.value_steps.proofs.Shapes.{one_byte, two_bytes}

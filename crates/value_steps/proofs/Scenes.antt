@@ -1,6 +1,7 @@
 -- A plain opcode from its entry to where the machine stands for the next state.
 use Rattle.std.proofs.Common.{◌≡◌, ℕ, ◌+◌, ◌^◌, ◌<◌, false, List, [], ◌∷◌, ◌++◌, Option, Some, None, reverse, refl, sym, ◌∙◌, ap, subst, arith}
 use Rattle.std.specs.Prelude.{IfSome}
+use Rattle.lists.specs.Lemmas.{some_same}
 use Rattle.jop_opcodes.specs.declared.instruction.Instr.{Instr}
 use Rattle.jop_opcodes.specs.Bytes.{u1}
 use Rattle.jop_core.specs.State as machine
@@ -33,7 +34,6 @@ use Rattle.machine_stands.specs.Shown.{Shows, SketchesShow, advanced}
 use Rattle.machine_stands.specs.Going.{MakesFrame, FramesGoOn}
 use Rattle.machine_stands.specs.Operands.{OneWordIsOnTop, TwoWordsAreOnTop, OneWordIsPushed, OperandsArePartedAnywhere, OperandsAreJoined, OperandsHaveWords}
 use Rattle.machine_stands.specs.Fixed.{PoolsAreRead}
-use Rattle.value_steps.proofs.Defined.{some_same}
 
 pub record Laws : Type 0 where
   pub plain : PlainOnesAreRead

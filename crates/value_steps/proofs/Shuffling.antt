@@ -4,6 +4,7 @@ use Rattle.std.specs.Prelude.{sum_by}
 use Rattle.std.proofs.lemmas.List.{length-reverse}
 use Rattle.std.proofs.lemmas.List.Sums.{sum_by-cons}
 use Rattle.std.proofs.lemmas.Option.{none-some}
+use Rattle.lists.specs.Lemmas.{onto_some, some_same}
 use Rattle.jop_opcodes.specs.declared.instruction.Instr.{Instr}
 use Rattle.jop_core.specs.State as machine
 use Rattle.micro_sketch.specs.Sketch.{Sketch}
@@ -24,7 +25,7 @@ use Rattle.image_facts.specs.Places.{Places, object_place}
 use Rattle.machine_stands.specs.Frames.{AreOperands}
 use Rattle.machine_stands.specs.StandsFor.{StandsFor, limits_of}
 use Rattle.machine_stands.specs.Comes.{ComesTo}
-use Rattle.value_steps.proofs.Defined.{some_same, onto_defined, on_defined}
+use Rattle.value_steps.proofs.Defined.{on_defined}
 use Rattle.value_steps.proofs.Scenes.{Laws, Scene, moved, comes}
 
 -- ---- the words of an item
@@ -132,8 +133,8 @@ shuffles laws P pl n size m answer s s' st i op x form upper lower f at ready ma
     let ops = st.top.operands in
     let saved = reverse st.words.saved in
     let d = on_defined P limits answer s st.top st.callers s' (shuffle form upper lower ops) (λ vs. Go next st.top.locals vs) at.instruction.step in
-    let a = onto_defined (split is_long upper ops) (λ (x : Pair). onto (split is_long lower x.1) (λ (y : Pair). Some (shuffled form x.0 y.0 y.1))) d.0 d.1 in
-    let b = onto_defined (split is_long lower a.0.1) (λ (y : Pair). Some (shuffled form a.0.0 y.0 y.1)) d.0 a.2 in
+    let a = onto_some (split is_long upper ops) (λ (x : Pair). onto (split is_long lower x.1) (λ (y : Pair). Some (shuffled form x.0 y.0 y.1))) d.0 d.1 in
+    let b = onto_some (split is_long lower a.0.1) (λ (y : Pair). Some (shuffled form a.0.0 y.0 y.1)) d.0 a.2 in
     let first = is_split upper ops a.0.0 a.0.1 a.1 in
     let second = is_split lower a.0.1 b.0.0 b.0.1 b.1 in
     let u = laws.parts place a.0.0 a.0.1 st.words.operands (subst (λ (vs : List Value). AreOperands place vs st.words.operands) first.whole st.are_frames.0.operands) in
