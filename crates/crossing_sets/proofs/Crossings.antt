@@ -4,10 +4,11 @@ use Rattle.std.specs.Prelude.{All}
 use Rattle.std.specs.List.Sorted.{IsStrictlyIncreasing}
 use Rattle.std.proofs.lemmas.Bool.{cases_lt, cases_order}
 use Rattle.std.proofs.lemmas.List.Elements.{All-get_or}
+use Rattle.lists.specs.Members.{place_of}
 use Rattle.crossing_sets.specs.Family.{set_at}
 use Rattle.crossing_sets.specs.Crossing.{AreCrossed, CrossesAnother, IsLeast}
 use Rattle.crossing_sets.specs.Splitting.{Splits, IsSplit, SplitsLater, AreLargerFirst, lesser_of}
-use Rattle.crossing_sets.proofs.Elements.{within_or_not, fewer_within, place_of}
+use Rattle.crossing_sets.proofs.Elements.{within_or_not, fewer_within}
 
 crossed_back : (us vs : List ℕ) → AreCrossed us vs → AreCrossed vs us
 crossed_back us vs h = record { common = h.common; first = h.second; second = h.first; not_within = h.not_around; not_around = h.not_within }

@@ -1,43 +1,16 @@
 -- The elements of lists of numbers that rise.
-use Rattle.std.proofs.Common.{◌≡◌, ◌≢◌, ℕ, zero, suc, ◌<◌, ◌≤◌, ◌⊎◌, eqb, List, [], ◌∷◌, length, get_or, Contains, refl, sym, ◌∙◌, subst, inl, inr, arith}
+use Rattle.std.proofs.Common.{◌≡◌, ℕ, zero, suc, ◌<◌, ◌≤◌, ◌⊎◌, eqb, List, [], ◌∷◌, length, get_or, Contains, sym, ◌∙◌, subst, inl, inr, arith}
 use Rattle.std.specs.List.{IsDistinct}
 use Rattle.std.specs.List.Sorted.{IsStrictlyIncreasing}
-use Rattle.std.proofs.lemmas.Bool.{cases_eq, ne_eqb, eqb-true}
+use Rattle.std.proofs.lemmas.Bool.{ne_eqb, eqb-true}
 use Rattle.std.proofs.lemmas.Cmp.{nat_eq_equiv}
 use Rattle.std.proofs.lemmas.List.{get_or_default}
 use Rattle.std.proofs.lemmas.List.Kept.{AllPairs-from_increasing}
 use Rattle.std.proofs.lemmas.Map.Keys.{IsDistinct-from_apart}
 use Rattle.std.proofs.lemmas.Map.Made.{length-le_from_is_member}
 use Rattle.std.proofs.lemmas.Map.Views.{Contains-from_any, list_any-from_Contains}
+use Rattle.lists.specs.Members.{at_head, in_tail, cons_cases, nil_contains, has_or_not}
 use Rattle.crossing_sets.specs.Crossing.{IsWithin}
-
-pub at_head : {X : Type 0} (x : X) (xs : List X) → Contains (x ∷ xs) x
-at_head x xs = (0, omega arith, refl)
-
-pub in_tail : {X : Type 0} (x y : X) (xs : List X) → Contains xs y → Contains (x ∷ xs) y
-in_tail x y xs c = let below = c.1 in (suc c.0, omega arith, c.2)
-
-cases_at : {X : Type 0} (x y : X) (xs : List X) (k : ℕ) → k < length (x ∷ xs) → get_or (x ∷ xs) k y ≡ y → (x ≡ y) ⊎ Contains xs y
-cases_at x y xs zero below at = inl at
-cases_at x y xs (suc k) below at = inr (k, omega arith, at)
-
-pub cons_cases : {X : Type 0} (x y : X) (xs : List X) → Contains (x ∷ xs) y → (x ≡ y) ⊎ Contains xs y
-cons_cases x y xs c = cases_at x y xs c.0 c.1 c.2
-
-pub nil_contains : {X : Type 0} (y : X) → Contains {X = X} [] y → ⊥
-nil_contains y c = let below = c.1 in omega arith
-
-pub has_or_not : (xs : List ℕ) (h : ℕ) → Contains xs h ⊎ (Contains xs h → ⊥)
-has_or_not [] h = inr (λ c. nil_contains h c)
-has_or_not (x ∷ xs) h =
-    elim (cases_eq x h) [
-      | inl same ↦ inl (let P : ℕ → Type 0 = λ y. Contains (x ∷ xs) y in subst P same (at_head x xs))
-      | inr other ↦
-          elim (has_or_not xs h) [
-            | inl c ↦ inl (in_tail x h xs c)
-            | inr never ↦ inr (λ c. elim (cons_cases x h xs c) [ inl same ↦ other same | inr there ↦ never there ])
-          ]
-    ]
 
 -- either each number is in the other list, or one is missing there
 pub within_or_not : (xs ys : List ℕ) → IsWithin xs ys ⊎ ((x : ℕ) × Contains xs x × (Contains ys x → ⊥))
@@ -51,16 +24,6 @@ within_or_not (x ∷ xs) ys =
             | inl all ↦ inl (λ y c. let P : ℕ → Type 0 = λ z. Contains ys z in elim (cons_cases x y xs c) [ inl same ↦ subst P same here | inr there ↦ all y there ])
           ]
     ]
-
--- where a number stands
-pub place_of : (xs : List ℕ) (x : ℕ) → Contains xs x → (k : ℕ) × (k < length xs) × (get_or xs k 0 ≡ x)
-place_of xs x c = (c.0, c.1, get_or_default xs c.0 0 x c.1 ∙ c.2)
-
-pub contains_at : (xs : List ℕ) (k x : ℕ) → k < length xs → get_or xs k 0 ≡ x → Contains xs x
-contains_at xs k x lt at = (k, lt, get_or_default xs k x 0 lt ∙ at)
-
-pub rising_apart : (xs : List ℕ) → IsStrictlyIncreasing xs → (i j : ℕ) → i < j → j < length xs → get_or xs i 0 ≢ get_or xs j 0
-rising_apart xs rise i j lt below same = let up = AllPairs-from_increasing xs rise i j 0 lt below in omega arith
 
 distinct : (xs : List ℕ) → IsStrictlyIncreasing xs → IsDistinct eqb xs
 distinct xs rise =

@@ -6,9 +6,9 @@ use Rattle.std.proofs.lemmas.Bool.{cases_lt}
 use Rattle.std.proofs.lemmas.List.{get_or-map, length-map}
 use Rattle.std.proofs.lemmas.List.Elements.{All-get_or, All-map, All-weaker, All-push, Contains-append_left, Contains-push}
 use Rattle.std.proofs.lemmas.List.Sorted.{All-permutation, Contains-permutation}
+use Rattle.lists.specs.Members.{map_contains}
 use Rattle.crossing_sets.specs.Family.{set_at}
 use Rattle.crossing_sets.specs.Splitting.{AreLargerFirst}
-use Rattle.crossing_sets.proofs.Elements.{at_head, in_tail, cons_cases, nil_contains}
 
 -- the first i sets with what each lacks of the greatest size
 pub record AreRanked (ss : List (List ℕ)) (most i : ℕ) (rs : List (ℕ × ℕ)) : Type 0 where
@@ -30,14 +30,6 @@ ranked_more ss most i rank rs is below h = record {
             (rank, subst P e (Contains-push rs (rank, i)))
       ];
 }
-
-map_contains : {X Y : Type 0} (f : X → Y) (xs : List X) (x : X) → Contains xs x → Contains (map f xs) (f x)
-map_contains f [] x c = absurd (nil_contains x c)
-map_contains f (y ∷ ys) x c =
-    elim (cons_cases y x ys c) [
-      | inl same ↦ let P : _ → Type 0 = λ z. Contains (map f (y ∷ ys)) (f z) in subst P same (at_head (f y) (map f ys))
-      | inr there ↦ in_tail (f y) (f x) (map f ys) (map_contains f ys x there)
-    ]
 
 pub larger_first : (ss : List (List ℕ)) (most i : ℕ) (rs ps : List (ℕ × ℕ)) (order : List ℕ) → length ss ≤ i → AreRanked ss most i rs → IsPermutation rs ps → IsNonDecreasingBy (λ (r : ℕ × ℕ). r.0) ps → order ≡ map (λ (r : ℕ × ℕ). r.1) ps → AreLargerFirst ss order
 larger_first ss most i rs ps order all h moved rise is =

@@ -2,8 +2,8 @@
 use Rattle.std.proofs.Common.{◌≡◌, ◌≢◌, ℕ, ◌+◌, ◌<◌, ◌≤◌, List, ◌++◌, length, get_or, set, take, Contains, refl, sym, ap, ◌∙◌, subst, inl, inr, arith}
 use Rattle.std.proofs.lemmas.Bool.{cases_eq, cases_lt}
 use Rattle.std.proofs.lemmas.List.{take_all, take-append-le, get_or-set_same, get_or-set_other, length-set, get_or_default}
+use Rattle.lists.specs.Members.{has_or_not, place_of}
 use Rattle.crossing_sets.specs.Classes.{class_of, HasPlace, ArePlaces, AreMoved, IsSplitBy, HasAlike}
-use Rattle.crossing_sets.proofs.Elements.{has_or_not, place_of}
 
 -- the places of one number more
 pub places_more : (xs cs ps : List ℕ) (i : ℕ) → class_of cs (get_or xs i 0) < length ps → ((j : ℕ) → j < i → HasPlace xs cs ps i (get_or xs j 0)) → (j : ℕ) → j < i + 1 → HasPlace xs cs (set ps (class_of cs (get_or xs i 0)) i) (i + 1) (get_or xs j 0)

@@ -2,11 +2,11 @@
 use Rattle.std.proofs.Common.{◌≡◌, ℕ, zero, suc, ◌+◌, ◌<◌, ◌≤◌, ◌⊎◌, min, List, length, get_or, Contains, Option, Some, None, refl, sym, ap, ◌∙◌, subst, inl, inr, arith}
 use Rattle.std.proofs.lemmas.Bool.{cases_lt, false≢true}
 use Rattle.std.specs.Prelude.{is_some, true, false}
+use Rattle.lists.specs.Members.{has_or_not}
 use Rattle.crossing_sets.specs.Family.{set_at}
 use Rattle.crossing_sets.specs.Crossing.{IsLeast}
 use Rattle.crossing_sets.specs.Classes.{class_of, AreTogether, AreApart, HasAlike, IsSplitBy}
 use Rattle.crossing_sets.specs.Splitting.{Splits, IsSplitBelow, IsSplit, SplitsLater, AreClasses, lesser_of}
-use Rattle.crossing_sets.proofs.Elements.{has_or_not}
 
 pub least_more : (P Q : ℕ → Type 0) (o : Option ℕ) (i : ℕ) → ((u : ℕ) → P u → Q u) → Q i → ((u : ℕ) → Q u → P u ⊎ (i ≡ u)) → IsLeast P o → IsLeast Q (Some (lesser_of o i))
 least_more P Q None i from here cases h = (here, λ u less q. elim (cases u q) [ inl p ↦ h u p | inr same ↦ absurd (omega arith) ])

@@ -11,7 +11,7 @@ use Rattle.loop_nest.specs.Nest.{NaturalLoop, headers_of, outers_of, header_at, 
 use Rattle.loop_nest.specs.Nesting.{IsInnermost, HaveOuters, every_node, IsNesting, KeepsOutline, HaveMembersBelow, IsToCome, IsAddedOrNot, IsAdding}
 use Rattle.loop_nest.proofs.Nested.{member_within}
 use Rattle.loop_nest.proofs.Innermost.{own_member, one_header, around_members}
-use Rattle.loop_nest.proofs.Rising.{rising_apart, rising_push}
+use Rattle.loop_nest.proofs.Rising.{same_place, rising_push}
 use Rattle.loop_nest.proofs.Searching.{fewer-set}
 
 pub same_length : (old new : List NaturalLoop) → headers_of new ≡ headers_of old → length new ≡ length old
@@ -110,7 +110,7 @@ module _ (g : Digraph) (wf : IsDigraph g) (reached : AreReached g) (x : ℕ) (ol
                     | inr waits ↦ inl (mem_m, tried m o inner, here ∙ ap (λ (ys : List ℕ). ys ++ x ∷ []) waits.1)
                   ])
               | inr other ↦
-                  let apart : header_at old n ≢ header_at old m = λ e. other (rising_apart (headers_of old) rising n m (omega arith) (omega arith) e) in
+                  let apart : header_at old n ≢ header_at old m = λ e. other (same_place (headers_of old) rising n m (omega arith) (omega arith) e) in
                   elim (a.each n lt) [
                     | inl done ↦ inl (done.0, λ to_come. done.1 (behind n m o inner to_come), others n other ∙ done.2)
                     | inr waits ↦ inr (λ mem. ahead n m o apart inner (waits.0 mem), others n other ∙ waits.1)
@@ -203,7 +203,7 @@ module _ (g : Digraph) (wf : IsDigraph g) (new : List NaturalLoop) (rising : IsS
   in_loop n y lt mem = (members.each n y lt).1 (member_within (header_at new n) y wf mem, mem)
 
   apart : (i k : ℕ) → i < length new → k < length new → k ≢ i → header_at new k ≢ header_at new i
-  apart i k li lk other = λ e. let e' = many in other (rising_apart (headers_of new) rising k i (omega arith) (omega arith) e)
+  apart i k li lk other = λ e. let e' = many in other (same_place (headers_of new) rising k i (omega arith) (omega arith) e)
 
   pub outer_is : (i : ℕ) (o : Option ℕ) → i < length new → IsInnermost g (λ k. every_node k × (k ≢ header_at new i)) (headers_of new) (header_at new i) o → MatchOption o (IsOutermost new i) (IsNextOuter new i)
   outer_is i None lt h = λ k a. h (header_at new k) (tt, apart i k lt a.below a.other) ((members.each k (header_at new i) a.below).0 a.member).1

@@ -1,9 +1,9 @@
 -- Walks that don't visit a node, step by step.
 use Rattle.std.proofs.Common.{◌≢◌, ℕ, List, [], ◌∷◌, Contains, subst, inl, inr}
+use Rattle.lists.specs.Members.{at_head, in_tail, cons_cases, nil_contains, has_or_not}
 use Rattle.loop_nest.specs.Digraph.{Digraph, Edge}
 use Rattle.loop_nest.specs.Walks.{Walk, Dominates, LeadsAround}
 use Rattle.loop_nest.specs.Walks.Walk.{stay, along}
-use Rattle.loop_nest.proofs.Elements.{at_head, in_tail, cons_cases, nil_contains, has_or_not}
 
 -- a walk from a node to a node that doesn't visit h
 pub data Around (g : Digraph) (h : ℕ) : ℕ → ℕ → Type 0 where

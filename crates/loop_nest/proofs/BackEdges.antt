@@ -2,13 +2,13 @@
 use Rattle.std.proofs.Common.{◌≡◌, ◌≢◌, ℕ, ◌<◌, Bool, List, refl, sym, ap, ◌∙◌, subst, inl, inr, arith}
 use Rattle.std.proofs.lemmas.Bool.{cases_eq}
 use Rattle.std.proofs.lemmas.List.Elements.{Contains-get_or}
+use Rattle.lists.specs.Members.{has_or_not}
 use Rattle.loop_nest.specs.Digraph.{Digraph, Edge}
 use Rattle.loop_nest.specs.Walks.{Dominates, IsReachable}
 use Rattle.loop_nest.specs.Reduction.{renamed}
 use Rattle.loop_nest.specs.Classes.{CanMergeClass, AreMerged}
 use Rattle.loop_nest.specs.Classes.AreMerged.{apart, merged}
 use Rattle.loop_nest.specs.Entered.{edge_at, AreMarkedBy, MarksEdgesTo}
-use Rattle.loop_nest.proofs.Elements.{has_or_not}
 use Rattle.loop_nest.proofs.Around.{Around, joined, joined_by, around_from, not_around}
 use Rattle.loop_nest.proofs.Around.Around.{rest}
 use Rattle.loop_nest.proofs.Nesting.{first_of}

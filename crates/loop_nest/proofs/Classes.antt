@@ -1,13 +1,13 @@
 -- What holds of merged nodes: they have one name, are entered there alone, and are dominated by it.
 use Rattle.std.proofs.Common.{◌≡◌, ◌≢◌, ℕ, ◌⊎◌, cond, List, [], Contains, refl, sym, ap, ◌∙◌, subst, inl, inr}
 use Rattle.std.proofs.lemmas.Bool.{cases_eq, eq-eqb, ne_eqb}
+use Rattle.lists.specs.Members.{at_head, in_tail}
 use Rattle.loop_nest.specs.Digraph.{Digraph, Edge}
 use Rattle.loop_nest.specs.Walks.{Walk, Dominates}
 use Rattle.loop_nest.specs.Walks.Walk.{stay, along}
 use Rattle.loop_nest.specs.Reduction.{renamed}
 use Rattle.loop_nest.specs.Classes.{CanMergeClass, AreMerged}
 use Rattle.loop_nest.specs.Classes.AreMerged.{apart, merged}
-use Rattle.loop_nest.proofs.Elements.{at_head, in_tail}
 
 pub renamed_same : (x p a : ℕ) → a ≡ x → renamed x p a ≡ p
 renamed_same x p a e = ap (λ b. cond b p a) (eq-eqb a x e)

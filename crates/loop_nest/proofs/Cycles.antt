@@ -1,13 +1,13 @@
 -- Every cycle of a reducible graph takes a back edge.
 use Rattle.std.proofs.Common.{◌≡◌, ◌≢◌, ℕ, ◌⊎◌, List, [], ◌∷◌, Contains, refl, sym, ap, ◌∙◌, subst, inl, inr}
 use Rattle.std.proofs.lemmas.Bool.{cases_eq}
+use Rattle.lists.specs.Members.{at_head, in_tail, cons_cases, nil_contains}
 use Rattle.loop_nest.specs.Digraph.{Digraph, Edge}
 use Rattle.loop_nest.specs.Walks.{Walk, Dominates, IsBackEdge, Takes}
 use Rattle.loop_nest.specs.Walks.Walk.{stay, along}
 use Rattle.loop_nest.specs.Reduction.{renamed}
 use Rattle.loop_nest.specs.Classes.{AreMerged}
 use Rattle.loop_nest.specs.Classes.AreMerged.{apart, merged}
-use Rattle.loop_nest.proofs.Elements.{at_head, in_tail, cons_cases, nil_contains}
 use Rattle.loop_nest.proofs.Around.{end_visited}
 use Rattle.loop_nest.proofs.Classes.{class_cases, enters_at_name, name_dominates, start_visited}
 

@@ -3,6 +3,7 @@ use Rattle.std.proofs.Common.{◌≡◌, ◌≢◌, ℕ, ◌<◌, eqb, List, [],
 use Rattle.std.specs.List.{range_with_len}
 use Rattle.std.proofs.lemmas.Bool.{cases_eq, eq-eqb, ne_eqb}
 use Rattle.std.proofs.lemmas.List.Elements.{All-contains}
+use Rattle.lists.specs.Members.{cons_cases, nil_contains}
 use Rattle.loop_nest.specs.Digraph.{Digraph, Edge, IsDigraph}
 use Rattle.loop_nest.specs.Walks.{Walk, IsReachable}
 use Rattle.loop_nest.specs.Walks.Walk.{stay, along}
@@ -10,7 +11,7 @@ use Rattle.loop_nest.specs.Reduction.{whole}
 use Rattle.loop_nest.specs.Classes.{CanMergeClass, AreMerged, NoneCanMerge}
 use Rattle.loop_nest.specs.Classes.AreMerged.{apart, merged}
 use Rattle.loop_nest.specs.Laws.{ReductionHasOneEnd, ReducibleIsReached, CyclesTakeBackEdges}
-use Rattle.loop_nest.proofs.Elements.{cons_cases, nil_contains, filter_contains, filter_alike, range_contains, from_range}
+use Rattle.loop_nest.proofs.Elements.{filter_contains, filter_alike, range_contains, from_range}
 use Rattle.loop_nest.proofs.Classes.{class_cases, idempotent, entry_stays, enters_at_name, name_of_target}
 use Rattle.loop_nest.proofs.Cycles.{cycle_takes_back_edge}
 use Rattle.loop_nest.proofs.Quotients.{stands_whole, Merged, classes_after, none_can_merge}

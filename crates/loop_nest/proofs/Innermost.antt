@@ -12,7 +12,7 @@ use Rattle.loop_nest.specs.Order.{AreDominatorsFirst}
 use Rattle.loop_nest.specs.Nesting.{IsInnermost, HaveOuters, AreInnermost, every_node}
 use Rattle.loop_nest.proofs.Nesting.{header_dominates_members, loops_are_nested_lem}
 use Rattle.loop_nest.proofs.Nested.{dominates_both, member_within}
-use Rattle.loop_nest.proofs.Rising.{rising_apart}
+use Rattle.loop_nest.proofs.Rising.{same_place}
 
 -- the nodes that stand before place i
 abbrev pub before_place : List ℕ → ℕ → ℕ → Type 0
@@ -139,7 +139,7 @@ module _ (g : Digraph) (wf : IsDigraph g) (reached : AreReached g) where
                   subst T (sym same) (subst S (sym is) here)
               | inr other ↦
                   let k' = get_or hs n 0 in
-                  let apart : k' ≢ h = λ e. other (rising_apart hs rising n m lt short (e ∙ sym is)) in
+                  let apart : k' ≢ h = λ e. other (same_place hs rising n m lt short (e ∙ sym is)) in
                   let P : Option ℕ → Type 0 = λ z. IsInnermost g (λ k. before_place order (i + 1) k × (k ≢ k')) hs k' z in
                   let old : before_place order i k' = elim (split k' a) [ inl b ↦ b | inr e ↦ absurd (apart e) ] in
                   subst P (sym (get_or-set_other outers m n o None other)) (

@@ -1,17 +1,17 @@
-mod Elements
+pub mod Elements
 mod Grouping
-mod Around
+pub mod Around
 mod Nesting
 mod WalkParts
 mod Classes
 mod Cycles
 mod Quotients
-mod Ends
+pub mod Ends
 mod Entries
 mod ClassLists
 mod BackEdges
-mod Searching
-mod Rising
+pub mod Searching
+pub mod Rising
 mod Flags
 mod Bodies
 mod Nested
@@ -22,6 +22,6 @@ mod Scanning
 mod Pointing
 mod Rows
 mod Outward
-mod SimpleWalks
+pub mod SimpleWalks
 mod Parts
 mod PartLoops

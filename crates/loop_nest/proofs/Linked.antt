@@ -7,11 +7,12 @@ use Rattle.std.proofs.lemmas.List.{get_or_append_left, get_or_push, length_push,
 use Rattle.std.proofs.lemmas.List.Elements.{All-push, All-map, All-weaker, All-contains, Contains-append_left, Contains-push, Contains-get_or}
 use Rattle.std.proofs.lemmas.Map.Keys.{IsDistinct-from_apart}
 use Rattle.std.proofs.lemmas.Map.Steps.{length-le_from_distinct_below}
+use Rattle.lists.specs.Members.{at_head, in_tail, cons_cases, nil_contains, map_contains}
 use Rattle.loop_nest.specs.Digraph.{Digraph, Edge, IsDigraph, sources_of, AreSources, targets_of, turned}
 use Rattle.loop_nest.specs.Walks.{Walk}
 use Rattle.loop_nest.specs.Walks.Walk.{stay, along}
 use Rattle.loop_nest.specs.Chains.{IsLink, IsChain, IsBlock, firsts_of, AreBlocks, IsChainFrom, IsLater, AreBlocksBelow}
-use Rattle.loop_nest.proofs.Elements.{at_head, in_tail, cons_cases, nil_contains, map_contains, from_map, filter_contains, from_filter, kept_at, dropped_at, filter_at_most}
+use Rattle.loop_nest.proofs.Elements.{from_map, filter_contains, from_filter, kept_at, dropped_at, filter_at_most}
 use Rattle.loop_nest.proofs.Searching.{sources_has, from_sources}
 use Rattle.loop_nest.proofs.Ends.{ends_within}
 use Rattle.loop_nest.proofs.Rising.{rising_push}

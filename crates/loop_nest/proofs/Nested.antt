@@ -4,6 +4,7 @@ use Rattle.std.specs.List.{range_with_len}
 use Rattle.std.specs.List.Sorted.{IsStrictlyIncreasing}
 use Rattle.std.proofs.lemmas.Bool.{cases_eq}
 use Rattle.std.proofs.lemmas.List.Elements.{All-get_or, Contains-get_or}
+use Rattle.lists.specs.Members.{rising_pair}
 use Rattle.loop_nest.specs.Digraph.{Digraph, IsDigraph}
 use Rattle.loop_nest.specs.Walks.{Dominates, IsMember, IsReachable}
 use Rattle.loop_nest.specs.Reduction.{Leaves}
@@ -14,7 +15,6 @@ use Rattle.loop_nest.proofs.Nesting.{first_of}
 use Rattle.loop_nest.proofs.Classes.{start_visited}
 use Rattle.loop_nest.proofs.Quotients.{leaves_of}
 use Rattle.loop_nest.proofs.Ends.{ends_within, all_merged, visited_within, reducible_is_reached}
-use Rattle.loop_nest.proofs.Rising.{rising_pair}
 
 pub dominates_both : {g : Digraph} (a b : ℕ) → IsReachable g a → Dominates g a b → Dominates g b a → a ≡ b
 dominates_both {g} a b reached ab ba =

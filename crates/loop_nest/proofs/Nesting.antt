@@ -1,11 +1,11 @@
 -- Dominance by headers, the entry of loops, and their nesting.
 use Rattle.std.proofs.Common.{◌≢◌, ℕ, ◌⊎◌, List, [], ◌∷◌, Contains, sym, ◌∙◌, subst, inl, inr, arith}
 use Rattle.std.proofs.lemmas.Bool.{cases_eq}
+use Rattle.lists.specs.Members.{cons_cases}
 use Rattle.loop_nest.specs.Digraph.{Digraph}
 use Rattle.loop_nest.specs.Walks.{Walk, IsReachable, IsMember}
 use Rattle.loop_nest.specs.Walks.Walk.{stay, along}
 use Rattle.loop_nest.specs.Laws.{HeaderDominatesMembers, LoopIsEnteredAtHeader, EdgesToHeaderAreBackEdges, LoopsAreNested}
-use Rattle.loop_nest.proofs.Elements.{cons_cases}
 use Rattle.loop_nest.proofs.Around.{Around, ends_elsewhere, joined, joined_by, around_from, leads_around, end_visited, not_around, dominates_from}
 use Rattle.loop_nest.proofs.Around.Around.{rest, through}
 

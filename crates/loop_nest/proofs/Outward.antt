@@ -3,15 +3,15 @@ use Rattle.std.proofs.Common.{◌≡◌, ◌≢◌, ℕ, ◌<◌, ◌⊎◌, Boo
 use Rattle.std.proofs.lemmas.Bool.{cases_eq, cases_lt, both_ways}
 use Rattle.std.proofs.lemmas.List.{length-set, get_or-set_same, get_or-set_other, get_or_append_left, get_or_push, length_push}
 use Rattle.std.proofs.lemmas.List.Elements.{All-contains, All-append, All-push, All-from_get_or, Contains-append_left, Contains-append_right, Contains-push, Contains-push_cases, Contains-append_cases, Contains-get_or}
+use Rattle.lists.specs.Members.{at_head, nil_contains, cons_cases}
 use Rattle.loop_nest.specs.Digraph.{Digraph, Edge, IsDigraph, targets_of}
 use Rattle.loop_nest.specs.Walks.{Walk, Dominates}
 use Rattle.loop_nest.specs.Walks.Walk.{stay, along}
 use Rattle.loop_nest.specs.Order.{AreDominatorsFirst, IsOutward}
-use Rattle.loop_nest.proofs.Elements.{at_head, nil_contains, cons_cases}
 use Rattle.loop_nest.proofs.Around.{Around, around_from, leads_around, joined_by, not_around}
 use Rattle.loop_nest.proofs.Around.Around.{rest}
 use Rattle.loop_nest.proofs.Ends.{ends_within}
-use Rattle.loop_nest.proofs.Searching.{fewer-set}
+use Rattle.loop_nest.proofs.Searching.{fewer-set, shorter}
 use Rattle.loop_nest.proofs.Linked.{from_targets, targets_has}
 
 -- how many nodes were not seen
@@ -21,10 +21,6 @@ unseen seen = length (filter not seen)
 pub unseen-set : (u : ℕ) (seen : List Bool) → u < length seen → get_or seen u false ≡ false → unseen (set seen u true) < unseen seen
 unfolding unseen
 unseen-set u seen lt at = fewer-set not seen u true false lt (ap not at) refl
-
-shorter : (n u : ℕ) (left : List ℕ) → All (λ y. y < n) (left ++ u ∷ []) → All (λ y. y < n) left
-shorter n u left all = All-from_get_or (λ y. y < n) left 0 (λ i lt.
-    All-contains (λ y. y < n) (left ++ u ∷ []) (get_or left i 0) all (Contains-append_left left (u ∷ []) (get_or left i 0) (Contains-get_or left i 0 lt)))
 
 pub outward_start : (g : Digraph) (seen : List Bool) → 0 < g.nodes → length seen ≡ g.nodes → ((u : ℕ) → get_or seen u false ≡ false) → IsOutward g [] (0 ∷ []) seen
 outward_start g seen entry long none = record {

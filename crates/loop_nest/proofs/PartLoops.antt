@@ -1,11 +1,12 @@
 -- Back edges and loops of a part of a reducible graph are those of the whole.
 use Rattle.std.proofs.Common.{◌≡◌, ℕ, ◌<◌, ◌⊎◌, List, [], ◌∷◌, ◌++◌, map, Contains, refl, sym, ap, ◌∙◌, subst, inl, inr, append_assoc}
 use Rattle.std.proofs.lemmas.List.Elements.{Contains-append_right}
+use Rattle.lists.specs.Members.{at_head}
 use Rattle.loop_nest.specs.Digraph.{Digraph, IsDigraph}
 use Rattle.loop_nest.specs.Walks.{Walk, Dominates, IsBackEdge}
 use Rattle.loop_nest.specs.Parts.{IsReachedPart}
 use Rattle.loop_nest.specs.Laws.{PartsHaveBackEdges, PartsHaveHeaders, PartsHaveMembers}
-use Rattle.loop_nest.proofs.Elements.{at_head, from_map}
+use Rattle.loop_nest.proofs.Elements.{from_map}
 use Rattle.loop_nest.proofs.Around.{joined, around_from, not_around, dominates_from}
 use Rattle.loop_nest.proofs.WalkParts.{dominates_both, leads_on}
 use Rattle.loop_nest.proofs.SimpleWalks.{VisitsOnce, SimpleWalk, simple_walk, begins, walk_until, walk_from, not_in_both}

@@ -10,9 +10,10 @@ use Rattle.loop_nest.specs.Classes.AreMerged.{apart, merged}
 use Rattle.loop_nest.specs.Entered.{class_of, names, edge_at, IsEnteredFromOne, IsClassList, AreBackEdgesMarked}
 use Rattle.std.specs.List.{range_with_len}
 use Rattle.std.proofs.lemmas.List.FromFn.{get_or-range_with_len, length-range_with_len}
+use Rattle.lists.specs.Members.{map_contains}
 use Rattle.loop_nest.specs.Pointers.{AreFollowed, DoEnd, ArePointers, AreIncoming, AreNumbered, IsScanned, KeepsMarks, AreNames, CannotMerge, AreAllNodes}
 use Rattle.loop_nest.proofs.Searching.{sources_has, from_sources}
-use Rattle.loop_nest.proofs.Elements.{from_map, map_contains, filter_all, filter_at_most, range_contains, from_range, less_within, fewer_kept}
+use Rattle.loop_nest.proofs.Elements.{from_map, filter_all, filter_at_most, range_contains, from_range, less_within, fewer_kept}
 use Rattle.loop_nest.proofs.Classes.{renamed_same, renamed_other, idempotent, enters_at_name, name_of_source, name_of_target}
 use Rattle.loop_nest.proofs.Ends.{ends_within, names_within}
 use Rattle.loop_nest.proofs.BackEdges.{marked_by}

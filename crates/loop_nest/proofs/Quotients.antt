@@ -2,12 +2,13 @@
 use Rattle.std.proofs.Common.{◌≡◌, ◌≢◌, ℕ, true, false, eqb, not, ◌&&◌, List, [], ◌∷◌, map, filter, Contains, refl, sym, ap, ◌∙◌, subst, inl, inr}
 use Rattle.std.specs.List.{range_with_len}
 use Rattle.std.proofs.lemmas.Bool.{cases_eq, eq-eqb, ne_eqb, eqb-true, eqb-false, both_ways}
+use Rattle.lists.specs.Members.{cons_cases, nil_contains, map_contains}
 use Rattle.loop_nest.specs.Digraph.{Digraph, Edge}
 use Rattle.loop_nest.specs.Reduction.{Quotient, whole, is_self_edge, DropsSelfEdge, CanMerge, renamed, Merges, Reduces, IsReduced, Leaves}
 use Rattle.loop_nest.specs.Reduction.Reduces.{done, drops, merges}
 use Rattle.loop_nest.specs.Classes.{CanMergeClass, AreMerged, NoneCanMerge}
 use Rattle.loop_nest.specs.Classes.AreMerged.{apart, merged}
-use Rattle.loop_nest.proofs.Elements.{cons_cases, nil_contains, map_contains, from_map, filter_contains, from_filter, filter-filter, filter_all}
+use Rattle.loop_nest.proofs.Elements.{from_map, filter_contains, from_filter, filter-filter, filter_all}
 use Rattle.loop_nest.proofs.Classes.{class_cases, idempotent, name_of_source}
 
 -- s is what merging gives, but for edges from a node to itself

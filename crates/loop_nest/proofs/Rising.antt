@@ -5,13 +5,11 @@ use Rattle.std.proofs.lemmas.Bool.{cases_order, cases_lt}
 use Rattle.std.proofs.lemmas.List.{get_or_append_left, get_or_push, length_push}
 use Rattle.std.proofs.lemmas.List.Kept.{AllPairs-from_increasing}
 use Rattle.std.proofs.lemmas.List.Elements.{All-get_or}
-
-pub rising_pair : (xs : List ℕ) → IsStrictlyIncreasing xs → (i j : ℕ) → i < j → j < length xs → get_or xs i 0 < get_or xs j 0
-rising_pair xs h i j lt below = AllPairs-from_increasing xs h i j 0 lt below
+use Rattle.lists.specs.Members.{rising_pair}
 
 -- the same number stands at one place alone
-pub rising_apart : (xs : List ℕ) → IsStrictlyIncreasing xs → (i j : ℕ) → i < length xs → j < length xs → get_or xs i 0 ≡ get_or xs j 0 → i ≡ j
-rising_apart xs h i j li lj e =
+pub same_place : (xs : List ℕ) → IsStrictlyIncreasing xs → (i j : ℕ) → i < length xs → j < length xs → get_or xs i 0 ≡ get_or xs j 0 → i ≡ j
+same_place xs h i j li lj e =
     elim (cases_order i j) [
       | inl same ↦ same
       | inr apart ↦

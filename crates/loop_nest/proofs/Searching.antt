@@ -3,9 +3,10 @@ use Rattle.std.proofs.Common.{◌≡◌, ◌≢◌, ℕ, zero, suc, ◌+◌, ◌
 use Rattle.std.proofs.lemmas.Bool.{cases_eq, cases_lt, cases_Bool, eq-eqb, ne_eqb, eqb-true}
 use Rattle.std.proofs.lemmas.List.{length-set, length-map, get_or-set_same, get_or-set_other, get_or_past, get_or-replicate, length-replicate}
 use Rattle.std.proofs.lemmas.List.Elements.{All-contains, All-append, All-from_get_or, Contains-append_left, Contains-append_right, Contains-push, Contains-push_cases, Contains-append_cases, Contains-get_or}
+use Rattle.lists.specs.Members.{nil_contains, map_contains}
 use Rattle.loop_nest.specs.Digraph.{Digraph, Edge, IsDigraph, sources_of}
 use Rattle.loop_nest.specs.Search.{ReachesOneOf, mark_at, IsSearch, AreFound, AreUnmarked, IsMarkedWith}
-use Rattle.loop_nest.proofs.Elements.{nil_contains, map_contains, from_map, filter_contains, from_filter, kept_at, dropped_at, filter_at_most}
+use Rattle.loop_nest.proofs.Elements.{from_map, filter_contains, from_filter, kept_at, dropped_at, filter_at_most}
 use Rattle.loop_nest.proofs.Around.{Around, around_from, leads_around}
 use Rattle.loop_nest.proofs.Around.Around.{rest, through}
 use Rattle.loop_nest.proofs.Ends.{ends_within}
@@ -67,7 +68,7 @@ unfolding unmarked
 unmarked-set n x marks lt ne =
     fewer-set (is_other n) marks x (Some n) None lt (other_is n (mark_at marks x) ne) (ap not (eq-eqb n n refl))
 
-scaled : (a b k : ℕ) → a < b → a * suc k + suc k ≤ b * suc k
+pub scaled : (a b k : ℕ) → a < b → a * suc k + suc k ≤ b * suc k
 scaled a b k lt = grind arith
 
 pub fewer_left : (a b m r k : ℕ) → a < b → k ≤ m → a * suc m + (r + k) < b * suc m + suc r
@@ -90,7 +91,7 @@ set_cases n x y marks at =
       | inr other ↦ inr (sym (get_or-set_other marks x y (Some n) None other) ∙ at)
     ]
 
-shorter : (n x : ℕ) (left : List ℕ) → All (λ y. y < n) (left ++ x ∷ []) → All (λ y. y < n) left
+pub shorter : (n x : ℕ) (left : List ℕ) → All (λ y. y < n) (left ++ x ∷ []) → All (λ y. y < n) left
 shorter n x left all = All-from_get_or (λ y. y < n) left 0 (λ i lt.
     All-contains (λ y. y < n) (left ++ x ∷ []) (get_or left i 0) all (Contains-append_left left (x ∷ []) (get_or left i 0) (Contains-get_or left i 0 lt)))
 

@@ -1,10 +1,10 @@
 -- Walks that visit no node twice, and parts of walks.
 use Rattle.std.proofs.Common.{◌≡◌, ℕ, List, [], ◌∷◌, ◌++◌, Contains, refl, sym, subst, inl, inr}
 use Rattle.std.proofs.lemmas.List.Elements.{Contains-append_right}
+use Rattle.lists.specs.Members.{cons_cases, nil_contains, has_or_not}
 use Rattle.loop_nest.specs.Digraph.{Digraph}
 use Rattle.loop_nest.specs.Walks.{Walk}
 use Rattle.loop_nest.specs.Walks.Walk.{stay, along}
-use Rattle.loop_nest.proofs.Elements.{cons_cases, nil_contains, has_or_not}
 
 abbrev pub VisitsOnce : List ℕ → Type 0
 VisitsOnce [] = Unit {0}

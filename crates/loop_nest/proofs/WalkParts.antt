@@ -1,10 +1,10 @@
 -- Parts of walks, and nodes that dominate each other.
 use Rattle.std.proofs.Common.{◌≡◌, ◌≢◌, ℕ, List, [], ◌∷◌, Contains, refl, sym, subst, inl, inr}
 use Rattle.std.proofs.lemmas.Bool.{cases_eq}
+use Rattle.lists.specs.Members.{cons_cases, nil_contains}
 use Rattle.loop_nest.specs.Digraph.{Digraph, Edge}
 use Rattle.loop_nest.specs.Walks.{Walk, Dominates, IsReachable}
 use Rattle.loop_nest.specs.Walks.Walk.{stay, along}
-use Rattle.loop_nest.proofs.Elements.{cons_cases, nil_contains}
 use Rattle.loop_nest.proofs.Around.{Around, not_around}
 use Rattle.loop_nest.proofs.Around.Around.{rest, through}
 use Rattle.loop_nest.proofs.Nesting.{first_of}

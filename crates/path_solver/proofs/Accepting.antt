@@ -5,6 +5,7 @@ use Rattle.std.specs.List.Sorted.{IsStrictlyIncreasing}
 use Rattle.std.proofs.lemmas.Bool.{false≢true, false_from_ne_true}
 use Rattle.std.proofs.lemmas.Int.{ints}
 use Rattle.std.proofs.lemmas.List.{get_or_default}
+use Rattle.lists.specs.Members.{rising_pair}
 use Rattle.loop_nest.specs.Digraph.{Digraph, Edge}
 use Rattle.loop_nest.specs.Nest.{NaturalLoop}
 use Rattle.path_solver.specs.declared.topology.TopologicalOrder.{TopologicalOrder}
@@ -14,12 +15,12 @@ use Rattle.section_check.specs.Conditions.{DescendsTo, Descends, DescendsFrom, E
 use Rattle.section_check.specs.Placing.{IsAt}
 use Rattle.path_solver.specs.Ordering.{NoLoopHas}
 use Rattle.section_check.specs.Bounded.{holds}
+use Rattle.section_check.proofs.Elements.{contains_from_holds, holds_from_contains}
+use Rattle.section_check.proofs.Rising.{listed_at, listed_long, potential_at}
 use Rattle.path_solver.specs.Certifying.{certified}
 use Rattle.path_solver.specs.Distances.{limit, IsMost, cost_through}
 use Rattle.path_solver.specs.Totals.{iteration_costs_around}
 use Rattle.path_solver.specs.Potentials.{AreLeft}
-use Rattle.path_solver.proofs.Elements.{contains_from_holds, holds_from_contains}
-use Rattle.path_solver.proofs.Rising.{rising_pair, listed_at, listed_long, potential_at}
 use Rattle.path_solver.specs.Problem.{IsMeasured}
 use Rattle.path_solver.proofs.Correspond.{prices, price_at, headed_none, headed_at}
 use Rattle.path_solver.proofs.AlongEdges.{grows, headed_or_not, fee_is, entry_reached}

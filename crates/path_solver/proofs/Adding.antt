@@ -3,10 +3,9 @@ use Rattle.std.proofs.Common.{◌≡◌, ℕ, ◌+◌, ◌<◌, ◌≤◌, List,
 use Rattle.std.specs.List.Sorted.{IsStrictlyIncreasing}
 use Rattle.std.proofs.lemmas.List.{length-set, get_or-set_same, get_or-set_other}
 use Rattle.std.proofs.lemmas.List.Elements.{All-set, Contains-append_left, Contains-push, Contains-push_cases}
+use Rattle.lists.specs.Members.{nil_contains, rising_pair}
 use Rattle.path_solver.specs.Distances.{limit, limited, AreLimited}
 use Rattle.path_solver.specs.Totals.{AreAdded}
-use Rattle.path_solver.proofs.Elements.{nil_contains}
-use Rattle.path_solver.proofs.Rising.{rising_pair}
 use Rattle.path_solver.proofs.Order.{taken_at}
 
 pub added_none : (iteration_cost : ℕ) (old : List ℕ) → AreLimited old → AreAdded [] iteration_cost old old

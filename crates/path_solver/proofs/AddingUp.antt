@@ -5,9 +5,9 @@ use Rattle.std.specs.List.{HoldsAt, AllWithin}
 use Rattle.std.proofs.lemmas.Bool.{cases_Bool, both_ways}
 use Rattle.loop_nest.specs.Nest.{NaturalLoop}
 use Rattle.section_check.specs.Bounded.{holds}
+use Rattle.section_check.proofs.Elements.{contains_from_holds, holds_from_contains}
 use Rattle.path_solver.specs.Distances.{limited, AreLimited}
 use Rattle.path_solver.specs.Totals.{AreAdded, iteration_costs_around, SomeIterationsExceed}
-use Rattle.path_solver.proofs.Elements.{contains_from_holds, holds_from_contains}
 
 -- for each of n nodes, what iterations of the loops that hold it cost at most together
 pub record AreTotals (loops : List NaturalLoop) (iteration_costs : List ℕ) (n : ℕ) (totals : List ℕ) : Type 0 where

@@ -1,6 +1,7 @@
 -- How distances grow along the edges between listed nodes.
 use Rattle.std.proofs.Common.{◌≡◌, ℕ, zero, suc, ◌+◌, ◌*◌, ◌^◌, ◌<◌, ◌≤◌, ◌⊎◌, Bool, List, [], ◌∷◌, get_or, Contains, refl, sym, ap, ◌∙◌, subst, inl, inr, arith}
 use Rattle.std.proofs.lemmas.Bool.{cases_eq}
+use Rattle.lists.specs.Members.{has_or_not}
 use Rattle.loop_nest.specs.Digraph.{Digraph, Edge}
 use Rattle.loop_nest.specs.Nest.{NaturalLoop}
 use Rattle.path_solver.specs.declared.topology.TopologicalOrder.{TopologicalOrder}
@@ -10,7 +11,6 @@ use Rattle.path_solver.specs.Ordering.{NoLoopHas}
 use Rattle.path_solver.specs.Distances.{limit, limited, IsReachedBy}
 use Rattle.path_solver.specs.Totals.{iteration_costs_around}
 use Rattle.path_solver.specs.LoopCosts.{HasLoopCosts}
-use Rattle.path_solver.proofs.Elements.{has_or_not}
 use Rattle.path_solver.proofs.CostsAround.{iteration_cost_of_one}
 use Rattle.path_solver.specs.Problem.{IsMeasured}
 use Rattle.path_solver.proofs.Structure as structure

@@ -2,10 +2,12 @@
 use Rattle.std.proofs.Common.{◌≡◌, ◌≢◌, ℕ, ◌+◌, ◌≤◌, Bool, false, eqb, List, [], ◌∷◌, get_or, All, Contains, refl, sym, ap, ◌∙◌, subst, inl, inr, arith, mul-le-mul_left}
 use Rattle.std.proofs.lemmas.Bool.{cases_eq, eqb-true}
 use Rattle.std.proofs.lemmas.List.Elements.{All-cons, All-nil, All-contains, All-weaker}
+use Rattle.lists.specs.Members.{has_or_not, map_contains, nil_contains}
 use Rattle.loop_nest.specs.Digraph.{Digraph}
 use Rattle.loop_nest.specs.Walks.{Walk, back_edges_to}
 use Rattle.loop_nest.specs.Walks.Walk.{stay}
 use Rattle.loop_nest.specs.Nest.{NaturalLoop, IsLoopOf, headers_of}
+use Rattle.loop_nest.proofs.Elements.{from_map}
 use Rattle.path_solver.specs.declared.topology.TopologicalOrder.{TopologicalOrder}
 use Rattle.path_solver.specs.Reaching.{IsFlagged}
 use Rattle.section_check.specs.Placing.{IsAt}
@@ -13,7 +15,6 @@ use Rattle.section_check.specs.Bounded.{BoundedLoop, cost_of, IsKept, IsIteratio
 use Rattle.path_solver.specs.Longest.{bounded_loops}
 use Rattle.path_solver.specs.Distances.{cost_through}
 use Rattle.path_solver.specs.LoopCosts.{HasLoopCosts}
-use Rattle.path_solver.proofs.Elements.{has_or_not, from_map, map_contains, nil_contains}
 use Rattle.path_solver.proofs.Order.{count_some}
 use Rattle.path_solver.proofs.Onward.{back_edge_closes}
 use Rattle.path_solver.proofs.Loops.{header_of}

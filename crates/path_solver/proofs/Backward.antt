@@ -3,12 +3,13 @@ use Rattle.std.proofs.Common.{◌≡◌, ℕ, ◌<◌, ◌⊎◌, Bool, true, fa
 use Rattle.std.proofs.lemmas.Bool.{cases_eq, both_ways}
 use Rattle.std.proofs.lemmas.List.{length-set, get_or-set_same, get_or-set_other}
 use Rattle.std.proofs.lemmas.List.Elements.{All-contains, All-append, All-from_get_or, Contains-append_left, Contains-append_right, Contains-push, Contains-push_cases, Contains-append_cases, Contains-get_or}
+use Rattle.lists.specs.Members.{nil_contains}
 use Rattle.loop_nest.specs.Digraph.{Digraph, Edge, IsDigraph, sources_of}
 use Rattle.loop_nest.specs.Walks.{Walk}
 use Rattle.loop_nest.specs.Walks.Walk.{stay, along}
+use Rattle.loop_nest.proofs.Searching.{shorter, sources_has, from_sources}
+use Rattle.loop_nest.proofs.Ends.{ends_within}
 use Rattle.path_solver.specs.Reaching.{ReachesExit, IsFlagged, AreReaching, IsBackwardSearch}
-use Rattle.path_solver.proofs.Elements.{nil_contains}
-use Rattle.path_solver.proofs.Sources.{sources_has, from_sources, ends_within}
 
 set_at : (u : ℕ) (flags : List Bool) → u < length flags → IsFlagged (set flags u true) u
 set_at u flags lt = get_or-set_same flags u true false lt
@@ -26,10 +27,6 @@ set_cases u y flags at =
       | inl same ↦ inl same
       | inr other ↦ inr (sym (get_or-set_other flags u y true false other) ∙ at)
     ]
-
-shorter : (n x : ℕ) (left : List ℕ) → All (λ y. y < n) (left ++ x ∷ []) → All (λ y. y < n) left
-shorter n x left all = All-from_get_or (λ y. y < n) left 0 (λ i lt.
-    All-contains (λ y. y < n) (left ++ x ∷ []) (get_or left i 0) all (Contains-append_left left (x ∷ []) (get_or left i 0) (Contains-get_or left i 0 lt)))
 
 before : {g : Digraph} {u v : ℕ} → Edge g u v → ReachesExit g v → ReachesExit g u
 before {g} {u} {v} e r = record { exit = r.exit; among = r.among; nodes = u ∷ r.nodes; walk = along e r.walk }

@@ -3,16 +3,17 @@ use Rattle.std.proofs.Common.{◌≡◌, ℕ, ◌+◌, ◌≤◌, ◌⊎◌, con
 use Rattle.std.proofs.lemmas.Bool.{cases_eq, eq-eqb, ne_eqb, cond-true, cond-false}
 use Rattle.std.proofs.lemmas.List.Sums.{sum_by-cons, sum_by-append}
 use Rattle.std.proofs.lemmas.List.Elements.{All-cons, All-nil, All-head, All-tail, All-contains, Contains-append_left, Contains-append_right, Contains-get_or}
+use Rattle.lists.specs.Members.{at_head, in_tail, cons_cases, nil_contains, has_or_not}
 use Rattle.loop_nest.specs.Digraph.{Digraph}
 use Rattle.loop_nest.specs.Walks.{Walk, Dominates, Takes, back_edges_to}
 use Rattle.loop_nest.specs.Walks.Walk.{stay, along}
 use Rattle.loop_nest.specs.Nest.{NaturalLoop, IsLoopOf, IsNest}
 use Rattle.loop_nest.specs.Laws.{HeaderDominatesMembers}
+use Rattle.loop_nest.proofs.SimpleWalks.{walk_until, not_in_both, VisitsOnce, begins}
+use Rattle.loop_nest.proofs.Around.{end_visited}
 use Rattle.section_check.specs.Bounded.{BoundedLoop, IsKept}
 use Rattle.path_solver.specs.Longest.{bounded_loops}
 use Rattle.path_solver.specs.Laws.{ReachedWithinBounds, LiesOnBoundedWalk}
-use Rattle.path_solver.proofs.Elements.{at_head, in_tail, cons_cases, nil_contains, has_or_not}
-use Rattle.path_solver.proofs.SimpleWalks.{VisitsOnce, begins}
 use Rattle.path_solver.proofs.SimpleParts.{simple_part, later}
 use Rattle.path_solver.proofs.Prolonging.{walk_joined}
 
@@ -66,31 +67,6 @@ taken_by_parts (along {u = z} {v} {w} {ns} e t) b x h (p ∷ ps) after is =
     elim (taken_by_parts t b x h ps after cc) [
       | inl k ↦ inl (later z x h ns k)
       | inr k ↦ inr k
-    ]
-
-no_more : (ys : List ℕ) (u : ℕ) (rest : List ℕ) → [] ≡ ys ++ u ∷ rest → ⊥
-no_more [] u rest is = cc
-no_more (y ∷ ys) u rest is = cc
-
-walk_until : {g : Digraph} {a x : ℕ} {ns : List ℕ} → Walk g a x ns → (before : List ℕ) (u : ℕ) (rest : List ℕ) → ns ≡ before ++ u ∷ rest → Walk g a u (before ++ u ∷ [])
-walk_until {g} {a} w [] u rest is =
-    let b = begins w in
-    let same : u ≡ a = cc (b.1, is) in
-    let P : ℕ → Type 0 = λ z. Walk g z u (u ∷ []) in
-    subst P same stay
-walk_until (stay {u = a}) (y ∷ ys) u rest is = absurd (no_more ys u rest cc)
-walk_until {g} (along {u = a} {v} {w} {ns} e t) (y ∷ ys) u rest is =
-    let same : a ≡ y = cc in
-    let tail : ns ≡ ys ++ u ∷ rest = cc in
-    let P : ℕ → Type 0 = λ z. Walk g a u (z ∷ (ys ++ u ∷ [])) in
-    subst P same (along e (walk_until t ys u rest tail))
-
-not_in_both : (xs ys : List ℕ) (h : ℕ) → VisitsOnce (xs ++ ys) → Contains xs h → Contains ys h → ⊥
-not_in_both [] ys h once c d = nil_contains h c
-not_in_both (x ∷ xs) ys h once c d =
-    elim (cons_cases x h xs c) [
-      | inl same ↦ once.0 (let P : ℕ → Type 0 = λ z. Contains (xs ++ ys) z in subst P (sym same) (Contains-append_right xs ys h d))
-      | inr there ↦ not_in_both xs ys h once.1 there d
     ]
 
 -- a place in two lists, one behind the other, lies in the first or in the second
@@ -203,10 +179,6 @@ module _ (g : Digraph) (l : BoundedLoop) (o : IsOwn g l) where
     kept_by_both before [] after is all = omega arith
     kept_by_both before (y ∷ s) after is all = kept_here before y s after is all
 
-ended : {g : Digraph} {u v : ℕ} {ns : List ℕ} → Walk g u v ns → Contains ns v
-ended (stay {u}) = at_head u []
-ended (along {u} {v} {w} {ns} e t) = in_tail u w ns (ended t)
-
 -- a walk of one node takes no edge
 single_kept : (u : ℕ) (l : BoundedLoop) → IsKept (u ∷ []) l
 single_kept u l before [] after is all = omega arith
@@ -247,5 +219,5 @@ lies_on_bounded_walk law g nest bounds loads h u reached out =
         exit = out.among;
         kept = all_kept loops (s.nodes ++ b.0) (λ l has. kept_by_both g l (own_of g nest bounds loads law h l has) u out.exit s.nodes b.0 out.nodes s.walk s.once once part (out.kept l has));
       },
-      Contains-append_left s.nodes b.0 u (ended s.walk),
+      Contains-append_left s.nodes b.0 u (end_visited s.walk),
     )

@@ -2,15 +2,15 @@
 use Rattle.std.proofs.Common.{◌≡◌, ℕ, zero, suc, false, List, [], ◌∷◌, length, get_or, map, Contains, Some, None, refl, sym, ap, ◌∙◌, inl, inr, arith}
 use Rattle.std.proofs.lemmas.Bool.{cases_eq}
 use Rattle.std.specs.List.Sorted.{IsStrictlyIncreasing}
+use Rattle.lists.specs.Members.{at_head, in_tail, cons_cases, nil_contains}
 use Rattle.loop_nest.specs.Nest.{NaturalLoop, headers_of}
 use Rattle.section_check.specs.Placing.{IsAt}
 use Rattle.section_check.specs.Bounded.{BoundedLoop}
 use Rattle.section_check.specs.Section.{PricedLoop, priced, bounded, headed_by}
+use Rattle.section_check.proofs.Sums.{headed_here, headed_later}
 use Rattle.path_solver.specs.Certifying.{certified}
 use Rattle.path_solver.specs.Longest.{bounded_loops}
 use Rattle.path_solver.specs.Ordering.{NoLoopHas}
-use Rattle.path_solver.proofs.Elements.{at_head, in_tail, cons_cases, nil_contains}
-use Rattle.path_solver.proofs.Sums.{headed_here, headed_later}
 use Rattle.path_solver.proofs.Loops.{same_place, same_at}
 
 abbrev pub with_bound : NaturalLoop → (bound load : ℕ) → BoundedLoop

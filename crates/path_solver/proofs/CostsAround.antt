@@ -1,11 +1,12 @@
 -- What iterations of some of the loops cost at most together.
 use Rattle.std.proofs.Common.{◌≡◌, ℕ, zero, suc, ◌+◌, ◌≤◌, Bool, true, false, cond, List, [], ◌∷◌, get_or, Contains, refl, ap, ◌∙◌, arith}
 use Rattle.std.proofs.lemmas.Bool.{cond-true, cond-false, false≢true}
+use Rattle.lists.specs.Members.{at_head, in_tail}
 use Rattle.loop_nest.specs.Nest.{NaturalLoop}
 use Rattle.section_check.specs.Placing.{IsAt}
 use Rattle.section_check.specs.Bounded.{holds}
+use Rattle.section_check.proofs.Elements.{holds_from_contains}
 use Rattle.path_solver.specs.Totals.{iteration_costs_around}
-use Rattle.path_solver.proofs.Elements.{at_head, in_tail, holds_from_contains}
 
 -- one iteration of each loop that fits
 abbrev pub reserve_where : (NaturalLoop → Bool) → List NaturalLoop → List ℕ → ℕ

@@ -4,9 +4,9 @@ use Rattle.std.proofs.lemmas.Bool.{cases_eq, eq-eqb, ne_eqb}
 use Rattle.std.proofs.lemmas.List.{length-set, get_or-set_same, get_or-set_other}
 use Rattle.std.proofs.lemmas.List.Sums.{sum_by_push, sum_by_more_le}
 use Rattle.std.proofs.lemmas.List.Elements.{Contains-append_left, Contains-push, Contains-push_cases}
+use Rattle.lists.specs.Members.{nil_contains}
 use Rattle.path_solver.specs.Reaching.{IsFlagged}
 use Rattle.path_solver.specs.Ordering.{AreStarts, AreCountedDown}
-use Rattle.path_solver.proofs.Elements.{nil_contains}
 use Rattle.path_solver.proofs.Apart.{apart_push, apart_none}
 
 pub starts_none : (flags : List Bool) (w : List ℕ) → AreStarts flags w 0 []

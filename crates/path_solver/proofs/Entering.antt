@@ -3,7 +3,7 @@ use Rattle.std.proofs.Common.{◌≡◌, ℕ, ◌+◌, ◌*◌, ◌≤◌, Bool,
 use Rattle.std.proofs.lemmas.Bool.{and_from}
 use Rattle.std.proofs.lemmas.List.Sums.{sum_by-cons, sum_by-append, sum_by_push, sum_by-le-sum_by, get_or-le-sum_by}
 use Rattle.section_check.specs.Bounded.{BoundedLoop, holds, entries_from, cost_of_nodes, later_entries, cost_of_iteration}
-use Rattle.path_solver.proofs.Elements.{holds_from_contains}
+use Rattle.section_check.proofs.Elements.{holds_from_contains}
 
 -- whether a set of nodes holds the last of some nodes
 abbrev held_after : Bool → List ℕ → List ℕ → Bool

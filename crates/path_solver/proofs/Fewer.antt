@@ -4,8 +4,8 @@ use Rattle.std.proofs.lemmas.Bool.{eqb-true}
 use Rattle.std.proofs.lemmas.Cmp.{nat_eq_equiv}
 use Rattle.std.proofs.lemmas.Map.Made.{length-le_from_is_member}
 use Rattle.std.proofs.lemmas.Map.Views.{Contains-from_any, list_any-from_Contains}
+use Rattle.lists.specs.Members.{cons_cases}
 use Rattle.path_solver.specs.Ordering.{AreApart}
-use Rattle.path_solver.proofs.Elements.{cons_cases}
 use Rattle.path_solver.proofs.Apart.{apart_cons, distinct}
 
 pub few_within : (xs ys : List ℕ) → AreApart xs → ((x : ℕ) → Contains xs x → Contains ys x) → length xs ≤ length ys

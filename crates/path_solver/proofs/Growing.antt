@@ -4,12 +4,13 @@ use Rattle.loop_nest.specs.Digraph.{sources_of, AreArrivals}
 use Rattle.std.proofs.lemmas.Bool.{cases_eq, cases_lt, cases_Bool}
 use Rattle.std.proofs.lemmas.List.{get_or_append_left, get_or_past, take_more, take_all, take-append-le}
 use Rattle.std.proofs.lemmas.List.Elements.{All-map, All-from_get_or, Contains-get_or}
+use Rattle.lists.specs.Members.{cons_cases, nil_contains, has_or_not}
 use Rattle.loop_nest.specs.Walks.{Walk}
 use Rattle.loop_nest.specs.Walks.Walk.{stay, along}
 use Rattle.section_check.specs.Bounded.{holds}
+use Rattle.section_check.proofs.Elements.{contains_from_holds}
 use Rattle.path_solver.specs.Reaching.{IsFlagged}
 use Rattle.path_solver.specs.Ordering.{AreApart, AreStarts, graph_of, IsForwardOrder}
-use Rattle.path_solver.proofs.Elements.{cons_cases, nil_contains, has_or_not, contains_from_holds}
 use Rattle.path_solver.proofs.Apart.{apart_cons, few_apart}
 use Rattle.path_solver.proofs.CountingDown.{times}
 use Rattle.path_solver.proofs.Order.{flip, awaits, times_targets, split, count_start, all_done, not_done, take_grows, taken_at}

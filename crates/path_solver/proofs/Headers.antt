@@ -1,13 +1,12 @@
 -- The loops of a nest by their headers.
 use Rattle.std.proofs.Common.{◌≡◌, ℕ, zero, suc, ◌<◌, List, [], ◌∷◌, length, get_or, take, Contains, subst, arith}
 use Rattle.std.specs.List.Sorted.{IsStrictlyIncreasing}
+use Rattle.lists.specs.Members.{at_head, in_tail, rising_pair}
 use Rattle.loop_nest.specs.Digraph.{Digraph, IsDigraph}
 use Rattle.loop_nest.specs.Walks.{Walk}
 use Rattle.loop_nest.specs.Walks.Walk.{stay, along}
+use Rattle.loop_nest.proofs.Ends.{ends_within}
 use Rattle.path_solver.specs.Ordering.{AreApart}
-use Rattle.path_solver.proofs.Sources.{ends_within}
-use Rattle.path_solver.proofs.Elements.{at_head, in_tail}
-use Rattle.path_solver.proofs.Rising.{rising_pair}
 
 pub numbers_apart : (xs : List ℕ) → IsStrictlyIncreasing xs → AreApart xs
 numbers_apart xs h i j lt below same = let less = rising_pair xs h i j lt below in omega arith

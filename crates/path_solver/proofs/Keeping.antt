@@ -4,9 +4,9 @@ use Rattle.std.proofs.lemmas.Bool.{ne_eqb, cond-false}
 use Rattle.std.proofs.lemmas.List.{append-nil}
 use Rattle.std.proofs.lemmas.List.Sums.{sum_by_push}
 use Rattle.std.proofs.lemmas.List.Elements.{All-contains, Contains-get_or, Contains-append_left, Contains-push}
+use Rattle.lists.specs.Members.{at_head, in_tail}
 use Rattle.loop_nest.specs.Walks.{back_edges_to}
 use Rattle.section_check.specs.Bounded.{BoundedLoop, IsKept}
-use Rattle.path_solver.proofs.Elements.{at_head, in_tail}
 
 pub all_from_contains : {X : Type 0} (P : X → Type 0) (xs : List X) → ((x : X) → Contains xs x → P x) → All P xs
 all_from_contains P xs f i d lt = f _ (Contains-get_or xs i d lt)

@@ -3,11 +3,11 @@ use Rattle.std.proofs.Common.{◌≡◌, ◌≢◌, ℕ, ◌<◌, ◌≤◌, eqb
 use Rattle.std.proofs.lemmas.Bool.{cases_lt, cases_order, eq-eqb, ne_eqb, both_ways}
 use Rattle.std.proofs.lemmas.List.{get_or-map, get_or_default, length-map, length-take-le, get_or-take}
 use Rattle.std.proofs.lemmas.List.Elements.{All-get_or, All-from_get_or, Contains-get_or}
+use Rattle.lists.specs.Members.{rising_all, rising_pair}
+use Rattle.loop_nest.proofs.Elements.{filter_contains, from_filter}
 use Rattle.path_solver.specs.Ordering.{AreApart}
 use Rattle.path_solver.specs.Distances.{LeadForward, others_of, ArePicked}
-use Rattle.path_solver.proofs.Rising.{rising_all, rising_pair}
 use Rattle.path_solver.proofs.Order.{taken_at}
-use Rattle.path_solver.proofs.Sources.{filter_contains, from_filter}
 
 module _ (order members nodes : List ℕ) (src : ℕ → List ℕ) (apart : AreApart order) (before : (p j : ℕ) → j < length order → Contains (src (get_or order j 0)) p → Contains (take j order) p) (h : ArePicked order members nodes) where
   long : length nodes ≡ length h.ranks

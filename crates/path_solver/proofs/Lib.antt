@@ -1,6 +1,3 @@
-mod Elements
-mod Sums
-mod Rising
 mod Sources
 mod Backward
 mod Loops
@@ -21,7 +18,6 @@ mod Fewer
 mod Headers
 mod Structure
 mod Correspond
-mod SimpleWalks
 mod CostsAround
 mod AlongEdges
 mod Ranges

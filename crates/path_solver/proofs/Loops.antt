@@ -4,10 +4,10 @@ use Rattle.std.specs.List.Sorted.{IsStrictlyIncreasing, IsNonDecreasingBy}
 use Rattle.std.proofs.lemmas.Bool.{cases_order}
 use Rattle.std.proofs.lemmas.List.{get_or-map, get_or_default, length-map}
 use Rattle.std.proofs.lemmas.List.Sorted.{IsNonDecreasingBy-from_default}
+use Rattle.lists.specs.Members.{rising_pair, rising_all}
 use Rattle.loop_nest.specs.Nest.{NaturalLoop, headers_of}
 use Rattle.path_solver.specs.Ordering.{IsHeadedAt, ClosesLoop}
 use Rattle.section_check.specs.Placing.{IsAt}
-use Rattle.path_solver.proofs.Rising.{rising_pair, rising_all}
 
 abbrev pub header_of : NaturalLoop → ℕ
 header_of l = l.header

@@ -9,6 +9,7 @@ use Rattle.section_check.specs.Section.{Certified, CertifiedLoop, IsInForm, Head
 use Rattle.section_check.specs.Placing.{IsAt}
 use Rattle.section_check.specs.Conditions.{Answers}
 use Rattle.section_check.specs.Regions.{marked, with_regions, AreRegions, MarkedStaysAccepted}
+use Rattle.section_check.proofs.Marking.{marked-long}
 use Rattle.path_solver.specs.Longest.{AreLoopsOf}
 use Rattle.path_solver.specs.Regions.{charged, AreRegionsApart, AreMarkedLoopsOf}
 
@@ -41,11 +42,6 @@ marked_marks [] (r ∷ rs) long = absurd (omega arith)
 marked_marks (l ∷ ls) [] long = absurd (omega arith)
 marked_marks (l ∷ ls) (r ∷ rs) long = ap (λ (bs : List Bool). r ∷ bs) (marked_marks ls rs (omega arith))
 
-marked_long : (ls : List CertifiedLoop) (rs : List Bool) → length (marked ls rs) ≡ length ls
-marked_long [] rs = refl
-marked_long (l ∷ ls) [] = refl
-marked_long (l ∷ ls) (r ∷ rs) = ap suc (marked_long ls rs)
-
 members_rise : (ls : List CertifiedLoop) (rs : List Bool) → MembersRise ls → MembersRise (marked ls rs)
 members_rise [] rs h = h
 members_rise (l ∷ ls) [] h = h
@@ -55,14 +51,14 @@ members_rise (l ∷ ls) (r ∷ rs) h =
 
 header_at : (ls : List CertifiedLoop) (rs : List Bool) (k : ℕ) (d : CertifiedLoop) → k < length ls → (get_or (marked ls rs) k d).header ≡ (get_or ls k d).header
 header_at ls rs k d lt =
-    let long = marked_long ls rs in
+    let long = marked-long ls rs in
     let here : k < length (marked ls rs) = omega arith in
     let f : CertifiedLoop → ℕ = λ l. l.header in
     sym (get_or-map f (marked ls rs) k d 0 here) ∙ ap (λ (hs : List ℕ). get_or hs k 0) (marked_headers ls rs) ∙ get_or-map f ls k d 0 lt
 
 headers_rise : (ls : List CertifiedLoop) (rs : List Bool) → HeadersRise ls → HeadersRise (marked ls rs)
 headers_rise ls rs h k d lt =
-    let long = marked_long ls rs in
+    let long = marked-long ls rs in
     let first = header_at ls rs k d (omega arith) in
     let second = header_at ls rs (k + 1) d (omega arith) in
     let rise = h k d (omega arith) in
@@ -70,7 +66,7 @@ headers_rise ls rs h k d lt =
 
 pub in_form : (c : Certified) (bounds : List ℕ) (fitting : List (Option ℕ)) (rs : List Bool) → IsInForm c bounds fitting → IsInForm (with_regions c rs) bounds fitting
 in_form c bounds fitting rs h =
-    let long = marked_long c.loops rs in
+    let long = marked-long c.loops rs in
     record {
       nodes = h.nodes;
       potentials = h.potentials;

@@ -2,15 +2,16 @@
 use Rattle.std.proofs.Common.{◌≡◌, ℕ, ◌<◌, Bool, true, false, List, [], ◌∷◌, ◌++◌, length, get_or, All, Contains, sym, ap, subst, inl, inr, arith}
 use Rattle.std.proofs.lemmas.List.{length-append}
 use Rattle.std.proofs.lemmas.List.Elements.{All-contains, All-from_get_or, Contains-get_or}
+use Rattle.lists.specs.Members.{cons_cases, nil_contains, has_or_not}
 use Rattle.loop_nest.specs.Digraph.{Digraph, Edge, IsDigraph}
 use Rattle.loop_nest.specs.Walks.{Walk, IsBackEdge, IsMember}
 use Rattle.loop_nest.specs.Walks.Walk.{stay, along}
 use Rattle.loop_nest.specs.Reduction.{IsReducible}
 use Rattle.loop_nest.specs.Nest.{NaturalLoop, IsNest, IsLoopOf}
 use Rattle.loop_nest.specs.Laws.{CyclesTakeBackEdges}
+use Rattle.loop_nest.proofs.Elements.{from_map}
 use Rattle.path_solver.specs.Reaching.{IsFlagged, AreReaching}
 use Rattle.path_solver.specs.Ordering.{AreLoops, ClosesLoop, AreTaken, graph_of, IsForwardOrder}
-use Rattle.path_solver.proofs.Elements.{cons_cases, nil_contains, from_map, has_or_not}
 use Rattle.path_solver.proofs.Growing.{flagged_below}
 
 starts_with : {g : Digraph} {u v x : ℕ} {ns xs : List ℕ} → Walk g u v ns → ns ≡ x ∷ xs → u ≡ x

@@ -4,9 +4,10 @@ use Rattle.loop_nest.specs.Digraph.{sources_of}
 use Rattle.std.proofs.lemmas.Bool.{cases_eq, cases_Bool, eq-eqb, ne_eqb, eqb-true, both_ways}
 use Rattle.std.proofs.lemmas.List.Elements.{Contains-push}
 use Rattle.std.proofs.lemmas.List.Sums.{sum_by-cons}
+use Rattle.lists.specs.Members.{at_head, in_tail, cons_cases, nil_contains}
+use Rattle.loop_nest.proofs.Elements.{kept_at, dropped_at}
 use Rattle.section_check.specs.Bounded.{holds}
-use Rattle.path_solver.proofs.Elements.{at_head, in_tail, cons_cases, nil_contains, contains_from_holds, holds_from_contains}
-use Rattle.path_solver.proofs.Sources.{kept_at, dropped_at}
+use Rattle.section_check.proofs.Elements.{contains_from_holds, holds_from_contains}
 use Rattle.path_solver.proofs.CountingDown.{times}
 
 abbrev pub flip : ℕ × ℕ → ℕ × ℕ

@@ -3,15 +3,16 @@ use Rattle.std.proofs.Common.{◌≡◌, ℕ, ◌<◌, Bool, true, false, List, 
 use Rattle.std.proofs.lemmas.Bool.{cases_lt}
 use Rattle.std.proofs.lemmas.List.{get_or_past}
 use Rattle.std.proofs.lemmas.List.Elements.{All-from_get_or, Contains-get_or}
+use Rattle.lists.specs.Members.{nil_contains}
 use Rattle.loop_nest.specs.Digraph.{Digraph, Edge, IsDigraph, AreSources, sources_of}
 use Rattle.loop_nest.specs.Nest.{NaturalLoop}
+use Rattle.loop_nest.proofs.Searching.{from_sources}
+use Rattle.loop_nest.proofs.Ends.{ends_within}
 use Rattle.path_solver.specs.Reaching.{AreReaching}
 use Rattle.path_solver.specs.Distances.{sources_at}
 use Rattle.path_solver.specs.Topology.{IsTopologicalOrder}
 use Rattle.path_solver.specs.Iteration.{IsOrderly}
 use Rattle.path_solver.specs.declared.topology.TopologicalOrder.{TopologicalOrder}
-use Rattle.path_solver.proofs.Elements.{nil_contains}
-use Rattle.path_solver.proofs.Sources.{from_sources, ends_within}
 use Rattle.path_solver.proofs.Onward.{order_below}
 
 -- the sources that are listed for a node are those of the edges to it

@@ -6,10 +6,10 @@ use Rattle.std.proofs.lemmas.List.{get_or-map, get_or_default, length-map}
 use Rattle.std.proofs.lemmas.List.Elements.{All-from_get_or, Contains-get_or}
 use Rattle.std.proofs.lemmas.List.Sorted.{Contains-permutation, IsPermutation-sym}
 use Rattle.std.proofs.lemmas.Map.Keys.{IsStrictlyIncreasing-from_distinct, IsDistinct-IsPermutation}
+use Rattle.lists.specs.Members.{map_contains, rising_pair}
+use Rattle.loop_nest.proofs.Elements.{from_map}
 use Rattle.path_solver.specs.Ordering.{AreApart}
 use Rattle.path_solver.specs.Distances.{ArePlaces, ArePicked}
-use Rattle.path_solver.proofs.Elements.{map_contains, from_map}
-use Rattle.path_solver.proofs.Rising.{rising_pair}
 use Rattle.path_solver.proofs.Apart.{distinct}
 
 flips : (x y : ℕ) → eqb x y ≡ eqb y x

@@ -2,14 +2,15 @@
 use Rattle.std.proofs.Common.{◌≡◌, ◌≢◌, ℕ, zero, suc, ◌+◌, ◌*◌, ◌≤◌, eqb, Bool, false, List, [], ◌∷◌, ◌++◌, get_or, All, Contains, refl, sym, ap, ◌∙◌, subst, inl, inr, arith, append_assoc}
 use Rattle.std.proofs.lemmas.Bool.{cases_eq, eq-eqb, cond-true, false_from_ne_true}
 use Rattle.std.proofs.lemmas.List.Elements.{All-append, All-push, All-contains, All-cons, All-nil, All-head, All-tail, Contains-push_cases}
+use Rattle.lists.specs.Members.{has_or_not, nil_contains}
 use Rattle.loop_nest.specs.Digraph.{Digraph, Edge}
 use Rattle.loop_nest.specs.Walks.{Walk, back_edges_to}
 use Rattle.loop_nest.specs.Walks.Walk.{stay, along}
+use Rattle.loop_nest.proofs.SimpleWalks.{begins}
 use Rattle.section_check.specs.Bounded.{BoundedLoop, holds, IsKept, IsIteration, cost_of_iteration}
+use Rattle.section_check.proofs.Elements.{contains_from_holds}
 use Rattle.path_solver.specs.Distances.{IsReachedBy}
-use Rattle.path_solver.proofs.Elements.{has_or_not, nil_contains, contains_from_holds}
 use Rattle.path_solver.proofs.Order.{counted}
-use Rattle.path_solver.proofs.SimpleWalks.{begins}
 use Rattle.path_solver.proofs.Keeping.{is_node, IsTail, tail_iterations, tail_on, tail_enters, kept_push, kept_stays, kept_enters, kept_on, kept_apart, kept_rest, tail_one}
 use Rattle.path_solver.proofs.Entering.{cost_from, held_at, cost_append, cost_enters, cost_of_node, cost_iterations}
 

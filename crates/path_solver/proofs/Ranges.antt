@@ -1,17 +1,18 @@
 -- No distance exceeds the greatest cost at an exit by more than an iteration of each loop around.
 use Rattle.std.proofs.Common.{◌≡◌, ℕ, ◌+◌, ◌^◌, ◌<◌, ◌≤◌, Bool, true, false, ◌&&◌, List, ◌∷◌, get_or, drop, Contains, sym, subst, inl, inr, arith}
 use Rattle.std.proofs.lemmas.Bool.{and_parts, and_from, and_right, false_from_ne_true}
+use Rattle.lists.specs.Members.{at_head, in_tail, has_or_not}
 use Rattle.loop_nest.specs.Digraph.{Digraph, Edge}
 use Rattle.loop_nest.specs.Walks.{Walk}
 use Rattle.loop_nest.specs.Walks.Walk.{stay, along}
 use Rattle.loop_nest.specs.Nest.{NaturalLoop}
+use Rattle.loop_nest.proofs.SimpleWalks.{begins, VisitsOnce, simple_walk}
 use Rattle.path_solver.specs.declared.topology.TopologicalOrder.{TopologicalOrder}
 use Rattle.section_check.specs.Bounded.{holds}
+use Rattle.section_check.proofs.Elements.{contains_from_holds, holds_from_contains}
 use Rattle.path_solver.specs.Reaching.{IsFlagged}
 use Rattle.path_solver.specs.Distances.{IsMost, cost_through}
 use Rattle.path_solver.specs.Totals.{iteration_costs_around}
-use Rattle.path_solver.proofs.Elements.{at_head, in_tail, has_or_not, contains_from_holds, holds_from_contains}
-use Rattle.path_solver.proofs.SimpleWalks.{begins, VisitsOnce, simple_walk}
 use Rattle.path_solver.proofs.CostsAround.{reserve_where, around_where, reserve_grows, reserve_grows_by}
 use Rattle.path_solver.specs.Problem.{IsMeasured}
 use Rattle.path_solver.proofs.AlongEdges.{grows}

@@ -1,10 +1,10 @@
 -- Of each walk a part that visits no node twice, with the same ends, and which takes no other edges.
 use Rattle.std.proofs.Common.{◌≡◌, ℕ, ◌⊎◌, List, [], ◌∷◌, ◌++◌, Contains, sym, ap, ◌∙◌, subst, inl, inr}
+use Rattle.lists.specs.Members.{cons_cases, nil_contains, has_or_not}
 use Rattle.loop_nest.specs.Digraph.{Digraph}
 use Rattle.loop_nest.specs.Walks.{Walk, Takes}
 use Rattle.loop_nest.specs.Walks.Walk.{stay, along}
-use Rattle.path_solver.proofs.Elements.{cons_cases, nil_contains, has_or_not}
-use Rattle.path_solver.proofs.SimpleWalks.{VisitsOnce, begins}
+use Rattle.loop_nest.proofs.SimpleWalks.{VisitsOnce, begins}
 
 pub record SimplePart (g : Digraph) (u x : ℕ) (ns : List ℕ) : Type 0 where
   pub nodes : List ℕ

@@ -3,6 +3,7 @@ use Rattle.std.proofs.Common.{◌≡◌, ℕ, ◌^◌, ◌<◌, ◌≤◌, ℤ, 
 use Rattle.std.specs.Prelude.{◌-ℤ◌}
 use Rattle.std.proofs.lemmas.Bool.{cases_Bool, cases_eq, cases_lt, eq-eqb, ne_eqb, cond-true, cond-false, both_ways}
 use Rattle.std.proofs.lemmas.List.{length-map, get_or_default}
+use Rattle.lists.specs.Members.{nil_contains, cons_cases}
 use Rattle.loop_nest.specs.Digraph.{Digraph, IsDigraph}
 use Rattle.loop_nest.specs.Reduction.{IsReducible}
 use Rattle.loop_nest.specs.Laws.{ReducibleIsReached}
@@ -21,7 +22,6 @@ use Rattle.path_solver.specs.Reaching.{ReachesExit, IsFlagged, AreReaching}
 use Rattle.path_solver.specs.Totals.{iteration_costs_around, SomeIterationsExceed}
 use Rattle.path_solver.specs.Potentials.{AreLeft}
 use Rattle.path_solver.specs.Problem.{IsSetting, IsMeasured, AreMeasures}
-use Rattle.path_solver.proofs.Elements.{nil_contains, cons_cases}
 use Rattle.path_solver.proofs.Growing.{flagged_below}
 use Rattle.path_solver.proofs.CostsAround.{iteration_cost_of_one}
 use Rattle.path_solver.proofs.Structure.{own_header, members_below, listed_below, listed_exit}

@@ -2,21 +2,22 @@
 use Rattle.std.proofs.Common.{◌≡◌, ℕ, suc, ◌+◌, ◌^◌, ◌<◌, ◌≤◌, ℤ, Bool, true, false, cond, eqb, List, [], ◌∷◌, length, map, get_or, sum_by, Contains, Some, refl, sym, ap, ◌∙◌, subst, inl, inr, arith}
 use Rattle.std.proofs.lemmas.Bool.{cases_eq, cases_Bool, eq-eqb, ne_eqb, cond-true, cond-false, both_ways}
 use Rattle.std.proofs.lemmas.List.Sums.{sum_by-cons}
+use Rattle.lists.specs.Members.{at_head, in_tail, cons_cases, nil_contains}
 use Rattle.loop_nest.specs.Digraph.{Digraph}
 use Rattle.loop_nest.specs.Nest.{NaturalLoop}
+use Rattle.loop_nest.proofs.Elements.{filter_contains, from_filter}
 use Rattle.path_solver.specs.declared.topology.TopologicalOrder.{TopologicalOrder}
 use Rattle.path_solver.specs.Reaching.{ReachesExit, IsFlagged}
 use Rattle.section_check.specs.Placing.{IsAt}
 use Rattle.section_check.specs.Bounded.{BoundedLoop, holds, cost_of, IsBoundedWalk, IsIteration, cost_of_iteration}
 use Rattle.section_check.specs.Section.{potential}
 use Rattle.section_check.specs.Conditions.{IsAccepted}
+use Rattle.section_check.proofs.Elements.{contains_from_holds, holds_from_contains}
+use Rattle.section_check.proofs.Sums.{sum_by-zero}
 use Rattle.path_solver.specs.Certifying.{certified}
 use Rattle.path_solver.specs.Totals.{iteration_costs_around}
 use Rattle.path_solver.specs.Longest.{bounded_loops, around, IsTooLarge}
 use Rattle.path_solver.specs.Longest.IsTooLarge.{walk as walk_exceeds, iteration as iterations_exceed}
-use Rattle.path_solver.proofs.Elements.{at_head, in_tail, cons_cases, nil_contains, contains_from_holds, holds_from_contains}
-use Rattle.path_solver.proofs.Sources.{filter_contains, from_filter}
-use Rattle.path_solver.proofs.Sums.{sum_by-zero}
 use Rattle.path_solver.specs.Problem.{IsSetting}
 use Rattle.path_solver.proofs.Structure.{listed_below, listed_member, listed_header, from_order}
 use Rattle.path_solver.proofs.Loops.{same_place, same_at}

@@ -2,9 +2,9 @@
 use Rattle.std.proofs.Common.{◌≡◌, ℕ, ◌+◌, ◌<◌, ◌≤◌, List, [], ◌∷◌, ◌++◌, length, get_or, set, take, Contains, refl, sym, ap, ◌∙◌, subst, inl, inr, arith}
 use Rattle.std.proofs.lemmas.List.{length-set, get_or-set_same, get_or-set_other, get_or_default}
 use Rattle.std.proofs.lemmas.List.Elements.{All-set, Contains-append_left, Contains-push, Contains-push_cases}
+use Rattle.lists.specs.Members.{nil_contains}
 use Rattle.path_solver.specs.Ordering.{AreApart}
 use Rattle.path_solver.specs.Distances.{limit, limited, AreLimited, IsMost, cost_through, IsReachedBy, AreSpread, LeadForward}
-use Rattle.path_solver.proofs.Elements.{nil_contains}
 use Rattle.path_solver.proofs.Order.{take_grows, taken_at}
 use Rattle.path_solver.proofs.Most.{most_same}
 

@@ -3,17 +3,18 @@ use Rattle.std.proofs.Common.{◌≡◌, ◌≢◌, ℕ, zero, suc, ◌<◌, ◌
 use Rattle.std.proofs.lemmas.Bool.{cases_eq}
 use Rattle.std.proofs.lemmas.List.{get_or_default}
 use Rattle.std.proofs.lemmas.List.Elements.{All-contains, Contains-get_or}
+use Rattle.lists.specs.Members.{cons_cases, nil_contains, has_or_not}
 use Rattle.loop_nest.specs.Digraph.{Digraph, Edge}
 use Rattle.loop_nest.specs.Walks.{Walk, Dominates, IsReachable, IsBackEdge, IsMember}
 use Rattle.loop_nest.specs.Walks.Walk.{stay, along}
 use Rattle.loop_nest.specs.Nest.{NaturalLoop, IsLoopOf}
+use Rattle.loop_nest.proofs.Ends.{ends_within}
+use Rattle.loop_nest.proofs.Searching.{sources_has}
 use Rattle.path_solver.specs.declared.topology.TopologicalOrder.{TopologicalOrder}
 use Rattle.path_solver.specs.Reaching.{IsFlagged}
 use Rattle.path_solver.specs.Distances.{sources_at}
 use Rattle.path_solver.specs.LoopCosts.{IsLed, AreLed}
 use Rattle.path_solver.specs.Problem.{IsSetting}
-use Rattle.path_solver.proofs.Elements.{cons_cases, nil_contains, has_or_not}
-use Rattle.path_solver.proofs.Sources.{ends_within, sources_has}
 use Rattle.path_solver.proofs.Onward.{back_edge_closes}
 use Rattle.path_solver.proofs.Orderly.{source_edge, listed_sources}
 use Rattle.path_solver.proofs.Order.{take_grows, taken_at}

@@ -2,9 +2,9 @@
 use Rattle.std.proofs.Common.{ℕ, ◌+◌, ◌<◌, Bool, List, [], ◌∷◌, ◌++◌, length, get_or, take, Contains, sym, subst, inl, inr}
 use Rattle.std.proofs.lemmas.List.{take_more}
 use Rattle.std.proofs.lemmas.List.Elements.{Contains-append_left, Contains-push, Contains-push_cases}
+use Rattle.lists.specs.Members.{nil_contains}
 use Rattle.loop_nest.specs.Nest.{NaturalLoop}
 use Rattle.path_solver.specs.Ordering.{IsTaken, AreTaken}
-use Rattle.path_solver.proofs.Elements.{nil_contains}
 
 module _ (loops : List NaturalLoop) (flags : List Bool) (back : Bool) where
   pub taken_none : AreTaken [] loops flags back []

@@ -5,20 +5,17 @@ use Rattle.std.proofs.lemmas.Bool.{cases_eq, cases_Bool, eq-eqb, ne_eqb, cond-tr
 use Rattle.std.proofs.lemmas.Int.{ints}
 use Rattle.std.proofs.lemmas.List.Sums.{sum_by-cons}
 use Rattle.std.proofs.lemmas.List.Elements.{All-cons, All-contains, All-nil}
+use Rattle.lists.specs.Members.{has_or_not, map_contains}
 use Rattle.loop_nest.specs.Digraph.{Digraph, Edge}
 use Rattle.loop_nest.specs.Walks.{Walk, back_edges_to}
 use Rattle.loop_nest.specs.Walks.Walk.{stay, along}
+use Rattle.loop_nest.proofs.SimpleWalks.{begins}
 use Rattle.section_check.specs.Bounded.{BoundedLoop, holds, entries_from, entries, cost_of_nodes, cost_of_entries, cost_of, IsKept, IsBoundedWalk}
 use Rattle.section_check.specs.Section.{Certified, PricedLoop, bounded, fee, headed_by, headed_fee, entry_fee, potential, with_fee}
 use Rattle.section_check.specs.Conditions.{DescendsTo, Descends, DescendsFrom, EdgesHold, ExitsHold, ExitHolds, CoversCost, natural, natural_of, value_of}
-use Rattle.section_check.proofs.Elements.{has_or_not, map_contains, contains_from_holds, holds_from_contains}
+use Rattle.section_check.proofs.Elements.{contains_from_holds, holds_from_contains}
 use Rattle.section_check.proofs.Sums.{sum_by-plus, sum_by-zero, load_of, left_after, reserve_before, reserve_after, paid, credit, debit, reserve_falls}
 use Rattle.section_check.proofs.Sound.{AreSound}
-
--- a walk begins with its first node
-pub begins : {g : Digraph} {u v : ℕ} {ns : List ℕ} → Walk g u v ns → (rest : List ℕ) × (ns ≡ u ∷ rest)
-begins (stay {u}) = ([], refl)
-begins (along {u} {v} {w} {ns} e t) = (ns, refl)
 
 -- from here on the walk keeps the loop's bound, where so many iterations are left of the stay in which it is
 pub record IsKeptFrom (ns : List ℕ) (l : PricedLoop) (left : ℕ) : Type 0 where

@@ -28,8 +28,8 @@ headed_no (l ∷ ls) (b ∷ bs) (x ∷ xs) u never =
     cond-false (eqb l.header u) (Some (price l (b ∷ bs) (x ∷ xs) 0)) (headed_by u (priced ls bs xs)) (ne_eqb l.header u (never 0 l (omega arith)))
     ∙ headed_no ls bs xs u (λ k d lt. never (suc k) d (omega arith))
 
-pub itself_at : (ls : List CertifiedLoop) (k : ℕ) (d : CertifiedLoop) → k < length ls → IsAt ls k (get_or ls k d)
-itself_at ls k d lt = (lt, get_or_default ls k (get_or ls k d) d lt)
+pub itself_at : {X : Type 0} (xs : List X) (k : ℕ) (d : X) → k < length xs → IsAt xs k (get_or xs k d)
+itself_at xs k d lt = (lt, get_or_default xs k (get_or xs k d) d lt)
 
 pub headed_loop : (ls : List CertifiedLoop) (bounds : List ℕ) (loads : List (Option ℕ)) (u i : ℕ) (l : CertifiedLoop) → length bounds ≡ length ls → length loads ≡ length ls → IsFirstHeaded ls u i → l ≡ get_or ls i l
     → headed_by u (priced ls bounds loads) ≡ Some (price l bounds loads i)

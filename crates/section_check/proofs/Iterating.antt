@@ -5,18 +5,21 @@ use Rattle.std.proofs.lemmas.Bool.{cases_eq}
 use Rattle.std.proofs.lemmas.Int.{ints}
 use Rattle.std.proofs.lemmas.List.Sums.{sum_by-cons, sum_by-append}
 use Rattle.std.proofs.lemmas.List.Elements.{All-contains, All-head}
+use Rattle.lists.specs.Members.{in_tail, map_contains}
 use Rattle.loop_nest.specs.Digraph.{Digraph}
 use Rattle.loop_nest.specs.Walks.{Walk, back_edges_to, IsReachable, Dominates}
 use Rattle.loop_nest.specs.Walks.Walk.{stay, along}
 use Rattle.loop_nest.specs.Laws.{DominanceIsAntisymmetric}
+use Rattle.loop_nest.proofs.Around.{end_visited}
+use Rattle.loop_nest.proofs.SimpleWalks.{begins}
 use Rattle.section_check.specs.Bounded.{BoundedLoop, IsKept, IsIteration, later_entries, cost_of_iteration}
 use Rattle.section_check.specs.Section.{Certified, PricedLoop, bounded, headed_by, potential}
 use Rattle.section_check.specs.Conditions.{DescendsTo, Descends, EdgesHold}
-use Rattle.section_check.proofs.Elements.{at_head, in_tail, map_contains, holds_from_contains}
+use Rattle.section_check.proofs.Elements.{holds_from_contains}
 use Rattle.section_check.proofs.Sums.{reserve_before, headed_own}
 use Rattle.section_check.proofs.Sound.{AreSound}
 use Rattle.section_check.proofs.Own.{count_none, header_dominates}
-use Rattle.section_check.proofs.Bounding.{begins, IsKeptFrom, inside_of, entered_later, Covers, source_listed, paid_for}
+use Rattle.section_check.proofs.Bounding.{IsKeptFrom, inside_of, entered_later, Covers, source_listed, paid_for}
 
 -- a walk that doesn't visit h takes no iteration at it
 no_iterations : (h : ℕ) (ns : List ℕ) → (Contains ns h → ⊥) → back_edges_to h ns ≡ 0
@@ -26,10 +29,6 @@ no_iterations h (n ∷ ns) none = count_none h ns (λ c. none (in_tail n h ns c)
 iterations_first : (h : ℕ) (first rest : List ℕ) → back_edges_to h first ≤ back_edges_to h (first ++ rest)
 iterations_first h [] rest = omega arith
 iterations_first h (n ∷ ns) rest = omega (arith, sum_by-append (λ (x : ℕ). cond (eqb x h) 1 0) ns rest)
-
-ends : {g : Digraph} {u v : ℕ} {ns : List ℕ} → Walk g u v ns → Contains ns v
-ends (stay {u}) = at_head u []
-ends (along {u} {v} {w} {ns} e t) = in_tail u w ns (ends t)
 
 -- where no iteration is left, nothing costs at most anything
 none_left : (inside : PricedLoop → Bool) (ls : List PricedLoop) → sum_by (reserve_before inside (λ l. 0)) ls ≡ 0
@@ -86,7 +85,7 @@ module _ (law : DominanceIsAntisymmetric) (g : Digraph) (costs : List ℕ) (c : 
       let last = iteration.last in
       let cost = get_or costs last 0 in
       let iteration_cost = l.certified.iteration_cost in
-      let inside = All-contains (Contains l.certified.members) ns last iteration.within (ends iteration.walk) in
+      let inside = All-contains (Contains l.certified.members) ns last iteration.within (end_visited iteration.walk) in
       let from = source_listed (headed_by h ls) cost last (potential c.nodes last) (potential c.nodes h) z listed (edges last h iteration.back) in
       let P : Option PricedLoop → Type 0 = λ o. Descends o cost last from.0 z in
       let down = iteration_descends cost last l from.0 z inside (subst P (headed_own ls sound.apart l has) from.2) in

@@ -1,17 +1,16 @@
-mod Elements
-mod Sums
+pub mod Elements
+pub mod Sums
 mod Sound
 mod Bounding
 mod Own
 mod Iterating
-mod Rising
-mod Least
-mod Headed
-mod Ordered
+pub mod Rising
+pub mod Least
+pub mod Headed
+pub mod Ordered
 mod Deciding
 mod Sharing
-mod SimpleWalks
 mod NoExit
-mod Marking
+pub mod Marking
 mod Regions
 mod Answering

@@ -4,41 +4,14 @@ use Rattle.std.proofs.lemmas.List.Elements.{Contains-append_left, Contains-appen
 use Rattle.loop_nest.specs.Digraph.{Digraph}
 use Rattle.loop_nest.specs.Walks.{Walk}
 use Rattle.loop_nest.specs.Walks.Walk.{stay, along}
+use Rattle.loop_nest.proofs.SimpleWalks.{walk_until, not_in_both, VisitsOnce, simple_walk}
+use Rattle.loop_nest.proofs.Elements.{from_map}
 use Rattle.section_check.specs.Bounded.{BoundedLoop, cost_of, IsKept}
 use Rattle.section_check.specs.Section.{Certified, PricedLoop, priced, bounded}
 use Rattle.section_check.specs.Conditions.{IsAccepted, value_of}
-use Rattle.section_check.proofs.Elements.{cons_cases, nil_contains, from_map}
 use Rattle.section_check.proofs.Sound.{AreSound, sound}
-use Rattle.section_check.proofs.Bounding.{begins, value_bounds}
+use Rattle.section_check.proofs.Bounding.{value_bounds}
 use Rattle.section_check.proofs.Own.{count_none, header_dominates}
-use Rattle.section_check.proofs.SimpleWalks.{VisitsOnce, simple_walk}
-
-no_more : (ys : List ℕ) (u : ℕ) (rest : List ℕ) → [] ≡ ys ++ u ∷ rest → ⊥
-no_more [] u rest is = cc
-no_more (y ∷ ys) u rest is = cc
-
--- the part of a walk up to a node that it visits
-walk_until : {g : Digraph} {a x : ℕ} {ns : List ℕ} → Walk g a x ns → (before : List ℕ) (u : ℕ) (rest : List ℕ) → ns ≡ before ++ u ∷ rest → Walk g a u (before ++ u ∷ [])
-walk_until {g} {a} w [] u rest is =
-    let b = begins w in
-    let same : u ≡ a = cc (b.1, is) in
-    let P : ℕ → Type 0 = λ z. Walk g z u (u ∷ []) in
-    subst P same stay
-walk_until (stay {u = a}) (y ∷ ys) u rest is = absurd (no_more ys u rest cc)
-walk_until {g} (along {u = a} {v} {w} {ns} e t) (y ∷ ys) u rest is =
-    let same : a ≡ y = cc in
-    let tail : ns ≡ ys ++ u ∷ rest = cc in
-    let P : ℕ → Type 0 = λ z. Walk g a u (z ∷ (ys ++ u ∷ [])) in
-    subst P same (along e (walk_until t ys u rest tail))
-
--- a node that stands in both parts is visited twice
-not_in_both : (xs ys : List ℕ) (h : ℕ) → VisitsOnce (xs ++ ys) → Contains xs h → Contains ys h → ⊥
-not_in_both [] ys h once c d = nil_contains h c
-not_in_both (x ∷ xs) ys h once c d =
-    elim (cons_cases x h xs c) [
-      | inl same ↦ once.0 (let P : ℕ → Type 0 = λ z. Contains (xs ++ ys) z in subst P (sym same) (Contains-append_right xs ys h d))
-      | inr there ↦ not_in_both xs ys h once.1 there d
-    ]
 
 -- a walk from node 0 that visits no node twice takes no iteration in a stay, and so keeps every bound
 kept_once : (g : Digraph) (ls : List PricedLoop) → AreSound g ls → (l : PricedLoop) → Contains ls l → (x : ℕ) (ns : List ℕ) → Walk g 0 x ns → VisitsOnce ns → IsKept ns (bounded l)

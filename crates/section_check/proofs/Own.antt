@@ -3,14 +3,14 @@ use Rattle.std.proofs.Common.{◌≡◌, ℕ, ◌<◌, ◌≤◌, ◌⊎◌, con
 use Rattle.std.proofs.lemmas.Bool.{cases_eq, ne_eqb, cond-false}
 use Rattle.std.proofs.lemmas.List.Sums.{sum_by-cons, sum_by-append}
 use Rattle.std.proofs.lemmas.List.Elements.{All-cons, All-nil, All-head, All-tail}
+use Rattle.lists.specs.Members.{at_head, in_tail, cons_cases, nil_contains, has_or_not}
 use Rattle.loop_nest.specs.Digraph.{Digraph, Edge}
 use Rattle.loop_nest.specs.Walks.{Walk, Dominates, IsBackEdge, IsHeader, ReachesBackEdge, IsMember, back_edges_to, KeepsBound}
 use Rattle.loop_nest.specs.Walks.Walk.{stay, along}
+use Rattle.loop_nest.proofs.SimpleWalks.{begins}
 use Rattle.section_check.specs.Bounded.{IsKept}
 use Rattle.section_check.specs.Section.{PricedLoop, bounded}
-use Rattle.section_check.proofs.Elements.{at_head, in_tail, cons_cases, nil_contains, has_or_not}
 use Rattle.section_check.proofs.Sound.{AreSound}
-use Rattle.section_check.proofs.Bounding.{begins}
 
 abbrev pub LeadsTo : Digraph → ℕ → List ℕ → Type 0
 LeadsTo g u [] = Unit {0}

@@ -6,22 +6,8 @@ use Rattle.std.proofs.lemmas.List.{get_or-map, get_or_default}
 use Rattle.std.proofs.lemmas.List.Kept.{AllPairs-from_increasing}
 use Rattle.std.proofs.lemmas.List.Sorted.{IsNonDecreasingBy-from_default}
 use Rattle.std.proofs.lemmas.List.Elements.{Contains-get_or}
+use Rattle.lists.specs.Members.{rising_all, map_contains}
 use Rattle.section_check.specs.Section.{listed, potential}
-use Rattle.section_check.proofs.Elements.{map_contains}
-
-pub rising_pair : (xs : List ℕ) → IsStrictlyIncreasing xs → (i j : ℕ) → i < j → j < length xs → get_or xs i 0 < get_or xs j 0
-rising_pair xs h i j lt below = AllPairs-from_increasing xs h i j 0 lt below
-
-pub rising_all : (xs : List ℕ) → IsStrictlyIncreasing xs → (i j : ℕ) → i ≤ j → j < length xs → get_or xs i 0 ≤ get_or xs j 0
-rising_all xs h i j le below =
-    elim (cases_order i j) [
-      | inl same ↦ let e = ap (λ (k : ℕ). get_or xs k 0) same in omega arith
-      | inr apart ↦
-          elim apart [
-            | inl lt ↦ let p = rising_pair xs h i j lt below in omega arith
-            | inr gt ↦ absurd (omega arith)
-          ]
-    ]
 
 -- what stands in a rising list lies between its first and its last number
 pub above_first : (xs : List ℕ) → IsStrictlyIncreasing xs → (u : ℕ) → Contains xs u → get_or xs 0 0 ≤ u

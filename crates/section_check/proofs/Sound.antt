@@ -1,12 +1,12 @@
 -- What well placed loops are.
 use Rattle.std.proofs.Common.{◌≡◌, ℕ, zero, suc, ◌<◌, List, [], ◌∷◌, length, get_or, Contains, Option, refl, sym, subst, inl, inr, arith}
 use Rattle.std.proofs.lemmas.Bool.{cases_eq}
+use Rattle.lists.specs.Members.{has_or_not}
 use Rattle.loop_nest.specs.Digraph.{Digraph, Edge}
 use Rattle.section_check.specs.Section.{Certified, CertifiedLoop, PricedLoop, priced}
 use Rattle.section_check.specs.Placing.{IsAt, AreWellPlaced}
 use Rattle.section_check.specs.Placing.IsFaulty.{shares_header, leaves_header_out}
 use Rattle.section_check.specs.Placing.IsMisplaced.{heads_faulty, enters_aside, holds_entry}
-use Rattle.section_check.proofs.Elements.{has_or_not}
 use Rattle.section_check.proofs.Sums.{HaveOwnHeaders}
 
 pub record AreSound (g : Digraph) (ls : List PricedLoop) : Type 0 where

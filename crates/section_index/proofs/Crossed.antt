@@ -1,13 +1,14 @@
 -- Loops cross exactly where the sets of their members' places do.
 use Rattle.std.proofs.Common.{◌≡◌, ℕ, ◌<◌, List, length, get_or, Contains, Option, Some, None, refl, sym, ap, ◌∙◌, subst, arith}
+use Rattle.lists.specs.Members.{contains_at, place_of}
 use Rattle.crossing_sets.specs.Family.{set_at}
 use Rattle.crossing_sets.specs.Crossing as sets
+use Rattle.loop_nest.proofs.Rising.{same_place}
 use Rattle.section_check.specs.Section.{CertifiedLoop}
 use Rattle.section_check.specs.Placing.{IsAt, LiesIn, AreCrossed}
 use Rattle.section_check.specs.Least.{IsLeast}
+use Rattle.section_check.proofs.Headed.{itself_at}
 use Rattle.section_index.specs.Numbering.{AreNumbers, ArePlaces, ArePlaced, Crosses}
-use Rattle.section_index.proofs.Elements.{contains_at, place_of, same_place}
-use Rattle.section_index.proofs.Ranks.{itself_at}
 
 -- a place in a set is that of a member, and a member has its place there
 pub member_at : (ns ms ps : List ℕ) → ArePlaces ns ms ps → (p : ℕ) → Contains ps p → Contains ms (get_or ns p 0)

@@ -3,13 +3,13 @@ use Rattle.std.proofs.Common.{◌≡◌, ◌≢◌, ℕ, ◌+◌, ◌<◌, ◌�
 use Rattle.std.specs.Prelude.{MatchOption}
 use Rattle.std.proofs.lemmas.Bool.{cases_order}
 use Rattle.std.proofs.lemmas.List.Elements.{Contains-get_or}
+use Rattle.lists.specs.Members.{place_of}
 use Rattle.section_check.specs.Section.{CertifiedLoop}
 use Rattle.section_check.specs.Placing.{IsAt, SharesHeader, LiesInRegion, CrossesAnother, IsFaulty, LiesIn, EntersAside}
 use Rattle.section_check.specs.Placing.IsFaulty.{shares_header, leaves_header_out, crosses_another, does_not_fit, lies_in_region}
 use Rattle.section_check.specs.Least.{IsLeast}
+use Rattle.section_check.proofs.Least.{same_at, one_more}
 use Rattle.section_index.specs.Numbering.{Crosses, AreNumbers, AreHolders, IsPlaced}
-use Rattle.section_index.proofs.Elements.{place_of}
-use Rattle.section_index.proofs.Ranks.{same_at, one_more}
 
 one_at : (ls : List CertifiedLoop) (i : ℕ) (l m : CertifiedLoop) → IsAt ls i l → IsAt ls i m → m ≡ l
 one_at ls i l m at_l at_m = same_at ls i l m at_l (sym at_m.1)

@@ -3,13 +3,16 @@ use Rattle.std.proofs.Common.{◌≡◌, ℕ, ◌+◌, ◌<◌, List, [], ◌++�
 use Rattle.std.specs.Prelude.{All}
 use Rattle.std.proofs.lemmas.Bool.{cases_lt}
 use Rattle.std.proofs.lemmas.List.Elements.{Contains-get_or, Contains-append_left, Contains-append_right, Contains-append_cases}
+use Rattle.lists.specs.Members.{map_contains, nil_contains}
 use Rattle.loop_nest.specs.Digraph.{AreSources}
 use Rattle.crossing_sets.specs.Family.{set_at}
+use Rattle.loop_nest.proofs.Elements.{from_map}
+use Rattle.loop_nest.proofs.Searching.{sources_has, from_sources}
 use Rattle.section_check.specs.Section.{CertifiedLoop}
+use Rattle.section_check.proofs.Headed.{itself_at}
 use Rattle.section_index.specs.Numbering.{AreNumbers, ArePlaced, ArePairs, AreHolders}
-use Rattle.section_index.proofs.Elements.{map_contains, from_map, nil_contains, sources_has, from_sources}
 use Rattle.section_index.proofs.Crossed.{member_at, place_back, below_all}
-use Rattle.section_index.proofs.Ranks.{itself_at, no_loop}
+use Rattle.section_index.proofs.Ranks.{no_loop}
 
 -- the pairs of the first n sets
 pub record ArePairsBelow (ss : List (List ℕ)) (n : ℕ) (es : List (ℕ × ℕ)) : Type 0 where

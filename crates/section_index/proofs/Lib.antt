@@ -3,4 +3,3 @@ mod Ranks
 mod Crossed
 mod Holding
 mod Faults
-mod Ordered

@@ -10,26 +10,15 @@ use Rattle.std.proofs.lemmas.List.Elements.{All-get_or, Contains-append_left, Co
 use Rattle.std.proofs.lemmas.List.Kept.{Contains-dedup_nat}
 use Rattle.std.proofs.lemmas.List.Sorted.{Contains-permutation}
 use Rattle.std.proofs.lemmas.Map.Keys.{IsStrictlyIncreasing-dedup}
+use Rattle.lists.specs.Members.{contains_at}
 use Rattle.crossing_sets.specs.Family.{AreSets, set_at}
 use Rattle.section_check.specs.Section.{CertifiedLoop, MembersRise}
 use Rattle.section_check.specs.Placing.{IsAt}
 use Rattle.section_check.specs.Least.{IsLeast, IsMemberBeyond}
+use Rattle.section_check.proofs.Least.{same_at}
+use Rattle.section_check.proofs.Headed.{itself_at}
 use Rattle.section_index.specs.Numbering.{AreNodes, AreNumbers, ArePlaces, ArePlaced}
-use Rattle.section_index.proofs.Elements.{contains_at, lower_place}
-
--- what stands at a place
-pub same_at : {X : Type 0} (xs : List X) (i : ℕ) (x r : X) → IsAt xs i x → r ≡ get_or xs i r → r ≡ x
-same_at xs i x r at is = is ∙ get_or_default xs i r x at.0 ∙ at.1
-
-pub itself_at : {X : Type 0} (xs : List X) (k : ℕ) (d : X) → k < length xs → IsAt xs k (get_or xs k d)
-itself_at xs k d lt = (lt, get_or_default xs k (get_or xs k d) d lt)
-
-pub one_more : (k m : ℕ) (P : ℕ → Type 0) → ((n : ℕ) → n < k → P n) → P k → m < k + 1 → P m
-one_more k m P before here lt =
-    elim (cases_lt m k) [
-      | inl less ↦ before m less
-      | inr not_less ↦ let same : k ≡ m = omega arith in subst P same here
-    ]
+use Rattle.section_index.proofs.Elements.{lower_place}
 
 pub nodes_none : AreNodes 0 []
 nodes_none = record { long = refl; each = λ k lt. absurd (omega arith) }

@@ -1,7 +1,7 @@
 use Rattle.std.proofs.Common.{◌≡◌, ◌≢◌, ℕ, ◌+◌, ◌<◌, get_or, length, arith, ap}
 use Rattle.std.proofs.lemmas.List.Elements.{All-get_or, Contains-get_or}
+use Rattle.lists.specs.Members.{rising_apart}
 use Rattle.crossing_sets.specs.Classes.{class_of}
-use Rattle.crossing_sets.proofs.Elements.{rising_apart}
 use Rattle.crossing_sets.proofs.Moving.{moved_none, not_yet, moved_more, moved_all}
 use Rattle.crossing_sets.proofs.classes.move_numbers.Goals as goal
 

@@ -2,8 +2,8 @@ use Rattle.std.proofs.Common.{◌≡◌, ℕ, ◌<◌, Bool, true, false, List, 
 use Rattle.std.proofs.lemmas.Bool.{both_ways}
 use Rattle.std.proofs.lemmas.List.{take_more, take_all}
 use Rattle.std.proofs.lemmas.List.Elements.{All-get_or}
+use Rattle.lists.specs.Members.{nil_contains}
 use Rattle.loop_nest.proofs.Searching.{same_everywhere}
-use Rattle.loop_nest.proofs.Elements.{nil_contains}
 use Rattle.loop_nest.proofs.Bodies.{AreFlagsOf, targets_within, flags_more}
 use Rattle.loop_nest.proofs.finding.header_flags.Goals as goal
 

@@ -2,8 +2,8 @@ use Rattle.std.proofs.Common.{◌≡◌, ℕ, ◌<◌, Bool, true, false, List, 
 use Rattle.std.proofs.lemmas.Bool.{cases_eq, both_ways}
 use Rattle.std.proofs.lemmas.List.{length-set, get_or-set_same, get_or-set_other, take_more, take_all}
 use Rattle.std.proofs.lemmas.List.Elements.{All-get_or, Contains-append_left, Contains-push, Contains-push_cases}
+use Rattle.lists.specs.Members.{nil_contains}
 use Rattle.loop_nest.specs.Pointers.{AreFlags}
-use Rattle.loop_nest.proofs.Elements.{nil_contains}
 use Rattle.loop_nest.proofs.Searching.{same_everywhere}
 use Rattle.loop_nest.proofs.passes.flags_of.Goals as goal
 

@@ -3,7 +3,7 @@ use Rattle.std.specs.List.Sorted.{IsPartitionPoint}
 use Rattle.std.proofs.lemmas.List.{get_or_default}
 use Rattle.std.proofs.lemmas.List.Sorted.{IsPartitionPoint-from_clause, IsPartitionedBy-ltb}
 use Rattle.loop_nest.specs.Nest.{NaturalLoop}
-use Rattle.path_solver.proofs.Rising.{none_there}
+use Rattle.section_check.proofs.Rising.{none_there}
 use Rattle.path_solver.proofs.Loops.{header_of, headers_rise}
 use Rattle.path_solver.proofs.ordering.headed_loop.Goals as goal
 use Rattle.path_solver.proofs.ordering.headed_loop.Goals.{else-i-loops-via-then-i-loops+else-header-u, else-i-loops-via-else-i-loops}

@@ -2,8 +2,9 @@ use Rattle.std.proofs.Common.{◌≡◌, ℕ, ◌+◌, ◌*◌, suc, ◌<◌, �
 use Rattle.loop_nest.specs.Digraph.{sources_of, AreSources}
 use Rattle.std.proofs.lemmas.List.{nil_from_length, length-append, get_or_default}
 use Rattle.std.proofs.lemmas.List.Elements.{All-contains, Contains-push}
+use Rattle.loop_nest.proofs.Searching.{fewer_left, few_sources, same_everywhere}
 use Rattle.path_solver.specs.Reaching.{IsBackwardSearch}
-use Rattle.path_solver.proofs.Sources.{unset, unset-set, fewer_left, few_sources, same_everywhere, targets_within}
+use Rattle.path_solver.proofs.Sources.{unset, unset-set, targets_within}
 use Rattle.path_solver.proofs.Backward.{search_start, search_skips, search_takes, search_ends}
 use Rattle.path_solver.proofs.reaching.reaching.Goals as goal
 

@@ -3,8 +3,8 @@ use Rattle.std.specs.List.Sorted.{IsStrictlyIncreasing}
 use Rattle.std.proofs.lemmas.Bool.{cases_lt, false≢true}
 use Rattle.std.proofs.lemmas.List.{get_or_default}
 use Rattle.std.proofs.lemmas.List.Elements.{Contains-get_or}
+use Rattle.lists.specs.Members.{rising_all}
 use Rattle.section_check.specs.Conditions.{ExitHolds}
-use Rattle.section_check.proofs.Rising.{rising_all}
 use Rattle.section_check.proofs.descent.failing_exit.Goals as goal
 
 -- an exit of the graph stands in its list

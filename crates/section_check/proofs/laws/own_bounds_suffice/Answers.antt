@@ -1,9 +1,9 @@
 use Rattle.std.proofs.Common.{get_or, subst}
 use Rattle.std.proofs.lemmas.List.Elements.{Contains-get_or}
+use Rattle.loop_nest.proofs.Elements.{from_map}
 use Rattle.section_check.specs.Bounded.{BoundedLoop, IsKept}
 use Rattle.section_check.specs.Section.{priced, bounded}
 use Rattle.section_check.specs.Laws.{loops_of}
-use Rattle.section_check.proofs.Elements.{from_map}
 use Rattle.section_check.proofs.Sound.{sound}
 use Rattle.section_check.proofs.Own.{kept_by_own}
 use Rattle.section_check.proofs.laws.own_bounds_suffice.Goals as goal

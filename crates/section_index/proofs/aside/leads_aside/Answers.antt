@@ -2,7 +2,7 @@ use Rattle.std.proofs.Common.{ℕ, List, get_or, Contains, sym, ap, subst, inl, 
 use Rattle.std.proofs.lemmas.Bool.{cases_lt}
 use Rattle.std.proofs.lemmas.List.Elements.{Contains-get_or}
 use Rattle.section_check.specs.Placing.{EntersAside}
-use Rattle.section_index.proofs.Ordered.{AreOrdered, sources_rise, edge_place}
+use Rattle.section_check.proofs.Ordered.{AreOrdered, sources_rise, edge_place}
 use Rattle.section_index.proofs.aside.leads_aside.Goals as goal
 
 pub returns-then-enters_aside : goal.returns-then-enters_aside

@@ -1,7 +1,8 @@
 use Rattle.std.proofs.Common.{ℕ, ◌<◌, ◌≤◌, List, length, get_or, Contains, Ok, Err, inl, inr, arith}
 use Rattle.std.proofs.lemmas.Bool.{cases_lt}
 use Rattle.std.proofs.lemmas.List.Sorted.{searched}
-use Rattle.section_index.proofs.Elements.{above_place, rising_all, place_of}
+use Rattle.lists.specs.Members.{rising_all, place_of}
+use Rattle.section_index.proofs.Elements.{above_place}
 use Rattle.section_index.proofs.numbering.place.Goals as goal
 
 not_among : (xs : List ℕ) (x i : ℕ) → ((k : ℕ) → k < i → get_or xs k 0 < x) → ((k : ℕ) → i ≤ k → k < length xs → x < get_or xs k 0) → Contains xs x → ⊥
