@@ -1,5 +1,5 @@
 -- What stands behind the pool of a made class has bytes.
-use Rattle.std.proofs.Common.{◌≡◌, ℕ, ◌^◌, ◌<◌, ◌≤◌, cond, List, [], ◌∷◌, length, Option, Some, None, map, refl, sym, ap, subst, arith, lit<}
+use Rattle.std.proofs.Common.{◌≡◌, ℕ, ◌+◌, ◌^◌, ◌<◌, ◌≤◌, cond, List, [], ◌∷◌, ◌++◌, length, Option, Some, None, map, refl, sym, ap, subst, arith, lit<}
 use Rattle.std.specs.Prelude.{IfSome}
 use Rattle.std.specs.List.{flat_map, AllByRecursion}
 use Rattle.std.proofs.lemmas.List.{length-map, length-append}
@@ -9,9 +9,9 @@ use Rattle.class_pool.specs.declared.kind.Kind.{Kind}
 use Rattle.class_pool.specs.declared.kind.Kind.TheVariants as kinds
 use Rattle.class_pool.specs.Kind.{is_this_text, kind_of}
 use Rattle.class_pool.specs.Spelling.{u2}
-use Rattle.class_pool.specs.ClassSpelling.{body_bytes}
+use Rattle.class_pool.specs.ClassSpelling.{counted, handler_bytes, named_bytes, body_bytes}
 use Rattle.class_pool.specs.Found.{code_of}
-use Rattle.class_pool.specs.Structure.{IsHalf, AreCounted, IsCode, HasKind, IsAttribute, IsMember, IsInside}
+use Rattle.class_pool.specs.Structure.{IsHalf, AreCounted, IsNamed, IsCode, HasKind, IsAttribute, IsMember, IsInside}
 use Rattle.class_making.specs.declared.item.Item.{Item}
 use Rattle.class_making.specs.declared.item.Item.TheVariants.{Text, Class}
 use Rattle.class_making.specs.declared.plan.Piece.{Piece}
@@ -21,7 +21,7 @@ use Rattle.class_making.specs.declared.plan.FieldPlan.{FieldPlan}
 use Rattle.class_making.specs.declared.plan.MethodPlan.{MethodPlan}
 use Rattle.class_making.specs.declared.plan.ClassPlan.{ClassPlan}
 use Rattle.class_making.specs.Making.{index_of, pool_of}
-use Rattle.class_making.specs.Plans.{code_name, piece_bytes, code_in, code_attributes, field_in, method_in, class_index, superclass_index, class_in, method_mentions, code_mentions}
+use Rattle.class_making.specs.Plans.{code_name, stack_map_name, piece_bytes, stack_map_in, code_in, code_attributes, field_in, method_in, class_index, superclass_index, class_in, method_mentions, code_mentions}
 use Rattle.class_making.specs.Right.{code_length, IsRightPiece, IsRightCode, HasRightCode, IsRightField, IsRightMethod, IsRightPlan}
 use Rattle.class_making.specs.Laws.{IsByteCode}
 use Rattle.class_making.proofs.ListLemmas.{all_append, all_map, all_then, all_both}
@@ -44,19 +44,36 @@ pieces_are_bytes items (Byte byte ∷ pieces) r = (r.0, pieces_are_bytes items p
 pieces_are_bytes items (Index x ∷ pieces) r =
     all_append (λ byte. byte < 2 ^ 8) (u2 (index_of items x)) (flat_map (piece_bytes items) pieces) (index_bytes (index_of items x)) (pieces_are_bytes items pieces r.1)
 
+-- what the code attribute with this table of frames has bytes for
+abbrev IsSmall : (code : ℕ) → Option (List ℕ) → Type 0
+IsSmall code o = IfSome o (λ bytes. 18 + code + length bytes < 2 ^ 32)
+
+stack_map_fits : (items : List Item) (code : ℕ) (o : Option (List ℕ)) → IsSmall code o → AreCounted IsNamed (stack_map_in items o)
+stack_map_fits items code None h = (lit< tt, tt)
+stack_map_fits items code (Some bytes) h = (lit< tt, ((index_fits items (Text stack_map_name), omega (arith, h)), tt))
+
 is_code : (items : List Item) (k : CodePlan) → IsRightCode k → IsCode (code_in items k)
 is_code items k r = record {
   max_stack = r.max_stack;
   max_locals = r.max_locals;
   length = omega (arith, pieces_length items k.pieces, r.not_long);
   handlers = (lit< tt, tt);
-  attributes = (lit< tt, tt);
+  attributes = stack_map_fits items (code_length k.pieces) k.stack_map r.stack_map;
 }
+
+-- the size of the attribute, with a table of frames or none
+sized : (items : List Item) (stack locals : ℕ) (code : List ℕ) (o : Option (List ℕ)) → length code ≤ 65535 → IsSmall (length code) o
+    → length (body_bytes (bodies.Code (record { max_stack = stack; max_locals = locals; code = code; handlers = []; attributes = stack_map_in items o }))) < 2 ^ 32
+sized items stack locals code None long h = omega (arith, length-append code (0 ∷ 0 ∷ 0 ∷ 0 ∷ []), long)
+sized items stack locals code (Some bytes) long h =
+    let table : List ℕ = counted handler_bytes [] ++ counted named_bytes ((index_of items (Text stack_map_name), bytes) ∷ []) in
+    omega (arith, length-append code table, length-append bytes [], h)
 
 code_size : (items : List Item) (k : CodePlan) → IsRightCode k → length (body_bytes (bodies.Code (code_in items k))) < 2 ^ 32
 code_size items k r =
     let bytes : List ℕ = flat_map (piece_bytes items) k.pieces in
-    omega (arith, length-append bytes (0 ∷ 0 ∷ 0 ∷ 0 ∷ []), pieces_length items k.pieces, r.not_long)
+    let same : length bytes ≡ code_length k.pieces = pieces_length items k.pieces in
+    sized items k.max_stack k.max_locals bytes k.stack_map (omega (arith, same, r.not_long)) (subst (λ (n : ℕ). IsSmall n k.stack_map) (sym same) r.stack_map)
 
 code_kind : (items : List Item) → length items ≤ 65534 → Has items (Text code_name) → kind_of owners.Method (pool_of items) (index_of items (Text code_name)) ≡ kinds.Code
 code_kind items room h = ap (λ (o : Option (List ℕ)). cond (is_this_text o code_name) kinds.Code kinds.Bytes) (text_found items code_name room h)

@@ -1,5 +1,5 @@
 -- Right plans make class files, which say what the plans say.
-use Rattle.std.proofs.Common.{◌≡◌, ℕ, ◌≤◌, List, [], ◌∷◌, ◌++◌, length, Option, Some, None, map, refl, ap, ◌∙◌, lit<, lit≤}
+use Rattle.std.proofs.Common.{◌≡◌, ℕ, ◌≤◌, List, [], ◌∷◌, ◌++◌, length, Option, Some, None, map, refl, ap, ◌∙◌, lit<}
 use Rattle.std.specs.Prelude.{unwrap_or}
 use Rattle.std.specs.Option.{option_to_list, option_map_or}
 use Rattle.std.specs.List.{flat_map, AllByRecursion}
@@ -45,8 +45,8 @@ is_class p r =
     let h : IsNamed items p = is_named p items (mentioned p) in
     record {
       minor = lit< tt;
-      oldest = lit≤ tt;
-      newest = lit≤ tt;
+      oldest = r.oldest;
+      newest = r.newest;
       pool = is_pool items w;
       inside = is_inside items p w.room h.methods r;
       rules = follows_rules items p w h r;

@@ -1,11 +1,12 @@
 -- A made class follows the rules.
-use Rattle.std.proofs.Common.{◌≡◌, ℕ, ◌≤◌, ◌⊎◌, inl, inr, List, [], ◌∷◌, length, Option, Some, None, map, refl, sym, ap, ◌∙◌, arith}
+use Rattle.std.proofs.Common.{◌≡◌, ℕ, ◌≤◌, ◌⊎◌, inl, inr, List, [], ◌∷◌, ◌++◌, length, Option, Some, None, map, refl, sym, ap, ◌∙◌, arith}
 use Rattle.std.specs.Prelude.{codes, count_by, unwrap_or}
 use Rattle.std.specs.Option.{option_to_list}
-use Rattle.std.specs.List.{AllByRecursion}
+use Rattle.std.specs.List.{flat_map, AllByRecursion}
+use Rattle.std.proofs.lemmas.List.Sums.{count_by-le-length}
 use Rattle.class_pool.specs.declared.class.Member.{Member}
 use Rattle.class_rules.specs.Flags.{acc_abstract, acc_native, IsSet}
-use Rattle.class_rules.specs.Tests.{is_code}
+use Rattle.class_rules.specs.Tests.{is_code, is_frame_table}
 use Rattle.class_rules.specs.Rules as rules
 use Rattle.class_rules.specs.Rules.{HasText, IsAnyText, IsField, IsMethod, IsClassName, IsUnqualified, IsDescribed, IsRightEntry, IsClassAt, AreNamed, IsRightBody, AreSame, text_at, FollowsRules}
 use Rattle.class_making.specs.declared.item.Item.{Item}
@@ -15,9 +16,9 @@ use Rattle.class_making.specs.declared.plan.FieldPlan.{FieldPlan}
 use Rattle.class_making.specs.declared.plan.MethodPlan.{MethodPlan}
 use Rattle.class_making.specs.declared.plan.ClassPlan.{ClassPlan}
 use Rattle.class_making.specs.Making.{index_of, entry_of, pool_of}
-use Rattle.class_making.specs.Plans.{code_name, code_attributes, field_in, method_in, class_index, superclass_index, class_in, field_mentions, method_mentions, code_mentions}
+use Rattle.class_making.specs.Plans.{code_name, stack_map_name, with_stack_map, stack_map_in, code_attributes, field_in, method_in, class_index, superclass_index, class_in, piece_mentions, field_mentions, method_mentions, code_mentions}
 use Rattle.class_making.specs.Right.{IsRightItem, HasRightCode, IsRightField, IsRightMethod, Signature, field_signature, method_signature, AreDistinct, IsRightPlan}
-use Rattle.class_making.proofs.ListLemmas.{all_map, all_then, all_both}
+use Rattle.class_making.proofs.ListLemmas.{all_right, all_map, all_then, all_both}
 use Rattle.class_making.proofs.PoolLemmas.{Has, entry_found}
 use Rattle.class_making.proofs.PoolLaws.{Names, IsWhole, text_found}
 use Rattle.class_making.proofs.InsideLaws.{pieces_length}
@@ -84,15 +85,27 @@ one_code items flags None (inl h) a n = absurd (a h)
 one_code items flags None (inr h) a n = absurd (n h)
 one_code items flags (Some k) r a n = refl
 
-right_bodies : (items : List Item) (flags : ℕ) (code : Option CodePlan) → HasRightCode flags code → AllByRecursion (λ a. IsRightBody (pool_of items) a.body) (code_attributes items code)
-right_bodies items flags None r = tt
-right_bodies items flags (Some k) r = (
+-- the name of the table of frames
+stack_map_named : (items xs : List Item) (o : Option (List ℕ)) → length items ≤ 65534 → AllByRecursion (Names items) (with_stack_map xs o) → AllByRecursion (λ a. HasText (pool_of items) a.0 IsAnyText) (stack_map_in items o)
+stack_map_named items xs None room h = tt
+stack_map_named items xs (Some bytes) room h =
+    let last = all_right (Names items) xs (Text stack_map_name ∷ []) h in
+    (has_text items stack_map_name IsAnyText room last.0.0 tt, tt)
+
+one_stack_map : (items : List Item) (o : Option (List ℕ)) → count_by (is_frame_table (pool_of items)) (stack_map_in items o) ≤ 1
+one_stack_map items None = omega arith
+one_stack_map items (Some bytes) = count_by-le-length (is_frame_table (pool_of items)) ((index_of items (Text stack_map_name), bytes) ∷ [])
+
+right_bodies : (items : List Item) (flags : ℕ) (code : Option CodePlan) → length items ≤ 65534 → AllByRecursion (Names items) (code_mentions code) → HasRightCode flags code
+    → AllByRecursion (λ a. IsRightBody (pool_of items) a.body) (code_attributes items code)
+right_bodies items flags None room h r = tt
+right_bodies items flags (Some k) room h r = (
   record {
     not_empty = omega (arith, pieces_length items k.pieces, r.2.not_empty);
     not_long = omega (arith, pieces_length items k.pieces, r.2.not_long);
     caught = tt;
-    named = tt;
-    frames = omega arith;
+    named = stack_map_named items (flat_map piece_mentions k.pieces) k.stack_map room h.1;
+    frames = one_stack_map items k.stack_map;
   },
   tt,
 )
@@ -115,7 +128,7 @@ right_method items p room m h =
       named = named items m.code room h.0.1.1;
       no_code = no_code items m.flags m.code h.1.code;
       one_code = one_code items m.flags m.code h.1.code;
-      code = right_bodies items m.flags m.code h.1.code;
+      code = right_bodies items m.flags m.code room h.0.1.1 h.1.code;
     }
 
 -- ---- no two alike

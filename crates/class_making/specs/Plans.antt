@@ -1,9 +1,10 @@
--- A class as a plan, with items where a class file has indexes, and the class file that says the same: of version 52, with a pool of what it
--- mentions in order of first mention, and with no attribute but Code.
+-- A class as a plan, with items where a class file has indexes, and the class file that says the same: with a pool of what it mentions in
+-- order of first mention, and with no attributes but Code and, in it, StackMapTable.
 use Rattle.std.specs.Prelude.{ℕ, List, [], ◌∷◌, ◌++◌, map, codes, Option, Some, None}
 use Rattle.std.specs.Option.{option_to_list}
 use Rattle.std.specs.List.{flat_map}
 use Rattle.class_pool.specs.Spelling.{u2}
+use Rattle.class_pool.specs.ClassSpelling.{Named}
 use Rattle.class_pool.specs.declared.class.Attribute.{Attribute}
 use Rattle.class_pool.specs.declared.class.Body.TheVariants as bodies
 use Rattle.class_pool.specs.declared.class.Code.{Code as CodeParts}
@@ -24,18 +25,19 @@ use Rattle.class_making.specs.Making.{mention_each, index_of, pool_of}
 abbrev pub field_plan : (flags : ℕ) (name descriptor : List ℕ) → FieldPlan
 field_plan flags name descriptor = record { flags = flags; name = name; descriptor = descriptor }
 
--- a method with code
+-- a method with code, and no table of frames
 abbrev pub method_plan : (flags : ℕ) (name descriptor : List ℕ) (max_stack max_locals : ℕ) → List Piece → MethodPlan
 method_plan flags name descriptor max_stack max_locals pieces = record {
   flags = flags;
   name = name;
   descriptor = descriptor;
-  code = Some (record { max_stack = max_stack; max_locals = max_locals; pieces = pieces });
+  code = Some (record { max_stack = max_stack; max_locals = max_locals; pieces = pieces; stack_map = None });
 }
 
--- a class or an interface with neither superinterfaces nor fields
+-- a class or an interface of version 52 with neither superinterfaces nor fields
 abbrev pub bare_class : (flags : ℕ) (name : List ℕ) (superclass : Option (List ℕ)) → List MethodPlan → ClassPlan
 bare_class flags name superclass methods = record {
+  major = 52;
   flags = flags;
   name = name;
   superclass = superclass;
@@ -50,13 +52,22 @@ bare_class flags name superclass methods = record {
 abbrev pub code_name : List ℕ
 code_name = codes "Code"
 
+-- the name of the attribute that is the table of frames of a code (4.7.4)
+abbrev pub stack_map_name : List ℕ
+stack_map_name = codes "StackMapTable"
+
 abbrev pub piece_mentions : Piece → List Item
 piece_mentions (Byte byte) = []
 piece_mentions (Index x) = x ∷ []
 
+-- where there is a table of frames, its name is mentioned last
+abbrev pub with_stack_map : List Item → Option (List ℕ) → List Item
+with_stack_map items None = items
+with_stack_map items (Some bytes) = items ++ Text stack_map_name ∷ []
+
 abbrev pub code_mentions : Option CodePlan → List Item
 code_mentions None = []
-code_mentions (Some k) = Text code_name ∷ flat_map piece_mentions k.pieces
+code_mentions (Some k) = Text code_name ∷ with_stack_map (flat_map piece_mentions k.pieces) k.stack_map
 
 abbrev pub field_mentions : FieldPlan → List Item
 field_mentions f = Text f.name ∷ Text f.descriptor ∷ []
@@ -81,13 +92,18 @@ abbrev pub piece_bytes : List Item → Piece → List ℕ
 piece_bytes items (Byte byte) = byte ∷ []
 piece_bytes items (Index x) = u2 (index_of items x)
 
+-- the name and the bytes of the table of frames, if there is one
+abbrev pub stack_map_in : List Item → Option (List ℕ) → List Named
+stack_map_in items None = []
+stack_map_in items (Some bytes) = (index_of items (Text stack_map_name), bytes) ∷ []
+
 abbrev pub code_in : List Item → CodePlan → CodeParts
 code_in items k = record {
   max_stack = k.max_stack;
   max_locals = k.max_locals;
   code = flat_map (piece_bytes items) k.pieces;
   handlers = [];
-  attributes = [];
+  attributes = stack_map_in items k.stack_map;
 }
 
 abbrev pub code_attributes : List Item → Option CodePlan → List Attribute
@@ -121,7 +137,7 @@ superclass_index items (Some name) = class_index items name
 abbrev pub class_in : List Item → ClassPlan → ClassFile
 class_in items p = record {
   minor = 0;
-  major = 52;
+  major = p.major;
   pool = pool_of items;
   flags = p.flags;
   this_class = class_index items p.name;

@@ -1,5 +1,5 @@
 -- Which plans say what a class file may say: JVM Specification SE 8, 4.1 and 4.4 to 4.7, in the words of the rules on class files.
-use Rattle.std.specs.Prelude.{◌≡◌, ℕ, ◌+◌, ◌<◌, ◌≤◌, ◌^◌, ◌⊎◌, List, [], ◌∷◌, length, codes, Option, Some, None}
+use Rattle.std.specs.Prelude.{◌≡◌, ℕ, ◌+◌, ◌<◌, ◌≤◌, ◌^◌, ◌⊎◌, List, [], ◌∷◌, length, codes, Option, Some, None, IfSome}
 use Rattle.std.specs.Option.{option_to_list}
 use Rattle.std.specs.List.{AllByRecursion}
 use Rattle.class_pool.specs.Utf8.{utf8_bytes, AreUnits}
@@ -53,13 +53,14 @@ abbrev pub IsRightPiece : Piece → Type 0
 IsRightPiece (Byte byte) = byte < 2 ^ 8
 IsRightPiece (Index x) = Unit {0}
 
--- from 1 to 65,535 bytes
+-- from 1 to 65,535 bytes, and fewer than 2^32 of the attribute: 12 with no table of frames, and 6 beside the bytes of one
 pub record IsRightCode (k : CodePlan) : Type 0 where
   pub max_stack : IsHalf k.max_stack
   pub max_locals : IsHalf k.max_locals
   pub not_empty : 1 ≤ code_length k.pieces
   pub not_long : code_length k.pieces ≤ 65535
   pub pieces : AllByRecursion IsRightPiece k.pieces
+  pub stack_map : IfSome k.stack_map (λ bytes. 18 + code_length k.pieces + length bytes < 2 ^ 32)
 
 -- code stands exactly where the method is neither abstract nor native
 abbrev pub HasRightCode : (flags : ℕ) → Option CodePlan → Type 0
@@ -113,6 +114,8 @@ AreDistinct signature (x ∷ xs) = AllByRecursion (λ y. ¬ (signature x ≡ sig
 pub record IsRightPlan (p : ClassPlan) : Type 0 where
   pub mentions : AllByRecursion IsRightMention (plan_mentions p)
   pub room : length (items_of p) ≤ 65534
+  pub oldest : 50 ≤ p.major
+  pub newest : p.major ≤ 52
   pub flags : IsHalf p.flags
   pub of_interface : IsSet p.flags acc_interface → IsSet p.flags acc_abstract
   pub name : IsClassName p.name

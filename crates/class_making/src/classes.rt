@@ -59,7 +59,7 @@ fn class_in(maker: &PoolMaker, alloc: Global, plan: &ClassPlan) -> Result<ClassF
     let methods = methods(maker, alloc, plan.methods.as_slice())?;
     Ok(ClassFile {
         minor: 0,
-        major: 52,
+        major: plan.major,
         pool: maker.pool(alloc)?,
         flags: plan.flags,
         this_class: maker.class_index(alloc, &plan.name)?,

@@ -32,6 +32,19 @@ pub fn copy_of(alloc: Global, text: &Units) -> Result<Units, NoMemory>
     Ok(Units::new(Vec::from_slice(alloc, text.as_slice())?))
 }
 
+// The same three texts once more.
+fn copies_of(
+    alloc: Global,
+    first: &Units,
+    second: &Units,
+    third: &Units,
+) -> Result<(Units, Units, Units), NoMemory>
+    ensures { IfOk result (λ copies. copies ≡ (first.now, second.now, third.now)) }
+{
+    let (first, second) = (copy_of(alloc, first)?, copy_of(alloc, second)?);
+    Ok((first, second, copy_of(alloc, third)?))
+}
+
 impl Item {
     /// The same item once more.
     pub(crate) fn copied(&self, alloc: Global) -> Result<Item, NoMemory>
@@ -46,16 +59,16 @@ impl Item {
                 Item::NameAndType(copy_of(alloc, name)?, copy_of(alloc, descriptor)?)
             }
             Item::Field(owner, name, descriptor) => {
-                let (owner, name) = (copy_of(alloc, owner)?, copy_of(alloc, name)?);
-                Item::Field(owner, name, copy_of(alloc, descriptor)?)
+                let (owner, name, descriptor) = copies_of(alloc, owner, name, descriptor)?;
+                Item::Field(owner, name, descriptor)
             }
             Item::Method(owner, name, descriptor) => {
-                let (owner, name) = (copy_of(alloc, owner)?, copy_of(alloc, name)?);
-                Item::Method(owner, name, copy_of(alloc, descriptor)?)
+                let (owner, name, descriptor) = copies_of(alloc, owner, name, descriptor)?;
+                Item::Method(owner, name, descriptor)
             }
             Item::InterfaceMethod(owner, name, descriptor) => {
-                let (owner, name) = (copy_of(alloc, owner)?, copy_of(alloc, name)?);
-                Item::InterfaceMethod(owner, name, copy_of(alloc, descriptor)?)
+                let (owner, name, descriptor) = copies_of(alloc, owner, name, descriptor)?;
+                Item::InterfaceMethod(owner, name, descriptor)
             }
         })
     }

@@ -1,8 +1,10 @@
 //! Fields, methods and code of a plan, where the pool has all that the plan mentions.
 ghost use Rattle.std.specs.Prelude.{◌≡◌, ◌++◌, map, IfOk, OnOk};
 ghost use Rattle.std.specs.List.{flat_map};
-ghost use Rattle.class_making.specs.Plans.{piece_bytes, code_in, code_attributes, field_in, method_in};
+ghost use Rattle.class_making.specs.Making.{index_of};
+ghost use Rattle.class_making.specs.Plans.{piece_bytes, stack_map_in, code_in, code_attributes, field_in, method_in};
 
+use crate::item::Item;
 use crate::maker::PoolMaker;
 use crate::parts::text;
 use crate::plan::{CodePlan, FieldPlan, MethodPlan, Piece};
@@ -36,16 +38,42 @@ fn bytes_of(maker: &PoolMaker, alloc: Global, pieces: &[Piece]) -> Result<Vec<u8
     Ok(bytes)
 }
 
+// The index of an ASCII text.
+fn ascii_index(maker: &PoolMaker, alloc: Global, ascii: &str) -> Result<u16, NoMemory>
+    ensures { IfOk result (λ i. i ≡ index_of maker.now (Item.Text ascii.now)) }
+{
+    maker.text_index(alloc, &text(alloc, ascii)?)
+}
+
+// The attributes of code: its StackMapTable, if it has one.
+fn stack_map(
+    maker: &PoolMaker,
+    alloc: Global,
+    plan: &Option<Items<u8>>,
+) -> Result<Items<(u16, Items<u8>)>, NoMemory>
+    ensures { IfOk result (λ attributes. attributes ≡ stack_map_in maker.now plan.now) }
+{
+    match plan {
+        None => Ok(Items::new(Vec::new(alloc))),
+        Some(bytes) => {
+            let name = ascii_index(maker, alloc, "StackMapTable")?;
+            let bytes = Items::new(Vec::from_slice(alloc, bytes.as_slice())?);
+            Ok(Items::new(vec![in alloc; (name, bytes)]?))
+        }
+    }
+}
+
 fn code(maker: &PoolMaker, alloc: Global, plan: &CodePlan) -> Result<Code, NoMemory>
     ensures { IfOk result (λ code. code ≡ code_in maker.now plan.now) }
 {
     let bytes = bytes_of(maker, alloc, plan.pieces.as_slice())?;
+    let attributes = stack_map(maker, alloc, &plan.stack_map)?;
     Ok(Code {
         max_stack: plan.max_stack,
         max_locals: plan.max_locals,
         code: Items::new(bytes),
         handlers: Items::new(Vec::new(alloc)),
-        attributes: Items::new(Vec::new(alloc)),
+        attributes,
     })
 }
 
@@ -59,7 +87,7 @@ fn code_attributes(
     let mut attributes = Vec::new(alloc);
     if let Some(plan) = plan {
         attributes.push(Attribute {
-            name: maker.text_index(alloc, &text(alloc, "Code")?)?,
+            name: ascii_index(maker, alloc, "Code")?,
             body: Body::Code(code(maker, alloc, plan)?),
         })?;
     }

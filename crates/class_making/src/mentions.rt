@@ -1,14 +1,15 @@
 //! What a plan mentions, in order.
-ghost use Rattle.std.specs.Prelude.{◌≡◌, map, OnOk};
+ghost use Rattle.std.specs.Prelude.{◌≡◌, [], map, OnOk};
 ghost use Rattle.std.specs.List.{flat_map};
-ghost use Rattle.class_making.specs.Making.{mention_each};
-ghost use Rattle.class_making.specs.Plans.{piece_mentions, code_mentions, field_mentions, method_mentions, supertype_mentions, plan_mentions};
+ghost use Rattle.class_making.specs.Making.{mention, mention_each};
+ghost use Rattle.class_making.specs.Plans.{piece_mentions, with_stack_map, code_mentions, field_mentions, method_mentions, supertype_mentions, plan_mentions};
 
 use crate::item::Item;
 use crate::maker::PoolMaker;
 use crate::parts::text;
 use crate::plan::{ClassPlan, CodePlan, FieldPlan, MethodPlan, Piece};
 use class_pool::Units;
+use items::Items;
 use jop_base::NoMemory;
 use std::alloc::Global;
 
@@ -41,7 +42,28 @@ fn mention_pieces(maker: &mut PoolMaker, alloc: Global, pieces: &[Piece]) -> Res
     Ok(())
 }
 
-#[tactic(auto, using(crate::proofs::MentionLemmas::each_append))]
+// Mentions an ASCII text.
+fn mention_ascii(maker: &mut PoolMaker, alloc: Global, ascii: &str) -> Result<(), NoMemory>
+    ensures { OnOk result (maker.new ≡ mention maker.old (Item.Text ascii.now)) }
+{
+    maker.mention_text(alloc, &text(alloc, ascii)?)
+}
+
+// Mentions the name of the table of frames, if there is one.
+fn mention_stack_map(
+    maker: &mut PoolMaker,
+    alloc: Global,
+    stack_map: &Option<Items<u8>>,
+) -> Result<(), NoMemory>
+    ensures { OnOk result (maker.new ≡ mention_each maker.old (with_stack_map [] stack_map.now)) }
+{
+    match stack_map {
+        None => Ok(()),
+        Some(_) => mention_ascii(maker, alloc, "StackMapTable"),
+    }
+}
+
+#[tactic(auto, using(crate::proofs::MentionLemmas::each_with_stack_map))]
 fn mention_code(
     maker: &mut PoolMaker,
     alloc: Global,
@@ -52,8 +74,9 @@ fn mention_code(
     match code {
         None => Ok(()),
         Some(code) => {
-            maker.mention_text(alloc, &text(alloc, "Code")?)?;
-            mention_pieces(maker, alloc, code.pieces.as_slice())
+            mention_ascii(maker, alloc, "Code")?;
+            mention_pieces(maker, alloc, code.pieces.as_slice())?;
+            mention_stack_map(maker, alloc, &code.stack_map)
         }
     }
 }

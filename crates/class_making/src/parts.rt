@@ -66,7 +66,7 @@ pub struct Room {
     pub max_locals: u16,
 }
 
-/// A method with code.
+/// A method with code, which has no StackMapTable.
 pub fn method(
     alloc: Global,
     flags: u16,
@@ -86,11 +86,12 @@ pub fn method(
             max_stack: room.max_stack,
             max_locals: room.max_locals,
             pieces: Items::new(pieces),
+            stack_map: None,
         }),
     })
 }
 
-/// A class or an interface with neither superinterfaces nor fields.
+/// A class or an interface of version 52 with neither superinterfaces nor fields.
 pub fn class(
     alloc: Global,
     flags: u16,
@@ -101,6 +102,7 @@ pub fn class(
     ensures { IfOk result (λ plan. plan ≡ bare_class flags name.now superclass methods.items) }
 {
     Ok(ClassPlan {
+        major: 52,
         flags,
         name: text(alloc, name)?,
         superclass,

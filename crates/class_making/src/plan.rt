@@ -7,6 +7,8 @@ use items::Items;
 /// A class or an interface.
 #[derive(Drop)]
 pub struct ClassPlan {
+    /// The version of the class file, from 50 on.
+    pub major: u16,
     pub flags: u16,
     pub name: Units,
     /// The superclass; only `java/lang/Object` has none.
@@ -42,6 +44,8 @@ pub struct CodePlan {
     /// In words.
     pub max_locals: u16,
     pub pieces: Items<Piece>,
+    /// The bytes of the code's StackMapTable (JVM Specification SE 8, 4.7.4), if it has one.
+    pub stack_map: Option<Items<u8>>,
 }
 
 /// A piece of code.

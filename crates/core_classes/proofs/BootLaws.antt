@@ -44,7 +44,7 @@ main_mentions main h = (
   (method_right main (codes "main") (codes "([Ljava/lang/String;)V") h.0 h.1 refl (pool_text (codes "main") refl) (is_method (codes "([Ljava/lang/String;)V") main_types) (pool_text (codes "([Ljava/lang/String;)V") refl), tt),
 )
 
-boot_code : (calls : List (List ℕ)) (main : List ℕ) → length calls ≤ 10000 → IsRightCode (record { max_stack = 1; max_locals = 0; pieces = boot_pieces calls main })
+boot_code : (calls : List (List ℕ)) (main : List ℕ) → length calls ≤ 10000 → IsRightCode (record { max_stack = 1; max_locals = 0; pieces = boot_pieces calls main; stack_map = None })
 unfolding boot_pieces main_pieces
 boot_code calls main few = record {
   max_stack = lit< tt;
@@ -52,6 +52,7 @@ boot_code calls main few = record {
   not_empty = omega (arith, calls_length calls (main_pieces main));
   not_long = omega (arith, calls_length calls (main_pieces main), few);
   pieces = calls_are_pieces calls (main_pieces main) (lit< tt, (lit< tt, (tt, (lit< tt, (tt, (lit< tt, tt))))));
+  stack_map = tt;
 }
 
 boot_right_method : (calls : List (List ℕ)) (main : List ℕ) → length calls ≤ 10000 → IsRightMethod 0x0030 (boot_method calls main)

@@ -77,7 +77,7 @@ empty_mentions = (text_right (codes "<init>") init_text, (text_right (codes "()V
 empty_right : (class_flags : ℕ) → bit_and class_flags acc_interface ≡ 0 → IsRightMethod class_flags empty_init
 unfolding empty_init
 empty_right class_flags of_class =
-    init_method class_flags (codes "()V") 0 1 _ of_class nothing_types refl (record { max_stack = lit< tt; max_locals = lit< tt; not_empty = lit≤ tt; not_long = lit≤ tt; pieces = (lit< tt, tt) })
+    init_method class_flags (codes "()V") 0 1 _ of_class nothing_types refl (record { max_stack = lit< tt; max_locals = lit< tt; not_empty = lit≤ tt; not_long = lit≤ tt; pieces = (lit< tt, tt); stack_map = tt })
 
 plain_mentions : (superclass : List ℕ) → Named superclass → Mentions (plain_init superclass)
 unfolding plain_init
@@ -86,7 +86,7 @@ plain_mentions superclass n = (text_right (codes "<init>") init_text, (text_righ
 plain_right : (class_flags : ℕ) (superclass : List ℕ) → bit_and class_flags acc_interface ≡ 0 → IsRightMethod class_flags (plain_init superclass)
 unfolding plain_init
 plain_right class_flags superclass of_class =
-    init_method class_flags (codes "()V") 1 1 _ of_class nothing_types refl (record { max_stack = lit< tt; max_locals = lit< tt; not_empty = lit≤ tt; not_long = lit≤ tt; pieces = (lit< tt, (lit< tt, (tt, (lit< tt, tt)))) })
+    init_method class_flags (codes "()V") 1 1 _ of_class nothing_types refl (record { max_stack = lit< tt; max_locals = lit< tt; not_empty = lit≤ tt; not_long = lit≤ tt; pieces = (lit< tt, (lit< tt, (tt, (lit< tt, tt)))); stack_map = tt })
 
 handing_mentions : (superclass : List ℕ) → Named superclass → Mentions (handing_init superclass)
 unfolding handing_init
@@ -95,7 +95,7 @@ handing_mentions superclass n = (text_right (codes "<init>") init_text, (text_ri
 handing_right : (class_flags : ℕ) (superclass : List ℕ) → bit_and class_flags acc_interface ≡ 0 → IsRightMethod class_flags (handing_init superclass)
 unfolding handing_init
 handing_right class_flags superclass of_class =
-    init_method class_flags (codes "(Ljava/lang/String;)V") 2 2 _ of_class takes_string_types refl (record { max_stack = lit< tt; max_locals = lit< tt; not_empty = lit≤ tt; not_long = lit≤ tt; pieces = (lit< tt, (lit< tt, (lit< tt, (tt, (lit< tt, tt))))) })
+    init_method class_flags (codes "(Ljava/lang/String;)V") 2 2 _ of_class takes_string_types refl (record { max_stack = lit< tt; max_locals = lit< tt; not_empty = lit≤ tt; not_long = lit≤ tt; pieces = (lit< tt, (lit< tt, (lit< tt, (tt, (lit< tt, tt))))); stack_map = tt })
 
 keeping_mentions : Mentions keeping_init
 unfolding keeping_init
@@ -104,7 +104,7 @@ keeping_mentions = (text_right (codes "<init>") init_text, (text_right (codes "(
 keeping_right : IsRightMethod open_class keeping_init
 unfolding keeping_init
 keeping_right =
-    init_method open_class (codes "(Ljava/lang/String;)V") 2 2 _ refl takes_string_types refl (record { max_stack = lit< tt; max_locals = lit< tt; not_empty = lit≤ tt; not_long = lit≤ tt; pieces = (lit< tt, (lit< tt, (tt, (lit< tt, (lit< tt, (lit< tt, (tt, (lit< tt, tt)))))))) })
+    init_method open_class (codes "(Ljava/lang/String;)V") 2 2 _ refl takes_string_types refl (record { max_stack = lit< tt; max_locals = lit< tt; not_empty = lit≤ tt; not_long = lit≤ tt; pieces = (lit< tt, (lit< tt, (tt, (lit< tt, (lit< tt, (lit< tt, (tt, (lit< tt, tt)))))))); stack_map = tt })
 
 get_message_mentions : Mentions get_message_method
 unfolding get_message_method
@@ -115,7 +115,7 @@ get_message_right : IsRightMethod open_class get_message_method
 unfolding get_message_method
 get_message_right =
     plain_method open_class 0x0001 (codes "getMessage") (codes "()Ljava/lang/String;") 1 1 _ (lit< tt) (refl, refl) refl gives_string_types (public_access 0x0001 refl refl) refl refl
-    (record { max_stack = lit< tt; max_locals = lit< tt; not_empty = lit≤ tt; not_long = lit≤ tt; pieces = (lit< tt, (lit< tt, (tt, (lit< tt, tt)))) })
+    (record { max_stack = lit< tt; max_locals = lit< tt; not_empty = lit≤ tt; not_long = lit≤ tt; pieces = (lit< tt, (lit< tt, (tt, (lit< tt, tt)))); stack_map = tt })
 
 length_mentions : Mentions length_method
 unfolding length_method
@@ -125,7 +125,7 @@ length_right : IsRightMethod final_class length_method
 unfolding length_method
 length_right =
     plain_method final_class 0x0001 (codes "length") (codes "()I") 1 1 _ (lit< tt) (refl, refl) refl gives_int_types (public_access 0x0001 refl refl) refl refl
-    (record { max_stack = lit< tt; max_locals = lit< tt; not_empty = lit≤ tt; not_long = lit≤ tt; pieces = (lit< tt, (lit< tt, (tt, (lit< tt, (lit< tt, tt))))) })
+    (record { max_stack = lit< tt; max_locals = lit< tt; not_empty = lit≤ tt; not_long = lit≤ tt; pieces = (lit< tt, (lit< tt, (tt, (lit< tt, (lit< tt, tt))))); stack_map = tt })
 
 char_at_mentions : Mentions char_at_method
 unfolding char_at_method
@@ -135,7 +135,7 @@ char_at_right : IsRightMethod final_class char_at_method
 unfolding char_at_method
 char_at_right =
     plain_method final_class 0x0001 (codes "charAt") (codes "(I)C") 2 2 _ (lit< tt) (refl, refl) refl char_at_types (public_access 0x0001 refl refl) refl refl
-    (record { max_stack = lit< tt; max_locals = lit< tt; not_empty = lit≤ tt; not_long = lit≤ tt; pieces = (lit< tt, (lit< tt, (tt, (lit< tt, (lit< tt, (lit< tt, tt)))))) })
+    (record { max_stack = lit< tt; max_locals = lit< tt; not_empty = lit≤ tt; not_long = lit≤ tt; pieces = (lit< tt, (lit< tt, (tt, (lit< tt, (lit< tt, (lit< tt, tt)))))); stack_map = tt })
 
 read_mentions : Mentions read_method
 unfolding read_method
@@ -145,7 +145,7 @@ read_right : IsRightMethod final_class read_method
 unfolding read_method
 read_right =
     plain_method final_class 0x0009 (codes "read") (codes "()I") 1 0 _ (lit< tt) (refl, refl) refl gives_int_types (public_access 0x0009 refl refl) refl refl
-    (record { max_stack = lit< tt; max_locals = lit< tt; not_empty = lit≤ tt; not_long = lit≤ tt; pieces = (lit< tt, (lit< tt, tt)) })
+    (record { max_stack = lit< tt; max_locals = lit< tt; not_empty = lit≤ tt; not_long = lit≤ tt; pieces = (lit< tt, (lit< tt, tt)); stack_map = tt })
 
 write_mentions : Mentions write_method
 unfolding write_method
@@ -155,7 +155,7 @@ write_right : IsRightMethod final_class write_method
 unfolding write_method
 write_right =
     plain_method final_class 0x0009 (codes "write") (codes "(I)V") 1 1 _ (lit< tt) (refl, refl) refl takes_int_types (public_access 0x0009 refl refl) refl refl
-    (record { max_stack = lit< tt; max_locals = lit< tt; not_empty = lit≤ tt; not_long = lit≤ tt; pieces = (lit< tt, (lit< tt, (lit< tt, tt))) })
+    (record { max_stack = lit< tt; max_locals = lit< tt; not_empty = lit≤ tt; not_long = lit≤ tt; pieces = (lit< tt, (lit< tt, (lit< tt, tt))); stack_map = tt })
 
 -- ---- plans
 
@@ -167,6 +167,8 @@ pub bare_right : (few : ItemsAreFew) (flags : ℕ) (name superclass : List ℕ) 
 bare_right few flags name superclass methods half of_class named above room count mentions right distinct = record {
   mentions = (named_right name named, (named_right superclass above, mentions));
   room = omega (arith, few (bare_class flags name (Some superclass) methods), room);
+  oldest = lit≤ tt;
+  newest = lit≤ tt;
   flags = half;
   of_interface = λ h. absurd (h of_class);
   name = named.0;
@@ -194,6 +196,8 @@ unfolding object_plan empty_init
 object_right few = record {
   mentions = (named_right object_name object_named, joined (method_mentions empty_init) [] empty_mentions tt);
   room = omega (arith, few object_plan);
+  oldest = lit≤ tt;
+  newest = lit≤ tt;
   flags = lit< tt;
   of_interface = λ h. absurd (h refl);
   name = refl;
@@ -213,6 +217,8 @@ unfolding interface_plan
 interface_right few name named = record {
   mentions = (named_right name named, (named_right object_name object_named, tt));
   room = omega (arith, few (interface_plan name));
+  oldest = lit≤ tt;
+  newest = lit≤ tt;
   flags = lit< tt;
   of_interface = λ h e. absurd (let f : 1 ≡ 0 = ap (λ (n : ℕ). n / 1024) e in omega arith);
   name = named.0;
@@ -236,6 +242,8 @@ serializable_right : (few : ItemsAreFew) (flags : ℕ) (name : List ℕ) (field 
 serializable_right few flags name field methods half of_class named field_right typed room count mentions right distinct = record {
   mentions = (named_right name named, (named_right object_name object_named, (named_right (codes "java/io/Serializable") serializable_named, (field_right.0, (field_right.1.0, mentions)))));
   room = omega (arith, few (serializable_class flags name field methods), room);
+  oldest = lit≤ tt;
+  newest = lit≤ tt;
   flags = half;
   of_interface = λ h. absurd (h of_class);
   name = named.0;

@@ -124,7 +124,7 @@ private_access flags p q = record { public_private = λ h. h.0 p; public_protect
 
 -- a method that is no instance initializer
 pub plain_method : (class_flags flags : ℕ) (name descriptor : List ℕ) (max_stack max_locals : ℕ) (pieces : List Piece) → IsHalf flags → IsDeclaredName name → is_instance_initializer name ≡ false → Types descriptor → HasOneAccess flags
-    → bit_and flags acc_abstract ≡ 0 → bit_and flags acc_native ≡ 0 → IsRightCode (record { max_stack = max_stack; max_locals = max_locals; pieces = pieces })
+    → bit_and flags acc_abstract ≡ 0 → bit_and flags acc_native ≡ 0 → IsRightCode (record { max_stack = max_stack; max_locals = max_locals; pieces = pieces; stack_map = None })
     → IsRightMethod class_flags (method_plan flags name descriptor max_stack max_locals pieces)
 plain_method class_flags flags name descriptor max_stack max_locals pieces half named other types access a n code = record {
   flags = half;
@@ -138,7 +138,7 @@ plain_method class_flags flags name descriptor max_stack max_locals pieces half 
 
 -- an instance initializer of a class
 pub init_method : (class_flags : ℕ) (descriptor : List ℕ) (max_stack max_locals : ℕ) (pieces : List Piece) → bit_and class_flags acc_interface ≡ 0 → (types : Types descriptor) → types.0.result ≡ None
-    → IsRightCode (record { max_stack = max_stack; max_locals = max_locals; pieces = pieces })
+    → IsRightCode (record { max_stack = max_stack; max_locals = max_locals; pieces = pieces; stack_map = None })
     → IsRightMethod class_flags (method_plan 0x0001 (codes "<init>") descriptor max_stack max_locals pieces)
 init_method class_flags descriptor max_stack max_locals pieces of_class types nothing code = record {
   flags = lit< tt;

@@ -56,6 +56,7 @@ static_method = method_plan 0x0009
 -- a class that implements java/io/Serializable, with a field
 abbrev pub serializable_class : (flags : ℕ) (name : List ℕ) → FieldPlan → List MethodPlan → ClassPlan
 serializable_class flags name field methods = record {
+  major = 52;
   flags = flags;
   name = name;
   superclass = Some object_name;

@@ -242,6 +242,7 @@ fn serializable_class(
 {
     let interface = text(alloc, SERIALIZABLE)?;
     Ok(ClassPlan {
+        major: 52,
         flags,
         name: text(alloc, name)?,
         superclass: Some(text(alloc, OBJECT)?),

@@ -157,6 +157,7 @@ fn code(alloc: Global, work: Work, owner: &Units, number: u32) -> Result<CodePla
         max_stack: work.max_stack(),
         max_locals: work.max_locals(),
         pieces: Items::new(pieces),
+        stack_map: None,
     })
 }
 

@@ -71,6 +71,7 @@ fn plan(
     methods: Vec<MethodPlan>,
 ) -> Result<ClassPlan, NoMemory> {
     Ok(ClassPlan {
+        major: 52,
         flags,
         name: class_name(alloc, number)?,
         superclass: Some(superclass),
