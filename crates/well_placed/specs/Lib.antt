@@ -1,0 +1,2 @@
+pub mod WellPlaced
+pub mod Laws
