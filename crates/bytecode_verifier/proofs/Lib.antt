@@ -13,6 +13,9 @@ pub mod MethodLemmas
 pub mod TypingLemmas
 pub mod WalkLemmas
 pub mod TableLemmas
+pub mod VerifiedLemmas
+pub mod PlacedLemmas
+pub mod PlacedTables
 pub mod NameLemmas
 pub mod FirstLemmas
 pub mod FindLemmas

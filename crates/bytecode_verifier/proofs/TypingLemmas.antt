@@ -46,19 +46,19 @@ neither None b h = (refl, h)
 neither (Some x) b h = absurd (none≢some x (sym h))
 
 -- the walk of a method ends with frames, where the first frame and the frames of the StackMapTable are these
-record IsWalked (cs : List ClassFile) (n : ℕ) (m : Method) (b : Body) (found : Result Frames ℕ) : Type 0 where
-  first : TypeFrame
-  first_is : first_types m b ≡ Some first
-  named : Frames
-  named_are : found ≡ Ok named
-  frames : List (ℕ × TypeFrame)
-  walk : walked (resolved cs) n m b (maps_in cs found) ≡ walk.Frames frames
+pub record IsWalked (cs : List ClassFile) (n : ℕ) (m : Method) (b : Body) (found : Result Frames ℕ) : Type 0 where
+  pub first : TypeFrame
+  pub first_is : first_types m b ≡ Some first
+  pub named : Frames
+  pub named_are : found ≡ Ok named
+  pub frames : List (ℕ × TypeFrame)
+  pub walk : walked (resolved cs) n m b (maps_in cs found) ≡ walk.Frames frames
 
 walk_case : (w : Walked) → walk_failure w ≡ None → (fs : List (ℕ × TypeFrame)) × (w ≡ walk.Frames fs)
 walk_case (walk.Failed pc r) h = absurd (none≢some (pc, Walk r) (sym h))
 walk_case (walk.Frames fs) h = (fs, refl)
 
-walked_case : (cs : List ClassFile) (n : ℕ) (m : Method) (b : Body) (first : Option TypeFrame) (found : Result Frames ℕ) → first_types m b ≡ first → types_failure cs n m b first found ≡ None → IsWalked cs n m b found
+pub walked_case : (cs : List ClassFile) (n : ℕ) (m : Method) (b : Body) (first : Option TypeFrame) (found : Result Frames ℕ) → first_types m b ≡ first → types_failure cs n m b first found ≡ None → IsWalked cs n m b found
 walked_case cs n m b None found e h = cc
 walked_case cs n m b (Some f) (Err place) e h = cc
 walked_case cs n m b (Some f) (Ok fs) e h =
@@ -107,11 +107,10 @@ maps_stand law cs n k h fs e pc = stand cs k 0 fs.at (λ place t. among_contains
 
 -- ---- a method
 
-HasTyping : List ClassFile → (n : ℕ) → Method → Body → Type 0
-HasTyping cs n m b = HasMapFrames m b (maps_of cs n) × ((fs : List (ℕ × TypeFrame)) × IsTyping (resolved cs) n m b (maps_of cs n) fs)
+abbrev pub HasTypingOf : List ClassFile → (n : ℕ) → Method → Body → Type 0
+HasTypingOf cs n m b = HasMapFrames m b (maps_of cs n) × ((fs : List (ℕ × TypeFrame)) × IsTyping (resolved cs) n m b (maps_of cs n) fs)
 
-code_typing : TheWalkFindsATyping → FramesLaw → MethodsHaveCode → (cs : List ClassFile) → IsResolved cs → (n : ℕ) (k : Code) (h : IsCodeOf cs n k) → method_failure cs n ≡ None → HasTyping cs n (method_of cs n k h) (body_of cs n k h)
-unfolding HasTyping
+pub code_typing : TheWalkFindsATyping → FramesLaw → MethodsHaveCode → (cs : List ClassFile) → IsResolved cs → (n : ℕ) (k : Code) (h : IsCodeOf cs n k) → method_failure cs n ≡ None → HasTypingOf cs n (method_of cs n k h) (body_of cs n k h)
 code_typing walks frames codes cs r n k h e =
     let m = method_of cs n k h in
     let b = body_of cs n k h in
@@ -133,7 +132,7 @@ code_typing walks frames codes cs r n k h e =
     )
 
 pub typings : TheWalkFindsATyping → FramesLaw → MethodsHaveCode → MethodsStandByNumber → (cs : List ClassFile) → IsResolved cs → IsVerified cs → HaveTypings (resolved cs) (maps_of cs)
-unfolding HasTyping IsVerified
+unfolding IsVerified
 typings walks frames codes stand cs r v n m b e f =
     let x = has_code stand cs n m b e f in
-    subst (λ c. HasTyping cs n m c) x.body (subst (λ l. HasTyping cs n l (body_of cs n x.code x.there)) x.method (code_typing walks frames codes cs r n x.code x.there (v n)))
+    subst (λ c. HasTypingOf cs n m c) x.body (subst (λ l. HasTypingOf cs n l (body_of cs n x.code x.there)) x.method (code_typing walks frames codes cs r n x.code x.there (v n)))

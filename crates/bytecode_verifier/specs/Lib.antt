@@ -14,3 +14,4 @@ pub mod Checking
 pub mod Place
 pub mod Methods
 pub mod CoreLaws
+pub mod Laws

@@ -1,9 +1,14 @@
-//! The classes that are there in every program (JVM Specification SE 8, 4.10): no rule fails in them, so that what fails stands in a
-//! file. The functions do nothing; a caller whose proof needs a law calls its function.
+//! Laws of verified programs (JVM Specification SE 8, 4.7.3, 4.7.4, 4.9.1 and 4.10): where no rule fails there are typings, and what
+//! fails first is the first failure of a typing; in the classes that are there in every program no rule fails, so that what fails
+//! stands in a file. The functions do nothing; a caller whose proof needs a law calls its function.
 ghost use Rattle.bytecode_verifier.specs.CoreLaws.{CoreIsVerified, BootIsVerified};
+ghost use Rattle.bytecode_verifier.specs.Laws.{VerifiedMeansTyped, FirstFailureMeansFirst};
 
+use bytecode_typing::the_walk_finds_a_typing;
 use class_making::laws::{items_are_few, plans_have_entries};
+use class_rules::laws::methods_have_code;
 use core_classes::laws::boot_says_plan;
+use frame_types::laws::frames_stand_at_instructions;
 use program_tables::laws::methods_stand_by_number;
 
 /// No rule fails in a method of a core class, whichever classes stand behind them, if each of these has a name.
@@ -18,5 +23,25 @@ pub fn boot_is_verified()
     items_are_few();
     plans_have_entries();
     boot_says_plan();
+    methods_stand_by_number();
+}
+
+/// No rule fails in a program exactly where each code has its form and each method has a typing.
+pub fn verified_programs_have_typings()
+    ensures { VerifiedMeansTyped }
+{
+    the_walk_finds_a_typing();
+    methods_have_code();
+    frames_stand_at_instructions();
+    methods_stand_by_number();
+}
+
+/// What fails first in a program is what fails first in the least of its methods without a typing.
+pub fn what_fails_first_is_first_of_all()
+    ensures { FirstFailureMeansFirst }
+{
+    the_walk_finds_a_typing();
+    methods_have_code();
+    frames_stand_at_instructions();
     methods_stand_by_number();
 }

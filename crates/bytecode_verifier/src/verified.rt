@@ -3,6 +3,7 @@ ghost use Rattle.std.specs.Prelude.{◌≡◌, IfOk, IfErr};
 ghost use Rattle.bytecode_typing.specs.Lawful.{Lawful};
 ghost use Rattle.bytecode_typing.specs.Typed.{Typed};
 ghost use Rattle.program_tables.specs.Resolved.{resolved};
+ghost use Rattle.well_placed.specs.WellPlaced.{WellPlaced};
 ghost use Rattle.bytecode_verifier.specs.Failure.{IsVerified, types_found};
 ghost use Rattle.bytecode_verifier.specs.Verdict.{IsFaultOf};
 
@@ -11,6 +12,7 @@ use crate::methods::first_failure;
 use bytecode_typing::{programs_with_typings_are_typed, the_walk_finds_a_typing};
 use class_rules::laws::methods_have_code;
 use frame_types::laws::frames_stand_at_instructions;
+use jop_opcodes::laws::starts_follow_one_another;
 use program_laws::laws::resolved_programs_are_lawful;
 use program_tables::laws::methods_stand_by_number;
 use resolved_program::Program;
@@ -36,20 +38,23 @@ impl Model for Verified {
 }
 
 impl Verified {
-    /// The program.
+    /// The program, which is well placed (4.7.3 and 4.9.1).
     pub fn program(&self) -> &Program
         ensures program { result.now ≡ self.now }
         ensures verified { IsVerified self.now }
+        ensures placed { WellPlaced (resolved self.now) }
     {
+        self.is_typed();
         &self.program
     }
 
-    /// The program is typed, and has what typing presupposes of a program. It does nothing; a caller whose proof needs the facts calls
-    /// it.
+    /// The program is typed and well placed, and has what typing presupposes of a program. It does nothing; a caller whose proof
+    /// needs the facts calls it.
     pub fn is_typed(&self)
         ensures verified { IsVerified self.now }
         ensures lawful { Lawful (resolved self.now) }
         ensures typed { Typed (resolved self.now) (types_found self.now) }
+        ensures placed { WellPlaced (resolved self.now) }
     {
         self.program.is_resolved();
         the_walk_finds_a_typing();
@@ -58,6 +63,7 @@ impl Verified {
         methods_stand_by_number();
         methods_have_code();
         frames_stand_at_instructions();
+        starts_follow_one_another();
     }
 }
 

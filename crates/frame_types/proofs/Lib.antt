@@ -5,3 +5,5 @@ pub mod FrameLaws
 pub mod WalkLemmas
 pub mod WorkedExamples
 pub mod FaultLaws
+pub mod GivenLemmas
+pub mod CauseLemmas

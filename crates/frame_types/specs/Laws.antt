@@ -1,5 +1,5 @@
 -- What the frames of a method are, in the standard's own words: JVM Specification SE 8, 4.7.4 and 4.10.1.4.
-use Rattle.std.specs.Prelude.{◌≡◌, ℕ, ◌+◌, ◌<◌, ◌≤◌, ◌⊎◌, true, false, List, [], ◌∷◌, ◌++◌, length, Some, None, Ok, Err, IsTrue}
+use Rattle.std.specs.Prelude.{◌≡◌, ◌↔◌, ℕ, ◌+◌, ◌<◌, ◌≤◌, ◌⊎◌, true, false, List, [], ◌∷◌, ◌++◌, length, Some, None, Ok, Err, IsTrue}
 use Rattle.std.specs.List.{AllByRecursion, list_all, list_any}
 use Rattle.lists.specs.Lists.{onto}
 use Rattle.class_pool.specs.declared.class.Code.{Code}
@@ -14,6 +14,7 @@ use Rattle.frame_types.specs.Types.{is_long, stack_words, is_this, is_start, nam
 use Rattle.frame_types.specs.Table.{entries_of}
 use Rattle.frame_types.specs.Locals.{first_locals}
 use Rattle.frame_types.specs.Frames.{frame_of, frames_from, frames_of}
+use Rattle.frame_types.specs.Given.{BreaksMap, GivesFrames}
 
 -- a Long is followed by Top
 abbrev pub AreSpaced : List VarType → Type 0
@@ -69,3 +70,13 @@ pub record FailsAtEntry (c : ClassFile) (m : Member) (k : Code) (place : ℕ) : 
 
 abbrev pub FaultLaw : Type 0
 FaultLaw = (c : ClassFile) (m : Member) (k : Code) (place : ℕ) → frames_of c m k ≡ Err place → ((place ≡ 0) × FailsAtStart c m k) ⊎ FailsAtEntry c m k place
+
+-- ---- which frames there are, and why there are none
+
+-- a method has these frames exactly where its entries give them
+abbrev pub FramesAreGiven : Type 0
+FramesAreGiven = (c : ClassFile) (m : Member) (k : Code) (f : Frames) → (frames_of c m k ≡ Ok f) ↔ GivesFrames c m k f
+
+-- the rule `map` fails at a place exactly where one of its causes holds there
+abbrev pub FaultsHaveCauses : Type 0
+FaultsHaveCauses = (c : ClassFile) (m : Member) (k : Code) (place : ℕ) → (frames_of c m k ≡ Err place) ↔ BreaksMap c m k place

@@ -1,5 +1,5 @@
 //! Laws of the definitions in `specs/`. The functions do nothing; a caller whose proof needs a law calls its function.
-ghost use Rattle.frame_types.specs.Laws.{FramesLaw, FaultLaw};
+ghost use Rattle.frame_types.specs.Laws.{FramesLaw, FaultLaw, FramesAreGiven, FaultsHaveCauses};
 ghost use Rattle.frame_types.specs.Examples.{WorkedFrames};
 
 /// The frames of a method stand at starts of its instructions, which rise, and each has all of the method's local
@@ -12,6 +12,16 @@ pub fn frames_stand_at_instructions()
 /// there is no first frame, it is 0.
 pub fn faults_stand_at_the_least_place()
     ensures { FaultLaw }
+{}
+
+/// A method has frames exactly where its entries give them, one after another.
+pub fn frames_are_given()
+    ensures { FramesAreGiven }
+{}
+
+/// The rule on the StackMapTable fails at a place exactly where one of its causes holds there.
+pub fn faults_have_causes()
+    ensures { FaultsHaveCauses }
 {}
 
 /// The frames of small methods, computed.
