@@ -5,5 +5,7 @@ pub mod FrameLaws
 pub mod WalkLemmas
 pub mod WorkedExamples
 pub mod FaultLaws
+pub mod SpellingLemmas
+pub mod TableSpelling
 pub mod GivenLemmas
 pub mod CauseLemmas

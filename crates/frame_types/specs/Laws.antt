@@ -11,7 +11,10 @@ use Rattle.frame_types.specs.declared.types.TypeFrame.{TypeFrame}
 use Rattle.frame_types.specs.declared.types.Frames.{Frames}
 use Rattle.frame_types.specs.declared.read.MapEntry.{MapEntry}
 use Rattle.frame_types.specs.Types.{is_long, stack_words, is_this, is_start, names_new}
-use Rattle.frame_types.specs.Table.{entries_of}
+use Rattle.class_pool.specs.declared.entry.Entry.{Entry}
+use Rattle.class_pool.specs.NumberLaws.{IsBytes}
+use Rattle.frame_types.specs.Table.{entries_of, table_in}
+use Rattle.frame_types.specs.Spelling.{IsTable}
 use Rattle.frame_types.specs.Locals.{first_locals}
 use Rattle.frame_types.specs.Frames.{frame_of, frames_from, frames_of}
 use Rattle.frame_types.specs.Given.{BreaksMap, GivesFrames}
@@ -80,3 +83,7 @@ FramesAreGiven = (c : ClassFile) (m : Member) (k : Code) (f : Frames) → (frame
 -- the rule `map` fails at a place exactly where one of its causes holds there
 abbrev pub FaultsHaveCauses : Type 0
 FaultsHaveCauses = (c : ClassFile) (m : Member) (k : Code) (place : ℕ) → (frames_of c m k ≡ Err place) ↔ BreaksMap c m k place
+
+-- bytes are read as a list of frames exactly where they spell it
+abbrev pub TablesAreSpelled : Type 0
+TablesAreSpelled = (pool : List Entry) (bytes : List ℕ) (es : List MapEntry) → IsBytes bytes → (table_in pool bytes ≡ Some es) ↔ IsTable pool es bytes

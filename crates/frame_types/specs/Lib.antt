@@ -3,6 +3,7 @@ pub mod Types
 pub mod Table
 pub mod Locals
 pub mod Frames
+pub mod Spelling
 pub mod Given
 pub mod Laws
 pub mod Examples

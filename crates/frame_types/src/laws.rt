@@ -1,5 +1,5 @@
 //! Laws of the definitions in `specs/`. The functions do nothing; a caller whose proof needs a law calls its function.
-ghost use Rattle.frame_types.specs.Laws.{FramesLaw, FaultLaw, FramesAreGiven, FaultsHaveCauses};
+ghost use Rattle.frame_types.specs.Laws.{FramesLaw, FaultLaw, FramesAreGiven, FaultsHaveCauses, TablesAreSpelled};
 ghost use Rattle.frame_types.specs.Examples.{WorkedFrames};
 
 /// The frames of a method stand at starts of its instructions, which rise, and each has all of the method's local
@@ -14,14 +14,16 @@ pub fn faults_stand_at_the_least_place()
     ensures { FaultLaw }
 {}
 
-/// A method has frames exactly where its entries give them, one after another.
+/// A method has frames exactly where its entries give them, one after another; and the rule on the StackMapTable fails at a
+/// place exactly where one of its causes holds there.
 pub fn frames_are_given()
-    ensures { FramesAreGiven }
+    ensures frames { FramesAreGiven }
+    ensures faults { FaultsHaveCauses }
 {}
 
-/// The rule on the StackMapTable fails at a place exactly where one of its causes holds there.
-pub fn faults_have_causes()
-    ensures { FaultsHaveCauses }
+/// Bytes are a StackMapTable of these entries exactly where they spell it.
+pub fn tables_are_spelled()
+    ensures { TablesAreSpelled }
 {}
 
 /// The frames of small methods, computed.
