@@ -1,10 +1,9 @@
 -- The frames that the entries of a StackMapTable give, or why they give none.
-use Rattle.std.proofs.Common.{◌≡◌, ℕ, zero, suc, ◌+◌, ◌-◌, ◌<◌, ◌≤◌, Bool, true, false, ◌&&◌, List, [], ◌∷◌, ◌++◌, ◌⊎◌, length, Option, Some, None, Result, Ok, Err, refl, sym, ap, ◌∙◌, subst, inl, inr, arith}
+use Rattle.std.proofs.Common.{◌≡◌, ℕ, ◌+◌, ◌<◌, ◌≤◌, Bool, true, false, ◌&&◌, List, [], ◌∷◌, ◌++◌, ◌⊎◌, Option, Some, None, Result, Ok, Err, refl, sym, ap, ◌∙◌, subst, inl, inr, arith}
 use Rattle.std.specs.Prelude.{if◌then◌else◌, ◌==◌, IfSome, Contains}
 use Rattle.std.specs.List.{list_all}
 use Rattle.std.proofs.lemmas.List.{append-nil}
 use Rattle.lists.specs.Lists.{onto}
-use Rattle.lists.specs.Lemmas.{none≢some, some_same, onto_some}
 use Rattle.descriptors.specs.declared.descriptor.Element.{Element}
 use Rattle.descriptors.specs.declared.descriptor.Element.TheVariants as elements
 use Rattle.descriptors.specs.declared.descriptor.FieldType.{FieldType}
@@ -22,7 +21,7 @@ use Rattle.frame_types.specs.declared.types.Frames.{Frames}
 use Rattle.frame_types.specs.declared.read.MapEntry.{MapEntry}
 use Rattle.frame_types.specs.Types.{stack_words, is_start, names_new}
 use Rattle.frame_types.specs.Table.{entries_of}
-use Rattle.frame_types.specs.Locals.{element_type, type_of, types_of, begins_uninitialized, this_type, this_types, first_locals}
+use Rattle.frame_types.specs.Locals.{element_type, type_of, types_of, begins_uninitialized, this_types, first_locals}
 use Rattle.frame_types.specs.Frames.{frame_of, mapped, or_fails_at, with_frames, frames_from, with_first, frames_of}
 use Rattle.frame_types.specs.Given.{IsFrame, HasNoFrame, TooManyLocals, TooDeep, NoNew, BreaksEntry, Give, BreakAt, BreaksMap, NoTable, NoTypes, NoFirst, NoEntry, GivesFrames}
 use Rattle.frame_types.specs.Laws.{FramesAreGiven, FaultsHaveCauses}

@@ -7,12 +7,11 @@ use Rattle.std.proofs.lemmas.List.{take-append-drop}
 use Rattle.std.proofs.lemmas.List.Sums.{sum_by-cons}
 use Rattle.std.proofs.Math.Seq.{take-append_seam}
 use Rattle.lists.specs.Lists.{onto}
-use Rattle.lists.specs.Lemmas.{none≢some, some_same}
 use Rattle.lists.specs.Members.{at_head, in_tail, cons_cases, nil_contains}
 use Rattle.bytecode_model.specs.Slots.{spread, padded}
 use Rattle.class_pool.specs.declared.class.Code.{Code}
 use Rattle.frame_types.specs.declared.types.VarType.{VarType}
-use Rattle.frame_types.specs.declared.types.VarType.TheVariants.{Top, Integer, Null, UninitializedThis, Object, Uninitialized, Long}
+use Rattle.frame_types.specs.declared.types.VarType.TheVariants.{Top, Uninitialized}
 use Rattle.frame_types.specs.declared.types.TypeFrame.{TypeFrame}
 use Rattle.frame_types.specs.declared.read.Change.{Change}
 use Rattle.frame_types.specs.declared.read.Change.TheVariants.{Same, OneItem, Chop, Append, Full}

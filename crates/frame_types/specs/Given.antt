@@ -1,6 +1,6 @@
 -- The frames of a method, and why it has none, in the standard's own words: JVM Specification SE 8, 4.7.4 and 4.10.1.6.
 -- Local variables are counted here as a StackMapTable counts them: a Long is one type, which takes two of them.
-use Rattle.std.specs.Prelude.{◌≡◌, ℕ, ◌+◌, ◌-◌, ◌<◌, ◌≤◌, true, false, List, [], ◌∷◌, ◌++◌, length, replicate, Option, Some, None, Contains}
+use Rattle.std.specs.Prelude.{◌≡◌, ℕ, ◌+◌, ◌-◌, ◌<◌, ◌≤◌, true, false, List, [], ◌∷◌, ◌++◌, length, replicate, Some, None, Contains}
 use Rattle.std.specs.List.{list_any}
 use Rattle.bytecode_model.specs.Slots.{spread}
 use Rattle.class_pool.specs.declared.class.Code.{Code}

@@ -1,7 +1,6 @@
 -- Well placed programs: their code is whole instructions, and control stays among these.
 use Rattle.std.proofs.Common.{◌≡◌, ℕ, ◌+◌, List, [], ◌∷◌, ◌⊎◌, Option, Some, None, refl, sym, ap, ◌∙◌, subst, inl, inr, Contains, Result, Ok, Err}
-use Rattle.std.specs.Prelude.{IsOk, IsTrue, ℤ, pos, ◌+ℤ◌}
-use Rattle.std.specs.Option.{IsSomeAnd}
+use Rattle.std.specs.Prelude.{IsOk, pos}
 use Rattle.std.specs.List.{AllByRecursion}
 use Rattle.jop_opcodes.specs.declared.instruction.Instr.{Instr}
 use Rattle.jop_opcodes.specs.declared.instruction.DecodeFault.{DecodeFault}
@@ -10,10 +9,9 @@ use Rattle.jop_opcodes.specs.Start.{first_bad, IsStart, IsFirstBad}
 use Rattle.lists.specs.Lists.{onto}
 use Rattle.lists.specs.Lemmas.{none≢some, some_in}
 use Rattle.lists.specs.Members.{cons_cases, nil_contains}
-use Rattle.bytecode_model.specs.Program.{Program, Body, body_of, as_instr}
-use Rattle.bytecode_model.specs.Rows.{Row}
+use Rattle.bytecode_model.specs.Program.{as_instr}
 use Rattle.bytecode_model.specs.Steps.{row_in}
-use Rattle.well_placed.specs.WellPlaced.{goes_on, offsets_of, LeadsToInstruction, IsWellPlacedAt, WellPlaced}
+use Rattle.well_placed.specs.WellPlaced.{offsets_of, LeadsToInstruction, IsWellPlacedAt}
 use Rattle.well_placed.specs.Laws.{CodeIsWhole, MayGoTo, ControlStays}
 
 -- ---- whole instructions

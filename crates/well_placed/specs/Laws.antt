@@ -1,5 +1,5 @@
 -- What well placed programs keep.
-use Rattle.std.specs.Prelude.{◌≡◌, ◌⊎◌, ℕ, List, Some, None, ℤ, pos, ◌+ℤ◌, IsTrue, Contains}
+use Rattle.std.specs.Prelude.{◌≡◌, ◌⊎◌, ℕ, Some, None, ℤ, pos, ◌+ℤ◌, IsTrue, Contains}
 use Rattle.std.specs.Option.{IsSomeAnd}
 use Rattle.jop_opcodes.specs.Start.{first_bad, IsStart}
 use Rattle.bytecode_model.specs.Program.{Program, Body, body_of}

@@ -1,5 +1,5 @@
 -- Well placed programs: JVM Specification SE 8, 4.7.3 (the exception table) and 4.9.1 (static constraints on instructions and on operands).
-use Rattle.std.specs.Prelude.{◌≡◌, ◌⊎◌, ℕ, ◌+◌, ◌<◌, ◌≤◌, Bool, true, false, List, [], ◌∷◌, length, map, sum_by, Option, Some, IfSome, ℤ, pos, ◌+ℤ◌, ◌<ℤ◌, IsTrue, slice_get, slice_index}
+use Rattle.std.specs.Prelude.{◌≡◌, ◌⊎◌, ℕ, ◌+◌, ◌<◌, ◌≤◌, Bool, true, false, List, [], ◌∷◌, length, map, sum_by, Some, IfSome, ℤ, pos, ◌+ℤ◌, ◌<ℤ◌, IsTrue, slice_get, slice_index}
 use Rattle.std.specs.List.{AllByRecursion}
 use Rattle.jop_opcodes.specs.declared.instruction.Instr.{Instr}
 use Rattle.jop_opcodes.specs.declared.instruction.Case.{Case}
