@@ -1,4 +1,4 @@
-"""Prints one row for `crates/test_resolving` of files that are made to cost much: python3 hostile.py NAME.
+"""Files that are made to cost much; links.py links them.
 
 cycle            33,554,432 bytes of tiny interfaces in one cycle of superinterfaces
 entries          a class whose pool has 65,534 entries, most of them methods that all name one class, one name and one descriptor
@@ -8,7 +8,6 @@ same-methods     a class of 65,535 methods of one name and descriptor: no class 
 final            a class of 65,517 final methods of one name, and a subclass of as many of that name, each with another descriptor
 hidden           the same with the same descriptors, where the final methods are private and so aren't overridden
 """
-import sys
 from refusals import Maker, u1, u2, u4, PUBLIC, SUPER, INTERFACE, ABSTRACT, FINAL, PRIVATE, good
 
 def interface(name, upper):
@@ -56,6 +55,6 @@ def same_methods():
 def final(): return [good(), many(Maker('B'), PUBLIC | FINAL, b'\xb1'), many(Maker('C', superclass='B'), PUBLIC, b'\xb1', 70000)]
 def hidden(): return [good(), many(Maker('B'), PRIVATE | FINAL, b'\xb1'), many(Maker('C', superclass='B'), PUBLIC, b'\xb1')]
 
-made = {'cycle': cycle, 'entries': entries, 'entries-in-a-ring': entries_in_a_ring, 'methods': methods, 'same-methods': same_methods, 'final': final, 'hidden': hidden}
-files = [f if isinstance(f, bytes) else f.bytes() for f in made[sys.argv[1]]()]
-print(sys.argv[1], 'A', ' '.join(f.hex() for f in files))
+MADE = {'cycle': cycle, 'entries': entries, 'entries-in-a-ring': entries_in_a_ring, 'methods': methods, 'same-methods': same_methods, 'final': final, 'hidden': hidden}
+
+def files_of(which): return [f if isinstance(f, bytes) else f.bytes() for f in MADE[which]()]
