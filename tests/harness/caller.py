@@ -1,7 +1,6 @@
 """Calls of the built program, each in a folder of its own, and what came of them."""
 import fcntl
 import os
-import resource
 import subprocess
 import threading
 import time
@@ -63,15 +62,8 @@ class Caller:
         given, giver = source_of(streams, self.folder)
         out, out_reader = sink_of(streams.out)
         err, err_reader = sink_of(streams.err)
-        closed = [number for number, stream in enumerate([streams.source, streams.out, streams.err]) if stream == 'closed']
-
-        def prepare():
-            for number in closed:
-                os.close(number)
-            if room is not None:
-                resource.setrlimit(resource.RLIMIT_AS, (room, room))
-
-        ran = subprocess.Popen([self.program, *words], cwd=self.folder, stdin=given, stdout=out, stderr=err, preexec_fn=prepare)
+        command = ['sh', '-c', bound_of(room) + 'exec "$0" "$@"' + closings(streams), self.program, *words]
+        ran = subprocess.Popen(command, cwd=self.folder, stdin=given, stdout=out, stderr=err)
         for number in {given, out, err}:
             os.close(number)
         try:
@@ -79,6 +71,16 @@ class Caller:
             return Answer(ran.wait(SECONDS), out_reader(), err_reader())
         finally:
             ran.kill()
+
+
+def bound_of(room):
+    """how the shell bounds the address space"""
+    return 'ulimit -v %d; ' % (room // 1024) if room is not None else ''
+
+
+def closings(streams):
+    """what the shell says of streams that are closed"""
+    return ''.join(text for stream, text in ((streams.source, ' <&-'), (streams.out, ' >&-'), (streams.err, ' 2>&-')) if stream == 'closed')
 
 
 def source_of(streams, folder):
