@@ -74,9 +74,7 @@ impl Walk {
         loops: &[BoundedLoop<'_>],
         node: u32,
     ) -> Result<Option<Walk>, AllocError> {
-        let mut cost = self
-            .cost
-            .saturating_add(u128::from(cost_of(problem, node)));
+        let mut cost = self.cost.saturating_add(u128::from(cost_of(problem, node)));
         let mut iterations_left = Vec::new(alloc);
         for (l, left) in loops.iter().zip(&self.iterations_left) {
             let is_header = node == l.header;
@@ -101,6 +99,7 @@ impl Walk {
 }
 
 /// What all walks to an exit come to.
+#[derive(Clone, Copy)]
 enum Greatest {
     /// What the greatest costs.
     Value(u128),
