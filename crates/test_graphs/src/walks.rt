@@ -148,8 +148,12 @@ fn show_solved(rt: &HostRuntime, problem: &Problem, nest: &Nest) -> io::Result<(
         .collect(rt.alloc())?;
     match longest(rt.alloc(), g, nest, costs, bounds, &loads) {
         Ok(Some(solved)) => {
+            let fitting: Vec<Option<u64>> = loads
+                .iter()
+                .map(|load| Some(*load))
+                .collect(rt.alloc())?;
             let (value, section) = (solved.value(), solved.section());
-            let shown = check_section(g, costs, bounds, &problem.loads, section);
+            let shown = check_section(g, costs, bounds, &fitting, section);
             println!(rt; "  longest {value}, accepted {}", shown == Ok(Some(value)))
         }
         Ok(None) => println!(rt; "  longest none"),
