@@ -5,7 +5,7 @@ import subprocess
 import threading
 import time
 
-SECONDS = 60
+SECONDS = 600
 # How a slow stream goes: the seconds between two pieces, and the bytes of a piece that is read.
 PAUSE, PIECE = 0.001, 64
 # What Linux calls the request that sets the bytes that a pipe holds.

@@ -1,9 +1,10 @@
-"""The programs of a table run once more by others: by the plain simulator of the machine, and on a Java virtual machine."""
+"""The programs and the instructions of two tables, run once more by others: by the plain simulator of the machine, and on a Java virtual machine."""
 import os
 import shutil
 import subprocess
 
 import calls
+from bytecode import Assembler
 from class_files import Reader
 from table import Case
 
@@ -12,20 +13,20 @@ TOP = os.path.join(HERE, '../..')
 MICROCODE = os.path.join(TOP, 'examples/machine/microcode.asm')
 SETTINGS = ['--stack', '--memory', '--blocks', '--block-words', '--read', '--write', '--cycles']
 DEFAULTS = ['1024', '262144', '16', '64', '1', '2', '1000000000']
-SECONDS = 60
+SECONDS = 600
 
 
 def cases_by_others(cases, room):
     """the cases that others run too, and a line for each tool that is missing"""
     run = [case for case in cases if case.name.startswith('programs:') and is_run(case)]
+    rows = [case for case in cases if case.name.startswith('instructions:')]
     found, missing = [], []
-    if not run:
-        return found, missing
-    for tool, make in (('gcc', plain_cases), ('javac', java_cases)):
-        if shutil.which(tool) and (tool == 'gcc' or shutil.which('java')):
-            found += make(run, room)
-        else:
-            missing.append('tests: %s is missing, so no program is run by %s' % (tool, 'the plain simulator' if tool == 'gcc' else 'a Java virtual machine'))
+    for tools, other, make in ((['gcc'], 'the plain simulator', plain_cases), (['java', 'javac'], 'a Java virtual machine', java_cases)):
+        lost = [tool for tool in tools if not shutil.which(tool)]
+        if lost:
+            missing.append('tests: %s is missing, so nothing is run by %s' % (' and '.join(lost), other))
+        elif run or rows:
+            found += make(run, rows, room)
     return found, missing
 
 
@@ -34,20 +35,32 @@ def is_run(case):
     return runs_in(case) > 0 and case.rows[0].startswith('link ') and not any(' -> 2,' in line for line in case.wanted)
 
 
-def plain_cases(cases, room):
+def plain_cases(cases, rows, room):
     """the cases for the plain simulator, which is compiled first"""
+    if not cases:
+        return []
     program = os.path.join(room, 'plain')
     subprocess.run(['gcc', '-O2', '-o', program, os.path.join(HERE, '../expected/plain.c')], check=True)
     return [Case('plain ' + case.name, case.rows, ['as by jop'] * runs_in(case), Plain(program)) for case in cases]
 
 
-def java_cases(cases, room):
-    """the cases for a Java virtual machine; classes by hand, all of which have the name A, are none of them"""
-    classes = os.path.join(room, 'java')
-    source = os.path.join(TOP, 'examples/controller/jop/Io.java')
-    subprocess.run(['javac', '--release', '8', '-nowarn', '-Xlint:-options', '-d', classes, source], check=True)
+def java_cases(cases, rows, room):
+    """the cases for a Java virtual machine; programs by hand, all of which have the name A, are none of them"""
+    classes = compiled(room, 'io', os.path.join(TOP, 'examples/controller/jop/Io.java'))
     run = [case for case in cases if '--main A ' not in case.rows[0]]
-    return [Case('java ' + case.name, case.rows, ['as by jop'] * runs_in(case), Java(classes)) for case in run]
+    found = [Case('java ' + case.name, case.rows, ['as by jop'] * runs_in(case), Java(classes)) for case in run]
+    if rows:
+        folder = os.path.join(HERE, '../expected/java')
+        classes = compiled(room, 'rows', *(os.path.join(folder, name) for name in ('Rows.java', 'jop/Io.java')))
+        found.append(Case('java instructions', [case.rows[0] for case in rows], [line for case in rows for line in case.wanted], JavaRows(classes)))
+    return found
+
+
+def compiled(room, name, *sources):
+    """the folder into which javac puts the classes of these sources"""
+    classes = os.path.join(room, name)
+    subprocess.run(['javac', '--release', '8', '-nowarn', '-Xlint:-options', '-d', classes, *sources], check=True)
+    return classes
 
 
 def runs_in(case):
@@ -105,6 +118,21 @@ class Java(Other):
 
     def seen(self, answer):
         return answer.out
+
+
+class JavaRows:
+    """a Java virtual machine that runs the codes of all rows: what each puts out, and how it ends"""
+
+    def __init__(self, classes):
+        self.classes = classes
+
+    def answer(self, caller, rows):
+        for number, row in enumerate(rows):
+            caller.put('%d/A.class' % number, Assembler().assembled(row.split(' ')[1:]))
+        words = ['java', '-Xmx64m', '-XX:+UseSerialGC', '-XX:TieredStopAtLevel=1', '-cp', self.classes, 'Rows', caller.folder, str(len(rows))]
+        ran = subprocess.run(words, capture_output=True, timeout=SECONDS)
+        for row, line in zip(rows, ran.stdout.decode().splitlines()):
+            yield '%s: %s' % (row.split(' ')[0], line)
 
 
 def class_name(data):
