@@ -1,0 +1,5 @@
+mod Leading
+mod Shaping
+mod Walking
+mod Tabling
+mod Kinding

@@ -1,0 +1,25 @@
+-- What a node of a method takes by itself, the methods that it runs and their loads apart.
+use Rattle.std.specs.Prelude.{ℕ, length}
+use Rattle.std.specs.Option.{IsSomeAnd}
+use Rattle.micro_flow.specs.declared.CostParams.{CostParams}
+use Rattle.micro_flow.specs.Walk.{IsCost, IsRaiseCost}
+use Rattle.jop_opcodes.specs.Bytes.{u1}
+use Rattle.bytecode_model.specs.Program.{Program, body_of, instr_at}
+use Rattle.method_flow.specs.Nodes.{Node, At, RaiseAt}
+
+-- the cycles that a read and a write of main memory wait, and the blocks of the method cache with their words
+pub record Timing : Type 0 where
+  pub read : ℕ
+  pub write : ℕ
+  pub blocks : ℕ
+  pub block_words : ℕ
+
+-- what a walk of the microcode depends on: the waits, the pairs of a lookup switch, and the entries of an exception table
+abbrev pub params : Timing → (pairs entries : ℕ) → CostParams
+params t pairs entries = record { r = t.read; w = t.write; pairs = pairs; entries = entries }
+
+-- The greatest number of cycles of the microcode of the opcode at the instruction's place, or of one raise step over the method's exception table, where each
+-- look-up of the method cache hits.
+abbrev pub IsOwnCost : Program → Timing → (method : ℕ) → Node → ℕ → Type 0
+IsOwnCost P t m (At p) c = IsSomeAnd (body_of P m) (λ b. IsSomeAnd (instr_at P m p) (λ i. IsCost (u1 b.code p) (params t i.count 0) c))
+IsOwnCost P t m (RaiseAt p) c = IsSomeAnd (body_of P m) (λ b. IsRaiseCost (params t 0 (length b.handlers)) c)

@@ -1,0 +1,12 @@
+pub mod Nodes
+pub mod Calls
+pub mod Live
+pub mod Kinds
+pub mod Shapes
+pub mod Walks
+pub mod Graphs
+pub mod Compact
+pub mod Regions
+pub mod Costs
+pub mod Keeping
+pub mod Examples
