@@ -3,3 +3,4 @@ mod Shaping
 mod Walking
 mod Tabling
 mod Kinding
+mod Examples

@@ -1,11 +1,10 @@
 -- Worked examples of graphs of methods.
-use Rattle.std.specs.Prelude.{◌≡◌, ℕ, true, false, ◌==◌, not, List, [], ◌∷◌, Contains, Option, Some, None}
+use Rattle.std.specs.Prelude.{◌≡◌, ℕ, true, false, ◌==◌, not, List, [], ◌∷◌, Contains, slice_index_or, Option, Some, None}
 use Rattle.bytecode_model.specs.Program.{Program, Method, Handler, Operand, NoOperand, AMethod}
 use Rattle.bytecode_model.specs.Examples as model
-use Rattle.method_flow.specs.Nodes.{Node, At, RaiseAt, number_of, IsEdge, IsExit}
+use Rattle.method_flow.specs.Nodes.{Node, At, RaiseAt, number_of, IsEdge, IsExit, IsReached}
 use Rattle.method_flow.specs.Calls.{IsCall, targets_of}
 use Rattle.method_flow.specs.Live.{CanEnd, IsLiveEdge}
-use Rattle.method_flow.specs.Graphs.{IsReached}
 use Rattle.method_flow.specs.Regions.{IsWithin}
 
 -- ---- a sample program, over the sample classes of the meaning of bytecode; 7 is the interface and 9 the class that implements it
@@ -55,21 +54,15 @@ methods =
     ∷ []
 
 -- what the instructions of each method name
-abbrev pub operands : ℕ → Operand
-operands 0 = AMethod 8 1
-operands 3 = AMethod 8 2
-operands 4 = AMethod 8 5
-operands 5 = AMethod 8 4
-operands 6 = AMethod 8 2
-operands 7 = AMethod 7 8
-operands m = NoOperand
+abbrev pub operands : List Operand
+operands = AMethod 8 1 ∷ NoOperand ∷ NoOperand ∷ AMethod 8 2 ∷ AMethod 8 5 ∷ AMethod 8 4 ∷ AMethod 8 2 ∷ AMethod 7 8 ∷ []
 
 -- method 9 is selected for method 8 where the receiver is of class 9
 abbrev pub selects : ℕ → ℕ → Option ℕ
 selects receiver m = elim (receiver == 9) [ true ↦ Some 9 | false ↦ None ]
 
 abbrev pub sample : Program
-sample = record (model.sample methods NoOperand) { operand = λ m pc. operands m; is_concrete = λ c. not (c == 7); select = selects }
+sample = record (model.sample methods NoOperand) { operand = λ m pc. slice_index_or operands m NoOperand; is_concrete = λ c. not (c == 7); select = selects }
 
 -- ---- node by node
 

@@ -3,13 +3,8 @@ use Rattle.std.specs.Prelude.{◌≡◌, ◌↔◌, ℕ, ◌*◌, length, Contai
 use Rattle.std.specs.Option.{IsSomeAnd}
 use Rattle.loop_nest.specs.Digraph.{Digraph, IsDigraph, Edge}
 use Rattle.bytecode_model.specs.Program.{Program, body_of}
-use Rattle.method_flow.specs.Nodes.{Node, At, number_of, IsEdge, IsExit}
+use Rattle.method_flow.specs.Nodes.{Node, number_of, IsEdge, IsExit, IsReached}
 use Rattle.method_flow.specs.Live.{IsLiveEdge}
-
--- the nodes that these edges reach from the first instruction
-pub data IsReached (IsEdgeIn : Node → Node → Type 0) : Node → Type 0 where
-  first : IsReached IsEdgeIn (At 0)
-  later : {u v : Node} → IsReached IsEdgeIn u → IsEdgeIn u v → IsReached IsEdgeIn v
 
 -- an edge between nodes of these numbers, the source of which is reached
 pub record IsReachedEdge (IsEdgeIn : Node → Node → Type 0) (u v : ℕ) : Type 0 where

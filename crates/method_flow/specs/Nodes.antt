@@ -69,3 +69,10 @@ IsReturn r = ⊥
 abbrev pub IsExit : Program → (method : ℕ) → Node → Type 0
 IsExit P m (At p) = OnRow P m p (λ next r. IsReturn r)
 IsExit P m (RaiseAt p) = Unit {0}
+
+-- ---- reach
+
+-- the nodes that some edges reach from the first instruction
+pub data IsReached (IsEdgeIn : Node → Node → Type 0) : Node → Type 0 where
+  first : IsReached IsEdgeIn (At 0)
+  later : {u v : Node} → IsReached IsEdgeIn u → IsEdgeIn u v → IsReached IsEdgeIn v

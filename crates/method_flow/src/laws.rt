@@ -1,5 +1,6 @@
 //! Laws of the definitions in `specs/`. The functions do nothing; a caller whose proof needs a law calls its function.
 
+ghost use Rattle.method_flow.specs.Examples.{WorkedExamples};
 ghost use Rattle.method_flow.specs.Kinds.{CallsAreInvokes, RowsAreOfTheirKinds};
 ghost use Rattle.method_flow.specs.Shapes.{StepsHaveShapes};
 ghost use Rattle.method_flow.specs.Walks.{CallersRaise, CallersReturn, DropsAreExits, EndingIsAWalk, MovesAreLive, ReturnsAreExits};
@@ -40,3 +41,8 @@ pub fn calls_are_invokes()
 {
     jop_opcodes::laws::instructions_are_read();
 }
+
+/// Graphs that were worked out by hand.
+pub fn worked_examples()
+    ensures { WorkedExamples }
+{}

@@ -1,0 +1,175 @@
+-- The worked examples, by computing.
+use Rattle.std.proofs.Common.{◌≡◌, ◌⊎◌, ℕ, ◌+◌, ◌<◌, ◌≤◌, Bool, true, false, List, [], ◌∷◌, length, Contains, ℤ, pos, ◌+ℤ◌, refl, sym, ap, ◌∙◌, subst, inl, inr, arith}
+use Rattle.std.specs.Int.{int_wrap}
+use Rattle.jop_opcodes.specs.declared.instruction.Case.{Case}
+use Rattle.jop_opcodes.specs.Instruction.{decoded}
+use Rattle.jop_opcodes.specs.Row as opcodes
+use Rattle.jop_opcodes.specs.Start.{starts_of}
+use Rattle.bytecode_model.specs.Program.{Program, Handler}
+use Rattle.bytecode_model.specs.Table.{row_of}
+use Rattle.lists.specs.Members.{at_head, in_tail, cons_cases, nil_contains}
+use Rattle.method_flow.specs.Nodes.{Node, At, RaiseAt, IsEdge, IsExit, IsHandled}
+use Rattle.method_flow.specs.Calls.{IsCall, IsTarget}
+use Rattle.method_flow.specs.Live.{CanEnd, EndsFrom, IsLiveEdge}
+use Rattle.method_flow.specs.Live.CanEnd.{ends}
+use Rattle.method_flow.specs.Live.EndsFrom.{here, along, behind}
+use Rattle.method_flow.specs.Examples.{sample, catch_all, LeadsToEach, GoesTo, SynchronizedLoop, Calling, CallOfEndless, EndlessRecursion, WorkedExamples}
+
+-- ---- places
+
+place_only : (n q : ℕ) → q ≡ n → Contains (At n ∷ []) (At q)
+place_only n q e = subst (λ (x : ℕ). Contains (At n ∷ []) (At x)) (sym e) (at_head (At n) [])
+
+place_first : (n : ℕ) (v : Node) (q : ℕ) → q ≡ n → Contains (At n ∷ v ∷ []) (At q)
+place_first n v q e = subst (λ (x : ℕ). Contains (At n ∷ v ∷ []) (At x)) (sym e) (at_head (At n) (v ∷ []))
+
+place_second : (v : Node) (n q : ℕ) → q ≡ n → Contains (v ∷ At n ∷ []) (At q)
+place_second v n q e = in_tail v (At q) (At n ∷ []) (place_only n q e)
+
+raise_only : (n q : ℕ) → q ≡ n → Contains (RaiseAt n ∷ []) (RaiseAt q)
+raise_only n q e = subst (λ (x : ℕ). Contains (RaiseAt n ∷ []) (RaiseAt x)) (sym e) (at_head (RaiseAt n) [])
+
+raise_second : (v : Node) (n q : ℕ) → q ≡ n → Contains (v ∷ RaiseAt n ∷ []) (RaiseAt q)
+raise_second v n q e = in_tail v (RaiseAt q) (RaiseAt n ∷ []) (raise_only n q e)
+
+at_offset : (n q : ℕ) → pos n ≡ pos q → q ≡ n
+at_offset n q e = cc
+
+never : false ≡ true → ⊥
+never e = absurd (cc)
+
+-- ---- the nodes of the loop
+
+covered : (h : Handler) (hs : List Handler) (p q : ℕ) → IsHandled (h ∷ hs) p q → ((h.start ≤ p) × (p < h.end) × (q ≡ h.target)) ⊎ IsHandled hs p q
+covered h hs p q x =
+    elim (cons_cases h x.entry hs x.among) [
+      | inl same ↦
+          let K : Handler → Type 0 = λ e. (e.start ≤ p) × (p < e.end) × (q ≡ e.target) in
+          let at : K x.entry = (x.from, x.to, sym x.handler) in
+          inl (subst K (sym same) at)
+      | inr there ↦ inr (record { entry = x.entry; among = there; from = x.from; to = x.to; handler = x.handler })
+    ]
+
+uncovered : (p q : ℕ) → IsHandled [] p q → ⊥
+uncovered p q x = nil_contains x.entry x.among
+
+-- the node leads to these instructions and raise steps
+goes : (u : Node) (vs : List Node) → LeadsToEach sample 0 u vs → ((q : ℕ) → IsEdge sample 0 u (At q) → Contains vs (At q)) → ((q : ℕ) → IsEdge sample 0 u (RaiseAt q) → Contains vs (RaiseAt q))
+    → GoesTo sample 0 u vs
+goes u vs each on raises = record { each = each; no_other = by }
+  where
+    by : (v : Node) → IsEdge sample 0 u v → Contains vs v
+    by (At q) e = on q e
+    by (RaiseAt q) e = raises q e
+
+abbrev case : Case
+case = record { key = pos 0; offset = pos 25 }
+
+switch_leads : (q : ℕ) → (pos 20 ≡ pos q) ⊎ ((c : Case) × Contains (case ∷ []) c × (pos 1 +ℤ c.offset ≡ pos q)) → Contains (At 20 ∷ At 26 ∷ []) (At q)
+switch_leads q (inl e) = place_first 20 (At 26) q (at_offset 20 q e)
+switch_leads q (inr found) =
+    elim (cons_cases case found.0 [] found.1) [
+      | inl same ↦ place_second (At 20) 26 q (at_offset 26 q (ap (λ (c : Case). pos 1 +ℤ c.offset) same ∙ found.2))
+      | inr there ↦ absurd (nil_contains found.0 there)
+    ]
+
+-- the handler of the invoke covers it alone, and the other one from place 30 to 32
+handled : (p q : ℕ) → (p < 33) → IsHandled (catch_all 26 29 30 ∷ catch_all 30 33 30 ∷ []) p q → q ≡ 30
+handled p q below h =
+    elim (covered (catch_all 26 29 30) (catch_all 30 33 30 ∷ []) p q h) [
+      | inl covers ↦ covers.2
+      | inr other ↦
+          elim (covered (catch_all 30 33 30) [] p q other) [
+            | inl there ↦ there.2
+            | inr none ↦ absurd (uncovered p q none)
+          ]
+    ]
+
+unhandled : (p q : ℕ) → 33 ≤ p → IsHandled (catch_all 26 29 30 ∷ catch_all 30 33 30 ∷ []) p q → ⊥
+unhandled p q above h =
+    elim (covered (catch_all 26 29 30) (catch_all 30 33 30 ∷ []) p q h) [
+      | inl covers ↦ let to = covers.1 in omega arith
+      | inr other ↦
+          elim (covered (catch_all 30 33 30) [] p q other) [
+            | inl there ↦ let to = there.1 in omega arith
+            | inr none ↦ uncovered p q none
+          ]
+    ]
+
+by_handler : (entry : Handler) (p : ℕ) → Contains (catch_all 26 29 30 ∷ catch_all 30 33 30 ∷ []) entry → entry.start ≤ p → p < entry.end → IsHandled (catch_all 26 29 30 ∷ catch_all 30 33 30 ∷ []) p entry.target
+by_handler entry p among from to = record { entry = entry; among = among; from = from; to = to; handler = refl }
+
+synchronized_loop : SynchronizedLoop
+unfolding decoded opcodes.row_of row_of int_wrap
+synchronized_loop = record {
+  load = goes (At 0) (At 1 ∷ []) (refl, tt) (λ q e. place_only 1 q e) (λ q e. absurd (never e.1));
+  switch = goes (At 1) (At 20 ∷ At 26 ∷ []) (inl refl, (inr (case, at_head case [], refl), tt)) (λ q e. switch_leads q e) (λ q e. absurd (never e.1));
+  increment = goes (At 20) (At 23 ∷ []) (refl, tt) (λ q e. place_only 23 q e) (λ q e. absurd (never e.1));
+  back = goes (At 23) (At 0 ∷ []) (refl, tt) (λ q e. place_only 0 q (at_offset 0 q e)) (λ q e. absurd (never e.1));
+  call = goes (At 26) (At 29 ∷ RaiseAt 26 ∷ []) (refl, ((refl, refl), tt)) (λ q e. place_first 29 (RaiseAt 26) q e) (λ q e. raise_second (At 29) 26 q e.0);
+  return = goes (At 29) [] tt (λ q e. absurd e) (λ q e. absurd (never e.1));
+  call_raises = goes (RaiseAt 26) (At 30 ∷ []) (by_handler (catch_all 26 29 30) 26 (at_head (catch_all 26 29 30) (catch_all 30 33 30 ∷ [])) (omega arith) (omega arith), tt) (λ q e. place_only 30 q (handled 26 q (omega arith) e)) (λ q e. absurd e);
+  handler = goes (At 30) (At 31 ∷ []) (refl, tt) (λ q e. place_only 31 q e) (λ q e. absurd (never e.1));
+  monitor = goes (At 31) (At 32 ∷ []) (refl, tt) (λ q e. place_only 32 q e) (λ q e. absurd (never e.1));
+  exit_monitor = goes (At 32) (At 33 ∷ RaiseAt 32 ∷ []) (refl, ((refl, refl), tt)) (λ q e. place_first 33 (RaiseAt 32) q e) (λ q e. raise_second (At 33) 32 q e.0);
+  exit_raises = goes (RaiseAt 32) (At 30 ∷ []) (by_handler (catch_all 30 33 30) 32 (in_tail (catch_all 26 29 30) (catch_all 30 33 30) (catch_all 30 33 30 ∷ []) (at_head (catch_all 30 33 30) [])) (omega arith) (omega arith), tt) (λ q e. place_only 30 q (handled 32 q (omega arith) e)) (λ q e. absurd e);
+  object = goes (At 33) (At 34 ∷ []) (refl, tt) (λ q e. place_only 34 q e) (λ q e. absurd (never e.1));
+  throw = goes (At 34) (RaiseAt 34 ∷ []) ((refl, refl), tt) (λ q e. absurd e) (λ q e. raise_only 34 q e.0);
+  throw_raises = goes (RaiseAt 34) [] tt (λ q e. absurd (unhandled 34 q (omega arith) e)) (λ q e. absurd e);
+  return_is_exit = tt;
+  raise_is_exit = tt;
+  throw_is_none = λ x. x;
+  number_of_call = refl;
+  number_of_raise = refl;
+}
+
+-- ---- calls
+
+calling : Calling
+unfolding decoded opcodes.row_of row_of int_wrap
+calling = record { fixed = refl; selected = refl; is_call = refl; is_none = never }
+
+endless : {u : Node} → EndsFrom sample 2 u → u ≡ At 0 → ⊥
+unfolding decoded opcodes.row_of row_of int_wrap
+endless (here {m} {u} exit) at = subst (λ (v : Node). IsExit sample 2 v) at exit
+endless (along {m} {u} {v} edge free more) at = endless more (only v (subst (λ (x : Node). IsEdge sample 2 x v) at edge))
+  where
+    only : (w : Node) → IsEdge sample 2 (At 0) w → w ≡ At 0
+    only (At q) e = ap At (at_offset 0 q e)
+    only (RaiseAt q) e = absurd (never e.1)
+endless (behind {m} {t} {p} {q} edge target ended more) at =
+    let here_at : IsTarget sample 2 0 t = subst (λ (x : ℕ). IsTarget sample 2 x t) (place p 0 at) target in
+    nil_contains t here_at
+  where
+    place : (a b : ℕ) → At a ≡ At b → a ≡ b
+    place a b e = cc
+
+cannot_end : CanEnd sample 2 → ⊥
+cannot_end (ends e) = endless e refl
+
+call_of_endless : CallOfEndless
+unfolding decoded opcodes.row_of row_of int_wrap
+call_of_endless = record {
+  endless = cannot_end;
+  edge = refl;
+  not_live = λ live. let on = live.goes_on refl in cannot_end (subst (CanEnd sample) (only on.0 on.1) on.2);
+  raises = record { edge = (refl, refl); goes_on = tt };
+  can_end = ends (along {v = RaiseAt 0} (refl, refl) (λ none. none) (here tt));
+}
+  where
+    only : (t : ℕ) → Contains (2 ∷ []) t → t ≡ 2
+    only t c = elim (cons_cases 2 t [] c) [ inl same ↦ sym same | inr there ↦ absurd (nil_contains t there) ]
+
+raises_first : (m : ℕ) → IsEdge sample m (At 0) (RaiseAt 0) → CanEnd sample m
+raises_first m edge = ends (along {v = RaiseAt 0} edge (λ none. none) (here tt))
+
+endless_recursion : EndlessRecursion
+unfolding decoded opcodes.row_of row_of int_wrap
+endless_recursion = record {
+  first = raises_first 4 (refl, refl);
+  second = raises_first 5 (refl, refl);
+  goes_on = record { edge = refl; goes_on = λ call. (5, at_head 5 [], raises_first 5 (refl, refl)) };
+}
+
+pub worked : WorkedExamples
+worked = record { synchronized_loop = synchronized_loop; calling = calling; call_of_endless = call_of_endless; endless_recursion = endless_recursion }
