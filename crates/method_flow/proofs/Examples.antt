@@ -8,12 +8,15 @@ use Rattle.jop_opcodes.specs.Start.{starts_of}
 use Rattle.bytecode_model.specs.Program.{Program, Handler}
 use Rattle.bytecode_model.specs.Table.{row_of}
 use Rattle.lists.specs.Members.{at_head, in_tail, cons_cases, nil_contains}
-use Rattle.method_flow.specs.Nodes.{Node, At, RaiseAt, IsEdge, IsExit, IsHandled}
-use Rattle.method_flow.specs.Calls.{IsCall, IsTarget}
+use Rattle.method_flow.specs.Nodes.{Node, At, RaiseAt, IsEdge, IsExit, IsHandled, IsReached}
+use Rattle.method_flow.specs.Nodes.IsReached.{first, later}
+use Rattle.method_flow.specs.Calls.{IsCall, IsStartOf, IsTarget}
 use Rattle.method_flow.specs.Live.{CanEnd, EndsFrom, IsLiveEdge}
 use Rattle.method_flow.specs.Live.CanEnd.{ends}
 use Rattle.method_flow.specs.Live.EndsFrom.{here, along, behind}
-use Rattle.method_flow.specs.Examples.{sample, catch_all, LeadsToEach, GoesTo, SynchronizedLoop, Calling, CallOfEndless, EndlessRecursion, WorkedExamples}
+use Rattle.method_flow.specs.Regions.{IsWithin}
+use Rattle.method_flow.specs.Regions.IsWithin.{itself, calls}
+use Rattle.method_flow.specs.Examples.{sample, catch_all, LeadsToEach, GoesTo, SynchronizedLoop, Calling, CallOfEndless, EndlessRecursion, DeadCall, WorkedExamples}
 
 -- ---- places
 
@@ -171,5 +174,61 @@ endless_recursion = record {
   goes_on = record { edge = refl; goes_on = λ call. (5, at_head 5 [], raises_first 5 (refl, refl)) };
 }
 
+-- ---- a call that is dead
+
+reached_first : {v : Node} → IsReached (IsEdge sample 6) v → v ≡ At 0
+unfolding decoded opcodes.row_of row_of int_wrap
+reached_first first = refl
+reached_first (later {u} {v} reached edge) = absurd (none v (subst (λ (x : Node). IsEdge sample 6 x v) (reached_first reached) edge))
+  where
+    none : (w : Node) → IsEdge sample 6 (At 0) w → ⊥
+    none (At q) e = e
+    none (RaiseAt q) e = never e.1
+
+-- of methods without invokes, each is alone within itself
+alone : (m : ℕ) → ((p : ℕ) → IsStartOf sample m p → IsCall sample m p → ⊥) → {x : ℕ} → IsWithin sample m x → x ≡ m
+alone m none itself = refl
+alone m none (calls p start call target more) = absurd (none p start call)
+
+one_start : (p : ℕ) → Contains (0 ∷ []) p → p ≡ 0
+one_start p c = elim (cons_cases 0 p [] c) [ inl same ↦ sym same | inr there ↦ absurd (nil_contains p there) ]
+
+no_call_in_endless : (p : ℕ) → IsStartOf sample 2 p → IsCall sample 2 p → ⊥
+unfolding decoded opcodes.row_of row_of int_wrap starts_of
+no_call_in_endless p start call = never (subst (λ (x : ℕ). IsCall sample 2 x) (one_start p start) call)
+
+within_dead : {x : ℕ} → IsWithin sample 6 x → (x ≡ 6) ⊎ (x ≡ 2)
+unfolding decoded opcodes.row_of row_of int_wrap starts_of
+within_dead itself = inl refl
+within_dead (calls {m} {t} {x} p start call target more) =
+    elim (cons_cases 0 p (1 ∷ 4 ∷ []) start) [
+      | inl at_0 ↦ absurd (never (subst (λ (q : ℕ). IsCall sample 6 q) (sym at_0) call))
+      | inr behind_it ↦
+          elim (cons_cases 1 p (4 ∷ []) behind_it) [
+            | inl at_1 ↦
+                let same : t ≡ 2 = target_is (subst (λ (q : ℕ). IsTarget sample 6 q t) (sym at_1) target) in
+                inr (alone 2 no_call_in_endless (subst (λ (y : ℕ). IsWithin sample y x) same more))
+            | inr last ↦
+                elim (cons_cases 4 p [] last) [
+                  | inl at_4 ↦ absurd (never (subst (λ (q : ℕ). IsCall sample 6 q) (sym at_4) call))
+                  | inr none ↦ absurd (nil_contains p none)
+                ]
+          ]
+    ]
+  where
+    target_is : Contains (2 ∷ []) t → t ≡ 2
+    target_is c = elim (cons_cases 2 t [] c) [ inl same ↦ sym same | inr there ↦ absurd (nil_contains t there) ]
+
+dead_call : DeadCall
+unfolding decoded opcodes.row_of row_of int_wrap starts_of
+dead_call = record {
+  not_reached = λ reached. let bad = reached_first reached in other bad;
+  within = calls 1 (in_tail 0 1 (1 ∷ 4 ∷ []) (at_head 1 (4 ∷ []))) refl (at_head 2 []) itself;
+  no_other = λ within. elim (within_dead within) [ inl six ↦ absurd (omega arith) | inr two ↦ absurd (omega arith) ];
+}
+  where
+    other : At 1 ≡ At 0 → ⊥
+    other e = absurd (cc)
+
 pub worked : WorkedExamples
-worked = record { synchronized_loop = synchronized_loop; calling = calling; call_of_endless = call_of_endless; endless_recursion = endless_recursion }
+worked = record { synchronized_loop = synchronized_loop; calling = calling; call_of_endless = call_of_endless; endless_recursion = endless_recursion; dead_call = dead_call }
