@@ -1,0 +1,70 @@
+-- Where an activation keeps the bounds of loops, all stays within its own do.
+use Rattle.std.proofs.Common.{◌≡◌, ℕ, suc, List, [], ◌∷◌, ◌++◌, length, Some, refl, sym, ap, ◌∙◌, subst, arith}
+use Rattle.std.proofs.lemmas.List.{append_assoc}
+use Rattle.std.specs.List.{flat_map}
+use Rattle.bytecode_model.specs.State.{Frame}
+use Rattle.machine_stands.specs.Comes.{top_method}
+use Rattle.method_flow.specs.Shapes.{Enters}
+use Rattle.method_flow.specs.Keeping.{BoundOf, WalkKeeps}
+use Rattle.activations.specs.Setting.{Setting}
+use Rattle.activations.specs.Activations.{Stage, Follows, depth, StaysAbove, IsActivation}
+use Rattle.activations.specs.Stays.{IsTop, Stay}
+use Rattle.activations.specs.Stays.Stay.{leaves, goes, calls}
+use Rattle.activations.specs.Keeping.{node_at, stages_of, walk_of, LiesAmong, Keeps, ChildrenKeep}
+use Rattle.activations.specs.Trees.{StaysKeep}
+use Rattle.activations.proofs.Staying.{left_of, left_depth, depth_is}
+use Rattle.activations.proofs.Nodes.{path_of, nodes_of}
+
+-- the call of a stay is an activation
+abbrev activation_of : {g : Setting} {callers : List Frame} {m : ℕ} {a b c : Stage} {u : ℕ} {bs : List Stage} {vs : List ℕ} (top : IsTop callers m a u) → Follows g a b
+    → (enters : Enters g.program a.state.mode top.frame callers b.state) → Stay g (enters.waiting ∷ callers) enters.top.method b c bs vs → IsActivation g enters.top.method a c
+activation_of {g} {callers} {m} {a} {b} {c} {u} {bs} top follows enters child =
+    let d : depth a ≡ suc (length callers) = depth_is a (top.frame ∷ callers) top.frames in
+    let e : depth b ≡ suc (suc (length callers)) = depth_is b (enters.top ∷ enters.waiting ∷ callers) enters.frames in
+    record {
+      running = enters.running;
+      first = b;
+      begins = follows;
+      deeper = omega arith;
+      of_method = ap top_method enters.frames;
+      between = bs;
+      stays = subst (λ (n : ℕ). StaysAbove g n b bs c) (sym d) (path_of child);
+      ends = left_depth (left_of child) ∙ sym d;
+    }
+
+-- and the nodes of the stay are its walk
+walk_is : {g : Setting} {callers : List Frame} {m : ℕ} {a b c : Stage} {u : ℕ} {bs : List Stage} {vs : List ℕ} (top : IsTop callers m a u) (follows : Follows g a b)
+    (enters : Enters g.program a.state.mode top.frame callers b.state) (child : Stay g (enters.waiting ∷ callers) enters.top.method b c bs vs) → walk_of (activation_of top follows enters child) ≡ vs
+walk_is {g} {callers} {m} {a} {b} {c} {u} {bs} top follows enters child =
+    let d : depth a ≡ suc (length callers) = depth_is a (top.frame ∷ callers) top.frames in
+    ap (λ (n : ℕ). flat_map (node_at (suc n)) (b ∷ bs)) d ∙ nodes_of child
+
+module _ {g : Setting} (bound_of : BoundOf) (outer : List Stage)
+    (inner : (m : ℕ) (a b : Stage) (h : IsActivation g m a b) → LiesAmong h outer → WalkKeeps g.program bound_of m (walk_of h)) where
+  -- the boundaries of a stay, its first one included, stand among those of the activation
+  pub all_keep : {callers : List Frame} {m : ℕ} {a b : Stage} {cs : List Stage} {us : List ℕ} (stay : Stay g callers m a b cs us) → (before after : List Stage)
+      → outer ≡ before ++ (a ∷ (cs ++ after)) → ChildrenKeep bound_of stay
+  all_keep (leaves top follows h) before after are = tt
+  all_keep (goes {callers} {m} {a} {b} {c} {u} {cs} {us} top follows h more) before after are =
+      all_keep more (before ++ a ∷ []) after (are ∙ sym (append_assoc before (a ∷ []) (b ∷ (cs ++ after))))
+  all_keep (calls {callers} {m} {a} {b} {c} {d} {u} {bs} {cs} {us} {vs} top follows h child more) before after are =
+      -- the boundaries from c on stand behind those of the call
+      let behind = c ∷ (cs ++ after) in
+      let split : outer ≡ before ++ (a ∷ b ∷ (bs ++ behind)) = are ∙ ap (λ (xs : List Stage). before ++ (a ∷ b ∷ xs)) (append_assoc bs (c ∷ cs) after) in
+      let activation = activation_of top follows h child in
+      let among : LiesAmong activation outer = record { before = before; after = cs ++ after; split = split } in
+      let kept : WalkKeeps g.program bound_of h.top.method vs = subst (WalkKeeps g.program bound_of h.top.method) (walk_is top follows h child) (inner h.top.method a c activation among) in
+      let in_call : outer ≡ (before ++ a ∷ []) ++ (b ∷ (bs ++ behind)) = split ∙ sym (append_assoc before (a ∷ []) (b ∷ (bs ++ behind))) in
+      let after_call : outer ≡ (before ++ a ∷ b ∷ bs) ++ behind = split ∙ sym (append_assoc before (a ∷ b ∷ bs) behind) in
+      (kept, all_keep child (before ++ a ∷ []) behind in_call, all_keep more (before ++ a ∷ b ∷ bs) after after_call)
+
+append_none : (xs : List Stage) → xs ++ [] ≡ xs
+append_none [] = refl
+append_none (x ∷ xs) = ap (λ (ys : List Stage). x ∷ ys) (append_none xs)
+
+pub stays_keep : StaysKeep
+stays_keep g m a b h bound_of keeps callers nodes stay =
+    let d : length callers ≡ depth a = sym (left_depth (left_of stay)) ∙ h.ends in
+    let walk : walk_of h ≡ nodes = ap (λ (n : ℕ). flat_map (node_at (suc n)) (h.first ∷ h.between)) (sym d) ∙ nodes_of stay in
+    let are : stages_of h ≡ [] ++ (h.first ∷ (h.between ++ [])) = ap (λ (xs : List Stage). h.first ∷ xs) (sym (append_none h.between)) in
+    (subst (WalkKeeps g.program bound_of m) walk keeps.own, all_keep bound_of (stages_of h) keeps.inner stay [] [] are)
