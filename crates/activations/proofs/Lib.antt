@@ -1,0 +1,6 @@
+mod Following
+mod Staying
+mod Nodes
+mod Walking
+mod Keeping
+mod Trees
