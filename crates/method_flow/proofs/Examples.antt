@@ -1,17 +1,17 @@
 -- The worked examples, by computing.
-use Rattle.std.proofs.Common.{◌≡◌, ◌⊎◌, ℕ, ◌+◌, ◌<◌, ◌≤◌, Bool, true, false, List, [], ◌∷◌, length, Contains, ℤ, pos, ◌+ℤ◌, refl, sym, ap, ◌∙◌, subst, inl, inr, arith}
+use Rattle.std.proofs.Common.{◌≡◌, ◌⊎◌, ℕ, ◌<◌, ◌≤◌, true, false, List, [], ◌∷◌, Contains, pos, ◌+ℤ◌, refl, sym, ap, ◌∙◌, subst, inl, inr, arith}
 use Rattle.std.specs.Int.{int_wrap}
 use Rattle.jop_opcodes.specs.declared.instruction.Case.{Case}
 use Rattle.jop_opcodes.specs.Instruction.{decoded}
 use Rattle.jop_opcodes.specs.Row as opcodes
 use Rattle.jop_opcodes.specs.Start.{starts_of}
-use Rattle.bytecode_model.specs.Program.{Program, Handler}
+use Rattle.bytecode_model.specs.Program.{Handler}
 use Rattle.bytecode_model.specs.Table.{row_of}
 use Rattle.lists.specs.Members.{at_head, in_tail, cons_cases, nil_contains}
 use Rattle.method_flow.specs.Nodes.{Node, At, RaiseAt, IsEdge, IsExit, IsHandled, IsReached}
 use Rattle.method_flow.specs.Nodes.IsReached.{first, later}
 use Rattle.method_flow.specs.Calls.{IsCall, IsStartOf, IsTarget}
-use Rattle.method_flow.specs.Live.{CanEnd, EndsFrom, IsLiveEdge}
+use Rattle.method_flow.specs.Live.{CanEnd, EndsFrom}
 use Rattle.method_flow.specs.Live.CanEnd.{ends}
 use Rattle.method_flow.specs.Live.EndsFrom.{here, along, behind}
 use Rattle.method_flow.specs.Regions.{IsWithin}

@@ -1,10 +1,10 @@
 -- What the rows of the table say of control is what the kinds of their opcodes say.
-use Rattle.std.proofs.Common.{◌≡◌, ◌⊎◌, ◌↔◌, ℕ, ◌+◌, ◌<◌, ◌≤◌, Bool, true, false, ◌==◌, List, [], ◌∷◌, length, Contains, Option, Some, None, Result, Ok, Err, ℤ, pos, ◌+ℤ◌, map, refl, sym, ap, ◌∙◌, subst, inl, inr, nat_lt, ltb-true, arith}
+use Rattle.std.proofs.Common.{◌≡◌, ◌⊎◌, ◌↔◌, ℕ, ◌+◌, ◌<◌, ◌≤◌, Bool, true, false, ◌==◌, List, [], ◌∷◌, Contains, Some, Result, Ok, Err, ℤ, pos, ◌+ℤ◌, map, refl, sym, ap, ◌∙◌, subst, inl, inr, ltb-true, arith}
 use Rattle.std.specs.Prelude.{if◌then◌else◌}
 use Rattle.jop_opcodes.specs.declared.instruction.Instr.{Instr}
 use Rattle.jop_opcodes.specs.declared.instruction.Case.{Case}
 use Rattle.jop_opcodes.specs.declared.instruction.DecodeFault.{DecodeFault}
-use Rattle.jop_opcodes.specs.declared.instruction.DecodeFault.TheVariants.{NoOpcode, Short}
+use Rattle.jop_opcodes.specs.declared.instruction.DecodeFault.TheVariants.{Short}
 use Rattle.jop_opcodes.specs.declared.table.Kind.{Kind}
 use Rattle.jop_opcodes.specs.declared.table.Kind.TheVariants.{Plain, Branch, Jump, Switch, Return, Throw, Invoke}
 use Rattle.jop_opcodes.specs.Bytes.{u1}
@@ -22,7 +22,7 @@ use Rattle.bytecode_model.specs.WellFormed.{is_call}
 use Rattle.lists.specs.Lemmas.{onto_some, some_same}
 use Rattle.lists.specs.Members.{at_head, in_tail, cons_cases, nil_contains, map_contains}
 use Rattle.method_flow.specs.Nodes.{IsAtOffset, LeadsTo, IsReturn}
-use Rattle.method_flow.specs.Kinds.{LeadsByKind, IsOfKind, RowsAreOfTheirKinds, IsInvoke, CallsAreInvokes}
+use Rattle.method_flow.specs.Kinds.{LeadsByKind, IsOfKind, RowsAreOfTheirKinds, CallsAreInvokes}
 use Rattle.method_flow.proofs.Tabling.{IsOf, row_is}
 
 -- ---- lists
@@ -200,7 +200,7 @@ row_decoded P m p next b i r body instr row =
     let pair : (p + instr'.0.length, row'.0) ≡ (next, r) = some_same (p + instr'.0.length, row'.0) (next, r) row'.2 in
     let row_same : row'.0 ≡ r = ap (λ (x : ℕ × Row). x.1) pair in
     let has : row_of b.code i (P.operand m p) ≡ Some r =
-        ap (λ (x : Body). row_of x.code i (P.operand m p)) (sym same_body) ∙ (ap (λ (x : Instr). row_of body'.0.code x (P.operand m p)) (sym same_instr) ∙ (row'.1 ∙ ap (λ (x : Row). Some x) row_same)) in
+    ap (λ (x : Body). row_of x.code i (P.operand m p)) (sym same_body) ∙ (ap (λ (x : Instr). row_of body'.0.code x (P.operand m p)) (sym same_instr) ∙ (row'.1 ∙ ap (λ (x : Row). Some x) row_same)) in
     let found = row_is b.code i (P.operand m p) r has in
     record {
       behind = sym (ap (λ (x : ℕ × Row). x.0) pair) ∙ ap (λ (x : Instr). p + x.length) same_instr;

@@ -1,5 +1,5 @@
 -- What the effect of a row says of where control goes.
-use Rattle.std.proofs.Common.{◌≡◌, ◌⊎◌, ℕ, ◌+◌, Bool, true, false, ◌==◌, List, [], ◌∷◌, Contains, Option, Some, None, ℤ, pos, negsuc, ◌+ℤ◌, slice_get, zero, suc, nat_le, length, map, reverse, replicate, refl, sym, ap, ◌∙◌, subst, inl, inr, IsSomeAnd, arith}
+use Rattle.std.proofs.Common.{◌≡◌, ◌⊎◌, ℕ, ◌+◌, Bool, true, false, List, [], ◌∷◌, Contains, Option, Some, None, ℤ, pos, negsuc, ◌+ℤ◌, slice_get, zero, suc, nat_le, map, reverse, replicate, refl, sym, ap, ◌∙◌, subst, inl, inr}
 use Rattle.std.specs.List.{filter_map, cons_option}
 use Rattle.jop_opcodes.specs.declared.instruction.Case.{Case}
 use Rattle.bytecode_model.specs.declared.Value.{Value}
@@ -12,7 +12,7 @@ use Rattle.bytecode_model.specs.Sizes.{object_words, made_words}
 use Rattle.bytecode_model.specs.Rows as rows
 use Rattle.bytecode_model.specs.Rows.{Row, Takes, Width, Form}
 use Rattle.bytecode_model.specs.Numbers.{is_equal}
-use Rattle.bytecode_model.specs.Effects.{Effect, Stuck, Go, Make, WritePart, WriteStatic, Take, Give, Call, Leave, Raise, Fault, ArithmeticException, NegativeArraySizeException, ArrayIndexOutOfBoundsException, OutOfMemoryError, ArrayStoreException, ClassCastException, IncompatibleClassChangeError, effect, on, or_fault, fault, only_if, on_top, on_number, on_numbers, on_object, on_values, on_receiver, on_size, on_element, allocate, selected, same, same_bool, is_instance, has_class, is_array, is_array_of, component_of, at_offset, branch, offset_of_key, stored, incremented, shuffle, number}
+use Rattle.bytecode_model.specs.Effects.{Effect, Stuck, Go, Make, WritePart, WriteStatic, Take, Give, Call, Leave, Raise, Fault, ArithmeticException, NegativeArraySizeException, ArrayIndexOutOfBoundsException, OutOfMemoryError, ArrayStoreException, ClassCastException, IncompatibleClassChangeError, effect, on, or_fault, fault, only_if, on_top, on_number, on_numbers, on_object, on_values, on_receiver, on_size, on_element, allocate, selected, same, same_bool, is_instance, has_class, is_array, is_array_of, component_of, at_offset, branch, offset_of_key, stored, incremented, shuffle}
 use Rattle.bytecode_model.specs.Steps.{class_of}
 use Rattle.bytecode_model.specs.WellFormed.{is_call}
 use Rattle.lists.specs.Members.{at_head, in_tail}

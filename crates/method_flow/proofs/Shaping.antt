@@ -1,33 +1,31 @@
 -- Each step of a state has a shape.
-use Rattle.std.proofs.Common.{◌≡◌, ◌⊎◌, ℕ, ◌+◌, ◌<◌, ◌≤◌, Bool, true, false, List, [], ◌∷◌, ◌++◌, length, Contains, Option, Some, None, slice_get, refl, sym, ap, ◌∙◌, subst, inl, inr, IsSomeAnd, arith, nat_le, nat_lt, IfSome, suc, leb-true, sum_by}
+use Rattle.std.proofs.Common.{◌≡◌, ℕ, ◌+◌, Bool, true, false, List, [], ◌∷◌, length, Contains, Option, Some, None, slice_get, refl, sym, ap, ◌∙◌, subst, inl, inr, IsSomeAnd, arith, nat_le, nat_lt, suc, leb-true}
 use Rattle.std.proofs.lemmas.Bool.Decides.{leb_tells}
 use Rattle.std.proofs.lemmas.List.Sums.{sum_by-cons}
 use Rattle.std.specs.Prelude.{if◌then◌else◌, ◌&&◌}
 use Rattle.std.specs.Option.{option_map_or}
 use Rattle.jop_opcodes.specs.declared.instruction.Instr.{Instr}
-use Rattle.jop_opcodes.specs.Row as opcodes
 use Rattle.bytecode_model.specs.declared.Value.{Value}
 use Rattle.bytecode_model.specs.declared.Value.TheVariants.{Ref}
 use Rattle.bytecode_model.specs.declared.Ending.{Ending}
 use Rattle.bytecode_model.specs.declared.Ending.TheVariants.{Running, Raising, Ended, Uncaught}
 use Rattle.bytecode_model.specs.Lists.{onto, replaced}
 use Rattle.bytecode_model.specs.Types.{Kind}
-use Rattle.bytecode_model.specs.State.{Object, Frame, State}
+use Rattle.bytecode_model.specs.State.{Frame, State}
 use Rattle.bytecode_model.specs.Program.{Program, Limits, Method, Body, Handler, body_of, instr_at, kind_of}
 use Rattle.bytecode_model.specs.Rows as rows
 use Rattle.bytecode_model.specs.Rows.{Row}
-use Rattle.bytecode_model.specs.Table.{row_of}
 use Rattle.bytecode_model.specs.Sizes.{body_words, frame_words, frames_words}
 use Rattle.bytecode_model.specs.Effects.{Effect, Stuck, Go, Make, WritePart, WriteStatic, Take, Give, Call, Leave, Raise, StackOverflowError, fault_object, effect}
-use Rattle.bytecode_model.specs.Steps.{taken_types, all_suit, first_frame, with_top, raising, called, resumed, left, written, applied, row_in, row_at, catches, handler_for, class_of, unwound, step_in, step}
+use Rattle.bytecode_model.specs.Steps.{taken_types, all_suit, first_frame, with_top, raising, called, resumed, left, written, applied, row_at, catches, handler_for, class_of, unwound, step_in, step}
 use Rattle.bytecode_model.specs.WellFormed.{is_call}
 use Rattle.bytecode_model.specs.Raises.{OnlyMarkedOnesRaise}
 use Rattle.lists.specs.Lemmas.{onto_some, some_same}
 use Rattle.lists.specs.Members.{at_head, in_tail}
-use Rattle.method_flow.specs.Nodes.{Node, At, RaiseAt, LeadsTo, IsReturn, OnRow, MayRaise, IsHandled, IsEdge, IsExit}
-use Rattle.method_flow.specs.Calls.{targets_of_row, targets_of, IsCall, IsTarget}
+use Rattle.method_flow.specs.Nodes.{At, LeadsTo, IsReturn, OnRow, MayRaise, IsHandled, IsEdge}
+use Rattle.method_flow.specs.Calls.{targets_of_row}
 use Rattle.method_flow.specs.Live.{IsReturning}
-use Rattle.method_flow.specs.Shapes.{node_of, IsGoingOn, Moves, Enters, Returns, Drops, FramesStep, AreConcrete, NamesAbove, StepsHaveShapes}
+use Rattle.method_flow.specs.Shapes.{node_of, IsGoingOn, FramesStep, AreConcrete, NamesAbove, StepsHaveShapes}
 use Rattle.method_flow.specs.Shapes.FramesStep.{moves, enters, returns, drops, stops}
 use Rattle.method_flow.proofs.Leading.{Leads, effect_leads, above_named}
 
@@ -85,7 +83,6 @@ module _ (P : Program) (limits : Limits) (answer : Option ℕ) (s t : State) (f 
         edge = subst (λ (z : Ending). IsEdge P f.method (At f.pc) (node_of z g)) (sym mode) (pc, may);
         free = subst (λ (z : Ending). IsReturning P f.method (At f.pc) (node_of z g) → ⊥) (sym mode) (λ c. c);
       }))
-
 
   entered : ((p : ℕ) → t.mode ≡ Raising p → MayRaise P f.method f.pc) → MayRaise P f.method f.pc → (m : ℕ) (args ops : List Value) → is_call r ≡ true → Contains (targets_of_row P r) m
       → (g : Frame) → (g.method ≡ m) × (g.pc ≡ 0) → (b : Bool)

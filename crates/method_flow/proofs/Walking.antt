@@ -1,9 +1,7 @@
 -- Steps go along edges that a run can take, and a method can end exactly where a walk of such edges leads to an exit.
-use Rattle.std.proofs.Common.{◌≡◌, ◌⊎◌, ◌↔◌, ℕ, ◌+◌, Bool, true, false, List, [], ◌∷◌, Option, Some, None, refl, sym, ap, ◌∙◌, subst, inl, inr, IsSomeAnd}
+use Rattle.std.proofs.Common.{◌≡◌, ◌⊎◌, ℕ, ◌+◌, Bool, true, false, List, Option, Some, None, refl, sym, ap, ◌∙◌, subst, inl, inr, IsSomeAnd}
 use Rattle.jop_opcodes.specs.declared.instruction.Instr.{Instr}
 use Rattle.bytecode_model.specs.declared.Ending.{Ending}
-use Rattle.bytecode_model.specs.Lists.{onto}
-use Rattle.bytecode_model.specs.State.{Frame, State}
 use Rattle.bytecode_model.specs.Program.{Program, body_of, instr_at}
 use Rattle.bytecode_model.specs.Rows as rows
 use Rattle.bytecode_model.specs.Rows.{Row}
@@ -11,13 +9,13 @@ use Rattle.bytecode_model.specs.Table.{row_of}
 use Rattle.bytecode_model.specs.Steps.{row_in}
 use Rattle.bytecode_model.specs.WellFormed.{is_call}
 use Rattle.lists.specs.Lemmas.{onto_some}
-use Rattle.method_flow.specs.Nodes.{Node, At, RaiseAt, number_of, LeadsTo, IsEdge, IsExit}
-use Rattle.method_flow.specs.Calls.{IsCall, IsTarget}
+use Rattle.method_flow.specs.Nodes.{Node, At, RaiseAt, LeadsTo, IsEdge, IsExit}
+use Rattle.method_flow.specs.Calls.{IsCall}
 use Rattle.method_flow.specs.Live.{IsReturning, CanEnd, EndsFrom, GoesOn, IsLiveEdge, LiveWalk}
 use Rattle.method_flow.specs.Live.CanEnd.{ends}
 use Rattle.method_flow.specs.Live.EndsFrom.{here, along as leads_on, behind as leads_behind}
 use Rattle.method_flow.specs.Live.LiveWalk.{stops as stops_at, along as walks_on}
-use Rattle.method_flow.specs.Shapes.{node_of, Moves, Returns, Drops}
+use Rattle.method_flow.specs.Shapes.{node_of}
 use Rattle.method_flow.specs.Walks.{MovesAreLive, ReturnsAreExits, DropsAreExits, CallersReturn, CallersRaise, EndingIsAWalk}
 
 -- ---- rows of calls

@@ -3,7 +3,7 @@
 use Rattle.std.specs.Prelude.{◌≡◌, ◌⊎◌, ◌↔◌, ℕ, ◌+◌, ◌≤◌, true, List, Contains, ℤ, pos, Some}
 use Rattle.jop_opcodes.specs.declared.instruction.Instr.{Instr}
 use Rattle.jop_opcodes.specs.declared.table.Kind.{Kind}
-use Rattle.jop_opcodes.specs.declared.table.Kind.TheVariants.{Plain, Branch, Jump, Switch, Return, Throw, Invoke}
+use Rattle.jop_opcodes.specs.declared.table.Kind.TheVariants.{Branch, Jump, Switch, Return, Throw, Invoke}
 use Rattle.jop_opcodes.specs.Bytes.{u1}
 use Rattle.jop_opcodes.specs.Row as opcodes
 use Rattle.jop_opcodes.specs.Target as operands

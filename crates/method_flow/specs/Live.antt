@@ -1,7 +1,7 @@
 -- Which methods can end, and the part of a method's graph that a run can take until then.
 use Rattle.std.specs.Prelude.{ℕ, List, [], ◌∷◌}
 use Rattle.bytecode_model.specs.Program.{Program}
-use Rattle.method_flow.specs.Nodes.{Node, At, RaiseAt, number_of, IsEdge, IsExit}
+use Rattle.method_flow.specs.Nodes.{Node, At, number_of, IsEdge, IsExit}
 use Rattle.method_flow.specs.Calls.{IsCall, IsTarget}
 
 -- the edge leads from an invoke to the instruction behind it: control takes it where the invoked method returns
