@@ -1,13 +1,12 @@
 -- What is known of a step from one boundary to the next.
 use Rattle.std.proofs.Common.{◌≡◌, ℕ, zero, suc, ◌+◌, ◌*◌, ◌≤◌, Bool, true, false, List, [], ◌∷◌, ◌++◌, length, Option, Some, None, slice_get, refl, sym, ap, ◌∙◌, subst, IsSomeAnd, IfSome, arith}
 use Rattle.word32.specs.Packed.{words_of_bytes}
-use Rattle.method_cache.specs.Contents.{Cache, is_cached, loaded}
+use Rattle.method_cache.specs.Contents.{is_cached, loaded}
 use Rattle.cache_regions.specs.LookUps.{after, stall_of_loads}
 use Rattle.jop_core.specs.State as machine
 use Rattle.jop_core.specs.Cycle.{asks_input}
-use Rattle.jop_core.specs.Keeps.{KeepsSizes, IsCycle, CyclesKeep}
+use Rattle.jop_core.specs.Keeps.{KeepsSizes, CyclesKeep}
 use Rattle.jop_core.specs.Scene.{Scene, next_scene, given, begun, run}
-use Rattle.jop_opcodes.specs.declared.instruction.Instr.{Instr}
 use Rattle.bytecode_model.specs.declared.Ending.{Ending}
 use Rattle.bytecode_model.specs.declared.Ending.TheVariants.{Running, Raising, Ended, Uncaught}
 use Rattle.bytecode_model.specs.Types.{Kind, OfClass, OfNumbers, OfReferences}
@@ -15,10 +14,10 @@ use Rattle.bytecode_model.specs.State.{Object, Frame, State}
 use Rattle.bytecode_model.specs.Program.{Program, Limits, Method, Body, body_of, instr_at, kind_of}
 use Rattle.bytecode_model.specs.Rows.{Row, CallVirtual}
 use Rattle.bytecode_model.specs.Steps.{class_of, row_at, step_in}
-use Rattle.bytecode_model.specs.WellFormed.{IsWellFormed, AreFrames, IsFrame}
+use Rattle.bytecode_model.specs.WellFormed.{AreFrames}
 use Rattle.bytecode_typing.specs.Tests.{Holds}
 use Rattle.bytecode_typing.specs.Lawful.{Lawful, IsVirtualCall, IsResolvedRow}
-use Rattle.bytecode_typing.specs.Fits.{Fits, ObjectFits, PartsFit, numbers_of, IsGoing}
+use Rattle.bytecode_typing.specs.Fits.{ObjectFits, PartsFit, numbers_of, IsGoing}
 use Rattle.micro_flow.specs.declared.CostParams.{CostParams}
 use Rattle.micro_flow.specs.Walk.{IsCost, IsRaiseCost}
 use Rattle.jop_opcodes.specs.Bytes.{u1}
@@ -26,15 +25,13 @@ use Rattle.jop_opcodes.specs.Start.{IsStart}
 use Rattle.bytecode_model.specs.declared.Value.{Value}
 use Rattle.bytecode_model.specs.Lists.{onto}
 use Rattle.bytecode_typing.specs.Laws.{FittingStatesAreWellFormed}
-use Rattle.image_facts.specs.Places.{Places}
-use Rattle.machine_stands.specs.StandsFor.{StandsFor, IsAt, limits_of}
-use Rattle.machine_stands.specs.Comes.{params as of_machine, IsFrameCost, IsTopCost, IsStepCost, found_by, Found, LooksUp, ComesTo}
-use Rattle.method_flow.specs.Nodes.{At, RaiseAt}
+use Rattle.machine_stands.specs.StandsFor.{IsAt}
+use Rattle.machine_stands.specs.Comes.{params as of_machine, IsFrameCost, IsTopCost, found_by, Found, LooksUp}
 use Rattle.method_flow.specs.Shapes.{node_of, AreConcrete, NamesAbove, FramesStep, StepsHaveShapes}
 use Rattle.method_flow.specs.Costs.{Timing, params, IsOwnCost}
-use Rattle.activations.specs.Setting.{Setting, limits, IsSetting, Stands}
+use Rattle.activations.specs.Setting.{Setting, limits, IsSetting}
 use Rattle.activations.specs.Activations.{Stage, Follows}
-use Rattle.activations.specs.Steps.{HasTiming, AreWords, place_of, looked_up, StepFacts, StepsAreTold}
+use Rattle.activations.specs.Steps.{HasTiming, AreWords, place_of, StepsAreTold}
 
 -- ---- the machine
 

@@ -1,5 +1,5 @@
 -- Where an activation keeps the bounds of loops, all stays within its own do.
-use Rattle.std.proofs.Common.{◌≡◌, ℕ, suc, List, [], ◌∷◌, ◌++◌, length, Some, refl, sym, ap, ◌∙◌, subst, arith}
+use Rattle.std.proofs.Common.{◌≡◌, ℕ, suc, List, [], ◌∷◌, ◌++◌, length, refl, sym, ap, ◌∙◌, subst, arith}
 use Rattle.std.proofs.lemmas.List.{append_assoc}
 use Rattle.std.specs.List.{flat_map}
 use Rattle.bytecode_model.specs.State.{Frame}
@@ -10,7 +10,7 @@ use Rattle.activations.specs.Setting.{Setting}
 use Rattle.activations.specs.Activations.{Stage, Follows, depth, StaysAbove, IsActivation}
 use Rattle.activations.specs.Stays.{IsTop, Stay}
 use Rattle.activations.specs.Stays.Stay.{leaves, goes, calls}
-use Rattle.activations.specs.Keeping.{node_at, stages_of, walk_of, LiesAmong, Keeps, ChildrenKeep}
+use Rattle.activations.specs.Keeping.{node_at, stages_of, walk_of, LiesAmong, ChildrenKeep}
 use Rattle.activations.specs.Trees.{StaysKeep}
 use Rattle.activations.proofs.Staying.{left_of, left_depth, depth_is}
 use Rattle.activations.proofs.Nodes.{path_of, nodes_of}

@@ -1,18 +1,16 @@
 -- The boundaries of a stay: at each there are more frames than callers, and the nodes of the stay are those of its own frame.
-use Rattle.std.proofs.Common.{◌≡◌, ◌⊎◌, ℕ, zero, suc, ◌+◌, ◌<◌, ◌≤◌, Bool, true, false, ◌==◌, List, [], ◌∷◌, ◌++◌, length, refl, sym, ap, ◌∙◌, subst, inl, inr, arith, eq-eqb}
+use Rattle.std.proofs.Common.{◌≡◌, ℕ, suc, ◌<◌, ◌≤◌, Bool, true, false, ◌==◌, List, [], ◌∷◌, ◌++◌, length, refl, sym, ap, ◌∙◌, inl, inr, arith, eq-eqb}
 use Rattle.std.specs.Prelude.{if◌then◌else◌}
 use Rattle.std.specs.List.{flat_map}
 use Rattle.std.proofs.lemmas.Bool.Decides.{eqb_tells}
 use Rattle.std.proofs.lemmas.Grind.{flat_map-append}
-use Rattle.bytecode_model.specs.State.{Frame, State}
-use Rattle.method_flow.specs.Nodes.{number_of}
-use Rattle.method_flow.specs.Shapes.{node_of}
+use Rattle.bytecode_model.specs.State.{Frame}
 use Rattle.activations.specs.Setting.{Setting}
-use Rattle.activations.specs.Activations.{Stage, Follows, depth, StaysAbove}
+use Rattle.activations.specs.Activations.{Stage, depth, StaysAbove}
 use Rattle.activations.specs.Stays.{IsTop, Stay}
 use Rattle.activations.specs.Stays.Stay.{leaves, goes, calls}
 use Rattle.activations.specs.Keeping.{node_of_top, node_at}
-use Rattle.activations.proofs.Staying.{IsLeft, left_of, left_depth, IsBack, back_of, depth_is}
+use Rattle.activations.proofs.Staying.{depth_is}
 
 -- ---- depths
 
@@ -90,5 +88,5 @@ nodes_of (calls {callers} {m} {a} {b} {c} {d} {u} {bs} {cs} {us} top follows h c
     let n = suc (length callers) in
     let none : flat_map (node_at n) (b ∷ bs) ≡ [] = none_at n (b ∷ bs) (are_deeper child) in
     let rest : flat_map (node_at n) ((b ∷ bs) ++ c ∷ cs) ≡ us =
-        flat_map-append (node_at n) (b ∷ bs) (c ∷ cs) ∙ (ap (λ (xs : List ℕ). xs ++ flat_map (node_at n) (c ∷ cs)) none ∙ nodes_of more) in
+    flat_map-append (node_at n) (b ∷ bs) (c ∷ cs) ∙ (ap (λ (xs : List ℕ). xs ++ flat_map (node_at n) (c ∷ cs)) none ∙ nodes_of more) in
     begun_by n a (b ∷ (bs ++ c ∷ cs)) u us (top_at top) rest

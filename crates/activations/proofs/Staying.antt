@@ -1,14 +1,12 @@
 -- A run that stays above so many frames is the stay of the frame on top.
-use Rattle.std.proofs.Common.{◌≡◌, ◌⊎◌, ℕ, zero, suc, ◌+◌, ◌<◌, ◌≤◌, List, [], ◌∷◌, ◌++◌, length, Some, refl, sym, ap, ◌∙◌, subst, inl, inr, arith, IsSomeAnd}
+use Rattle.std.proofs.Common.{◌≡◌, ℕ, zero, suc, ◌<◌, ◌≤◌, List, [], ◌∷◌, ◌++◌, length, refl, sym, ap, ◌∙◌, subst, inl, inr, arith}
 use Rattle.std.proofs.lemmas.List.{append_assoc, length-append}
-use Rattle.bytecode_model.specs.declared.Ending.TheVariants.{Running, Raising}
-use Rattle.bytecode_model.specs.State.{Frame, State}
-use Rattle.bytecode_model.specs.Program.{instr_at}
+use Rattle.bytecode_model.specs.State.{Frame}
 use Rattle.lists.specs.Members.{heads, tails}
 use Rattle.method_flow.specs.Nodes.{number_of}
-use Rattle.method_flow.specs.Shapes.{node_of, Moves, Enters, Returns, Drops, FramesStep}
+use Rattle.method_flow.specs.Shapes.{node_of, Enters, FramesStep}
 use Rattle.method_flow.specs.Shapes.FramesStep.{moves, enters, returns, drops, stops}
-use Rattle.activations.specs.Setting.{Setting, IsSetting}
+use Rattle.activations.specs.Setting.{Setting}
 use Rattle.activations.specs.Activations.{Stage, Follows, depth, StaysAbove}
 use Rattle.activations.specs.Stays.{IsTop, Stay}
 use Rattle.activations.specs.Stays.Stay.{leaves, goes, calls}

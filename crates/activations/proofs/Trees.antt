@@ -1,19 +1,19 @@
 -- An activation is a tree of stays.
-use Rattle.std.proofs.Common.{◌≡◌, ℕ, suc, ◌+◌, ◌<◌, ◌≤◌, List, [], ◌∷◌, length, Option, Some, refl, sym, ap, ◌∙◌, subst, arith}
+use Rattle.std.proofs.Common.{◌≡◌, ℕ, suc, List, [], ◌∷◌, length, sym, ap, ◌∙◌, subst, arith}
 use Rattle.std.specs.List.{flat_map}
 use Rattle.bytecode_model.specs.declared.Ending.{Ending}
 use Rattle.bytecode_model.specs.declared.Ending.TheVariants.{Running, Raising, Ended, Uncaught}
-use Rattle.bytecode_model.specs.State.{Frame, State}
+use Rattle.bytecode_model.specs.State.{Frame}
 use Rattle.bytecode_typing.specs.Fits.{IsGoing}
 use Rattle.bytecode_typing.specs.Laws.{FittingStatesAreWellFormed}
 use Rattle.lists.specs.Lemmas.{some_same}
 use Rattle.machine_stands.specs.Comes.{top_method}
 use Rattle.method_flow.specs.Nodes.{At}
 use Rattle.method_flow.specs.Live.{LiveWalk}
-use Rattle.method_flow.specs.Shapes.{node_of, IsGoingOn, Moves, Enters, Returns, Drops, FramesStep, StepsHaveShapes}
+use Rattle.method_flow.specs.Shapes.{node_of, IsGoingOn, FramesStep, StepsHaveShapes}
 use Rattle.method_flow.specs.Shapes.FramesStep.{moves, enters, returns, drops, stops}
 use Rattle.method_flow.specs.Walks.{EndingIsAWalk}
-use Rattle.activations.specs.Setting.{Setting, limits, IsSetting}
+use Rattle.activations.specs.Setting.{Setting, limits}
 use Rattle.activations.specs.Activations.{Stage, Follows, depth, StaysAbove, IsActivation}
 use Rattle.activations.specs.Stays.{Stay}
 use Rattle.activations.specs.Keeping.{node_at, walk_of}
@@ -69,7 +69,7 @@ activations_are_walks trees stays ending g m a b h is =
     let s = tree.enters in
     let w = stays g (s.waiting ∷ tree.callers) m h.first b h.between (walk_of h) tree.stay s.top s.frames in
     let at_first : LiveWalk g.program m (At 0) (walk_of h) =
-        subst (λ (x : ℕ). LiveWalk g.program m (At x) (walk_of h)) s.first (subst (λ (x : Ending). LiveWalk g.program m (node_of x s.top) (walk_of h)) s.still w) in
+    subst (λ (x : ℕ). LiveWalk g.program m (At x) (walk_of h)) s.first (subst (λ (x : Ending). LiveWalk g.program m (node_of x s.top) (walk_of h)) s.still w) in
     (at_first, (ending g.program m).1 (walk_of h, at_first))
 
 -- a state that goes on
@@ -83,5 +83,5 @@ pub activations_are_trees : StepsHaveShapes → FittingStatesAreWellFormed → A
 activations_are_trees shapes fitting g m a b h is =
     let stands = h.begins.stands.stands in
     let going : (x y : Stage) → Follows g x y → IsGoingOn x.state.mode =
-      λ x y follows. going_on x.state.mode (goes_on g.program (limits g) follows.answer x.state y.state x.state.frames x.state.mode follows.is_next) in
+    λ x y follows. going_on x.state.mode (goes_on g.program (limits g) follows.answer x.state y.state x.state.frames x.state.mode follows.is_next) in
     tree_of g going (λ x y f callers follows frames. shape_of shapes fitting g x y is follows f callers frames) m a b h stands.top stands.callers stands.frames

@@ -1,20 +1,19 @@
 -- The nodes of a stay are a walk that a run can take to an exit.
-use Rattle.std.proofs.Common.{◌≡◌, ◌⊎◌, ℕ, List, [], ◌∷◌, refl, sym, ap, ◌∙◌, subst, inl, inr}
+use Rattle.std.proofs.Common.{◌≡◌, ◌⊎◌, ℕ, List, [], ◌∷◌, sym, ◌∙◌, subst, inl, inr}
 use Rattle.bytecode_model.specs.declared.Ending.{Ending}
-use Rattle.bytecode_model.specs.declared.Ending.TheVariants.{Running}
 use Rattle.bytecode_model.specs.State.{Frame, State}
-use Rattle.lists.specs.Members.{heads, tails}
-use Rattle.method_flow.specs.Nodes.{Node, At, RaiseAt, number_of, MayRaise, IsExit}
+use Rattle.lists.specs.Members.{heads}
+use Rattle.method_flow.specs.Nodes.{At, number_of, MayRaise, IsExit}
 use Rattle.method_flow.specs.Calls.{IsCall, IsTarget}
 use Rattle.method_flow.specs.Live.{CanEnd, IsLiveEdge, LiveWalk}
 use Rattle.method_flow.specs.Live.LiveWalk.{stops as stops_at, along as walks_on}
-use Rattle.method_flow.specs.Shapes.{node_of, Moves, Enters, Returns, Drops}
+use Rattle.method_flow.specs.Shapes.{node_of, Returns, Drops}
 use Rattle.method_flow.specs.Walks.{MovesAreLive, ReturnsAreExits, DropsAreExits, CallersReturn, CallersRaise, EndingIsAWalk}
 use Rattle.activations.specs.Setting.{Setting}
-use Rattle.activations.specs.Activations.{Stage, Follows}
+use Rattle.activations.specs.Activations.{Stage}
 use Rattle.activations.specs.Stays.{IsTop, Stay}
 use Rattle.activations.specs.Stays.Stay.{leaves, goes, calls}
-use Rattle.activations.proofs.Staying.{IsBack, back_of, left_of}
+use Rattle.activations.proofs.Staying.{back_of, left_of}
 
 -- the step with which a stay ends
 pub record LastStep (g : Setting) (callers : List Frame) (m : ℕ) (c : Stage) : Type 0 where
@@ -72,7 +71,7 @@ module _ (moves_live : MovesAreLive) (returns_exit : ReturnsAreExits) (drops_exi
           let target' : IsTarget g.program waiting.method waiting.pc last.frame.method = subst (λ (x : ℕ). IsTarget g.program waiting.method waiting.pc x) (sym last.method) target in
           let ended' : CanEnd g.program last.frame.method = subst (CanEnd g.program) (sym last.method) ended in
           let live = callers_return g.program last.mode last.frame (waiting ∷ callers) c.state h (at_caller (IsCall g.program) h.caller h.others h.callers_are call)
-            (at_caller (λ m p. IsTarget g.program m p last.frame.method) h.caller h.others h.callers_are target') ended' in
+          (at_caller (λ m p. IsTarget g.program m p last.frame.method) h.caller h.others h.callers_are target') ended' in
           moved h.caller h.others h.top h.callers_are h.frames live
       by (inr h) =
           let live = callers_raise g.program last.mode last.frame (waiting ∷ callers) c.state h (at_caller (MayRaise g.program) h.caller h.others h.callers_are may) in
@@ -94,6 +93,6 @@ module _ (moves_live : MovesAreLive) (returns_exit : ReturnsAreExits) (drops_exi
       let target = carried (λ m p. IsTarget g.program m p h.top.method) top.frame.method top.frame.pc h.waiting.method h.waiting.pc (sym h.same) (sym h.place) h.target in
       let live = came_back h.waiting callers h.top.method c call may target ended (last_of child) back.top back.frames in
       let at_top : IsLiveEdge g.program m (At top.frame.pc) (node_of c.state.mode back.top) =
-          carried (λ x p. IsLiveEdge g.program x (At p) (node_of c.state.mode back.top)) h.waiting.method h.waiting.pc m top.frame.pc (h.same ∙ top.method) h.place live in
+      carried (λ x p. IsLiveEdge g.program x (At p) (node_of c.state.mode back.top)) h.waiting.method h.waiting.pc m top.frame.pc (h.same ∙ top.method) h.place live in
       let w = walks_on at_top (walks more back.top back.frames) in
       by_node callers m a u us top (subst (λ (x : Ending). LiveWalk g.program m (node_of x top.frame) (number_of (node_of x top.frame) ∷ us)) (sym h.running) w)
