@@ -4,3 +4,4 @@ mod Nodes
 mod Walking
 mod Keeping
 mod Trees
+mod Wording

@@ -28,6 +28,10 @@ pub record HasTiming (t : Timing) (m : machine.State) : Type 0 where
 abbrev pub AreWords : Program → Places → (ℕ → List ℕ) → Type 0
 AreWords P pl words = (m : ℕ) (b : Body) → body_of P m ≡ Some b → words (pl.method m) ≡ words_of_bytes b.code
 
+-- methods with code lie at different places, so each place tells the words of the one that lies there
+abbrev pub PlacesTellWords : Type 0
+PlacesTellWords = (g : Setting) → IsSetting g → (words : ℕ → List ℕ) × AreWords g.program g.places words
+
 -- the place of the method that is looked up, if one is
 abbrev pub place_of : Places → Option ℕ → List ℕ
 place_of pl None = []

@@ -1,7 +1,12 @@
 //! Laws of the definitions in `specs/`. The functions do nothing; a caller whose proof needs a law calls its function.
 
-ghost use Rattle.activations.specs.Steps.{StepsAreTold};
+ghost use Rattle.activations.specs.Steps.{PlacesTellWords, StepsAreTold};
 ghost use Rattle.activations.specs.Trees.{ActivationsAreTrees, ActivationsAreWalks, StaysAreWalks, StaysKeep};
+
+/// The words of methods' codes are told by the methods' places in memory.
+pub fn places_tell_words()
+    ensures { PlacesTellWords }
+{}
 
 /// What a step from one boundary to the next takes: cycles of the microcode, at most the own cost of the node at which the top
 /// frame stands, and the stall of its look-up; and what it does to the frames.

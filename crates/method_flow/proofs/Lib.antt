@@ -4,3 +4,4 @@ mod Walking
 mod Tabling
 mod Kinding
 mod Examples
+mod Invoking

@@ -1,11 +1,13 @@
 -- What a node of a method takes by itself, the methods that it runs and their loads apart.
-use Rattle.std.specs.Prelude.{ℕ, length}
+use Rattle.std.specs.Prelude.{ℕ, ◌≤◌, length}
 use Rattle.std.specs.Option.{IsSomeAnd}
 use Rattle.micro_flow.specs.declared.CostParams.{CostParams}
+use Rattle.micro_flow.specs.Costs.{AreInRange, IsGreatestInvoke}
 use Rattle.micro_flow.specs.Walk.{IsCost, IsRaiseCost}
 use Rattle.jop_opcodes.specs.Bytes.{u1}
 use Rattle.bytecode_model.specs.Program.{Program, body_of, instr_at}
 use Rattle.method_flow.specs.Nodes.{Node, At, RaiseAt}
+use Rattle.method_flow.specs.Calls.{IsCall}
 
 -- the cycles that a read and a write of main memory wait, and the blocks of the method cache with their words
 pub record Timing : Type 0 where
@@ -23,3 +25,8 @@ params t pairs entries = record { r = t.read; w = t.write; pairs = pairs; entrie
 abbrev pub IsOwnCost : Program → Timing → (method : ℕ) → Node → ℕ → Type 0
 IsOwnCost P t m (At p) c = IsSomeAnd (body_of P m) (λ b. IsSomeAnd (instr_at P m p) (λ i. IsCost (u1 b.code p) (params t i.count 0) c))
 IsOwnCost P t m (RaiseAt p) c = IsSomeAnd (body_of P m) (λ b. IsRaiseCost (params t 0 (length b.handlers)) c)
+
+-- an invoke costs at most what the dearest of the four invokes costs
+abbrev pub InvokesKeepTheGreatest : Type 0
+InvokesKeepTheGreatest = (P : Program) (t : Timing) (m p greatest : ℕ) → AreInRange (params t 0 0) → IsCall P m p → IsGreatestInvoke (params t 0 0) greatest
+    → (own : ℕ) × IsOwnCost P t m (At p) own × (own ≤ greatest)

@@ -34,7 +34,7 @@ RowsAreOfTheirKinds = (P : Program) (m p next : ℕ) (b : Body) (i : Instr) (r :
     → (next ≡ p + i.length) × IsOfKind (opcodes.row_of i.op).kind (operands.targets_of b.code p i) p next r
 
 -- the instruction is one of the four invokes that name a method, from invokevirtual (182) to invokeinterface (185), and has no cases
-pub record IsInvoke (code : List ℕ) (p : ℕ) (i : Instr) : Type 0 where
+pub record IsInvokeAt (code : List ℕ) (p : ℕ) (i : Instr) : Type 0 where
   pub opcode : i.op ≡ u1 code p
   pub from : 182 ≤ i.op
   pub to : i.op ≤ 185
@@ -43,4 +43,4 @@ pub record IsInvoke (code : List ℕ) (p : ℕ) (i : Instr) : Type 0 where
 -- a call's row stands at such an instruction alone
 abbrev pub CallsAreInvokes : Type 0
 CallsAreInvokes = (P : Program) (m p next : ℕ) (b : Body) (i : Instr) (r : Row) → body_of P m ≡ Some b → instr_at P m p ≡ Some i → row_in P m p ≡ Some (next, r) → is_call r ≡ true
-    → IsInvoke b.code p i
+    → IsInvokeAt b.code p i

@@ -1,5 +1,6 @@
 //! Laws of the definitions in `specs/`. The functions do nothing; a caller whose proof needs a law calls its function.
 
+ghost use Rattle.method_flow.specs.Costs.{InvokesKeepTheGreatest};
 ghost use Rattle.method_flow.specs.Examples.{WorkedExamples};
 ghost use Rattle.method_flow.specs.Kinds.{CallsAreInvokes, RowsAreOfTheirKinds};
 ghost use Rattle.method_flow.specs.Shapes.{StepsHaveShapes};
@@ -40,6 +41,14 @@ pub fn calls_are_invokes()
     ensures { CallsAreInvokes }
 {
     jop_opcodes::laws::instructions_are_read();
+}
+
+/// An invoke costs at most what the dearest of the four invokes costs.
+pub fn invokes_keep_the_greatest()
+    ensures { InvokesKeepTheGreatest }
+{
+    jop_opcodes::laws::instructions_are_read();
+    micro_flow::laws::costs_are_small();
 }
 
 /// Graphs that were worked out by hand.
