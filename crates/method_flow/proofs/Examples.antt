@@ -1,6 +1,7 @@
 -- The worked examples, by computing.
 use Rattle.std.proofs.Common.{◌≡◌, ◌⊎◌, ℕ, ◌<◌, ◌≤◌, true, false, List, [], ◌∷◌, Contains, pos, ◌+ℤ◌, refl, sym, ap, ◌∙◌, subst, inl, inr, arith}
 use Rattle.std.specs.Int.{int_wrap}
+use Rattle.std.proofs.lemmas.List.Elements.{All-cons, All-nil}
 use Rattle.jop_opcodes.specs.declared.instruction.Case.{Case}
 use Rattle.jop_opcodes.specs.Instruction.{decoded}
 use Rattle.jop_opcodes.specs.Row as opcodes
@@ -8,12 +9,13 @@ use Rattle.jop_opcodes.specs.Start.{starts_of}
 use Rattle.bytecode_model.specs.Program.{Handler}
 use Rattle.bytecode_model.specs.Table.{row_of}
 use Rattle.lists.specs.Members.{at_head, in_tail, cons_cases, nil_contains}
-use Rattle.method_flow.specs.Nodes.{Node, At, RaiseAt, IsEdge, IsExit, IsHandled, IsReached}
+use Rattle.method_flow.specs.Nodes.{Node, At, RaiseAt, number_of, IsEdge, IsExit, IsHandled, IsReached}
 use Rattle.method_flow.specs.Nodes.IsReached.{first, later}
 use Rattle.method_flow.specs.Calls.{IsCall, IsStartOf, IsTarget}
-use Rattle.method_flow.specs.Live.{CanEnd, EndsFrom}
+use Rattle.method_flow.specs.Live.{CanEnd, EndsFrom, IsLiveEdge}
 use Rattle.method_flow.specs.Live.CanEnd.{ends}
 use Rattle.method_flow.specs.Live.EndsFrom.{here, along, behind}
+use Rattle.method_flow.specs.Graphs.{IsReachedEdge, IsReachedExit, IsLiveGraph}
 use Rattle.method_flow.specs.Regions.{IsWithin}
 use Rattle.method_flow.specs.Regions.IsWithin.{itself, calls}
 use Rattle.method_flow.specs.Examples.{sample, catch_all, LeadsToEach, GoesTo, SynchronizedLoop, Calling, CallOfEndless, EndlessRecursion, DeadCall, WorkedExamples}
@@ -150,18 +152,90 @@ endless (behind {m} {t} {p} {q} edge target ended more) at =
 cannot_end : CanEnd sample 2 → ⊥
 cannot_end (ends e) = endless e refl
 
+only_endless : (t : ℕ) → Contains (2 ∷ []) t → t ≡ 2
+only_endless t c = elim (cons_cases 2 t [] c) [ inl same ↦ sym same | inr there ↦ absurd (nil_contains t there) ]
+
+not_behind : IsLiveEdge sample 3 (At 0) (At 3) → ⊥
+unfolding decoded opcodes.row_of row_of int_wrap
+not_behind live = let on = live.goes_on refl in cannot_end (subst (CanEnd sample) (only_endless on.0 on.1) on.2)
+
+to_raise : IsLiveEdge sample 3 (At 0) (RaiseAt 0)
+unfolding decoded opcodes.row_of row_of int_wrap
+to_raise = record { edge = (refl, refl); goes_on = tt }
+
+-- the one edge that a run can take from the invoke or its raise step
+one_edge : (u v : Node) → (u ≡ At 0) ⊎ (u ≡ RaiseAt 0) → IsLiveEdge sample 3 u v → (u ≡ At 0) × (v ≡ RaiseAt 0)
+unfolding decoded opcodes.row_of row_of int_wrap
+one_edge u v (inl at) live = (at, from_call v (subst (λ (x : Node). IsLiveEdge sample 3 x v) at live))
+  where
+    from_call : (w : Node) → IsLiveEdge sample 3 (At 0) w → w ≡ RaiseAt 0
+    from_call (At q) taken =
+        let place : q ≡ 3 = taken.edge in
+        absurd (not_behind (subst (λ (x : ℕ). IsLiveEdge sample 3 (At 0) (At x)) place taken))
+    from_call (RaiseAt q) taken = ap RaiseAt taken.edge.0
+one_edge u v (inr at) live = absurd (from_raise v (subst (λ (x : Node). IsLiveEdge sample 3 x v) at live))
+  where
+    from_raise : (w : Node) → IsLiveEdge sample 3 (RaiseAt 0) w → ⊥
+    from_raise (At q) taken = uncovered 0 q taken.edge
+    from_raise (RaiseAt q) taken = taken.edge
+
+reached_by_run : {u : Node} → IsReached (IsLiveEdge sample 3) u → (u ≡ At 0) ⊎ (u ≡ RaiseAt 0)
+reached_by_run first = inl refl
+reached_by_run (later {u} {v} reached live) = inr (one_edge u v (reached_by_run reached) live).1
+
+live_graph : IsLiveGraph sample 3 (record { nodes = 8; edges = (0, 1) ∷ []; exits = 1 ∷ [] })
+unfolding decoded opcodes.row_of row_of int_wrap
+live_graph = record {
+  digraph = record {
+    entry = omega arith;
+    edges = record { ends = All-cons (λ (e : ℕ × ℕ). (e.0 < 8) × (e.1 < 8)) (0, 1) [] (omega arith, omega arith) (All-nil (λ (e : ℕ × ℕ). (e.0 < 8) × (e.1 < 8))); rising = λ k d below. absurd (omega arith) };
+    exits = record { within = All-cons (λ (u : ℕ). u < 8) 1 [] (omega arith) (All-nil (λ (u : ℕ). u < 8)); rising = λ k below. absurd (omega arith) };
+  };
+  size = refl;
+  edges = λ u v. (edge_to u v, edge_from u v);
+  exits = λ u. (exit_to u, exit_from u);
+}
+  where
+    edge_to : (u v : ℕ) → Contains {X = ℕ × ℕ} ((0, 1) ∷ []) (u, v) → IsReachedEdge (IsLiveEdge sample 3) u v
+    edge_to u v c =
+        elim (cons_cases {X = ℕ × ℕ} (0, 1) (u, v) [] c) [
+          | inl same ↦ record { source = At 0; target = RaiseAt 0; reached = first; edge = to_raise; numbered = (ap (λ (e : ℕ × ℕ). e.0) (sym same), ap (λ (e : ℕ × ℕ). e.1) (sym same)) }
+          | inr there ↦ absurd (nil_contains {X = ℕ × ℕ} (u, v) there)
+        ]
+
+    edge_from : (u v : ℕ) → IsReachedEdge (IsLiveEdge sample 3) u v → Contains {X = ℕ × ℕ} ((0, 1) ∷ []) (u, v)
+    edge_from u v e =
+        let is = one_edge e.source e.target (reached_by_run e.reached) e.edge in
+        let source : u ≡ 0 = e.numbered.0 ∙ ap number_of is.0 in
+        let target : v ≡ 1 = e.numbered.1 ∙ ap number_of is.1 in
+        subst (λ (x : ℕ). Contains {X = ℕ × ℕ} ((0, 1) ∷ []) (x, v)) (sym source) (subst (λ (y : ℕ). Contains {X = ℕ × ℕ} ((0, 1) ∷ []) (0, y)) (sym target) (at_head {X = ℕ × ℕ} (0, 1) []))
+
+    exit_to : (u : ℕ) → Contains (1 ∷ []) u → IsReachedExit (IsLiveEdge sample 3) sample 3 u
+    exit_to u c =
+        elim (cons_cases 1 u [] c) [
+          | inl same ↦ record { node = RaiseAt 0; reached = later first to_raise; exit = tt; numbered = sym same }
+          | inr there ↦ absurd (nil_contains u there)
+        ]
+
+    is_raise : (w : Node) → (w ≡ At 0) ⊎ (w ≡ RaiseAt 0) → IsExit sample 3 w → w ≡ RaiseAt 0
+    is_raise w (inl at) exit = absurd (subst (λ (x : Node). IsExit sample 3 x) at exit)
+    is_raise w (inr at) exit = at
+
+    exit_from : (u : ℕ) → IsReachedExit (IsLiveEdge sample 3) sample 3 u → Contains (1 ∷ []) u
+    exit_from u e =
+        let is : u ≡ 1 = e.numbered ∙ ap number_of (is_raise e.node (reached_by_run e.reached) e.exit) in
+        subst (λ (x : ℕ). Contains (1 ∷ []) x) (sym is) (at_head 1 [])
+
 call_of_endless : CallOfEndless
 unfolding decoded opcodes.row_of row_of int_wrap
 call_of_endless = record {
   endless = cannot_end;
   edge = refl;
-  not_live = λ live. let on = live.goes_on refl in cannot_end (subst (CanEnd sample) (only on.0 on.1) on.2);
-  raises = record { edge = (refl, refl); goes_on = tt };
+  not_live = not_behind;
+  raises = to_raise;
   can_end = ends (along {v = RaiseAt 0} (refl, refl) (λ none. none) (here tt));
+  live_graph = live_graph;
 }
-  where
-    only : (t : ℕ) → Contains (2 ∷ []) t → t ≡ 2
-    only t c = elim (cons_cases 2 t [] c) [ inl same ↦ sym same | inr there ↦ absurd (nil_contains t there) ]
 
 raises_first : (m : ℕ) → IsEdge sample m (At 0) (RaiseAt 0) → CanEnd sample m
 raises_first m edge = ends (along {v = RaiseAt 0} edge (λ none. none) (here tt))

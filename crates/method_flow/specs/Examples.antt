@@ -5,6 +5,7 @@ use Rattle.bytecode_model.specs.Examples as model
 use Rattle.method_flow.specs.Nodes.{Node, At, RaiseAt, number_of, IsEdge, IsExit, IsReached}
 use Rattle.method_flow.specs.Calls.{IsCall, targets_of}
 use Rattle.method_flow.specs.Live.{CanEnd, IsLiveEdge}
+use Rattle.method_flow.specs.Graphs.{IsLiveGraph}
 use Rattle.method_flow.specs.Regions.{IsWithin}
 
 -- ---- a sample program, over the sample classes of the meaning of bytecode; 7 is the interface and 9 the class that implements it
@@ -116,6 +117,8 @@ pub record CallOfEndless : Type 0 where
   pub raises : IsLiveEdge sample 3 (At 0) (RaiseAt 0)
   -- so it can end, since there might be no room for the frame
   pub can_end : CanEnd sample 3
+  -- four bytes have eight numbers, of which two are nodes that are reached: the invoke and its raise step
+  pub live_graph : IsLiveGraph sample 3 (record { nodes = 8; edges = (0, 1) ∷ []; exits = 1 ∷ [] })
 
 -- Recursion without a way out can still end in one way: some invoke finds no room for a frame. So a run can take the edges behind its calls.
 pub record EndlessRecursion : Type 0 where
