@@ -1,9 +1,9 @@
 -- What an invoke costs by itself.
-use Rattle.std.proofs.Common.{◌≡◌, ℕ, ◌≤◌, true, Some, refl, sym, subst, IsSomeAnd}
+use Rattle.std.proofs.Common.{◌≡◌, ℕ, ◌≤◌, true, sym, subst, IsSomeAnd}
 use Rattle.jop_opcodes.specs.declared.instruction.Instr.{Instr}
 use Rattle.jop_opcodes.specs.Bytes.{u1}
 use Rattle.jop_opcodes.specs.Reading.{InstructionsAreOfTheirForm}
-use Rattle.bytecode_model.specs.Program.{Program, Body, body_of, instr_at}
+use Rattle.bytecode_model.specs.Program.{Body, body_of, instr_at}
 use Rattle.bytecode_model.specs.Rows.{Row}
 use Rattle.bytecode_model.specs.Steps.{row_in}
 use Rattle.bytecode_model.specs.WellFormed.{is_call}
@@ -26,8 +26,7 @@ invokes_keep_the_greatest forms costs P t m p greatest range call is_greatest =
     let to = subst (λ (op : ℕ). op ≤ 185) invoke.opcode invoke.to in
     let small = costs (params t 0 0) range (u1 b.code p) in
     let cost : IsCost (u1 b.code p) (params t i.count 0) small.cycles = subst (λ (n : ℕ). IsCost (u1 b.code p) (params t n 0) small.cycles) (sym invoke.no_cases) small.is in
-    let at_instr = some_in (instr_at P m p) i (λ (j : Instr). IsCost (u1 b.code p) (params t j.count 0) small.cycles) instr.1 cost in
-    (
+    let at_instr = some_in (instr_at P m p) i (λ (j : Instr). IsCost (u1 b.code p) (params t j.count 0) small.cycles) instr.1 cost in (
       small.cycles,
       some_in (body_of P m) b (λ (c : Body). IsSomeAnd (instr_at P m p) (λ j. IsCost (u1 c.code p) (params t j.count 0) small.cycles)) body.1 at_instr,
       is_greatest.greatest (u1 b.code p) small.cycles (record { from = from; to = to }) small.is,
