@@ -52,7 +52,9 @@ module _ (P : Program) (pl : Places) (apart : (m n : ℕ) → IsSome (body_of P 
       by later false is = let other = differ is in later (omega arith)
 
 pub places_tell_words : PlacesTellWords
-places_tell_words g is =
-    (words_below g.program g.places (length g.program.methods), λ m b body.
-    let method = onto_some (slice_get g.program.methods m) _ b body in
-    told g.program g.places is.says.apart m b body (length g.program.methods) (slice_get_within g.program.methods m method.0 method.1))
+places_tell_words g is = (
+  words_below g.program g.places (length g.program.methods),
+  λ m b body.
+      let method = onto_some (slice_get g.program.methods m) _ b body in
+      told g.program g.places is.says.apart m b body (length g.program.methods) (slice_get_within g.program.methods m method.0 method.1),
+)
