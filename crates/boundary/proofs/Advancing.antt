@@ -26,6 +26,7 @@ use Rattle.boundary.specs.Advances.{Advances, Reaches, AfterStep, FailsToRead, F
 use Rattle.boundary.specs.StageLaws.{NextStage, StagesAdvance, StagesAgree}
 use Rattle.boundary.proofs.Obeys.{Sort, Plain, Takes, Puts, Obeys, StepSort, step_sort}
 use Rattle.boundary.proofs.Landings.{comes_lands, arrived_lands, meets, Within, same_landing, broke_within}
+use Rattle.boundary.proofs.Faults.{same_read, same_write}
 use Rattle.boundary.proofs.Stages.{some_in, goes_alike, running_here, raising_here, first_given, taken_of}
 
 are_given : (old new : Option (List ℕ)) (answers : List (Option ℕ)) → GivesEach old new answers → AreGiven answers
@@ -154,6 +155,10 @@ module _ (advance : StagesAdvance) (agree : StagesAgree) (runs : AreRunLaws) (ap
   nothing_put : (new : machine.State) (t0 t1 : Told) (tick : Tick) (b : Broke old new t0 t1 tick) → b.answers ≡ [] → output_during b.cycles (begun old b.answers) ≡ [] → output_during b.cycles (begun old []) ≡ []
   nothing_put new t0 t1 tick b none put = ap (λ (xs : List (Option ℕ)). output_during b.cycles (begun old xs)) (sym none) ∙ put
 
+  -- the machine is where it was
+  still : (new : machine.State) → new ≡ old → Stands g new s
+  still new same = subst (λ (m : machine.State). Stands g m s) (sym same) st
+
   pub write_failed : (new : machine.State) (t0 t1 : Told) → Broke old new t0 t1 ticks.WriteFault → FailsToWrite g s old new t0 t1
   write_failed new t0 t1 b = by_sort (step_sort g.program (limits g) s going) (break_off new t0 t1 ticks.WriteFault b)
     where
@@ -174,6 +179,8 @@ module _ (advance : StagesAdvance) (agree : StagesAgree) (runs : AreRunLaws) (ap
             answers = none;
             output = nothing_put new t0 t1 ticks.WriteFault b none middle.none;
             puts = after_each (λ answer t. t.output ≡ s.output ++ output_of new) (λ answer t h. (obeys answer t h).1 ∙ ap (λ (out : List ℕ). s.output ++ out) (sym middle.is));
+            same = same_write g.program g.places s st.stands.top st.stands.body s.mode going old st.stands.at new t0 t1 b;
+            stands = still new (same_write g.program g.places s st.stands.top st.stands.body s.mode going old st.stands.at new t0 t1 b);
           }
 
       by_sort : StepSort g.program (limits g) s → Break new t0 t1 ticks.WriteFault b → FailsToWrite g s old new t0 t1
@@ -197,6 +204,8 @@ module _ (advance : StagesAdvance) (agree : StagesAgree) (runs : AreRunLaws) (ap
             answers = none;
             output = nothing_put new t0 t1 ticks.ReadFault b none (no_part _ (output_of new) r.within.rest (sym (no_output (first_of b.answers) r.next did.1) ∙ r.within.output)).0;
             takes = after_each (λ answer t. t.answers ≡ s.answers ++ answer ∷ []) (λ answer t h. (obeys answer t h).0);
+            same = same_read g.program g.places s st.stands.top st.stands.body s.mode going old st.stands.at new t0 t1 b;
+            stands = still new (same_read g.program g.places s st.stands.top st.stands.body s.mode going old st.stands.at new t0 t1 b);
           }
 
       by_sort : StepSort g.program (limits g) s → Break new t0 t1 ticks.ReadFault b → FailsToRead g s old new t0 t1

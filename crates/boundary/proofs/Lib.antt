@@ -19,3 +19,5 @@ pub mod Lasting
 pub mod Answered
 pub mod Whole
 pub mod Tracing
+mod Faults
+mod BareStates

@@ -51,19 +51,23 @@ pub record IsPart (g : Setting) (s : State) (answers : List (Option ℕ)) (outpu
   pub other_output : List ℕ
   pub put : next.output ≡ s.output ++ (output ++ other_output)
 
--- The machine stands where it was about to ask for the answer that the step takes, and nothing was answered or put out before.
+-- The machine is where it was, about to ask for the answer that the step takes, and nothing was answered or put out before. It still stands for the state.
 pub record FailsToRead (g : Setting) (s : State) (old new : machine.State) (told told' : Told) : Type 0 where
   pub broke : Broke old new told told' ticks.ReadFault
   pub answers : broke.answers ≡ []
   pub output : output_during broke.cycles (begun old []) ≡ []
   pub takes : AfterStep g s (λ answer t. t.answers ≡ s.answers ++ answer ∷ [])
+  pub same : new ≡ old
+  pub stands : Stands g new s
 
--- The machine stands where it was about to put out the byte that the step puts out, and nothing was answered or put out before.
+-- The machine is where it was, about to put out the byte that the step puts out, and nothing was answered or put out before. It still stands for the state.
 pub record FailsToWrite (g : Setting) (s : State) (old new : machine.State) (told told' : Told) : Type 0 where
   pub broke : Broke old new told told' ticks.WriteFault
   pub answers : broke.answers ≡ []
   pub output : output_during broke.cycles (begun old []) ≡ []
   pub puts : AfterStep g s (λ answer t. t.output ≡ s.output ++ output_of new)
+  pub same : new ≡ old
+  pub stands : Stands g new s
 
 -- The machine stands where its state was handed to the device.
 pub record FailsToShow (g : Setting) (s : State) (old new : machine.State) (told told' : Told) : Type 0 where

@@ -12,3 +12,4 @@ pub mod Linked
 pub mod Activations
 pub mod Runs
 pub mod Traces
+pub mod BareStates

@@ -2,6 +2,7 @@ ghost use Rattle.machine_stands.specs.Simulates.{Simulates};
 ghost use Rattle.boundary.specs.Families.{is_built};
 ghost use Rattle.boundary.specs.Activations.{ActivationsTakeCycles};
 ghost use Rattle.boundary.specs.BareLaws.{BareOpcodes, BareImagesStep};
+ghost use Rattle.boundary.specs.BareStates.{HaveBareStates};
 ghost use Rattle.boundary.specs.Laws.{BareImagesArePrograms, BareRunsBegin};
 ghost use Rattle.boundary.specs.Linked.{LinkedRunsBegin};
 ghost use Rattle.boundary.specs.StageLaws.{StagesAdvance, StagesAgree, StagesEndSoon};
@@ -98,6 +99,15 @@ pub fn stages_end_soon()
 /// A step of a bare image takes nothing from the input, goes on or ends, and puts something out at `impdep2` alone.
 pub fn bare_images_step()
     ensures { BareImagesStep }
+{
+    bare_images_are_programs();
+    bytecode_typing::typed_programs_keep();
+    bytecode_typing::fitting_states_are_well_formed();
+}
+
+/// A state of a bare image has one frame of ints, and is running or has ended.
+pub fn bare_images_have_bare_states()
+    ensures { HaveBareStates }
 {
     bare_images_are_programs();
     bytecode_typing::typed_programs_keep();

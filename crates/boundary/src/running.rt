@@ -31,8 +31,8 @@ use std::marker::Model;
 // The number of the type of the first class. The types of the arrays of numbers come before those of classes.
 const FIRST_CLASS: u32 = 8;
 
-/// A machine that runs a program: at each boundary it stands for a state of the program, until a call on a device
-/// fails. It has `N` on-chip words, of which there are 256, 512 or 1,024.
+/// A machine that runs a program: at each boundary it stands for a state of the program, and it still stands for
+/// that state where the device's `input` or `output` failed. It has `N` on-chip words, of which there are 256, 512 or 1,024.
 #[derive(Drop)]
 pub struct Running<'a, const N: usize> {
     machine: Machine<N>,
