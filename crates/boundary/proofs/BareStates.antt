@@ -53,11 +53,12 @@ items_by P n m ks (suc count) (Unset ∷ vs) h = absurd h.0.0
 -- each frame of types is of ints
 int_among : (b : Body) (pcs : List ℕ) (d pc : ℕ) (t : TypeFrame) → frame_among (int_frames b pcs d) pc ≡ Some t → (k : ℕ) × (t ≡ int_frame b k)
 int_among b [] d pc t h = absurd (cc)
-int_among b (q ∷ pcs) d pc t h = by (q == pc) h
+int_among b (q ∷ pcs) d pc t h = by (q == pc) h (λ other. int_among b pcs (depth_after b d (row_in (bare_program b) 0 q)) pc t other)
   where
-    by : (here : Bool) → (if here then Some (int_frame b d) else frame_among (int_frames b pcs (depth_after b d (row_in (bare_program b) 0 q))) pc) ≡ Some t → (k : ℕ) × (t ≡ int_frame b k)
-    by true h = (d, (let e : t ≡ int_frame b d = cc in e))
-    by false h = int_among b pcs (depth_after b d (row_in (bare_program b) 0 q)) pc t h
+    by : (here : Bool) → (if here then Some (int_frame b d) else frame_among (int_frames b pcs (depth_after b d (row_in (bare_program b) 0 q))) pc) ≡ Some t
+        → (frame_among (int_frames b pcs (depth_after b d (row_in (bare_program b) 0 q))) pc ≡ Some t → (k : ℕ) × (t ≡ int_frame b k)) → (k : ℕ) × (t ≡ int_frame b k)
+    by true h later = (d, (let e : t ≡ int_frame b d = cc in e))
+    by false h later = later h
 
 -- of a method and a place with a frame of types
 record IsTypedAt (b : Body) (n pc : ℕ) (t : TypeFrame) : Type 0 where

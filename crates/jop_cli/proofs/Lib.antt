@@ -7,3 +7,5 @@ mod Ended
 mod Held
 mod Endings
 mod Named
+mod Watched
+mod Calling

@@ -111,7 +111,11 @@ outcome_unsaid NoMemory = outcomes.NoMemory
 abbrev pub RunsImage : (words : List (List ℕ)) → (image : ℕ) → Type 0
 RunsImage words image = (settings : Settings) × ((command_of words ≡ Ok (Run settings image)) ⊎ ((micro : Bool) × (command_of words ≡ Ok (Trace settings micro image))))
 
--- and the bytes of the image begin as those of a linked one
+-- the words say `run` of an image
+abbrev pub RunsProgram : (words : List (List ℕ)) → Type 0
+RunsProgram words = (settings : Settings) × (image : ℕ) × (command_of words ≡ Ok (Run settings image))
+
+-- the words say `run` or `trace` of an image, and its bytes begin as those of a linked one
 pub record RunsLinkedFile (words : List (List ℕ)) (old new : World) : Type 0 where
   pub image : ℕ
   pub command : RunsImage words image

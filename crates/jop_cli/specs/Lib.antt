@@ -12,3 +12,4 @@ pub mod LinkedSettings
 pub mod LinkedFile
 pub mod Answer
 pub mod Status
+pub mod Process

@@ -18,6 +18,15 @@ abbrev pub shown_by : NamedShow → Shown
 shown_by named.Output = Output
 shown_by (named.Trace cycles names) = Trace cycles (texts names.items)
 
+-- a trace is shown
+abbrev pub IsTrace : Show → Type 0
+IsTrace shows.Output = ⊥
+IsTrace (shows.Trace cycles) = Unit {0}
+
+abbrev pub IsTraced : Shown → Type 0
+IsTraced Output = ⊥
+IsTraced (Trace cycles names) = Unit {0}
+
 -- each method has a name, where they are shown
 abbrev pub AreNamed : Shown → List CodedMethod → Type 0
 AreNamed Output methods = Unit {0}

@@ -7,7 +7,7 @@ ghost use Rattle.boundary.specs.Setting.{bare_setting};
 ghost use Rattle.stream_devices.specs.Lent.{lent};
 ghost use Rattle.jop_words.specs.Range.{AreSettings};
 ghost use Rattle.jop_cli.specs.Leaving.{Leaves};
-ghost use Rattle.jop_cli.specs.Show.{AreNamed, IsNamed, bare_shown, shown_by};
+ghost use Rattle.jop_cli.specs.Show.{AreNamed, IsNamed, IsTrace, IsTraced, bare_shown, shown_by};
 ghost use Rattle.jop_cli.specs.Run.{Started};
 ghost use Rattle.jop_cli.specs.BareFile.{ImageFault, blocks_of_code, IsCodeTooLong, RanBare, RanWith, RunsBareBytes};
 
@@ -71,6 +71,7 @@ fn run_started<const N: usize, O: Sink, V: Watch>(
         (lent (Some []) 0 (O.held out.old) (O.faults out.old) (V.held watch.old))
         (lent (Some []) 0 (O.held out.new) (O.faults out.new) (V.held watch.new)) result }
     ensures done { Leaves result → ⊥ }
+    ensures watch { IsTraced (shown_by shown.now) → watch.new ≡ watch.old }
 {
     // The law is for the proof.
     bare_images_step();
@@ -102,6 +103,7 @@ fn run_image<const N: usize, O: Sink, V: Watch>(
         (lent (Some []) 0 (O.held out.old) (O.faults out.old) (V.held watch.old))
         (lent (Some []) 0 (O.held out.new) (O.faults out.new) (V.held watch.new)) result }
     ensures leaves { Leaves result → (out.new ≡ out.old) × (watch.new ≡ watch.old) }
+    ensures watch { IsTraced (shown_by shown.now) → watch.new ≡ watch.old }
 {
     match start::<N>(alloc, bare, plan.config) {
         Ok(running) => {
@@ -128,6 +130,7 @@ fn run_bare<const N: usize, O: Sink, V: Watch>(
         (lent (Some []) 0 (O.held out.old) (O.faults out.old) (V.held watch.old))
         (lent (Some []) 0 (O.held out.new) (O.faults out.new) (V.held watch.new)) result }
     ensures leaves { Leaves result → (out.new ≡ out.old) × (watch.new ≡ watch.old) }
+    ensures watch { IsTrace plan.show → watch.new ≡ watch.old }
 {
     match bare_show(alloc, plan.show) {
         Ok(shown) => run_image::<N, O, V>(alloc, bare, plan, &shown, out, watch),
@@ -151,6 +154,7 @@ fn run_with<O: Sink, V: Watch>(
         (lent (Some []) 0 (O.held out.old) (O.faults out.old) (V.held watch.old))
         (lent (Some []) 0 (O.held out.new) (O.faults out.new) (V.held watch.new)) result }
     ensures leaves { Leaves result → (out.new ≡ out.old) × (watch.new ≡ watch.old) }
+    ensures watch { IsTrace show → watch.new ≡ watch.old }
 {
     let plan = plan_of(settings, show);
     match settings.stack {
@@ -178,6 +182,7 @@ fn run_fitting<O: Sink, V: Watch>(
         (lent (Some []) 0 (O.held out.old) (O.faults out.old) (V.held watch.old))
         (lent (Some []) 0 (O.held out.new) (O.faults out.new) (V.held watch.new)) result }
     ensures leaves { Leaves result → (out.new ≡ out.old) × (watch.new ≡ watch.old) }
+    ensures watch { IsTrace show → watch.new ≡ watch.old }
 {
     let blocks = blocks_of(bare, settings.block_words);
     if blocks > settings.blocks {
@@ -200,6 +205,7 @@ pub(crate) fn run_bare_bytes<O: Sink, V: Watch>(
         (lent (Some []) 0 (O.held out.old) (O.faults out.old) (V.held watch.old))
         (lent (Some []) 0 (O.held out.new) (O.faults out.new) (V.held watch.new)) result }
     ensures leaves { Leaves result → (out.new ≡ out.old) × (watch.new ≡ watch.old) }
+    ensures watch { IsTrace show → watch.new ≡ watch.old }
 {
     match image_of(alloc, bytes) {
         Ok(bare) => run_fitting(alloc, &bare, settings, show, out, watch),

@@ -1,9 +1,14 @@
 //! The program over the real files and streams.
-ghost use Rattle.std.specs.Prelude.{◌<◌, ◌≤◌, length};
+ghost use Rattle.std.specs.Prelude.{◌≡◌, ◌<◌, ◌^◌, ◌⊎◌, length, map, None};
+ghost use Rattle.jop_words.specs.Command.{texts};
+ghost use Rattle.jop_cli.specs.World.{world};
+ghost use Rattle.jop_cli.specs.Process.{IsStatus, IsNewStatus, IsProcessStatus};
 
 use crate::jop;
-use jop_core::NoWatch;
-use jop_outside::{HostFiles, HostSink, HostSource};
+use jop_core::{NoWatch, Watch};
+use jop_outside::{
+    DirectWrite, FileSystem, Files, HostFiles, HostSink, HostSource, Sink, Source, SteadyRead,
+};
 use std::alloc::{AllocError, Global};
 use std::{env, io};
 
@@ -30,9 +35,64 @@ fn texts_of(alloc: Global, words: &[String]) -> Result<Vec<&str>, AllocError> {
     Ok(texts)
 }
 
+/// Calls the program, and gives the status that its process is to end with.
+pub fn status_of_call<F: Files, S: Source, O: Sink, E: Sink, V: Watch>(
+    alloc: Global,
+    words: &[&str],
+    files: &mut F,
+    input: &mut S,
+    out: &mut O,
+    err: &mut E,
+    watch: &mut V,
+) -> u8
+    requires words { length words.now ≡ F.words files.old }
+    requires few { length words.now < 2 ^ 32 }
+    ensures { IsStatus (texts words.now)
+        (world (F.words files.old) (F.told files.old) (F.faults files.old) (S.left input.old) (S.faults input.old) (O.held out.old) (O.faults out.old) (V.held watch.old))
+        (world (F.words files.new) (F.told files.new) (F.faults files.new) (S.left input.new) (S.faults input.new) (O.held out.new) (O.faults out.new) (V.held watch.new))
+        (E.held err.old) (E.held err.new) (E.faults err.old) (E.faults err.new) result }
+{
+    jop(alloc, words, files, input, out, err, watch).status()
+}
+
+/// Calls the program over the files of a system, a reader and two writers. Without memory for the files the status
+/// is 5, as it is where the program finds none.
+pub fn run_over<S, R, W, E>(
+    alloc: Global,
+    words: &[&str],
+    system: S,
+    input: R,
+    out: W,
+    err: E,
+) -> u8
+where
+    S: FileSystem + Drop,
+    R: SteadyRead + Drop,
+    W: DirectWrite + Drop,
+    E: DirectWrite + Drop,
+    requires { length words.now < 2 ^ 32 }
+    ensures { (result ≡ 5) ⊎ IsNewStatus (texts words.now) (map (λ word. S.told system word.now) words.now)
+        (R.remaining input) (W.contents out) (E.contents err) result }
+{
+    let Ok(mut files) = HostFiles::new(alloc, system, words) else {
+        return NO_MEMORY;
+    };
+    status_of_call(
+        alloc,
+        words,
+        &mut files,
+        &mut HostSource::new(input),
+        &mut HostSink::new(out),
+        &mut HostSink::new(err),
+        &mut NoWatch,
+    )
+}
+
 /// Calls the program with the words of this process, its files and its streams, and gives the status that the
 /// process is to end with.
-pub fn run_process(rt: HostRuntime) -> u8 {
+pub fn run_process(rt: HostRuntime) -> u8
+    ensures { IsProcessStatus result }
+{
     let alloc = rt.alloc();
     let words = match words_of(&rt) {
         Ok(words) => words,
@@ -45,20 +105,6 @@ pub fn run_process(rt: HostRuntime) -> u8 {
     if texts.len() >= 1 << 32 {
         return NO_WORDS;
     }
-    let mut input = HostSource::new(rt.stdin());
-    let mut out = HostSink::new(rt.stdout());
-    let mut err = HostSink::new(rt.stderr());
-    let Ok(mut files) = HostFiles::new(alloc, rt, &texts) else {
-        return NO_MEMORY;
-    };
-    let outcome = jop(
-        alloc,
-        &texts,
-        &mut files,
-        &mut input,
-        &mut out,
-        &mut err,
-        &mut NoWatch,
-    );
-    outcome.status()
+    let (input, out, err) = (rt.stdin(), rt.stdout(), rt.stderr());
+    run_over(alloc, &texts, rt, input, out, err)
 }

@@ -11,6 +11,7 @@ ghost use Rattle.class_names.specs.Room.{HasRoom};
 ghost use Rattle.jop_words.specs.Range.{AreSettings};
 ghost use Rattle.jop_cli.specs.declared.program_end.ImageEnd.TheVariants as ends;
 ghost use Rattle.stream_devices.specs.Lent.{lent};
+ghost use Rattle.jop_cli.specs.Show.{IsTrace};
 ghost use Rattle.jop_cli.specs.Leaving.{Leaves, FailsRisen};
 ghost use Rattle.jop_cli.specs.LinkedRun.{HasClass};
 ghost use Rattle.jop_cli.specs.LinkedFile.{BytesFault, IsTooLongAs, SaysEnd, EndsAs, RunsLinkedBytes};
@@ -118,6 +119,7 @@ fn run_program<S: Source, O: Sink, V: Watch>(
         (lent (S.left input.old) (S.faults input.old) (O.held out.old) (O.faults out.old) (V.held watch.old))
         (lent (S.left input.new) (S.faults input.new) (O.held out.new) (O.faults out.new) (V.held watch.new)) result }
     ensures leaves { Leaves result → (input.new ≡ input.old) × (out.new ≡ out.old) × (watch.new ≡ watch.old) }
+    ensures watch { IsTrace show → watch.new ≡ watch.old }
 {
     // The law is for the proof.
     methods_stand_by_number();
@@ -152,6 +154,7 @@ pub(crate) fn run_linked_bytes<S: Source, O: Sink, V: Watch>(
         (lent (S.left input.old) (S.faults input.old) (O.held out.old) (O.faults out.old) (V.held watch.old))
         (lent (S.left input.new) (S.faults input.new) (O.held out.new) (O.faults out.new) (V.held watch.new)) result }
     ensures leaves { Leaves result → (input.new ≡ input.old) × (out.new ≡ out.old) × (watch.new ≡ watch.old) }
+    ensures watch { IsTrace show → watch.new ≡ watch.old }
 {
     match linked_of(alloc, bytes) {
         Ok(linked) => run_program(alloc, &linked, settings, show, input, out, watch),

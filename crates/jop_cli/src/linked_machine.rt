@@ -7,7 +7,7 @@ ghost use Rattle.program_tables.specs.Resolved.{resolved};
 ghost use Rattle.image_words.specs.Regions.{places_of};
 ghost use Rattle.jop_core.specs.Reset.{linked_reset};
 ghost use Rattle.jop_cli.specs.declared.program_end.ProgramEnd.TheVariants as ends;
-ghost use Rattle.jop_cli.specs.Show.{AreNamed, linked_shown, shown_by};
+ghost use Rattle.jop_cli.specs.Show.{AreNamed, IsTrace, IsTraced, linked_shown, shown_by};
 ghost use Rattle.jop_cli.specs.Run.{Started, Ran};
 ghost use Rattle.jop_cli.specs.LinkedRun.{CanRun, HasClass, linked_setting};
 
@@ -70,6 +70,7 @@ fn run_methods<const N: usize, S: Source, O: Sink, V: Watch>(
         (lent (S.left input.new) (S.faults input.new) (O.held out.new) (O.faults out.new) (V.held watch.new)) result }
     ensures class { HasClass program.now result }
     ensures leaves { result ≡ ends.NoMemory → (input.new ≡ input.old) × (out.new ≡ out.old) × (watch.new ≡ watch.old) }
+    ensures watch { IsTraced (shown_by shown.now) → watch.new ≡ watch.old }
 {
     // The law is for the proof.
     uncaught_classes_are_there();
@@ -102,6 +103,7 @@ fn run_named<const N: usize, S: Source, O: Sink, V: Watch>(
         (lent (S.left input.new) (S.faults input.new) (O.held out.new) (O.faults out.new) (V.held watch.new)) result }
     ensures class { HasClass program.now result }
     ensures leaves { result ≡ ends.NoMemory → (input.new ≡ input.old) × (out.new ≡ out.old) × (watch.new ≡ watch.old) }
+    ensures watch { IsTrace plan.show → watch.new ≡ watch.old }
 {
     // The law is for the proof.
     methods_stand_by_number();
@@ -131,6 +133,7 @@ pub(crate) fn run_linked<const N: usize, S: Source, O: Sink, V: Watch>(
         (lent (S.left input.new) (S.faults input.new) (O.held out.new) (O.faults out.new) (V.held watch.new)) result }
     ensures class { HasClass program.now result }
     ensures leaves { result ≡ ends.NoMemory → (input.new ≡ input.old) × (out.new ≡ out.old) × (watch.new ≡ watch.old) }
+    ensures watch { IsTrace plan.show → watch.new ≡ watch.old }
 {
     match linked_show(alloc, plan.show, program.program()) {
         Ok(shown) => {

@@ -5,6 +5,7 @@ ghost use Rattle.program_tables.specs.Resolved.{resolved};
 ghost use Rattle.linked_methods.specs.Fitting.{MethodFits};
 ghost use Rattle.jop_cli.specs.declared.program_end.ImageEnd.TheVariants as ends;
 ghost use Rattle.stream_devices.specs.Lent.{lent};
+ghost use Rattle.jop_cli.specs.Show.{IsTrace};
 ghost use Rattle.jop_cli.specs.LinkedSettings.{LeavesDevices, RanWith, RunsLinked};
 
 use crate::linked_machine::run_linked;
@@ -48,6 +49,7 @@ fn run_held<S: Source, O: Sink, V: Watch>(
         (lent (S.left input.old) (S.faults input.old) (O.held out.old) (O.faults out.old) (V.held watch.old))
         (lent (S.left input.new) (S.faults input.new) (O.held out.new) (O.faults out.new) (V.held watch.new)) result }
     ensures leaves { LeavesDevices (ends.Ran result) → (input.new ≡ input.old) × (out.new ≡ out.old) × (watch.new ≡ watch.old) }
+    ensures watch { IsTrace show → watch.new ≡ watch.old }
 {
     let program = linked.program();
     let layout = linked.layout();
@@ -75,6 +77,7 @@ pub(crate) fn run_with_settings<S: Source, O: Sink, V: Watch>(
         (lent (S.left input.old) (S.faults input.old) (O.held out.old) (O.faults out.old) (V.held watch.old))
         (lent (S.left input.new) (S.faults input.new) (O.held out.new) (O.faults out.new) (V.held watch.new)) result }
     ensures leaves { LeavesDevices result → (input.new ≡ input.old) × (out.new ≡ out.old) × (watch.new ≡ watch.old) }
+    ensures watch { IsTrace show → watch.new ≡ watch.old }
 {
     let program = linked.program().program();
     if let Some(long) = first_too_long(program, settings.blocks, settings.block_words) {

@@ -7,7 +7,7 @@ ghost use Rattle.boundary.specs.Setting.{Setting};
 ghost use Rattle.boundary.specs.Runs.{RunsAll};
 ghost use Rattle.boundary.specs.Traces.{texts};
 ghost use Rattle.jop_cli.specs.declared.program_end.ProgramEnd.TheVariants as ends;
-ghost use Rattle.jop_cli.specs.Show.{Trace, shown_by, AreNamed};
+ghost use Rattle.jop_cli.specs.Show.{Trace, shown_by, AreNamed, IsTraced};
 ghost use Rattle.jop_cli.specs.Run.{AreCounts, Started, HasStarted, RunsAsAll, Ran};
 
 use crate::program_end::ProgramEnd;
@@ -71,9 +71,10 @@ fn run_shown<const N: usize, S: Source, O: Sink, V: Watch>(
     requires unbroken { IsUnbroken running.old.mode }
     requires few { limit < 2 ^ 63 }
     requires named { AreNamed (shown_by shown.now) running.old.methods }
-    ensures { RunsAsAll (shown_by shown.now) limit running.old running.new.machine
+    ensures runs { RunsAsAll (shown_by shown.now) limit running.old running.new.machine
         (lent (S.left input.old) (S.faults input.old) (O.held out.old) (O.faults out.old) (V.held watch.old))
         (lent (S.left input.new) (S.faults input.new) (O.held out.new) (O.faults out.new) (V.held watch.new)) result }
+    ensures watch { IsTraced (shown_by shown.now) → watch.new ≡ watch.old }
 {
     match shown {
         NamedShow::Output => run(running, input, out, watch, limit),
@@ -110,6 +111,7 @@ pub(crate) fn run_to_end<const N: usize, S: Source, O: Sink, V: Watch>(
         (lent (S.left input.old) (S.faults input.old) (O.held out.old) (O.faults out.old) (V.held watch.old))
         (lent (S.left input.new) (S.faults input.new) (O.held out.new) (O.faults out.new) (V.held watch.new)) result }
     ensures made { result ≢ ends.NoMemory }
+    ensures watch { IsTraced (shown_by shown.now) → watch.new ≡ watch.old }
 {
     match run_shown(running, shown, input, out, watch, limit) {
         RunEnd::Ended => ProgramEnd::Ended(counts_of(running.machine())),

@@ -7,8 +7,9 @@ ghost use Rattle.jop_cli.specs.Phase.{is_linked};
 ghost use Rattle.jop_cli.specs.BareFile.{RunsBareBytes};
 ghost use Rattle.jop_cli.specs.LinkedFile.{RunsLinkedBytes};
 ghost use Rattle.jop_cli.specs.World.{world};
+ghost use Rattle.jop_cli.specs.Show.{IsTrace};
 ghost use Rattle.jop_cli.specs.Leaving.{Leaves, LeavesAll, FailsRisen};
-ghost use Rattle.jop_cli.specs.Answer.{ReadsLinked, RunsFile, RunsLinkedFile, Executed, Answered, Said, outcome_of, outcome_unsaid};
+ghost use Rattle.jop_cli.specs.Answer.{ReadsLinked, RunsFile, RunsLinkedFile, RunsProgram, Executed, Answered, Said, outcome_of, outcome_unsaid};
 
 use crate::assembling::assemble_file;
 use crate::bare_file::run_bare_bytes;
@@ -41,6 +42,7 @@ fn run_bytes<S: Source, O: Sink, V: Watch>(
         (lent (S.left input.old) (S.faults input.old) (O.held out.old) (O.faults out.old) (V.held watch.old))
         (lent (S.left input.new) (S.faults input.new) (O.held out.new) (O.faults out.new) (V.held watch.new)) result }
     ensures leaves { Leaves result → (input.new ≡ input.old) × (out.new ≡ out.old) × (watch.new ≡ watch.old) }
+    ensures watch { IsTrace show → watch.new ≡ watch.old }
     ensures input { is_linked bytes.now ≡ false → input.new ≡ input.old }
     ensures rose { FailsRisen result (S.faults input.old) (S.faults input.new) }
 {
@@ -68,6 +70,7 @@ fn run_file<F: Files, S: Source, O: Sink, V: Watch>(
         (world (F.words files.old) (F.told files.old) (F.faults files.old) (S.left input.old) (S.faults input.old) (O.held out.old) (O.faults out.old) (V.held watch.old))
         (world (F.words files.new) (F.told files.new) (F.faults files.new) (S.left input.new) (S.faults input.new) (O.held out.new) (O.faults out.new) (V.held watch.new)) result }
     ensures leaves { Leaves result → (input.new ≡ input.old) × (out.new ≡ out.old) × (watch.new ≡ watch.old) }
+    ensures watch { IsTrace show → watch.new ≡ watch.old }
     ensures input { ((bytes : List ℕ) → ReadsLinked word bytes
         (world (F.words files.old) (F.told files.old) (F.faults files.old) (S.left input.old) (S.faults input.old) (O.held out.old) (O.faults out.old) (V.held watch.old))
         (world (F.words files.new) (F.told files.new) (F.faults files.new) (S.left input.new) (S.faults input.new) (O.held out.new) (O.faults out.new) (V.held watch.new)) → ⊥) → input.new ≡ input.old }
@@ -94,6 +97,7 @@ fn execute<F: Files, S: Source, O: Sink, V: Watch>(
         (world (F.words files.old) (F.told files.old) (F.faults files.old) (S.left input.old) (S.faults input.old) (O.held out.old) (O.faults out.old) (V.held watch.old))
         (world (F.words files.new) (F.told files.new) (F.faults files.new) (S.left input.new) (S.faults input.new) (O.held out.new) (O.faults out.new) (V.held watch.new)) result }
     ensures leaves { Leaves result → (input.new ≡ input.old) × (out.new ≡ out.old) × (watch.new ≡ watch.old) }
+    ensures watch { (RunsProgram (texts words.now) → ⊥) → watch.new ≡ watch.old }
     ensures input { (RunsLinkedFile (texts words.now)
         (world (F.words files.old) (F.told files.old) (F.faults files.old) (S.left input.old) (S.faults input.old) (O.held out.old) (O.faults out.old) (V.held watch.old))
         (world (F.words files.new) (F.told files.new) (F.faults files.new) (S.left input.new) (S.faults input.new) (O.held out.new) (O.faults out.new) (V.held watch.new)) → ⊥) → input.new ≡ input.old }
@@ -184,7 +188,7 @@ fn outcome_for(ending: &Ending) -> Outcome
 ///
 /// Word k names file k. `run` of an image takes the program's input from `input`, puts its output into `out`, and hands the
 /// registers of each state of the machine, from reset on, from which a cycle was done or tried to `watch`. `trace` is the same
-/// run, and puts its lines into `out`: one before each step, one for each byte of the output and, if asked to, one before each
+/// run, and puts its lines into `out`, and hands `watch` nothing: one before each step, one for each byte of the output and, if asked to, one before each
 /// cycle. `asm` puts the words of the text's microprogram into `out`, a line for each, and `link` the file of the image of the
 /// class files.
 pub fn jop<F: Files, S: Source, O: Sink, E: Sink, V: Watch>(
@@ -203,6 +207,7 @@ pub fn jop<F: Files, S: Source, O: Sink, E: Sink, V: Watch>(
         (world (F.words files.new) (F.told files.new) (F.faults files.new) (S.left input.new) (S.faults input.new) (O.held out.new) (O.faults out.new) (V.held watch.new))
         (E.held err.old) (E.held err.new) (E.faults err.old) (E.faults err.new) result }
     ensures leaves { LeavesAll result (S.faults input.old) (S.faults input.new) → (input.new ≡ input.old) × (out.new ≡ out.old) × (watch.new ≡ watch.old) }
+    ensures watch { (RunsProgram (texts words.now) → ⊥) → watch.new ≡ watch.old }
     ensures input { (RunsLinkedFile (texts words.now)
         (world (F.words files.old) (F.told files.old) (F.faults files.old) (S.left input.old) (S.faults input.old) (O.held out.old) (O.faults out.old) (V.held watch.old))
         (world (F.words files.new) (F.told files.new) (F.faults files.new) (S.left input.new) (S.faults input.new) (O.held out.new) (O.faults out.new) (V.held watch.new)) → ⊥) → input.new ≡ input.old }

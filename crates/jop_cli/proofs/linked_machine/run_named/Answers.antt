@@ -8,6 +8,7 @@ use Rattle.jop_cli.specs.LinkedRun.{linked_setting}
 use Rattle.jop_cli.specs.Run.{Ran}
 use Rattle.jop_cli.specs.Show.{Shown, AreNamed}
 use Rattle.jop_cli.proofs.Named.{named}
+use Rattle.jop_cli.proofs.Watched.{linked_is_traced}
 use Rattle.jop_cli.proofs.linked_machine.run_named.Goals as goal
 
 pub run_methods-requires-clause-named : goal.run_methods-requires-clause-named
@@ -23,3 +24,6 @@ returns-in-Ok-clause-ran g c =
     (lent (g.S.Source.left c.args.input.now) (g.S.Source.faults c.args.input.now) (g.O.Sink.held c.args.out.now) (g.O.Sink.faults c.args.out.now) (g.V.Watch.held c.args.watch.now))
     (lent (g.S.Source.left c.run_methods.new.input) (g.S.Source.faults c.run_methods.new.input) (g.O.Sink.held c.run_methods.new.out) (g.O.Sink.faults c.run_methods.new.out) (g.V.Watch.held c.run_methods.new.watch)) c.run_methods.result)
     c.requires.shown c.run_methods.ensures.ran
+
+pub returns-in-Ok-clause-watch : goal.returns-in-Ok-clause-watch
+returns-in-Ok-clause-watch g c = λ trace. c.run_methods.ensures.watch (linked_is_traced _ _ _ c.requires.shown trace)

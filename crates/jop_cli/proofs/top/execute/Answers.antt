@@ -1,7 +1,7 @@
 use Rattle.std.proofs.Common.{◌≡◌, ℕ, Ok, inr}
 use Rattle.std.specs.declared.result.Result.{Result}
 use Rattle.jop_words.specs.declared.command.Command.{Command}
-use Rattle.jop_words.specs.declared.command.Command.TheVariants.{Trace, Asm, Link}
+use Rattle.jop_words.specs.declared.command.Command.TheVariants.{Run, Trace, Asm, Link}
 use Rattle.jop_words.specs.Command.{texts, command_of}
 use Rattle.jop_cli.specs.World.{world}
 use Rattle.jop_cli.proofs.Executing.{does_by, assembles_risen, links_risen}
@@ -37,3 +37,8 @@ pub returns-in-Trace-clause-input : goal.returns-in-Trace-clause-input
 returns-in-Trace-clause-input g c none =
     let is : ◌≡◌ {A = Result Command ℕ} (command_of (texts c.args.words.now)) (Ok (Trace c.in-Trace.settings c.in-Trace.micro c.in-Trace.image)) = cc (c.in-Ok.is, c.in-Trace.is, c.read_words.ensures.exact) in
     c.run_file-in-Trace.ensures.input (λ bytes reads. none (record { image = c.in-Trace.image; command = (c.in-Trace.settings, inr (c.in-Trace.micro, is)); bytes = bytes; reads = reads }))
+
+pub returns-in-Run-clause-watch : goal.returns-in-Run-clause-watch
+returns-in-Run-clause-watch g c none =
+    let is : ◌≡◌ {A = Result Command ℕ} (command_of (texts c.args.words.now)) (Ok (Run c.in-Run.settings c.in-Run.image)) = cc (c.in-Ok.is, c.in-Run.is, c.read_words.ensures.exact) in
+    absurd (none (c.in-Run.settings, c.in-Run.image, is))
