@@ -110,7 +110,7 @@ fn problem_of(alloc: Global, graph: Graph, fields: &[&str]) -> Result<Problem, R
 }
 
 /// The problem of six fields: its graph, and then its costs, bounds and loads.
-fn problem(alloc: Global, fields: &[&str]) -> Result<Problem, RowFault> {
+fn read_problem(alloc: Global, fields: &[&str]) -> Result<Problem, RowFault> {
     if fields.len() != 6 {
         return Err(RowFault::Malformed);
     }
@@ -138,7 +138,7 @@ fn regions(alloc: Global, fields: &[&str]) -> Result<Question, RowFault> {
     if fields.len() != 7 {
         return Err(RowFault::Malformed);
     }
-    let problem = problem(alloc, &fields[..6])?;
+    let problem = read_problem(alloc, &fields[..6])?;
     Ok(Question::Regions(problem, flags(alloc, fields[6])?))
 }
 
@@ -147,7 +147,7 @@ fn check(alloc: Global, fields: &[&str]) -> Result<Question, RowFault> {
     if fields.len() != 9 {
         return Err(RowFault::Malformed);
     }
-    let problem = problem(alloc, &fields[..6])?;
+    let problem = read_problem(alloc, &fields[..6])?;
     let section = section(alloc, fields[6], fields[7], fields[8])?;
     Ok(Question::Check(problem, section))
 }
@@ -160,8 +160,8 @@ impl Question {
             ["chain", nodes] => Ok(Question::Chain(nodes.parse()?)),
             ["nest", rest @ ..] => Ok(Question::Nest(graph(alloc, rest)?)),
             ["blocks", rest @ ..] => Ok(Question::Blocks(graph(alloc, rest)?)),
-            ["longest", rest @ ..] => Ok(Question::Longest(problem(alloc, rest)?)),
-            ["walks", rest @ ..] => Ok(Question::Walks(problem(alloc, rest)?)),
+            ["longest", rest @ ..] => Ok(Question::Longest(read_problem(alloc, rest)?)),
+            ["walks", rest @ ..] => Ok(Question::Walks(read_problem(alloc, rest)?)),
             ["regions", rest @ ..] => regions(alloc, rest),
             ["check", rest @ ..] => check(alloc, rest),
             _ => Err(RowFault::Malformed),

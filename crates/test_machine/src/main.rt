@@ -34,7 +34,12 @@ use std::io;
 use test_rows::RowFault;
 
 // Does what a line says of a machine on its way.
-fn follow(rt: &HostRuntime, course: &mut Course, word: &str, rest: &[&str]) -> Result<(), RowFault> {
+fn follow(
+    rt: &HostRuntime,
+    course: &mut Course,
+    word: &str,
+    rest: &[&str],
+) -> Result<(), RowFault> {
     match word {
         "methods" => course.set_methods(rt.alloc(), rest),
         "at" => course.compare_frames(rt, rest),
