@@ -1,5 +1,5 @@
 -- The frame of the method that is run.
-use Rattle.std.proofs.Common.{◌≡◌, ℕ, ◌-◌, List, [], ◌∷◌, ◌++◌, length, Some, refl, sym, ◌∙◌, ap, arith, length-append, append_assoc}
+use Rattle.std.proofs.Common.{◌≡◌, ℕ, ◌-◌, List, [], ◌∷◌, ◌++◌, length, Some, None, refl, sym, ◌∙◌, ap, arith, length-append, append_assoc}
 use Rattle.std.specs.Prelude.{slice_get, unwrap_or, IsSomeAnd}
 use Rattle.std.specs.Option.{option_map}
 use Rattle.class_pool.specs.declared.class.Code.{Code}
@@ -29,7 +29,7 @@ abbrev member : (calls : List (List ℕ)) (main : List ℕ) → Member
 member calls main = method_in (items_of (boot_plan calls main)) (boot_method calls main)
 
 abbrev code : (calls : List (List ℕ)) (main : List ℕ) → Code
-code calls main = code_in (items_of (boot_plan calls main)) (record { max_stack = 1; max_locals = 0; pieces = boot_pieces calls main })
+code calls main = code_in (items_of (boot_plan calls main)) (record { max_stack = 1; max_locals = 0; pieces = boot_pieces calls main; stack_map = None })
 
 member_there : (calls : List (List ℕ)) (main : List ℕ) → slice_get (boot calls main).methods 0 ≡ Some (member calls main)
 unfolding boot class_of boot_plan
