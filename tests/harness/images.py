@@ -1,12 +1,13 @@
 """Kinds of tables whose rows are the name of the class whose main is run, and class files: the images they are linked to."""
+import os
+from concurrent.futures import ThreadPoolExecutor
+
 import image_file
 from class_files import told
 from kind import Kind, files_of, sum_of
 
-# Images of at most so many bytes are also run with damage.
+# Images of at most so many bytes are also run with every damage of some kinds.
 SMALL = 5000
-# Of the fronts of a small image, and of its words, these many are one step apart.
-FRONTS, WORDS = 16, 8
 
 
 class Words(Kind):
@@ -48,10 +49,19 @@ class Linked(Kind):
             yield from damaged(caller, image, data)
 
 
-def run(caller, data):
+def run(caller, data, name='image'):
     """the line that a run of this file ends with at its first boundary"""
-    caller.put('image', data)
-    return caller.call(['run', '--cycles', '0', 'image']).line()
+    caller.put(name, data)
+    return caller.call(['run', '--cycles', '0', name]).line()
+
+
+def count(caller, tries):
+    """of how many files a run ends with the line that stands beside them"""
+    def is_told(numbered):
+        number, (data, line) = numbered
+        return run(caller, data, 'image%d' % number) == line
+    with ThreadPoolExecutor(os.cpu_count()) as pool:
+        return sum(pool.map(is_told, enumerate(tries)))
 
 
 def changed_word(image, place):
@@ -63,12 +73,10 @@ def changed_word(image, place):
 
 def damaged(caller, image, data):
     """what comes of fronts of the file, of words changed in turn, of too many words, and of a class file that begins otherwise"""
-    fronts = range(0, len(data), FRONTS)
-    bad = sum(run(caller, data[:length]) == 'bad image' for length in fronts)
-    yield '  %d of %d fronts are no image' % (bad, len(fronts))
-    places = range(0, len(image.words), WORDS)
-    told = sum(run(caller, changed_word(image, k)) == difference(image, k) for k in places)
-    yield '  %d of %d changed words are told' % (told, len(places))
+    bad = count(caller, [(data[:length], 'bad image') for length in range(len(data))])
+    yield '  %d fronts are no image' % bad
+    told = count(caller, [(changed_word(image, k), difference(image, k)) for k in range(len(image.words))])
+    yield '  %d changed words are told' % told
     counts = 8 + len(image.main)
     yield '  too many words: ' + run(caller, data[:counts] + b'\xff' * 4 + data[counts + 4:])
     first = image.files[0]

@@ -6,8 +6,6 @@ import expected_image
 from classfile import ClassFile, main_class
 
 TABLES = os.path.join(os.path.dirname(os.path.abspath(__file__)), '../../tables')
-# Of the fronts of a small image, and of its words, these many are one step apart.
-FRONTS, WORDS = 16, 8
 
 rows, told = [], []
 CORE = 23
@@ -42,8 +40,7 @@ def damaged(main, files):
     words = words_of(main, files)
     length = 16 + len(main) + 4 * len(words) + sum(4 + len(f) for f in files)
     linked(main, files, words)
-    fronts, places = -(-length // FRONTS), -(-len(words) // WORDS)
-    told.extend([f'  {fronts} of {fronts} fronts are no image', f'  {places} of {places} changed words are told',
+    told.extend([f'  {length} fronts are no image', f'  {len(words)} changed words are told',
                  '  too many words: bad image', '  another mark: link: bad class file=0'])
 
 
