@@ -80,12 +80,15 @@ fn do_line(rt: &HostRuntime, course: &mut Option<Course>, line: &str) -> Result<
     let [word, rest @ ..] = words.as_slice() else {
         return Err(RowFault::Malformed);
     };
-    match (*word, course) {
-        ("course", course) => begin(rt, course, rest),
-        ("methods" | "at" | "raise" | "free" | "ended", Some(course)) => {
-            follow(rt, course, word, rest)
-        }
-        _ => show(rt, word, rest),
+    if *word == "course" {
+        return begin(rt, course, rest);
+    }
+    if !matches!(*word, "methods" | "at" | "raise" | "free" | "ended") {
+        return show(rt, word, rest);
+    }
+    match course {
+        Some(course) => follow(rt, course, word, rest),
+        None => Err(RowFault::Malformed),
     }
 }
 
