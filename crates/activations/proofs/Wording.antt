@@ -3,11 +3,10 @@ use Rattle.std.proofs.Common.{◌≡◌, ◌≢◌, ℕ, zero, suc, ◌<◌, Boo
 use Rattle.std.specs.Prelude.{IsSome, is_some, if◌then◌else◌}
 use Rattle.std.proofs.lemmas.Option.{slice_get_within}
 use Rattle.word32.specs.Packed.{words_of_bytes}
-use Rattle.bytecode_model.specs.Program.{Program, Method, Body, body_of}
+use Rattle.bytecode_model.specs.Program.{Program, Body, body_of}
 use Rattle.lists.specs.Lemmas.{onto_some}
 use Rattle.image_facts.specs.Places.{Places}
-use Rattle.activations.specs.Setting.{Setting, IsSetting}
-use Rattle.activations.specs.Steps.{AreWords, PlacesTellWords}
+use Rattle.activations.specs.Steps.{PlacesTellWords}
 
 code_of : Program → ℕ → List ℕ
 code_of P m = elim (body_of P m) [ None ↦ [] | Some b ↦ words_of_bytes b.code ]
