@@ -14,3 +14,6 @@ mod NoExit
 pub mod Marking
 mod Regions
 mod Answering
+mod Charging
+mod Entered
+mod Moving

@@ -7,3 +7,6 @@ pub mod Conditions
 pub mod Answering
 pub mod Regions
 pub mod Laws
+pub mod Charges
+pub mod Entering
+pub mod Renumbering
