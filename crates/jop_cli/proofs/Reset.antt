@@ -1,16 +1,13 @@
 -- A run of a bare image from reset.
-use Rattle.std.proofs.Common.{◌≡◌, ◌≢◌, ℕ, zero, suc, ◌<◌, ◌≤◌, true, List, [], ◌∷◌, ◌++◌, Some, None, map, length, refl, sym, ◌∙◌, ap, subst, arith, ◌⊎◌, inl, ⊎_elim, le-leb, lt-ltb, length-append, append-nil}
-use Rattle.std.specs.Prelude.{IsSomeAnd, slice_get, IfOk, Result, Ok, Err}
+use Rattle.std.proofs.Common.{◌≡◌, ◌≢◌, ℕ, zero, suc, ◌<◌, ◌≤◌, true, [], ◌∷◌, Some, None, map, length, refl, sym, ◌∙◌, ap, subst, arith, ◌⊎◌, inl, ⊎_elim, le-leb, lt-ltb, length-append}
+use Rattle.std.specs.Prelude.{slice_get, IfOk, Result, Ok, Err}
 use Rattle.std.specs.declared.option.Option.{Option}
-use Rattle.std.proofs.lemmas.List.{append_cancel_left}
 use Rattle.memory_timing.specs.declared.Config.{Config}
 use Rattle.jop_words.specs.declared.command.Settings.{Settings}
 use Rattle.method_cache.specs.Contents.{can_load, empty}
 use Rattle.bare_image.specs.Bare.{Image, IsImage, spelled, return_code}
 use Rattle.jop_core.specs.State as machine
-use Rattle.jop_core.specs.Cycle.{output_of}
 use Rattle.jop_core.specs.Reset.{words_for, bare_reset}
-use Rattle.jop_device.specs.Told.{Told}
 use Rattle.coded_methods.specs.Methods.{AreMethods}
 use Rattle.bytecode_model.specs.declared.Ending.{Ending}
 use Rattle.bytecode_model.specs.declared.Ending.TheVariants.{Running, Ended, Uncaught}
@@ -18,28 +15,25 @@ use Rattle.bytecode_model.specs.Lists.{onto}
 use Rattle.bytecode_model.specs.Types.{default}
 use Rattle.bytecode_model.specs.State.{State}
 use Rattle.bytecode_model.specs.Program.{Program}
-use Rattle.bytecode_model.specs.Steps.{step, boot_state, first_frame}
+use Rattle.bytecode_model.specs.Steps.{boot_state, first_frame}
 use Rattle.bytecode_typing.specs.Fits.{IsGoing}
 use Rattle.boundary.specs.declared.runs.RunEnd.TheVariants as ends
 use Rattle.boundary.specs.declared.answer.Boundary.TheVariants.{Bytecode}
 use Rattle.boundary.specs.Laws.{BareImagesArePrograms}
 use Rattle.boundary.specs.Session.{Session, Begins}
-use Rattle.boundary.specs.BareLaws.{opcode_of, BareImagesStep}
-use Rattle.boundary.specs.Setting.{Setting, limits, Stands, bare_setting}
-use Rattle.boundary.specs.Advances.{FailsToWrite}
+use Rattle.boundary.specs.BareLaws.{BareImagesStep}
+use Rattle.boundary.specs.Setting.{Setting, bare_setting}
 use Rattle.boundary.specs.Activations.{Stage}
 use Rattle.boundary.specs.Runs.{Goes}
 use Rattle.outcome_lines.specs.declared.line.Counts.{Counts}
-use Rattle.stream_devices.specs.Lent.{Lent, wired}
+use Rattle.stream_devices.specs.Lent.{Lent}
 use Rattle.jop_cli.specs.declared.program_end.ProgramEnd.{ProgramEnd}
 use Rattle.jop_cli.specs.declared.program_end.ProgramEnd.TheVariants as ways
-use Rattle.jop_cli.specs.declared.outcome.Ending.TheVariants as endings
-use Rattle.boundary.specs.Traces.{OutputFails, AtBoundary, AtWrite, AtCycle}
 use Rattle.jop_cli.specs.Show.{Shown, Output, Trace}
 use Rattle.jop_cli.specs.Run as run
 use Rattle.jop_cli.specs.Run.{Started, RunsAs}
 use Rattle.jop_cli.specs.Phase.{HasSettings}
-use Rattle.jop_cli.specs.BareFile.{blocks_of_code, WritesAtImpdep2, FailsAtImpdep2, RanBare}
+use Rattle.jop_cli.specs.BareFile.{blocks_of_code}
 
 -- the code fits the cache of the settings
 pub fits_cache : (settings : Settings) (image : Image) (config : Config) → HasSettings settings config → IsImage image → blocks_of_code settings image ≤ settings.blocks
@@ -92,44 +86,11 @@ module _ (stepping : BareImagesStep) (image : Image) (grammar : IsImage image) (
   never_uncaught steps b class goes holds =
       ⊎_elim (λ e. let clash : Running ≡ Uncaught class = sym e ∙ holds in cc) (λ e. let clash : Ended ≡ Uncaught class = sym e ∙ holds in cc) (calm steps b goes)
 
-  -- the byte that couldn't be put out is that of an impdep2
-  opcode_is : (steps : ℕ) (b : Stage) (now : machine.State) (t0 t1 : Told) → Goes g limit a steps b → IsGoing b.state.mode → Stands g b.machine b.state → FailsToWrite g b.state b.machine now t0 t1 → opcode_of g.program b.state ≡ Some 255
-  opcode_is steps b now t0 t1 goes going stands fails = by_step (step g.program (limits g) None b.state) refl (fails.puts None tt)
-    where
-      by_step : (o : Option State) → step g.program (limits g) None b.state ≡ o → IsSomeAnd o (λ t. t.output ≡ b.state.output ++ output_of now) → opcode_of g.program b.state ≡ Some 255
-      by_step None e h = absurd h
-      by_step (Some t) e h =
-          let s = b.state in
-          let running = on s.mode (calm steps b goes) going in
-          let did = stepping image n memory b.machine None s t grammar stands running tt e in
-          ⊎_elim
-          (λ same. absurd (fails.broke.tried.4 (append_cancel_left s.output (output_of now) [] (sym h ∙ same ∙ sym (append-nil s.output)))))
-          (λ op. op)
-          did.output
-
-  line_fails : (names : List (List ℕ)) (steps : ℕ) (b : Stage) (now : machine.State) (t0 t1 : Told) → Goes g limit a steps b → IsGoing b.state.mode → Stands g b.machine b.state → (fails : OutputFails names g b now t0 t1)
-      → WritesAtImpdep2 names g b now t0 t1 fails
-  line_fails names steps b now t0 t1 goes going stands (AtBoundary same line) = tt
-  line_fails names steps b now t0 t1 goes going stands (AtWrite after) = opcode_is steps b now after.begun t1 goes going stands after.holds
-  line_fails names steps b now t0 t1 goes going stands (AtCycle after) = tt
-
-  at_stage : (shown : Shown) (now : machine.State) (old new : Lent) → (r : RunsAs shown g limit a now old new ends.WriteFault) → FailsAtImpdep2 shown g limit a now old new r
-  at_stage Output now old new r = opcode_is r.run.steps r.last now r.before (wired new) r.run.stages r.going r.run.stands r.fails
-  at_stage (Trace cycles names) now old new r =
-      let x = r.traces in
-      line_fails names x.traced.run.steps x.last now x.before r.after x.traced.run.stages x.going x.traced.run.stands x.fails
-
   uncaught_not : (shown : Shown) (now : machine.State) (old new : Lent) (class : ℕ) → RunsAs shown g limit a now old new (ends.Uncaught class) → ⊥
   uncaught_not Output now old new class r = never_uncaught r.run.steps r.last class r.run.stages r.holds
   uncaught_not (Trace cycles names) now old new class r = let x = r.traces in never_uncaught x.traced.run.steps x.last class x.traced.run.stages x.holds
 
 -- ---- how it ends
-
--- the byte that couldn't be put out is that of an impdep2
-pub at_impdep2 : BareImagesStep → (image : Image) → IsImage image → (shown : Shown) (n memory : ℕ) (reset : machine.State) (limit : ℕ) (old new : Lent) → (r : run.Ran shown (bare_setting image n memory) reset limit old new ways.WriteFault)
-    → RanBare shown (bare_setting image n memory) reset limit old new endings.WriteFault
-at_impdep2 stepping image grammar shown n memory reset limit old new r =
-    (r, at_stage stepping image grammar n memory limit (record { machine = reset; state = r.0.boot }) (boot_runs (bare_setting image n memory).program r.0.boot r.0.is_boot) shown r.0.now old new r.0.runs)
 
 -- the ends that don't come, where the input has ended
 pub no_other : BareImagesStep → (image : Image) → IsImage image → (shown : Shown) (n memory : ℕ) (reset : machine.State) (limit : ℕ) (old new : Lent) (end : ProgramEnd) → new.read_faults ≡ 0

@@ -1,5 +1,5 @@
 -- What `run` and `trace` do with the bytes of a file that don't begin as those of a linked image.
-use Rattle.std.specs.Prelude.{◌≡◌, ℕ, ◌<◌, ◌≤◌, ◌⊎◌, List, length, Some}
+use Rattle.std.specs.Prelude.{◌≡◌, ℕ, ◌<◌, ◌≤◌, ◌⊎◌, List, length}
 use Rattle.bare_image.specs.Bare.{Image, IsBare}
 use Rattle.memory_timing.specs.declared.Config.{Config}
 use Rattle.method_cache.specs.Contents.{blocks_for}
@@ -7,13 +7,8 @@ use Rattle.jop_core.specs.State as machine
 use Rattle.jop_core.specs.Reset.{words_for, bare_reset}
 use Rattle.jop_words.specs.declared.command.Settings.{Settings}
 use Rattle.boundary.specs.Setting.{Setting, bare_setting}
-use Rattle.boundary.specs.BareLaws.{opcode_of}
-use Rattle.boundary.specs.declared.runs.RunEnd.TheVariants as ends
-use Rattle.boundary.specs.Activations.{Stage}
-use Rattle.jop_device.specs.Told.{Told}
-use Rattle.boundary.specs.Traces.{OutputFails, AtBoundary, AtWrite, AtCycle}
 use Rattle.jop_cli.specs.declared.show.Show.{Show}
-use Rattle.jop_cli.specs.Show.{Shown, Output, Trace, bare_shown}
+use Rattle.jop_cli.specs.Show.{Shown, bare_shown}
 use Rattle.stream_devices.specs.Lent.{Lent}
 use Rattle.jop_cli.specs.declared.program_end.ProgramEnd.TheVariants as runs
 use Rattle.jop_cli.specs.declared.outcome.Refusal.TheVariants.{BadImage, MethodTooLong}
@@ -32,23 +27,11 @@ ImageFault bytes ending = ⊥
 abbrev pub blocks_of_code : Settings → Image → ℕ
 blocks_of_code settings image = blocks_for settings.block_words (words_for (length image.code))
 
--- a byte that couldn't be put is that of an impdep2
-abbrev pub WritesAtImpdep2 : (names : List (List ℕ)) → (g : Setting) → (a : Stage) → (now : machine.State) → (told told' : Told) → OutputFails names g a now told told' → Type 0
-WritesAtImpdep2 names g a now told told' (AtBoundary same line) = Unit {0}
-WritesAtImpdep2 names g a now told told' (AtWrite after) = opcode_of g.program a.state ≡ Some 255
-WritesAtImpdep2 names g a now told told' (AtCycle after) = Unit {0}
-
--- so is the byte at which a run ends
-abbrev pub FailsAtImpdep2 : (shown : Shown) → (g : Setting) → (limit : ℕ) → (a : Stage) → (now : machine.State) → (old new : Lent) → run.RunsAs shown g limit a now old new ends.WriteFault → Type 0
-FailsAtImpdep2 Output g limit a now old new r = opcode_of g.program r.last.state ≡ Some 255
-FailsAtImpdep2 (Trace cycles names) g limit a now old new r = WritesAtImpdep2 names g r.traces.last now r.traces.before _ r.traces.fails
-
 -- How the run of a bare image ends: no class is uncaught, and the input isn't asked.
 abbrev pub RanBare : Shown → (g : Setting) → (reset : machine.State) → (limit : ℕ) → (old new : Lent) → Ending → Type 0
 RanBare shown g reset limit old new (Ended counts) = run.Ran shown g reset limit old new (runs.Ended counts)
 RanBare shown g reset limit old new (Spent counts) = run.Ran shown g reset limit old new (runs.Spent counts)
-RanBare shown g reset limit old new WriteFault =
-    (r : run.Ran shown g reset limit old new runs.WriteFault) × FailsAtImpdep2 shown g limit (record { machine = reset; state = r.0.boot }) r.0.now old new r.0.runs
+RanBare shown g reset limit old new WriteFault = run.Ran shown g reset limit old new runs.WriteFault
 RanBare shown g reset limit old new NoMemory = run.Ran shown g reset limit old new runs.NoMemory
 RanBare shown g reset limit old new ending = ⊥
 

@@ -4,7 +4,7 @@ use Rattle.boundary.specs.Setting.{bare_setting}
 use Rattle.jop_cli.specs.declared.program_end.ProgramEnd.TheVariants as ends
 use Rattle.jop_cli.specs.Show.{shown_by}
 use Rattle.jop_cli.proofs.Ended.{ran_from, has_restarted}
-use Rattle.jop_cli.proofs.Reset.{at_impdep2, no_other}
+use Rattle.jop_cli.proofs.Reset.{no_other}
 use Rattle.jop_cli.proofs.bare_file.run_started.Goals as goal
 
 pub run_to_end-requires : goal.run_to_end-requires
@@ -20,8 +20,7 @@ returns-in-Spent-clause-ran g c =
 
 pub returns-in-WriteFault-clause-ran : goal.returns-in-WriteFault-clause-ran
 returns-in-WriteFault-clause-ran g c =
-    at_impdep2 c.bare_images_step.ensures c.args.bare.now c.requires.grammar (shown_by c.args.shown.now) g.row.N c.args.plan.config.memory (bare_reset g.row.N c.args.bare.now c.args.plan.config) c.args.plan.limit _ _
-    (ran_from (shown_by c.args.shown.now) (bare_setting c.args.bare.now g.row.N c.args.plan.config.memory) (bare_reset g.row.N c.args.bare.now c.args.plan.config) c.args.running.now c.args.plan.limit _ _ ends.WriteFault c.requires.started c.in-WriteFault.ensures.ran)
+    ran_from (shown_by c.args.shown.now) (bare_setting c.args.bare.now g.row.N c.args.plan.config.memory) (bare_reset g.row.N c.args.bare.now c.args.plan.config) c.args.running.now c.args.plan.limit _ _ ends.WriteFault c.requires.started c.in-WriteFault.ensures.ran
 
 pub unreachable-requires : goal.unreachable-requires
 unreachable-requires g c =
