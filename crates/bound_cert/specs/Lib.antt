@@ -1,0 +1,5 @@
+pub mod Certificate
+pub mod Texts
+pub mod Drafts
+pub mod Written
+pub mod Laws

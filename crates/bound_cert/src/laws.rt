@@ -1,0 +1,12 @@
+//! What follows of texts of certificates. Each function does nothing: its contract is the law.
+ghost use Rattle.bound_cert.specs.Laws.{HasOneCertificate, IsReadBack};
+
+/// A text is of one certificate.
+pub fn has_one_certificate()
+    ensures { HasOneCertificate }
+{}
+
+/// What is written of a certificate is read as that certificate.
+pub fn is_read_back()
+    ensures { IsReadBack }
+{}
