@@ -9,3 +9,9 @@ mod Endings
 mod Named
 mod Watched
 mod Calling
+mod Wholly
+mod Coming
+mod LinkingLaw
+mod AssemblingLaw
+mod RunningLaw
+mod OneBare

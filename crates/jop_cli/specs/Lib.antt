@@ -13,3 +13,6 @@ pub mod LinkedFile
 pub mod Answer
 pub mod Status
 pub mod Process
+pub mod Calls
+pub mod Courses
+pub mod Correct

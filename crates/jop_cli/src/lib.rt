@@ -4,6 +4,7 @@
 mod assembling;
 mod bare_file;
 pub mod host;
+pub mod laws;
 mod lines;
 mod linked_file;
 mod linked_machine;

@@ -1,0 +1,101 @@
+-- What the program promises, on one page: each statement is the contract of a function of `laws`, and follows from the contract of `jop`, which makes a call of
+-- each use of it (`call_of` in Calls). The definitions below it, in the order in which to read them:
+--   class_rules Grammar (what a class file is), jop_program Resolving (what resolved is), bytecode_verifier Failure (what verified is),
+--   program_tables Resolved (the program of resolved classes), bytecode_model State and Steps (what a step of the bytecode is),
+--   jop_core State, Cycle and Reset (what a cycle of the machine is), machine_stands StandsFor (which state the machine stands for),
+--   boundary Runs (the run of both), image_words Regions and linked_image Linked (what an image and its file are),
+--   bare_image Bare and microcode_asm Roms (the same of a bare image and of a microprogram), jop_words Command (what words say),
+--   and of this crate World, Linking and LinkedSettings, Calls and Courses.
+use Rattle.std.specs.Prelude.{◌≡◌, ℕ, ◌≤◌, ◌⊎◌, Bool, List, [], length, Ok}
+use Rattle.bare_image.specs.Bare.{Image, IsBare}
+use Rattle.linked_image.specs.Linked as file
+use Rattle.microcode_asm.specs.declared.Rom.{Rom}
+use Rattle.microcode_asm.specs.Roms.{IsAssembled}
+use Rattle.microcode_asm.specs.Listing.{listing_of}
+use Rattle.jop_words.specs.declared.command.Settings.{Settings}
+use Rattle.jop_words.specs.declared.command.Command.TheVariants.{Run, Trace, Asm as Assemble, Link as LinkTo}
+use Rattle.jop_words.specs.Command.{command_of}
+use Rattle.jopizer.specs.declared.refusal.LinkRefusal.{LinkRefusal}
+use Rattle.jopizer.specs.Linked.{Parts, IsLinked, image_of}
+use Rattle.outcome_lines.specs.declared.line.Sizes.{Sizes}
+use Rattle.jop_cli.specs.declared.outcome.Ending.TheVariants as endings
+use Rattle.jop_cli.specs.declared.outcome.Outcome.TheVariants.{Written}
+use Rattle.jop_cli.specs.declared.show.Show.TheVariants as shows
+use Rattle.jop_cli.specs.Line.{text_at, line_of}
+use Rattle.jop_cli.specs.Linking.{class_name, Refuses, AreLinkedTo}
+use Rattle.jop_cli.specs.LinkedSettings.{CodesFit}
+use Rattle.jop_cli.specs.BareFile.{blocks_of_code}
+use Rattle.jop_cli.specs.Calls.{Call, NothingFailed, LacksMemory, Puts, IsTold, AreTold}
+use Rattle.jop_cli.specs.Courses.{RanLinked, RanBare}
+
+-- ---- `link`
+
+-- The files are linked with the main class: the file of their image was put, and the line says its sizes.
+pub record IsLinkedBy (c : Call) (files : List (List ℕ)) (main : List ℕ) : Type 0 where
+  pub outcome : c.outcome ≡ Written
+  pub bytes : List ℕ
+  pub sizes : Sizes
+  pub linked : AreLinkedTo files main bytes sizes
+  pub puts : Puts c bytes (line_of c.words (endings.Linked sizes))
+
+-- Class files that nothing refuses are linked, and the file of their image is put; or there is no memory.
+abbrev pub LinkingIsComplete : Type 0
+LinkingIsComplete =
+    (c : Call) (main first : ℕ) (files : List (List ℕ)) → command_of c.words ≡ Ok (LinkTo main first) → AreTold c first files → NothingFailed c
+    → ((refusal : LinkRefusal) → ¬ Refuses files (class_name (text_at c.words main)) refusal)
+    → IsLinkedBy c files (class_name (text_at c.words main)) ⊎ LacksMemory c
+
+-- ---- `run` and `trace`
+
+-- The bytes of the file of a word are those of the image of what is linked, and a machine with the settings holds it.
+pub record HoldsLinked (c : Call) (settings : Settings) (word : ℕ) (l : Parts) : Type 0 where
+  pub is_linked : IsLinked l
+  pub bytes : List ℕ
+  pub is_file : file.IsLinked bytes (image_of l)
+  pub told : IsTold c word bytes
+  pub codes : CodesFit settings l
+  pub memory : length l.laid.words ≤ settings.memory
+
+-- `run` of an image that `link` writes is the run of the program by the definition of the bytecode, on the machine, with its output and its end; or there is no memory.
+abbrev pub RunsAreTheBytecodes : Type 0
+RunsAreTheBytecodes =
+    (c : Call) (settings : Settings) (word : ℕ) (l : Parts) → command_of c.words ≡ Ok (Run settings word) → HoldsLinked c settings word l → NothingFailed c → RanLinked c settings shows.Output l ⊎ LacksMemory c
+
+-- `trace` is the same run, and puts its lines.
+abbrev pub TracesAreTheRuns : Type 0
+TracesAreTheRuns =
+    (c : Call) (settings : Settings) (micro : Bool) (word : ℕ) (l : Parts) → command_of c.words ≡ Ok (Trace settings micro word) → HoldsLinked c settings word l → NothingFailed c
+    → RanLinked c settings (shows.Trace micro) l ⊎ LacksMemory c
+
+-- The bytes of the file of a word are a bare image, and its code fits the method cache.
+pub record HoldsBare (c : Call) (settings : Settings) (word : ℕ) (image : Image) : Type 0 where
+  pub bytes : List ℕ
+  pub is_file : IsBare bytes image
+  pub told : IsTold c word bytes
+  pub code : blocks_of_code settings image ≤ settings.blocks
+
+-- So it is of a bare image.
+abbrev pub BareRunsAreTheBytecodes : Type 0
+BareRunsAreTheBytecodes =
+    (c : Call) (settings : Settings) (word : ℕ) (image : Image) → command_of c.words ≡ Ok (Run settings word) → HoldsBare c settings word image → NothingFailed c → RanBare c settings shows.Output image ⊎ LacksMemory c
+
+abbrev pub BareTracesAreTheRuns : Type 0
+BareTracesAreTheRuns =
+    (c : Call) (settings : Settings) (micro : Bool) (word : ℕ) (image : Image) → command_of c.words ≡ Ok (Trace settings micro word) → HoldsBare c settings word image → NothingFailed c
+    → RanBare c settings (shows.Trace micro) image ⊎ LacksMemory c
+
+-- Bytes are those of one bare image.
+abbrev pub OneBareImage : Type 0
+OneBareImage = (bytes : List ℕ) (a b : Image) → IsBare bytes a → IsBare bytes b → a ≡ b
+
+-- ---- `asm`
+
+-- The listing was put, and no line.
+pub record IsListed (c : Call) (listing : List ℕ) : Type 0 where
+  pub outcome : c.outcome ≡ Written
+  pub puts : Puts c listing []
+
+-- The listing of the words that a text is assembled to is put; or there is no memory.
+abbrev pub AssemblingIsComplete : Type 0
+AssemblingIsComplete =
+    (c : Call) (word : ℕ) (text : List ℕ) (rom : Rom) → command_of c.words ≡ Ok (Assemble word) → IsTold c word text → NothingFailed c → IsAssembled text rom → IsListed c (listing_of rom.words) ⊎ LacksMemory c
