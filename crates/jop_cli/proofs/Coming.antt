@@ -1,6 +1,7 @@
 -- A run on which no call fails, from where it began to where it came, as an answer of the call.
 use Rattle.std.proofs.Common.{◌≡◌, ℕ, ◌≤◌, Bool, List, [], ◌++◌, map, Option, Some, refl, sym, ◌∙◌, ap, subst, arith}
-use Rattle.std.specs.Prelude.{slice_get, Vec, default}
+use Rattle.std.specs.Prelude.{slice_get, Vec}
+use Rattle.bytecode_model.specs.Types.{default}
 use Rattle.std.specs.declared.alloc.Global.{Global}
 use Rattle.lists.specs.Lemmas.{onto_some, some_same}
 use Rattle.class_pool.specs.declared.class.ClassFile.{ClassFile}
@@ -19,7 +20,7 @@ use Rattle.boundary.specs.declared.runs.RunEnd.TheVariants as ends
 use Rattle.boundary.specs.Setting.{Setting}
 use Rattle.boundary.specs.Activations.{Stage}
 use Rattle.boundary.specs.Runs.{IsRun, RunsOn}
-use Rattle.boundary.specs.Traces.{TracesOn, unnoted}
+use Rattle.boundary.specs.Traces.{TracesOn, unnoted, run_text}
 use Rattle.stream_devices.specs.Lent.{Lent, wired}
 use Rattle.outcome_lines.specs.declared.line.Counts.{Counts}
 use Rattle.jop_cli.specs.declared.outcome.Ending.TheVariants as endings
@@ -103,7 +104,7 @@ module _ (c : Call) (cs : List ClassFile) (g : Setting) (reset : machine.State) 
   noted : (cycles : Bool) (names : List (List ℕ)) (boot : State) → boot_state g.program ≡ Some boot → (now : machine.State) (K : State → Type 0) (after : Told)
       → TracesOn cycles names g limit (record { machine = reset; state = boot }) now (begins cycles) after K → after.left ≡ new.left → after.noted ≡ new.held → new.handed ≡ old.handed → Answering now K
       → TracedProgram c cs cycles names g reset limit old new
-  noted cycles names boot is_boot now K after r left noted watch answer =
+  noted cycles names boot is_boot now K after r left same watch answer =
       let fresh : IsFresh boot = boot_is_fresh g.program boot is_boot in
       record {
         boot = boot;
@@ -111,7 +112,7 @@ module _ (c : Call) (cs : List ClassFile) (g : Setting) (reset : machine.State) 
         last = r.last;
         after = after;
         run = r.traced.run;
-        text = subst (λ (o : Option (List ℕ)). Grew old.held o _) noted r.traced.text;
+        text = subst (λ (o : Option (List ℕ)). Grew old.held o (run_text cycles names g limit (record { machine = reset; state = boot }) r.traced.run.steps r.last r.traced.run.stages)) same r.traced.text;
         input = subst (λ (o : Option (List ℕ)). GivesEach old.left o r.last.state.answers) left (given g limit reset boot fresh r.last (unnoted (begins cycles)) (unnoted after) r.traced.run);
         watch = watch;
         answers = answer r.last r.now_is r.holds;
