@@ -3,9 +3,8 @@
 --   class_rules Grammar (what a class file is), jop_program Resolving (what resolved is), bytecode_verifier Failure (what verified is),
 --   program_tables Resolved (the program of resolved classes), bytecode_model State and Steps (what a step of the bytecode is),
 --   jop_core State, Cycle and Reset (what a cycle of the machine is), machine_stands StandsFor (which state the machine stands for),
---   boundary Runs (the run of both), image_words Regions and linked_image Linked (what an image and its file are),
---   bare_image Bare and microcode_asm Roms (the same of a bare image and of a microprogram), jop_words Command (what words say),
---   and of this crate World, Linking and LinkedSettings, Calls and Courses.
+--   boundary Runs (the run of both), image_words Regions and linked_image Linked (what an image and its file are), bare_image Bare and microcode_asm Roms
+--   (the same of a bare image and of a microprogram), jop_words Command (what words say), and of this crate World, Linking, LinkedSettings, Calls and Courses.
 use Rattle.std.specs.Prelude.{◌≡◌, ℕ, ◌≤◌, ◌⊎◌, Bool, List, [], length, Ok}
 use Rattle.bare_image.specs.Bare.{Image, IsBare}
 use Rattle.linked_image.specs.Linked as file
