@@ -67,7 +67,7 @@ no_items k i f h e =
     let r = flat_nil g 0 k.fields i f (left_nil (flat_map g (enumerate_from 0 k.fields)) (flat_map (items_in_method k) (enumerate_from 0 k.methods)) h) e in
     map_nil (λ (item : Item). (sites.Field r.0, item)) (items_at_field k f) r.1
 
-where_not : (b : Bool) (item : Item) → items_where b item ≡ [] → b ≡ false
+pub where_not : (b : Bool) (item : Item) → items_where b item ≡ [] → b ≡ false
 where_not true item h = absurd (nil_not item [] h)
 where_not false item h = refl
 

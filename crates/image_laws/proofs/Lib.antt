@@ -14,6 +14,8 @@ pub mod Declared
 pub mod Mentioned
 pub mod Operands
 pub mod Means
+pub mod BootPool
+pub mod InterfaceEntries
 pub mod First
 pub mod Instances
 pub mod Whole

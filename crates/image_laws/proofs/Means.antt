@@ -77,13 +77,13 @@ two_whens : (a b : Bool) (x y named : Named) → (if a then Some x else if b the
 two_whens true b x y named h = inl (some_same x named h)
 two_whens false b x y named h = inr (when_some b y named h)
 
-record Names (b : Bool) (f : Signature → Named) (o : Option Signature) (named : Named) : Type 0 where
-  holds : b ≡ true
-  signature : Signature
-  there : o ≡ Some signature
-  is : f signature ≡ named
+pub record Names (b : Bool) (f : Signature → Named) (o : Option Signature) (named : Named) : Type 0 where
+  pub holds : b ≡ true
+  pub signature : Signature
+  pub there : o ≡ Some signature
+  pub is : f signature ≡ named
 
-when_map : (b : Bool) (f : Signature → Named) (o : Option Signature) (named : Named) → (if b then option_map f o else None) ≡ Some named → Names b f o named
+pub when_map : (b : Bool) (f : Signature → Named) (o : Option Signature) (named : Named) → (if b then option_map f o else None) ≡ Some named → Names b f o named
 when_map true f o named h = let s = map_some f o named h in record { holds = refl; signature = s.0; there = s.1; is = s.2 }
 when_map false f o named h = absurd (none≢some named h)
 
@@ -94,7 +94,7 @@ kept_map false f o s h e = absurd (false≢true e)
 range_of : (o : Option Entry) (e : Entry) → IfSome o IsInRange → o ≡ Some e → IsInRange e
 range_of o e h s = subst (λ x. IfSome x IsInRange) s h
 
-named_at : (c : ClassFile) (i : Instr) (index : ℕ) (e : Entry) → index_of_entry i ≡ index → entry_at c.pool index ≡ Some e → named_in c i ≡ named_by c.pool c.major i.op index e
+pub named_at : (c : ClassFile) (i : Instr) (index : ℕ) (e : Entry) → index_of_entry i ≡ index → entry_at c.pool index ≡ Some e → named_in c i ≡ named_by c.pool c.major i.op index e
 named_at c i index e h he =
     ap (λ x. onto (entry_at c.pool x) (named_by c.pool c.major i.op x)) h ∙ ap (λ o. onto o (named_by c.pool c.major i.op index)) he
 

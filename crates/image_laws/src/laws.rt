@@ -1,4 +1,5 @@
 //! Laws of the words of an image. The functions do nothing; a caller whose proof needs a law calls its function.
+ghost use Rattle.image_laws.specs.InterfaceEntries.{BootHasNoInterfaceEntry, BootStandsLast, InterfaceEntriesBeginWithZero, InterfaceEntriesTakeNothing, InterfaceWordsBeginWithZero};
 ghost use Rattle.image_laws.specs.Laws.{CallsHaveSlots, ClassesAreSaid, CodesAreSaid, ComponentsAreNumbered, EntriesAreNamed, FirstObjectsLaw, ImagesSayPrograms, InstanceFieldsAreSaid, InstancesAreSmall, InterfaceCallsAreSaid, InterfaceNumbersAreSaid, IntsAreSaid, MethodsAreApart, MethodsAreSaid, OperandsLaw, SlotsAreInherited, SlotsAreSaid, StaticFieldsAreSaid, StringsAreSaid, SupertypesAreSaid, VirtualCallsAreSaid};
 
 use class_lookup::laws::{
@@ -91,6 +92,26 @@ pub fn entries_have_meanings()
 {
     packed_has_words();
     fields_come_after_those_above();
+}
+
+/// The first word of an entry for an interface's method is 0, where the class that is run first is a made one: no
+/// `invokespecial` and no `invokestatic` takes a method by such an entry.
+pub fn interface_entries_begin_with_zero()
+    ensures last { BootStandsLast }
+    ensures boot { BootHasNoInterfaceEntry }
+    ensures taken { InterfaceEntriesTakeNothing }
+    ensures words { InterfaceEntriesBeginWithZero }
+    ensures image { InterfaceWordsBeginWithZero }
+{
+    classes_extend_what_is_above();
+    superclasses_stand_above();
+    methods_have_signatures();
+    overriding_is_decided();
+    the_first_method_is_selected();
+    equals_are_compared();
+    methods_are_looked_up();
+    members_are_found_above();
+    methods_have_code();
 }
 
 /// The pools of an image of few words say what each instruction names.
