@@ -38,3 +38,6 @@ mod Costing
 mod SimpleParts
 mod BoundedReach
 mod Marking
+mod Headed
+mod Exact
+mod Limiting

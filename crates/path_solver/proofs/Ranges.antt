@@ -1,5 +1,5 @@
 -- No distance exceeds the greatest cost at an exit by more than an iteration of each loop around.
-use Rattle.std.proofs.Common.{◌≡◌, ℕ, ◌+◌, ◌^◌, ◌<◌, ◌≤◌, Bool, true, false, ◌&&◌, List, ◌∷◌, get_or, drop, Contains, sym, subst, inl, inr, arith}
+use Rattle.std.proofs.Common.{◌≡◌, ℕ, ◌+◌, ◌≤◌, Bool, true, false, ◌&&◌, List, ◌∷◌, drop, Contains, sym, subst, inl, inr, arith}
 use Rattle.std.proofs.lemmas.Bool.{and_parts, and_from, and_right, false_from_ne_true}
 use Rattle.lists.specs.Members.{at_head, in_tail, has_or_not}
 use Rattle.loop_nest.specs.Digraph.{Digraph, Edge}
@@ -11,15 +11,17 @@ use Rattle.path_solver.specs.declared.topology.TopologicalOrder.{TopologicalOrde
 use Rattle.section_check.specs.Bounded.{holds}
 use Rattle.section_check.proofs.Elements.{contains_from_holds, holds_from_contains}
 use Rattle.path_solver.specs.Reaching.{IsFlagged}
-use Rattle.path_solver.specs.Distances.{IsMost, cost_through}
+use Rattle.path_solver.specs.Distances.{IsMost}
 use Rattle.path_solver.specs.Totals.{iteration_costs_around}
 use Rattle.path_solver.proofs.CostsAround.{reserve_where, around_where, reserve_grows, reserve_grows_by}
-use Rattle.path_solver.specs.Problem.{IsMeasured}
+use Rattle.path_solver.specs.Problem.{IsSetting}
+use Rattle.path_solver.proofs.Exact.{AreExact}
+use Rattle.path_solver.proofs.Limiting.{exactly_through}
 use Rattle.path_solver.proofs.AlongEdges.{grows}
 use Rattle.path_solver.proofs.AlongEdges.Grows.{backward, entering, exceeding}
 use Rattle.path_solver.proofs.Structure as structure
 
-module _ (g : Digraph) (loops : List NaturalLoop) (flags : List Bool) (p : TopologicalOrder) (costs bounds loads iteration_costs fees dist : List ℕ) (m : IsMeasured g loops flags p costs bounds loads iteration_costs fees dist) (value : ℕ) (most : IsMost (cost_through costs dist) g.exits value) (small : value < 2 ^ 64) (iterations_small : (u : ℕ) → u < g.nodes → iteration_costs_around loops iteration_costs u < 2 ^ 64) where
+module _ (g : Digraph) (loops : List NaturalLoop) (flags : List Bool) (p : TopologicalOrder) (h : IsSetting g loops flags p) (costs bounds loads iteration_costs : List ℕ) (fees dist : ℕ → ℕ) (m : AreExact p loops costs bounds loads iteration_costs fees dist) (value : ℕ) (most : IsMost (exactly_through costs dist) g.exits value) where
   -- the loop has u, and its header is one of the nodes to come
   abbrev is_ahead : ℕ → List ℕ → NaturalLoop → Bool
   is_ahead u rest l = holds l.members u && holds rest l.header
@@ -43,15 +45,13 @@ module _ (g : Digraph) (loops : List NaturalLoop) (flags : List Bool) (p : Topol
         | inl in' ↦ and_from (holds l.members u) (holds (v ∷ rest) l.header) (holds_from_contains l.members u in') (holds_from_contains (v ∷ rest) l.header (in_tail v l.header rest comes))
         | inr out ↦
             let P : ℕ → Type 0 = λ z. Contains rest z in
-            absurd (once (subst P (sym (structure.entered_at_header g loops flags p m.setting l u v has edge inside out)) comes))
+            absurd (once (subst P (sym (structure.entered_at_header g loops flags p h l u v has edge inside out)) comes))
       ]
 
-  ahead_along : (u v : ℕ) (rest : List ℕ) → Edge g u v → IsFlagged flags v → (Contains rest v → ⊥) → get_or dist v 0 ≤ value + ahead v rest → get_or dist u 0 ≤ value + ahead u (v ∷ rest)
+  ahead_along : (u v : ℕ) (rest : List ℕ) → Edge g u v → IsFlagged flags v → (Contains rest v → ⊥) → dist v ≤ value + ahead v rest → dist u ≤ value + ahead u (v ∷ rest)
   ahead_along u v rest edge flag once near =
-      let below = ahead_around v rest in
-      let iterations = iterations_small v (structure.listed_below g loops flags p m.setting v flag) in
       let more = reserve_grows (is_ahead v rest) (is_ahead u (v ∷ rest)) loops iteration_costs (stays_ahead u v rest edge once) in
-      elim (grows g loops flags p costs bounds loads iteration_costs fees dist m iterations_small u v edge flag (omega arith)) [
+      elim (grows g loops flags p h costs bounds loads iteration_costs fees dist m u v edge flag) [
         | backward i l at same inside on ↦
             let P : ℕ → Type 0 = λ z. Contains rest z in
             let Q : ℕ → Type 0 = λ z. holds (z ∷ rest) l.header ≡ true in
@@ -65,23 +65,23 @@ module _ (g : Digraph) (loops : List NaturalLoop) (flags : List Bool) (p : Topol
         | exceeding none on ↦ omega arith
       ]
 
-  ahead_exit : (u : ℕ) → Contains g.exits u → get_or dist u 0 ≤ value
+  ahead_exit : (u : ℕ) → Contains g.exits u → dist u ≤ value
   ahead_exit u exit =
       let above = most.above u exit in
       omega arith
 
-  ahead_all : {u x : ℕ} {ns : List ℕ} → Walk g u x ns → Contains g.exits x → VisitsOnce ns → IsFlagged flags u × (get_or dist u 0 ≤ value + ahead u (drop 1 ns))
-  ahead_all (stay {u}) exit once = let most_here = ahead_exit u exit in (structure.listed_exit g loops flags p m.setting u exit, omega arith)
+  ahead_all : {u x : ℕ} {ns : List ℕ} → Walk g u x ns → Contains g.exits x → VisitsOnce ns → IsFlagged flags u × (dist u ≤ value + ahead u (drop 1 ns))
+  ahead_all (stay {u}) exit once = let most_here = ahead_exit u exit in (structure.listed_exit g loops flags p h u exit, omega arith)
   ahead_all (along {u} {v} {w} {ns} e t) exit once =
       let ih = ahead_all t exit once.1 in
       let b = begins t in
-      let P : List ℕ → Type 0 = λ zs. VisitsOnce zs → get_or dist v 0 ≤ value + ahead v (drop 1 zs) → get_or dist u 0 ≤ value + ahead u zs in
+      let P : List ℕ → Type 0 = λ zs. VisitsOnce zs → dist v ≤ value + ahead v (drop 1 zs) → dist u ≤ value + ahead u zs in
       let step : P (v ∷ b.0) = λ o near. ahead_along u v b.0 e ih.0 o.0 near in
-      (structure.listed_source g loops flags p m.setting u v e ih.0, subst P (sym b.1) step once.1 ih.1)
+      (structure.listed_source g loops flags p h u v e ih.0, subst P (sym b.1) step once.1 ih.1)
 
-  pub range : (u : ℕ) → IsFlagged flags u → get_or dist u 0 ≤ value + iteration_costs_around loops iteration_costs u
+  pub range : (u : ℕ) → IsFlagged flags u → dist u ≤ value + iteration_costs_around loops iteration_costs u
   range u flag =
-      let r = (m.setting.reaching.each u).0 flag in
+      let r = (h.reaching.each u).0 flag in
       let s = simple_walk r.walk in
       let a = ahead_all s.walk r.among s.once in
       let most_here = a.1 in

@@ -1,5 +1,5 @@
 -- Iterations, one of each loop that holds a node, exceed 64 bits together exactly where what they cost at most does.
-use Rattle.std.proofs.Common.{◌≡◌, ℕ, suc, ◌+◌, ◌^◌, ◌<◌, ◌≤◌, ℤ, Bool, true, false, cond, eqb, List, [], ◌∷◌, length, map, get_or, sum_by, Contains, Some, refl, sym, ap, ◌∙◌, subst, inl, inr, arith}
+use Rattle.std.proofs.Common.{◌≡◌, ℕ, suc, ◌+◌, ◌^◌, ◌≤◌, Bool, true, false, cond, eqb, List, [], ◌∷◌, length, get_or, sum_by, Contains, refl, sym, ap, ◌∙◌, subst, inl, inr, arith}
 use Rattle.std.proofs.lemmas.Bool.{cases_eq, cases_Bool, eq-eqb, ne_eqb, cond-true, cond-false, both_ways}
 use Rattle.std.proofs.lemmas.List.Sums.{sum_by-cons}
 use Rattle.lists.specs.Members.{at_head, in_tail, cons_cases, nil_contains}
@@ -9,20 +9,15 @@ use Rattle.loop_nest.proofs.Elements.{filter_contains, from_filter}
 use Rattle.path_solver.specs.declared.topology.TopologicalOrder.{TopologicalOrder}
 use Rattle.path_solver.specs.Reaching.{ReachesExit, IsFlagged}
 use Rattle.section_check.specs.Placing.{IsAt}
-use Rattle.section_check.specs.Bounded.{BoundedLoop, holds, cost_of, IsBoundedWalk, IsIteration, cost_of_iteration}
-use Rattle.section_check.specs.Section.{potential}
-use Rattle.section_check.specs.Conditions.{IsAccepted}
+use Rattle.section_check.specs.Bounded.{BoundedLoop, holds, IsIteration, cost_of_iteration}
 use Rattle.section_check.proofs.Elements.{contains_from_holds, holds_from_contains}
 use Rattle.section_check.proofs.Sums.{sum_by-zero}
-use Rattle.path_solver.specs.Certifying.{certified}
 use Rattle.path_solver.specs.Totals.{iteration_costs_around}
-use Rattle.path_solver.specs.Longest.{bounded_loops, around, IsTooLarge}
-use Rattle.path_solver.specs.Longest.IsTooLarge.{walk as walk_exceeds, iteration as iterations_exceed}
+use Rattle.path_solver.specs.Longest.{bounded_loops, around, IterationsExceed}
 use Rattle.path_solver.specs.Problem.{IsSetting}
-use Rattle.path_solver.proofs.Structure.{listed_below, listed_member, listed_header, from_order}
+use Rattle.path_solver.proofs.Structure.{listed_member, listed_header, from_order}
 use Rattle.path_solver.proofs.Loops.{same_place, same_at}
 use Rattle.path_solver.proofs.Correspond.{with_bound, bounded_at, to_bounded, from_bounded}
-use Rattle.path_solver.proofs.IterationBound.{iteration_bounded}
 
 -- the sum over the loops that hold u, one loop more
 around_cons : (f : BoundedLoop → ℕ) (l : BoundedLoop) (ls : List BoundedLoop) (u : ℕ) → sum_by f (around (l ∷ ls) u) ≡ cond (holds l.members u) (f l) 0 + sum_by f (around ls u)
@@ -102,28 +97,14 @@ module _ (g : Digraph) (loops : List NaturalLoop) (flags : List Bool) (p : Topol
       let there = to_bounded loops bounds loads b m i l at in
       filter_contains (λ (k : BoundedLoop). holds k.members u) bs (at_place l i) (holds_from_contains l.members u inside) (i, there.0, there.1)
 
-  -- where potentials descend along every edge and all iteration costs fit together, so do iterations
-  pub no_iterations_exceed : (nodes : List (ℕ × ℤ)) → IsAccepted g costs (record { nodes = nodes; loops = certified loops iteration_costs }) bounds (map Some loads)
-      → ((u : ℕ) → IsFlagged flags u → (z : ℤ) × (potential nodes u ≡ Some z)) → ((u : ℕ) → u < g.nodes → iteration_costs_around loops iteration_costs u < 2 ^ 64)
+  -- where no iteration of a loop costs more than these numbers say, iterations of the loops that hold a node don't together
+  pub iterations_at_most : ((i : ℕ) (l : NaturalLoop) → IsAt loops i l → IsFlagged flags l.header → (ns : List ℕ) → IsIteration g bs (at_place l i) ns → cost_of_iteration costs bs ns ≤ get_or iteration_costs i 0)
       → (u : ℕ) (iteration : BoundedLoop → List ℕ) → ReachesExit g u → ((l : BoundedLoop) → Contains (around bs u) l → IsIteration g bs l (iteration l))
-      → sum_by (λ l. cost_of_iteration costs bs (iteration l)) (around bs u) < 2 ^ 64
-  no_iterations_exceed nodes accepted listed small u iteration reaches iterations =
+      → sum_by (λ l. cost_of_iteration costs bs (iteration l)) (around bs u) ≤ iteration_costs_around loops iteration_costs u
+  iterations_at_most each u iteration reaches iterations =
       let flag : IsFlagged flags u = (h.reaching.each u).1 reaches in
-      let most =
       around_most (λ l. cost_of_iteration costs bs (iteration l)) u loops bounds loads iteration_costs w
-      (λ i l at inside.
-      let z = listed l.header (listed_header g loops flags p h l u (i, at.0, at.1) flag inside) in
-      iteration_bounded g loops flags p h costs bounds loads iteration_costs b m w nodes accepted i l at z.0 z.1 (iteration (at_place l i)) (iterations (at_place l i) (in_around i l u at inside)))
-      in
-      let less = small u (listed_below g loops flags p h u flag) in
-      omega arith
-
-  -- so nothing is too large where no walk is
-  pub not_too_large : (nodes : List (ℕ × ℤ)) → IsAccepted g costs (record { nodes = nodes; loops = certified loops iteration_costs }) bounds (map Some loads)
-      → ((u : ℕ) → IsFlagged flags u → (z : ℤ) × (potential nodes u ≡ Some z)) → ((u : ℕ) → u < g.nodes → iteration_costs_around loops iteration_costs u < 2 ^ 64)
-      → ((ns : List ℕ) → IsBoundedWalk g bs ns → cost_of costs bs ns < 2 ^ 64) → IsTooLarge g costs bs → ⊥
-  not_too_large nodes accepted listed small walks (walk_exceeds ns bounded_walk exceeds) = let less = walks ns bounded_walk in omega arith
-  not_too_large nodes accepted listed small walks (iterations_exceed u iteration reaches iterations exceeds) = let less = no_iterations_exceed nodes accepted listed small u iteration reaches iterations in omega arith
+      (λ i l at inside. each i l at (listed_header g loops flags p h l u (i, at.0, at.1) flag inside) (iteration (at_place l i)) (iterations (at_place l i) (in_around i l u at inside)))
 
   one_place : (u : ℕ) (x z : BoundedLoop) → Contains (around bs u) x → Contains (around bs u) z → x.header ≡ z.header → x ≡ z
   one_place u x z a c same =
@@ -158,7 +139,7 @@ module _ (g : Digraph) (loops : List NaturalLoop) (flags : List Bool) (p : Topol
         )
 
     -- where iterations cost what they cost at most, and loops that aren't in the order cost at most nothing, iteration costs that exceed 64 bits together show iterations that do
-    pub iterations_together : ((i : ℕ) (l : NaturalLoop) → IsAt loops i l → (Contains p.order.items l.header → ⊥) → get_or iteration_costs i 0 ≡ 0) → (u : ℕ) → 2 ^ 64 ≤ iteration_costs_around loops iteration_costs u → IsTooLarge g costs bs
+    pub iterations_together : ((i : ℕ) (l : NaturalLoop) → IsAt loops i l → (Contains p.order.items l.header → ⊥) → get_or iteration_costs i 0 ≡ 0) → (u : ℕ) → 2 ^ 64 ≤ iteration_costs_around loops iteration_costs u → IterationsExceed g costs bs
     iterations_together dropped u exceeds =
         elim (cases_Bool (get_or flags u false)) [
           | inl flag ↦
@@ -167,7 +148,7 @@ module _ (g : Digraph) (loops : List NaturalLoop) (flags : List Bool) (p : Topol
               let least =
               around_least (λ l. cost_of_iteration costs bs (iteration l)) u loops bounds loads iteration_costs b m (λ i l at inside. (chosen.1 (at_place l i) (in_around i l u at inside)).enough i l at refl)
               in
-              iterations_exceed u iteration ((h.reaching.each u).0 flag) (λ l has. (chosen.1 l has).is_iteration) (omega arith)
+              record { node = u; reaches = (h.reaching.each u).0 flag; iteration = iteration; are = λ l has. (chosen.1 l has).is_iteration; exceeds = omega arith }
           | inr unlisted ↦
               let none : (i : ℕ) (l : NaturalLoop) → IsAt loops i l → Contains l.members u → get_or iteration_costs i 0 ≤ 0 = λ i l at inside.
               let zero_cost =

@@ -1,9 +1,7 @@
 -- The sources of the edges to a node, and flags that fall in number.
-use Rattle.std.proofs.Common.{◌≡◌, ℕ, zero, suc, ◌+◌, ◌*◌, ◌<◌, ◌≤◌, Bool, true, false, cond, eqb, not, List, [], ◌∷◌, length, get_or, set, replicate, filter, All, Contains, refl, sym, ap, ◌∙◌, subst, inl, inr, arith}
-use Rattle.std.proofs.lemmas.Bool.{cases_lt, cases_Bool, eq-eqb, eqb-true}
-use Rattle.std.proofs.lemmas.List.{length-map, get_or_past, get_or-replicate, length-replicate}
-use Rattle.std.proofs.lemmas.List.Elements.{All-contains, All-weaker}
-use Rattle.loop_nest.specs.Digraph.{Digraph, Edge, IsDigraph, sources_of, turned}
+use Rattle.std.proofs.Common.{◌≡◌, ℕ, ◌<◌, Bool, true, false, not, List, length, get_or, set, filter, All, Contains, refl, ap, subst}
+use Rattle.std.proofs.lemmas.List.Elements.{All-weaker}
+use Rattle.loop_nest.specs.Digraph.{Digraph, IsDigraph, sources_of, turned}
 use Rattle.loop_nest.proofs.Elements.{from_map}
 use Rattle.loop_nest.proofs.Searching.{from_sources, fewer-set}
 

@@ -12,3 +12,4 @@ pub mod Potentials
 pub mod Problem
 pub mod Laws
 pub mod Regions
+pub mod Pass

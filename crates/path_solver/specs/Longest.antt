@@ -25,11 +25,23 @@ pub record AreLoopsOf (nest : List NaturalLoop) (loops : List CertifiedLoop) : T
 abbrev pub around : List BoundedLoop → ℕ → List BoundedLoop
 around loops u = filter (λ l. holds l.members u) loops
 
--- a walk exceeds 64 bits, or iterations do, one of each loop that holds a node from which an exit is reached, together
+-- a walk that keeps the bounds exceeds 64 bits
+pub record WalkExceeds (g : Digraph) (costs : List ℕ) (loops : List BoundedLoop) : Type 0 where
+  pub walk : List ℕ
+  pub bounded : IsBoundedWalk g loops walk
+  pub exceeds : 2 ^ 64 ≤ cost_of costs loops walk
+
+-- iterations exceed 64 bits together, one of each loop that holds a node from which an exit is reached
+pub record IterationsExceed (g : Digraph) (costs : List ℕ) (loops : List BoundedLoop) : Type 0 where
+  pub node : ℕ
+  pub reaches : ReachesExit g node
+  pub iteration : BoundedLoop → List ℕ
+  pub are : (l : BoundedLoop) → Contains (around loops node) l → IsIteration g loops l (iteration l)
+  pub exceeds : 2 ^ 64 ≤ sum_by (λ l. cost_of_iteration costs loops (iteration l)) (around loops node)
+
 pub data IsTooLarge (g : Digraph) (costs : List ℕ) (loops : List BoundedLoop) : Type 0 where
-  walk : (ns : List ℕ) → IsBoundedWalk g loops ns → 2 ^ 64 ≤ cost_of costs loops ns → IsTooLarge g costs loops
-  iteration : (u : ℕ) (iteration : BoundedLoop → List ℕ) → ReachesExit g u → ((l : BoundedLoop) → Contains (around loops u) l → IsIteration g loops l (iteration l))
-      → 2 ^ 64 ≤ sum_by (λ l. cost_of_iteration costs loops (iteration l)) (around loops u) → IsTooLarge g costs loops
+  walk : WalkExceeds g costs loops → IsTooLarge g costs loops
+  iterations : IterationsExceed g costs loops → IsTooLarge g costs loops
 
 -- a number is too large; of want of memory nothing is said
 abbrev pub HasCause : Digraph → List ℕ → List BoundedLoop → SolveFault → Type 0

@@ -1,12 +1,15 @@
-//! Greatest walks through a graph whose loops are bounded, with sections that show them.
+//! Greatest walks through a graph whose loops are bounded, with and without sections that show them.
 #![tactic(auto)]
 
-ghost use Rattle.std.specs.Prelude.{◌≡◌, ℕ, ◌<◌, List, Option, Some, Ok, length, map, All, IfOk, IfErr, IfNone, IfSome, OnSome};
+ghost use Rattle.std.specs.Prelude.{◌≡◌, ℕ, ◌^◌, ◌<◌, ◌↔◌, List, Option, Some, Ok, length, map, All, IfOk, IfErr, IfNone, IfSome, OnSome, MatchOption, IsTrue};
 ghost use Rattle.loop_nest.specs.Reduction.{IsReducible};
 ghost use Rattle.loop_nest.specs.Nest.{IsNest};
 ghost use Rattle.section_check.specs.Bounded.{IsBoundedWalk, IsGreatest};
 ghost use Rattle.path_solver.specs.Reaching.{ReachesExit};
-ghost use Rattle.path_solver.specs.Longest.{bounded_loops, AreLoopsOf, IsTooLarge, HasCause};
+ghost use Rattle.path_solver.specs.Longest.{bounded_loops, AreLoopsOf, WalkExceeds, IterationsExceed, IsTooLarge, HasCause};
+ghost use Rattle.path_solver.specs.Distances.{AreLimited};
+ghost use Rattle.path_solver.specs.Certifying.{certified};
+ghost use Rattle.path_solver.specs.Potentials.{AreLeft};
 ghost use Rattle.section_check.specs.Section.{IsInForm};
 ghost use Rattle.section_check.specs.Conditions.{Answers};
 
@@ -17,24 +20,39 @@ mod loop_costs;
 mod measures;
 mod nest_laws;
 mod ordering;
+mod pass;
 mod reaching;
 pub mod regions;
 pub mod solved;
+pub mod stops;
 mod topology;
 mod totals;
 
 use certifying::{cert_loops, potentials};
-use distances::greatest_end;
+use jop_base::NoMemory;
 use loop_nest::Graph;
-use loop_nest::laws::reducible_is_reached;
 use loop_nest::loops::Nest;
-use measures::{Measures, measure};
-use reaching::reaching;
+use pass::{Pass, one_pass};
 use section_check::section::Section;
 pub use section_check::{check_section, form, section};
 use solved::{SolveFault, Solved};
-use std::alloc::Global;
-use totals::{exceeds, iterations_exceed};
+use std::alloc::{AllocError, Global};
+use totals::{exceeds, within_limit};
+
+/// The section of a pass in which nothing exceeds 64 bits.
+fn section_of(alloc: Global, nest: &Nest, value: u64, found: &Pass) -> Result<Section, AllocError>
+    requires few { length found.now.listed.items < 2 ^ 32 }
+    requires same { length found.now.dist.items ≡ length found.now.listed.items }
+    requires limited { AreLimited found.now.dist.items }
+    requires iteration_costs { length found.now.iteration_costs.items ≡ length nest.now }
+    requires small { All (λ w. w < 2 ^ 64) found.now.iteration_costs.items }
+    ensures nodes { IfOk result (λ s. AreLeft found.now.listed.items value found.now.dist.items s.nodes) }
+    ensures loops { IfOk result (λ s. s.loops ≡ certified nest.now found.now.iteration_costs.items) }
+{
+    let potentials = potentials(alloc, &found.listed, value, &found.dist)?;
+    let loops = cert_loops(alloc, nest.loops(), &found.iteration_costs)?;
+    Ok(Section::new(potentials, loops))
+}
 
 /// The greatest walk from node 0 to an exit that keeps all bounds, with a section that shows that none
 /// costs more, or `None` exactly where no exit is reached from node 0: then there is no such walk.
@@ -73,23 +91,53 @@ pub fn longest(
     ensures cause { IfErr result (HasCause g.now costs.now (bounded_loops nest.now bounds.now loads.now)) }
     ensures fits { IfOk result (λ _. ¬ IsTooLarge g.now costs.now (bounded_loops nest.now bounds.now loads.now)) }
 {
-    // The law is for the proof.
-    reducible_is_reached();
-    let nodes = g.nodes() as usize;
-    let listed = reaching(alloc, g)?;
-    if !listed[0] {
+    let Some(found) = one_pass(alloc, g, nest, costs, bounds, loads)? else {
         return Ok(None);
-    }
-    let Measures {
-        iteration_costs,
-        dist,
-    } = measure(alloc, g, nest, &listed, costs, bounds, loads)?;
-    let value = greatest_end(g.exits(), costs, &dist);
-    if exceeds(value) || iterations_exceed(alloc, nodes, nest.loops(), &iteration_costs)? {
+    };
+    if exceeds(found.value) || found.turns_exceed {
         return Err(SolveFault::TooLarge);
     }
-    let value = value as u64;
-    let potentials = potentials(alloc, &listed, value, &dist)?;
-    let loops = cert_loops(alloc, nest.loops(), &iteration_costs)?;
-    Ok(Some(Solved::new(value, Section::new(potentials, loops))))
+    let value = found.value as u64;
+    let section = section_of(alloc, nest, value, &found)?;
+    Ok(Some(Solved::new(value, section)))
+}
+
+/// What the greatest walk from node 0 to an exit costs that keeps all bounds, or `None` exactly where no
+/// exit is reached from node 0: then there is no such walk. There is a value exactly where no such walk
+/// exceeds 64 bits, whatever iterations cost: in a loop of bound 0 an iteration may cost more than any
+/// walk. `costs`, `bounds` and `loads` are as for `longest`, which answers `TooLarge` exactly where there
+/// is no value, or iterations exceed 64 bits. The time is that of `longest`.
+///
+/// # Errors
+///
+/// Want of memory alone.
+pub fn greatest(
+    alloc: Global,
+    g: &Graph,
+    nest: &Nest,
+    costs: &[u64],
+    bounds: &[u32],
+    loads: &[u64],
+) -> Result<Option<solved::Greatest>, NoMemory>
+    requires nest { IsNest g.now nest.now }
+    requires reducible { IsReducible g.now }
+    requires costs { length costs.now ≡ g.now.nodes }
+    requires bounds { length bounds.now ≡ length nest.now }
+    requires loads { length loads.now ≡ length nest.now }
+    ensures none { let loops = bounded_loops nest.now bounds.now loads.now in
+        IfOk result (λ o. IfNone o ((ns : List ℕ) → ¬ IsBoundedWalk g.now loops ns)) }
+    ensures unreached { IfOk result (λ o. IfNone o (¬ ReachesExit g.now 0)) }
+    ensures reached { IfOk result (λ o. OnSome o (ReachesExit g.now 0)) }
+    ensures value { let loops = bounded_loops nest.now bounds.now loads.now in
+        IfOk result (λ o. IfSome o (λ s. MatchOption s.value (WalkExceeds g.now costs.now loops) (IsGreatest g.now costs.now loops))) }
+    ensures turns { let loops = bounded_loops nest.now bounds.now loads.now in
+        IfOk result (λ o. IfSome o (λ s. IsTrue s.turns_exceed ↔ IterationsExceed g.now costs.now loops)) }
+{
+    match one_pass(alloc, g, nest, costs, bounds, loads)? {
+        Some(found) => Ok(Some(solved::Greatest {
+            value: within_limit(found.value),
+            turns_exceed: found.turns_exceed,
+        })),
+        None => Ok(None),
+    }
 }

@@ -65,6 +65,16 @@ impl Solved {
     }
 }
 
+/// What the greatest walk costs, without a section.
+#[derive(Clone, Copy)]
+pub struct Greatest {
+    /// In cycles, and none where it exceeds 64 bits.
+    pub value: Option<u64>,
+    /// Whether iterations exceed 64 bits together, one of each loop that holds a node from which an exit
+    /// is reached.
+    pub turns_exceed: bool,
+}
+
 /// Why there is no solution.
 #[derive(Clone, Copy, Debug, PartialEq, Eq)]
 pub enum SolveFault {

@@ -1,5 +1,5 @@
 //! What exceeds 64 bits.
-ghost use Rattle.std.specs.Prelude.{◌≡◌, ◌+◌, ◌^◌, ◌<◌, ◌≤◌, ◌↔◌, length, All, IfOk, IsTrue};
+ghost use Rattle.std.specs.Prelude.{◌≡◌, ◌+◌, ◌^◌, ◌<◌, ◌≤◌, ◌↔◌, length, All, IfOk, IsTrue, MatchOption};
 ghost use Rattle.std.specs.List.Sorted.{IsStrictlyIncreasing};
 ghost use Rattle.path_solver.specs.Distances.{limit, AreLimited};
 ghost use Rattle.path_solver.specs.Totals.{AreAdded, SomeIterationsExceed};
@@ -13,6 +13,13 @@ pub fn exceeds(n: u128) -> bool
     ensures { IsTrue result ↔ (2 ^ 64 ≤ n) }
 {
     n > u128::from(u64::MAX)
+}
+
+/// A number, where it doesn't exceed 64 bits.
+pub fn within_limit(n: u128) -> Option<u64>
+    ensures { MatchOption result (2 ^ 64 ≤ n) (λ value. (value ≡ n) × (n < 2 ^ 64)) }
+{
+    if exceeds(n) { None } else { Some(n as u64) }
 }
 
 /// Adds to each of these nodes what an iteration costs at most.
