@@ -10,8 +10,10 @@
 //! `1` where it is a region, else `0`. In place of a graph, `chain` has how many nodes follow one another.
 //!
 //! The rows of `walks` have the fields of `longest`. What is found is the greatest walk from node 0 to an exit that keeps all
-//! bounds, whether its section is accepted, and the greatest of all such walks, made one after another. Their values were found by
-//! brute force from the definitions, with no code of this repository. So in
+//! bounds, whether its section is accepted; the greatest walk whatever iterations cost, and whether those of the loops that hold
+//! a node exceed 64 bits together; the greatest walk that may stop anywhere, where entries load nothing; and the greatest of all
+//! walks to an exit, made one after another. Their values were found by brute force from the definitions, with no code of this
+//! repository, by `tests/expected/walks.py`. So in
 //!
 //!     walks | 4 | 0-1 1-2 1-3 2-1 | 3 | 2 3 4 1 | 10 | 100
 //!

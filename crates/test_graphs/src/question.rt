@@ -26,7 +26,7 @@ pub enum Question {
     Longest(Problem),
     /// The greatest walk, where it is said of each loop whether it is a region.
     Regions(Problem, Vec<bool>),
-    /// The greatest walk, found in two ways.
+    /// The greatest walk, found in several ways.
     Walks(Problem),
     /// The check of a section.
     Check(Problem, Section),

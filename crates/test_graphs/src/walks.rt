@@ -7,7 +7,7 @@ use crate::question::Problem;
 use loop_nest::loops::Nest;
 use loop_nest::nest;
 use path_solver::solved::SolveFault;
-use path_solver::{check_section, longest};
+use path_solver::{check_section, greatest, longest};
 use std::alloc::{AllocError, Global};
 use std::io;
 
@@ -162,7 +162,38 @@ fn show_solved(rt: &HostRuntime, problem: &Problem, nest: &Nest) -> io::Result<(
     }
 }
 
-/// Prints the greatest walk as it is found in two ways.
+// Prints the value of the greatest walk, whatever iterations cost, and whether they exceed 64 bits.
+fn show_greatest(rt: &HostRuntime, problem: &Problem, nest: &Nest) -> io::Result<()>
+    requires nest { IsNest problem.now.graph nest.now }
+    requires reducible { IsReducible problem.now.graph }
+    requires costs { vec_len problem.now.costs ≡ problem.now.graph.nodes }
+    requires bounds { vec_len problem.now.bounds ≡ length nest.now }
+    requires loads { vec_len problem.now.loads ≡ length nest.now }
+{
+    let (g, costs, bounds) = (&problem.graph, &problem.costs, &problem.bounds);
+    let loads: Vec<u64> = problem
+        .loads
+        .iter()
+        .map(|load| load.unwrap_or(0))
+        .collect(rt.alloc())?;
+    let Ok(found) = greatest(rt.alloc(), g, nest, costs, bounds, &loads) else {
+        return Err(io::Error::from(AllocError));
+    };
+    let Some(found) = found else {
+        return println!(rt; "  greatest none");
+    };
+    let iterations = if found.turns_exceed {
+        ", iterations exceed"
+    } else {
+        ""
+    };
+    match found.value {
+        Some(value) => println!(rt; "  greatest {value}{iterations}"),
+        None => println!(rt; "  greatest too large{iterations}"),
+    }
+}
+
+/// Prints the greatest walk as it is found in several ways.
 pub fn show_walks(rt: &HostRuntime, problem: &Problem) -> io::Result<()> {
     let Ok(nest) = nest(rt.alloc(), &problem.graph) else {
         return println!(rt; "  no nest");
@@ -173,6 +204,7 @@ pub fn show_walks(rt: &HostRuntime, problem: &Problem) -> io::Result<()> {
         return println!(rt; "  bad line");
     }
     show_solved(rt, problem, &nest)?;
+    show_greatest(rt, problem, &nest)?;
     match greatest_walk(rt.alloc(), problem, &nest)? {
         Greatest::Value(value) => println!(rt; "  walks {value}"),
         Greatest::NoWalk => println!(rt; "  walks none"),
