@@ -6,6 +6,7 @@ pub mod Shapes
 pub mod Walks
 pub mod Graphs
 pub mod Compact
+pub mod Flow
 pub mod Regions
 pub mod Costs
 pub mod Keeping

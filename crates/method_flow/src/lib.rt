@@ -3,4 +3,7 @@
 //! definitions stand in `specs/`.
 #![tactic(auto)]
 
+mod flow;
 pub mod laws;
+
+pub use flow::{Call, FlowMethod, FlowProgram, HandlerRange};
