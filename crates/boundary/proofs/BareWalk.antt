@@ -22,7 +22,7 @@ use Rattle.bytecode_model.specs.Rows.{Row}
 use Rattle.bytecode_model.specs.Table.{row_of}
 use Rattle.bytecode_model.specs.Steps.{row_in}
 use Rattle.bytecode_typing.specs.Typed.{IsQuiet}
-use Rattle.bytecode_typing.specs.Bare.{bare_program, depth_behind, IsIntConstant, StayWithin, IsBareBody}
+use Rattle.bytecode_typing.specs.Bare.{bare_program, depth_behind, IsIntConstant, StayWithin, IsStraightLine}
 use Rattle.machine_stands.specs.Bare as bare
 use Rattle.machine_stands.specs.Simulates.{is_bare}
 use Rattle.boundary.proofs.BareRows.{IsSilent, none, return_is, return_form, found}
@@ -179,7 +179,7 @@ module _ (i : Image) (bytes : (k : ℕ) → slice_index i.code k < 2 ^ 8) where
         let inside : nat_lt 0 (length i.code) ≡ true = lt-ltb 0 (length i.code) (omega (arith, some)) in
         ap (λ (t : Bool). starts_from (length i.code) i.code (if t then Some 0 else None)) inside ∙ first_walk.is
 
-    pub bare_body : IsBareBody b
+    pub bare_body : IsStraightLine b
     bare_body = record { handlers = refl; within = subst (λ ps. StayWithin b ps 0) (sym starts_are) first_walk.stays }
 
     pub bare_at : (pc : ℕ) → IsStart i.code pc → IsBareAt pc

@@ -26,7 +26,7 @@ use Rattle.bytecode_typing.specs.Checks.{row_check}
 use Rattle.bytecode_typing.specs.Walk.{first_types, handlers_hold}
 use Rattle.bytecode_typing.specs.Typed.{Typed, IsTypedAt, IsTypedMethod, IsChecked, GoesOn, IsQuiet}
 use Rattle.bytecode_typing.specs.Typings.{frame_among}
-use Rattle.bytecode_typing.specs.Bare.{bare_method, bare_program, depth_behind, IsIntConstant, StayWithin, IsBareBody, int_frame, depth_after, int_frames, bare_typing}
+use Rattle.bytecode_typing.specs.Bare.{bare_method, bare_program, depth_behind, IsIntConstant, StayWithin, IsStraightLine, int_frame, depth_after, int_frames, bare_typing}
 use Rattle.bytecode_typing.specs.Lawful.{Lawful, IsResolvedRow}
 use Rattle.bytecode_typing.proofs.Relations.{from_true, some_in, some_is, some_at}
 use Rattle.bytecode_typing.proofs.Hierarchy.{equal, equal_in, or_left, or_right, or_else}
@@ -145,7 +145,7 @@ module _ (b : Body) where
   at_index (x ∷ xs) q zero l e = ap Some e
   at_index (x ∷ xs) q (suc k) l e = at_index xs q k (omega arith) e
 
-  module _ (bare : IsBareBody b) where
+  module _ (bare : IsStraightLine b) where
     start_bare : (pc : ℕ) → IsStart b.code pc → IsSomeAnd (row_in P 0 pc) (λ x. IsBareAt x.1)
     start_bare pc (k, l, e) = row_bare (starts_of b.code) 0 k pc (at_index (starts_of b.code) pc k l e) bare.within
 
@@ -246,7 +246,7 @@ abbrev head_or : ℕ → List ℕ → ℕ
 head_or z [] = z
 head_or z (y ∷ ys) = y
 
-module _ (b : Body) (are_starts : AreStarts b.code) (within : (pc : ℕ) → WholeIsWithin b.code pc) (bare : IsBareBody b) where
+module _ (b : Body) (are_starts : AreStarts b.code) (within : (pc : ℕ) → WholeIsWithin b.code pc) (bare : IsStraightLine b) where
   abbrev B : Program
   B = bare_program b
 

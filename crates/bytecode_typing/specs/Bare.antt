@@ -69,7 +69,7 @@ StayWithin b (pc ∷ q ∷ qs) d =
     IsSomeAnd (row_in (bare_program b) 0 pc) (λ x. (x.0 ≡ q) × IsQuiet x.1 × IsIntConstant x.1 × IsSomeAnd (depth_behind b x.1 d) (λ e. StayWithin b (q ∷ qs) e))
 
 -- the body of a bare image
-pub record IsBareBody (b : Body) : Type 0 where
+pub record IsStraightLine (b : Body) : Type 0 where
   pub handlers : b.handlers ≡ []
   pub within : StayWithin b (starts_of b.code) 0
 

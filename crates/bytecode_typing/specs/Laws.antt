@@ -13,7 +13,7 @@ use Rattle.bytecode_typing.specs.Typed.{Typing, Typed}
 use Rattle.bytecode_typing.specs.Fits.{Fits, IsGoing}
 use Rattle.bytecode_typing.specs.Lawful.{Lawful}
 use Rattle.bytecode_typing.specs.Typings.{IsTyping, FailsFirst, typing_found, HaveTypings}
-use Rattle.bytecode_typing.specs.Bare.{IsBareBody, bare_program, bare_typing}
+use Rattle.bytecode_typing.specs.Bare.{IsStraightLine, bare_program, bare_typing}
 
 -- in a typed program a state that fits and hasn't ended has a next state for each answer of the input, and it fits
 abbrev pub TypedProgramsKeep : Type 0
@@ -50,4 +50,4 @@ ProgramsWithTypingsAreTyped = (P : Program) (maps : Typing) → Lawful P → P.l
 
 -- a bare image is lawful, and typed
 abbrev pub BareProgramsAreTyped : Type 0
-BareProgramsAreTyped = (b : Body) → IsBareBody b → Lawful (bare_program b) × Typed (bare_program b) (bare_typing b)
+BareProgramsAreTyped = (b : Body) → IsStraightLine b → Lawful (bare_program b) × Typed (bare_program b) (bare_typing b)
