@@ -1,4 +1,5 @@
 -- The arguments of a call: JVM Specification SE 8, 4.10.1.9 (invokestatic and those like it).
+-- For contracts within this crate alone: no public contract's meaning rests on this file.
 use Rattle.std.specs.Prelude.{Bool, ◌&&◌, List, map, Option}
 use Rattle.std.specs.Option.{option_map}
 use Rattle.std.specs.List.{list_all}

@@ -1,4 +1,5 @@
 -- The method of an instruction as the code has it.
+-- For contracts within this crate alone: no public contract's meaning rests on this file.
 use Rattle.std.specs.Prelude.{◌≡◌, ℕ, List, Option, slice_get}
 use Rattle.bytecode_model.specs.Lists.{onto}
 use Rattle.program_tables.specs.Resolved.{resolved}

@@ -1,4 +1,5 @@
 -- What the rules leave of a call once its arguments are taken: JVM Specification SE 8, 4.10.1.9 (invokespecial, invokevirtual and invokeinterface).
+-- For contracts within this crate alone: no public contract's meaning rests on this file.
 use Rattle.std.specs.Prelude.{ℕ, Bool, true, ◌&&◌, ◌++◌, List, Some}
 use Rattle.bytecode_model.specs.Types.{OfClass}
 use Rattle.bytecode_model.specs.Program.{Method}

@@ -1,4 +1,5 @@
 -- The instruction of a method that is checked, and what is found of its row.
+-- For contracts within this crate alone: no public contract's meaning rests on this file.
 use Rattle.std.specs.Prelude.{◌≡◌, ℕ, Option, Some, None}
 use Rattle.std.specs.Option.{option_map, IsSomeAnd}
 use Rattle.std.specs.Borrow.{Bor}

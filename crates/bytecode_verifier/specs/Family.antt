@@ -1,4 +1,5 @@
 -- The row of an instruction by its family: JVM Specification SE 8, 6.5.
+-- For contracts within this crate alone: no public contract's meaning rests on this file.
 use Rattle.std.specs.Prelude.{◌≡◌, ℕ, pos, true, List, map, Option, None}
 use Rattle.std.specs.Option.{option_map}
 use Rattle.jop_opcodes.specs.declared.instruction.Instr.{Instr}

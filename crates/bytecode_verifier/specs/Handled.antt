@@ -1,4 +1,5 @@
 -- A handler at a place: JVM Specification SE 8, 4.10.1.6 (instructionSatisfiesHandlers).
+-- For contracts within this crate alone: no public contract's meaning rests on this file.
 use Rattle.std.specs.Prelude.{ℕ, Bool, true, if◌then◌else◌, Option}
 use Rattle.bytecode_model.specs.Program.{Program, Handler}
 use Rattle.bytecode_typing.specs.Types.{TypeFrame}

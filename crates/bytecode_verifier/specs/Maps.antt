@@ -1,4 +1,5 @@
 -- The frames of a StackMapTable as the code has them.
+-- For contracts within this crate alone: no public contract's meaning rests on this file.
 use Rattle.std.specs.Prelude.{◌≡◌, ℕ, Option, Some, None, slice_get}
 use Rattle.std.specs.Option.{option_map}
 use Rattle.bytecode_model.specs.Lists.{onto}

@@ -1,4 +1,5 @@
 -- A method whose instructions are checked, and what is found at a place of it: JVM Specification SE 8, 4.10.1.6.
+-- For contracts within this crate alone: no public contract's meaning rests on this file.
 use Rattle.std.specs.Prelude.{◌≡◌, ◌==◌, ◌||◌, not, nat_lt, ◌+◌, ℕ, Bool, List, length, map, Option, Some, Result, Ok, Err}
 use Rattle.std.specs.Option.{option_map}
 use Rattle.jop_opcodes.specs.declared.instruction.Instr.{Instr}

@@ -1,4 +1,5 @@
 -- What is found of an instruction: JVM Specification SE 8, 4.10.1.6.
+-- For contracts within this crate alone: no public contract's meaning rests on this file.
 use Rattle.std.specs.Prelude.{if◌then◌else◌, Some, None}
 use Rattle.bytecode_typing.specs.Types as typing
 use Rattle.bytecode_typing.specs.Walk as walk

@@ -1,4 +1,5 @@
 -- What isn't supported at each place of a class file, with the place, as words that proofs open only where they need what they say.
+-- For proofs alone: each is a definition of `program_tables` under another name, and no public contract's meaning rests on this file.
 use Rattle.std.specs.Prelude.{ℕ, Bool, List}
 use Rattle.class_pool.specs.declared.class.Member.{Member}
 use Rattle.class_pool.specs.declared.class.ClassFile.{ClassFile}

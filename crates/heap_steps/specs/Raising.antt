@@ -1,4 +1,5 @@
 -- Rows that raise one of the objects of the raise list (JVM Specification SE 8, 2.10).
+-- Of these `raised_outcome` and `makes_raise`, which build a `MakesRaise` from an outcome, are for proofs alone: no contract's meaning rests on them.
 use Rattle.std.specs.Prelude.{◌≡◌, ℕ, suc, ◌+◌, ◌%◌, ◌^◌, ◌<◌, ◌≤◌, Bool, true, false, List, [], ◌∷◌, ◌++◌, length, drop, reverse, slice_index, slice_set, None}
 use Rattle.std.specs.declared.option.Option.{Option}
 use Rattle.std.proofs.Common.{ap, ◌∙◌}

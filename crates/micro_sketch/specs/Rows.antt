@@ -1,4 +1,5 @@
 -- Rows of the microcode: what some words make of an opcode's entry, and the runs of the machine that follow.
+-- Of these `makes`, `makes_raw` and what else builds a record from an outcome are for proofs alone; the laws of rows (RowLaws, FrameLaws) rest on the records.
 use Rattle.std.specs.Prelude.{ℕ, zero, suc, ◌≡◌, ◌+◌, ◌%◌, ◌^◌, ◌≤◌, Bool, true, false, List, [], ◌∷◌, drop, slice_set}
 use Rattle.std.specs.declared.option.Option.{Option}
 use Rattle.std.proofs.Common.{sym, ap, ◌∙◌, subst}

@@ -1,4 +1,5 @@
 -- Definitions of `program_tables` and `class_lookup`, as words that proofs open only where they need what these say.
+-- For proofs alone: each is a definition of those crates under another name, and no public contract's meaning rests on this file.
 use Rattle.std.specs.Prelude.{ℕ, Bool, List, Option}
 use Rattle.class_pool.specs.declared.class.Member.{Member}
 use Rattle.class_pool.specs.declared.class.ClassFile.{ClassFile}
