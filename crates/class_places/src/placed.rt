@@ -12,6 +12,9 @@ ghost use Rattle.program_tables.specs.Placed.{lacks_superclass, has_bad_supercla
 use class_lookup::parts::has_flags;
 use class_lookup::{Classes, Place};
 use class_pool::{ClassFile, Member};
+use class_rules::flags::{
+    ACC_FINAL, ACC_INTERFACE, ACC_PRIVATE, ACC_PROTECTED, ACC_PUBLIC, ACC_STATIC,
+};
 use jop_base::NoMemory;
 use std::alloc::Global;
 
@@ -61,7 +64,7 @@ fn has_bad_superclass(classes: &Classes, class: u32) -> bool
         return false;
     };
     match class_at(classes, upper) {
-        Some(file) => has_flags(file.flags, 0x0010) || has_flags(file.flags, 0x0200),
+        Some(file) => has_flags(file.flags, ACC_FINAL) || has_flags(file.flags, ACC_INTERFACE),
         None => false,
     }
 }
@@ -108,7 +111,7 @@ fn is_final(classes: &Classes, place: Place) -> bool
     ensures { result ≡ is_method_with is_final classes.now place }
 {
     match method_at(classes, place) {
-        Some(method) => has_flags(method.flags, 0x0010),
+        Some(method) => has_flags(method.flags, ACC_FINAL),
         None => false,
     }
 }
@@ -118,7 +121,8 @@ fn is_virtual(classes: &Classes, place: Place) -> bool
     ensures { result ≡ is_virtual classes.now place }
 {
     match method_at(classes, place) {
-        Some(method) => !(has_flags(method.flags, 0x0008) || has_flags(method.flags, 0x0002)),
+        Some(method) => !(has_flags(method.flags, ACC_STATIC)
+            || has_flags(method.flags, ACC_PRIVATE)),
         None => false,
     }
 }
@@ -129,8 +133,8 @@ fn is_open_to(classes: &Classes, place: Place, other: Place) -> bool
 {
     match method_at(classes, place) {
         Some(method) => {
-            has_flags(method.flags, 0x0001)
-                || has_flags(method.flags, 0x0004)
+            has_flags(method.flags, ACC_PUBLIC)
+                || has_flags(method.flags, ACC_PROTECTED)
                 || (!has_flags(method.flags, 0x0007)
                     && classes.are_in_one_package(other.class, place.class))
         }
@@ -267,7 +271,7 @@ fn declares_final(file: &ClassFile) -> bool
     file.methods
         .as_slice()
         .iter()
-        .any(|method| has_flags(method.flags, 0x0010))
+        .any(|method| has_flags(method.flags, ACC_FINAL))
 }
 
 /// The same, if there is such a class.

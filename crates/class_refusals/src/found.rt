@@ -16,6 +16,7 @@ use crate::parts::{descriptor_in, entry_at};
 use crate::tables::DescriptorItems;
 use class_lookup::parts::{has_flags, name_of, text_at};
 use class_pool::{ClassFile, Entry, Member, Pool};
+use class_rules::flags::{ACC_INTERFACE, ACC_NATIVE, ACC_STATIC};
 use descriptors::names::is_class_initializer;
 use descriptors::{Element, FieldType, MethodType, field_type, method_type};
 use jop_base::{FormatFault, NoMemory};
@@ -217,10 +218,10 @@ pub(crate) fn item_at_field(
 fn has_interface_code(class: &ClassFile, method: &Member) -> bool
     ensures { result ≡ has_interface_code class.now method.now }
 {
-    has_flags(class.flags, 0x0200)
+    has_flags(class.flags, ACC_INTERFACE)
         && method.code().is_some()
         && !(is_class_initializer(text_at(&class.pool, method.name))
-            && has_flags(method.flags, 0x0008))
+            && has_flags(method.flags, ACC_STATIC))
 }
 
 /// The first of what isn't supported at a method, without its instructions.
@@ -236,7 +237,7 @@ pub(crate) fn item_at_method(
     if let Some(item) = descriptors.of_method(&class.pool, method.descriptor) {
         return Some(item);
     }
-    if has_flags(method.flags, 0x0100) {
+    if has_flags(method.flags, ACC_NATIVE) {
         return Some(Item::Native);
     }
     if has_interface_code(class, method) {

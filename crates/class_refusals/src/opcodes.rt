@@ -3,6 +3,10 @@ ghost use Rattle.std.specs.Prelude.{◌≡◌};
 ghost use Rattle.program_tables.specs.Unsupported.{is_between, is_of_floats, is_left_out};
 ghost use Rattle.class_refusals.specs.Causes.{refused_opcode};
 
+use jop_opcodes::mnemonics::{
+    BREAKPOINT, IMPDEP1, IMPDEP2, INVOKEDYNAMIC, JSR, JSR_W, LDIV, LMUL, LREM, MULTIANEWARRAY, RET,
+};
+
 fn is_between(low: u8, high: u8, op: u8) -> bool
     ensures { result ≡ is_between low high op }
 {
@@ -37,15 +41,15 @@ fn is_of_floats(op: u8) -> bool
 fn is_left_out(op: u8) -> bool
     ensures { result ≡ is_left_out op }
 {
-    op == 105
-        || op == 109
-        || op == 113
-        || op == 168
-        || op == 169
-        || op == 186
-        || op == 197
-        || op == 201
-        || op == 202
+    op == LMUL
+        || op == LDIV
+        || op == LREM
+        || op == JSR
+        || op == RET
+        || op == INVOKEDYNAMIC
+        || op == MULTIANEWARRAY
+        || op == JSR_W
+        || op == BREAKPOINT
 }
 
 /// Whether the opcode isn't supported in a class; `in_io` says whether the class is the one that reads and writes bytes.
@@ -53,5 +57,5 @@ fn is_left_out(op: u8) -> bool
 pub(crate) fn is_refused_opcode(in_io: bool, op: u8) -> bool
     ensures { result ≡ refused_opcode in_io op }
 {
-    is_of_floats(op) || is_left_out(op) || ((op == 254 || op == 255) && !in_io)
+    is_of_floats(op) || is_left_out(op) || ((op == IMPDEP1 || op == IMPDEP2) && !in_io)
 }

@@ -8,13 +8,12 @@ ghost use Rattle.frame_types.specs.Locals.{element_type, type_of, types_of, begi
 use crate::types::VarType;
 use class_lookup::parts::{has_flags, name_of, text_at};
 use class_pool::{ClassFile, Member};
+use class_rules::flags::ACC_STATIC;
 use descriptors::names::is_instance_initializer;
 use descriptors::{Element, FieldType, method_type};
 use items::{Items, is_text};
 use jop_base::{FormatFault, NoMemory};
 use std::alloc::Global;
-
-const ACC_STATIC: u16 = 0x0008;
 
 const ARRAY: u16 = b'[' as u16;
 

@@ -13,15 +13,11 @@ use class_pool::ClassFile;
 use image_words::Outline;
 use jop_base::NoMemory;
 use jop_opcodes::laws::starts_follow_one_another;
+use jop_opcodes::mnemonics::{INVOKESPECIAL, INVOKESTATIC};
 use jop_opcodes::{Instr, decode, starts};
 use program_tables::{Named, Operand, entry_of, named_in};
 use resolved_program::Program;
 use std::alloc::Global;
-
-/// The opcodes of the instructions that run a method without a selection.
-const INVOKESPECIAL: u8 = 183;
-
-const INVOKESTATIC: u8 = 184;
 
 /// How instructions use an entry of a pool: whether one names it, and the place of the method that the first of them takes that
 /// runs one without a selection.

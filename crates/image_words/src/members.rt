@@ -6,15 +6,9 @@ ghost use Rattle.image_words.specs.Slots.{own_methods, has_slot};
 
 use class_lookup::parts::{has_flags, text_at};
 use class_lookup::{ClassFile, Classes, Place};
+use class_rules::flags::{ACC_INTERFACE, ACC_PRIVATE, ACC_STATIC};
 use descriptors::names::is_instance_initializer;
 use jop_base::NoMemory;
-
-/// The access flags of 4.1 and 4.6.
-const ACC_PRIVATE: u16 = 0x0002;
-
-const ACC_STATIC: u16 = 0x0008;
-
-const ACC_INTERFACE: u16 = 0x0200;
 
 /// The class of this number, if there is one.
 pub(crate) fn class_at(classes: &Classes, number: u32) -> Option<&ClassFile>

@@ -5,6 +5,7 @@
 mod decoder;
 mod instruction;
 pub mod laws;
+pub mod mnemonics;
 mod place;
 mod table;
 

@@ -12,6 +12,7 @@ use class_lookup::parts::{has_flags, has_signature, name_of};
 use class_making::parts::text;
 use class_places::{class_at, superclasses};
 use class_pool::{ClassFile, Units};
+use class_rules::flags::ACC_STATIC;
 use jop_base::NoMemory;
 use std::alloc::Global;
 use upward_order::NumberSet;
@@ -24,7 +25,7 @@ fn is_initialized(alloc: Global, class: &ClassFile) -> Result<bool, NoMemory>
     let descriptor = text(alloc, "()V")?;
     Ok(
         class.methods.as_slice().iter().any(|method| {
-            has_flags(method.flags, 0x0008)
+            has_flags(method.flags, ACC_STATIC)
                 && has_signature(class, method, name.as_slice(), descriptor.as_slice())
         }),
     )

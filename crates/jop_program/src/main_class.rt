@@ -8,6 +8,7 @@ ghost use Rattle.jop_program.specs.Linked.{main_class, main_name, declares_main}
 use class_lookup::parts::{has_flags, has_signature, name_of};
 use class_making::parts::text;
 use class_pool::{ClassFile, Units};
+use class_rules::flags::{ACC_PUBLIC, ACC_STATIC};
 use jop_base::NoMemory;
 use std::alloc::Global;
 
@@ -71,8 +72,8 @@ fn declares_main(alloc: Global, class: &ClassFile) -> Result<bool, NoMemory>
     let descriptor = text(alloc, "([Ljava/lang/String;)V")?;
     Ok(
         class.methods.as_slice().iter().any(|method| {
-            has_flags(method.flags, 0x0001)
-                && has_flags(method.flags, 0x0008)
+            has_flags(method.flags, ACC_PUBLIC)
+                && has_flags(method.flags, ACC_STATIC)
                 && has_signature(class, method, name.as_slice(), descriptor.as_slice())
         }),
     )

@@ -13,6 +13,7 @@ use crate::marks::{is_abstract, mark_method};
 use class_hierarchy::{Hierarchy, Place};
 use class_lookup::Classes;
 use class_lookup::parts::has_flags;
+use class_rules::flags::ACC_ABSTRACT;
 use jop_base::NoMemory;
 use std::alloc::Global;
 
@@ -21,7 +22,7 @@ fn is_concrete(classes: &Classes, class: u32) -> bool
     requires { class < length classes.now }
     ensures { result ≡ is_concrete classes.now class }
 {
-    !has_flags(classes.class(class).flags, 0x0400)
+    !has_flags(classes.class(class).flags, ACC_ABSTRACT)
 }
 
 /// The classes that are neither abstract classes nor interfaces and have this one as themselves, a superclass or a superinterface.

@@ -14,6 +14,7 @@ use class_hierarchy::{Hierarchy, Place};
 use class_lookup::Classes;
 use class_lookup::parts::has_flags;
 use class_pool::Member;
+use class_rules::flags::ACC_ABSTRACT;
 use jop_base::NoMemory;
 use std::alloc::Global;
 
@@ -37,7 +38,7 @@ pub(crate) fn is_abstract(classes: &Classes, place: Place) -> bool
     ensures { result ≡ is_method_with is_abstract classes.now place }
 {
     match method_at(classes, place) {
-        Some(method) => has_flags(method.flags, 0x0400),
+        Some(method) => has_flags(method.flags, ACC_ABSTRACT),
         None => false,
     }
 }

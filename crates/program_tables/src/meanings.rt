@@ -17,6 +17,7 @@ use crate::texts::TextTypes;
 use class_lookup::parts::has_flags;
 use class_lookup::{Classes, Place};
 use class_pool::{Entry, Member, Pool};
+use class_rules::flags::ACC_STATIC;
 
 /// What an entry means to the instructions that may name it.
 #[derive(Clone, Copy)]
@@ -157,7 +158,7 @@ pub fn is_static_field(classes: &Classes, place: Place) -> bool
     ensures { result ≡ is_static_field classes.now place }
 {
     match field_at(classes, place) {
-        Some(field) => has_flags(field.flags, 0x0008),
+        Some(field) => has_flags(field.flags, ACC_STATIC),
         None => false,
     }
 }

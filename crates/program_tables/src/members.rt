@@ -8,6 +8,7 @@ ghost use Rattle.program_tables.specs.Members.{members_in, takes, own_members, c
 use class_lookup::parts::has_flags;
 use class_lookup::{ClassFile, Classes, Place};
 use class_pool::Member;
+use class_rules::flags::ACC_STATIC;
 use indexmap::IndexMap;
 use jop_base::NoMemory;
 use std::alloc::Global;
@@ -112,8 +113,8 @@ pub(crate) fn takes(which: Which, member: &Member) -> bool
 {
     match which {
         Which::Field => true,
-        Which::StaticField => has_flags(member.flags, 0x0008),
-        Which::InstanceField => !has_flags(member.flags, 0x0008),
+        Which::StaticField => has_flags(member.flags, ACC_STATIC),
+        Which::InstanceField => !has_flags(member.flags, ACC_STATIC),
         Which::MethodWithCode => member.code().is_some(),
         Which::OtherMethod => member.code().is_none(),
     }

@@ -9,6 +9,10 @@ ghost use Rattle.program_tables.specs.Taken.{takes_entry};
 
 use class_pool::{ClassFile, Entry, Pool};
 use jop_opcodes::Instr;
+use jop_opcodes::mnemonics::{
+    ANEWARRAY, CHECKCAST, GETSTATIC, INSTANCEOF, INVOKEINTERFACE, INVOKESPECIAL, INVOKESTATIC,
+    INVOKEVIRTUAL, LDC, LDC_W, LDC2_W, NEW, PUTFIELD,
+};
 
 /// What a pool entry gives to an instruction, by indexes of the pool: a constant; a class; a field or a method, by the Class entry
 /// through which it is named and its NameAndType entry.
@@ -35,35 +39,35 @@ pub(crate) fn entry_at(pool: &Pool, index: u16) -> Option<&Entry>
 fn is_ldc(op: u8) -> bool
     ensures { result ≡ is_ldc op }
 {
-    op == 18 || op == 19
+    op == LDC || op == LDC_W
 }
 
 /// Whether the opcode reads or writes a field.
 fn is_field_access(op: u8) -> bool
     ensures { result ≡ is_field_access op }
 {
-    op >= 178 && op <= 181
+    op >= GETSTATIC && op <= PUTFIELD
 }
 
 /// Whether the opcode names a class.
 fn is_class_use(op: u8) -> bool
     ensures { result ≡ is_class_use op }
 {
-    op == 187 || op == 189 || op == 192 || op == 193
+    op == NEW || op == ANEWARRAY || op == CHECKCAST || op == INSTANCEOF
 }
 
 /// Whether the opcode takes a method of a class.
 fn takes_method(op: u8) -> bool
     ensures { result ≡ takes_method op }
 {
-    op >= 182 && op <= 184
+    op >= INVOKEVIRTUAL && op <= INVOKESTATIC
 }
 
 /// Whether the opcode takes a method of an interface, in a class file of this version.
 fn takes_interface_method(major: u16, op: u8) -> bool
     ensures { result ≡ takes_interface_method major op }
 {
-    op == 185 || (major >= 52 && (op == 183 || op == 184))
+    op == INVOKEINTERFACE || (major >= 52 && (op == INVOKESPECIAL || op == INVOKESTATIC))
 }
 
 /// Whether an opcode takes what an entry gives, in a class file of this version; `ldc` takes no class.
@@ -76,7 +80,7 @@ pub fn takes_entry(major: u16, op: u8, entry: &Entry) -> bool
         | Entry::Text(_)
         | Entry::Handle(_, _)
         | Entry::MethodType(_) => is_ldc(op),
-        Entry::Long(_) | Entry::Double(_) => op == 20,
+        Entry::Long(_) | Entry::Double(_) => op == LDC2_W,
         Entry::Class(_) => !is_ldc(op) && is_class_use(op),
         Entry::Field(_, _) => is_field_access(op),
         Entry::Method(_, _) => takes_method(op),
@@ -96,7 +100,7 @@ fn named_by(pool: &Pool, major: u16, op: u8, index: u16, entry: &Entry) -> Optio
         | Entry::Text(_)
         | Entry::Handle(_, _)
         | Entry::MethodType(_) => is_ldc(op).then_some(Named::Constant(index)),
-        Entry::Long(_) | Entry::Double(_) => (op == 20).then_some(Named::Constant(index)),
+        Entry::Long(_) | Entry::Double(_) => (op == LDC2_W).then_some(Named::Constant(index)),
         Entry::Class(_) if is_ldc(op) => Some(Named::Constant(index)),
         Entry::Class(_) => is_class_use(op).then_some(Named::Class(index)),
         Entry::Field(class, member) => {

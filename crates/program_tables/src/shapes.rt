@@ -12,6 +12,7 @@ use crate::texts::TextTypes;
 use class_lookup::parts::{has_flags, text_at};
 use class_lookup::{ClassFile, Place};
 use class_pool::Member;
+use class_rules::flags::ACC_STATIC;
 use descriptors::names::is_instance_initializer;
 use items::Items;
 use jop_base::NoMemory;
@@ -33,7 +34,7 @@ fn shape_of(
     let parameters = Vec::from_slice(alloc, texts.parameters(descriptor))?;
     Ok(MethodShape {
         owner,
-        has_this: !has_flags(method.flags, 0x0008),
+        has_this: !has_flags(method.flags, ACC_STATIC),
         is_init: is_instance_initializer(text_at(&class.pool, method.name)),
         parameters: Items::new(parameters),
         result: texts.result(descriptor),

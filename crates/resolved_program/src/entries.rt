@@ -13,6 +13,7 @@ use class_hierarchy::Hierarchy;
 use class_lookup::parts::has_flags;
 use class_lookup::{ClassFile, Place};
 use class_pool::{Entry, Member};
+use class_rules::flags::ACC_PROTECTED;
 use items::Items;
 use jop_base::NoMemory;
 use program_tables::{
@@ -111,7 +112,7 @@ fn is_guarded(classes: &Hierarchy, current: u32, place: Place, member: &Member) 
     ensures { result ≡ is_guarded_member classes.now current (Some place) (Some member.now) }
 {
     let listed = classes.classes();
-    has_flags(member.flags, 0x0004)
+    has_flags(member.flags, ACC_PROTECTED)
         && classes.is_subclass(current, place.class)
         && !listed.are_in_one_package(current, place.class)
 }

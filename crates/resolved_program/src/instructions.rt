@@ -16,6 +16,7 @@ ghost use Rattle.program_tables.specs.Taken.{takes_entry};
 
 use crate::program::Program;
 use jop_opcodes::laws::instructions_end_within;
+use jop_opcodes::mnemonics::INVOKESPECIAL;
 use jop_opcodes::{Instr, decode};
 use program_tables::laws::methods_stand_by_number;
 use program_tables::{Handler, Instruction, ObjectKind, Operand, entry_of, kind_in, takes_entry};
@@ -41,7 +42,7 @@ impl Program {
         let meaning = self.meaning(class, instr.first.unsigned_abs());
         if !self.takes(class, instr) {
             Operand::Nothing
-        } else if instr.op == 183 {
+        } else if instr.op == INVOKESPECIAL {
             meaning.special
         } else {
             meaning.usual

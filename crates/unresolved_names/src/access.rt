@@ -11,6 +11,9 @@ use class_hierarchy::Hierarchy;
 use class_lookup::Classes;
 use class_lookup::parts::{has_flags, name_of};
 use class_pool::Member;
+use class_rules::flags::{
+    ACC_ABSTRACT, ACC_FINAL, ACC_PRIVATE, ACC_PROTECTED, ACC_PUBLIC, ACC_STATIC,
+};
 use descriptors::names::{is_class_initializer, is_instance_initializer};
 use items::is_text;
 
@@ -28,7 +31,7 @@ pub(crate) fn is_accessible_class(classes: &Classes, class: u32, other: u32) -> 
     let count = classes.class_count();
     class < count
         && other < count
-        && (has_flags(classes.class(other).flags, 0x0001)
+        && (has_flags(classes.class(other).flags, ACC_PUBLIC)
             || classes.are_in_one_package(class, other))
 }
 
@@ -36,7 +39,7 @@ pub(crate) fn is_accessible_class(classes: &Classes, class: u32, other: u32) -> 
 pub(crate) fn is_concrete(classes: &Classes, class: u32) -> bool
     ensures { result ≡ is_concrete classes.now class }
 {
-    class < classes.class_count() && !has_flags(classes.class(class).flags, 0x0400)
+    class < classes.class_count() && !has_flags(classes.class(class).flags, ACC_ABSTRACT)
 }
 
 /// Whether the class is the caller, a subclass of it or a superclass of it.
@@ -61,14 +64,14 @@ pub(crate) fn is_accessible_member(
     requires named { named < length classes.now }
     ensures { result ≡ accessible_member classes.now caller named owner member.now }
 {
-    if has_flags(member.flags, 0x0001) {
+    if has_flags(member.flags, ACC_PUBLIC) {
         true
-    } else if has_flags(member.flags, 0x0002) {
+    } else if has_flags(member.flags, ACC_PRIVATE) {
         caller == owner
-    } else if has_flags(member.flags, 0x0004) {
+    } else if has_flags(member.flags, ACC_PROTECTED) {
         classes.classes().are_in_one_package(caller, owner)
             || (classes.is_subclass(caller, owner)
-                && (has_flags(member.flags, 0x0008) || is_related(classes, caller, named)))
+                && (has_flags(member.flags, ACC_STATIC) || is_related(classes, caller, named)))
     } else {
         classes.classes().are_in_one_package(caller, owner)
     }
@@ -85,9 +88,9 @@ pub(crate) fn is_as_needed(needs_static: bool, is_static: bool) -> bool
 pub(crate) fn is_writable_field(caller: u32, owner: u32, method: &[u16], field: &Member) -> bool
     ensures { (s : Signature) → s.name ≡ method.now → result ≡ is_writable_field caller owner s field.now }
 {
-    !has_flags(field.flags, 0x0010)
+    !has_flags(field.flags, ACC_FINAL)
         || (caller == owner
-            && (if has_flags(field.flags, 0x0008) {
+            && (if has_flags(field.flags, ACC_STATIC) {
                 is_class_initializer(method)
             } else {
                 is_instance_initializer(method)

@@ -13,18 +13,20 @@ use crate::parts::{Through, class_named, field_at, field_found};
 use class_hierarchy::{Hierarchy, Place};
 use class_lookup::parts::{has_flags, text_at};
 use class_pool::{ClassFile, Member};
+use class_rules::flags::ACC_STATIC;
+use jop_opcodes::mnemonics::{GETSTATIC, PUTFIELD, PUTSTATIC};
 use program_tables::{TextTypes, Why};
 
 fn needs_static_field(op: u8) -> bool
     ensures { result ≡ needs_static_field op }
 {
-    op == 178 || op == 179
+    op == GETSTATIC || op == PUTSTATIC
 }
 
 fn writes_field(op: u8) -> bool
     ensures { result ≡ writes_field op }
 {
-    op == 179 || op == 181
+    op == PUTSTATIC || op == PUTFIELD
 }
 
 /// Whether an instruction of the caller's method may use a field, which is named through a class.
@@ -92,7 +94,7 @@ fn why_field_found(
         classes, caller, class, method, op, index, through, place, field,
     ) {
         Some(Why::NotAccessible)
-    } else if !is_as_needed(needs_static_field(op), has_flags(field.flags, 0x0008)) {
+    } else if !is_as_needed(needs_static_field(op), has_flags(field.flags, ACC_STATIC)) {
         Some(Why::WrongKind)
     } else {
         None

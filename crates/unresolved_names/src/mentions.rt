@@ -24,6 +24,7 @@ use class_lookup::Classes;
 use class_pool::{ClassFile, Code, Member};
 use jop_base::NoMemory;
 use jop_opcodes::laws::starts_follow_one_another;
+use jop_opcodes::mnemonics::NEW;
 use jop_opcodes::{Instr, decode, starts};
 use program_tables::{Named, TextTypes, Why, named_in};
 use std::alloc::Global;
@@ -56,7 +57,7 @@ fn why_class_use(
     if let Some(why) = why_class(texts, caller, class, index) {
         return Some(why);
     }
-    if op == 187 && !may_be_made(texts.classes(), caller, class, index) {
+    if op == NEW && !may_be_made(texts.classes(), caller, class, index) {
         return Some(Why::WrongKind);
     }
     None

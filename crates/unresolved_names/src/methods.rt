@@ -15,7 +15,9 @@ use class_hierarchy::{Hierarchy, Place};
 use class_lookup::Classes;
 use class_lookup::parts::{has_flags, text_at};
 use class_pool::{ClassFile, Member};
+use class_rules::flags::{ACC_ABSTRACT, ACC_PRIVATE, ACC_STATIC};
 use descriptors::names::{is_class_initializer, is_instance_initializer};
+use jop_opcodes::mnemonics::{INVOKEINTERFACE, INVOKESPECIAL, INVOKESTATIC, INVOKEVIRTUAL};
 use program_tables::{TextTypes, Why};
 
 /// Whether there is such a method, and it isn't abstract.
@@ -23,7 +25,7 @@ fn is_not_abstract(classes: &Classes, place: Place) -> bool
     ensures { result ≡ is_method_with (λ k. not (is_abstract k)) classes.now place }
 {
     match method_at(classes, place) {
-        Some(method) => !has_flags(method.flags, 0x0400),
+        Some(method) => !has_flags(method.flags, ACC_ABSTRACT),
         None => false,
     }
 }
@@ -77,7 +79,7 @@ fn is_named_rightly(
     if of_interface {
         through_interface
     } else {
-        (is_free(classes, caller) && op == 184) || !through_interface
+        (is_free(classes, caller) && op == INVOKESTATIC) || !through_interface
     }
 }
 
@@ -110,14 +112,14 @@ fn is_special(
 fn calls_no_private(op: u8) -> bool
     ensures { result ≡ calls_no_private op }
 {
-    op == 182 || op == 185
+    op == INVOKEVIRTUAL || op == INVOKEINTERFACE
 }
 
 /// Whether the method isn't private, where the instruction may name no private one.
 fn is_open_to_calls(op: u8, method: &Member) -> bool
     ensures { result ≡ (not (calls_no_private op) || not (is_private method.now)) }
 {
-    !calls_no_private(op) || !has_flags(method.flags, 0x0002)
+    !calls_no_private(op) || !has_flags(method.flags, ACC_PRIVATE)
 }
 
 /// Whether the method is one for invokespecial, where this is the instruction.
@@ -134,14 +136,14 @@ fn is_special_where_needed(
     requires named { class_named classes.now class.now index ≡ Some number }
     ensures { result ≡ (not (op == 183) || rightly_special classes.now caller class.now index place) }
 {
-    op != 183 || is_special(classes, caller, class, index, number, place)
+    op != INVOKESPECIAL || is_special(classes, caller, class, index, number, place)
 }
 
 /// Whether an instruction may name a method of this name.
 fn is_callable_name(classes: &Classes, caller: u32, op: u8, name: &[u16]) -> bool
     ensures { (s : Signature) → s.name ≡ name.now → result ≡ is_callable_name classes.now caller op s }
 {
-    (!is_instance_initializer(name) || op == 183)
+    (!is_instance_initializer(name) || op == INVOKESPECIAL)
         && (!is_class_initializer(name) || is_free(classes, caller))
 }
 
@@ -175,7 +177,7 @@ fn is_right_method(
     ) {
         return false;
     }
-    if !is_as_needed(op == 184, has_flags(method.flags, 0x0008)) {
+    if !is_as_needed(op == INVOKESTATIC, has_flags(method.flags, ACC_STATIC)) {
         return false;
     }
     if !is_open_to_calls(op, method) {
