@@ -1,6 +1,7 @@
 -- Steps of bare images.
 use Rattle.std.proofs.Common.{◌≡◌, ℕ, zero, suc, Bool, true, false, ℤ, List, [], ◌∷◌, length, Option, Some, None, refl, sym, ◌∙◌, ap, subst, ◌⊎◌, inl, inr, ⊎_elim}
 use Rattle.std.specs.Prelude.{slice_get}
+use Rattle.lists.specs.Lemmas.{onto_some}
 use Rattle.bare_image.specs.Bare.{Image}
 use Rattle.jop_opcodes.specs.Bytes.{u1}
 use Rattle.jop_opcodes.specs.Start.{IsStart}
@@ -25,7 +26,7 @@ use Rattle.machine_frames.specs.Shows.{top_frame}
 use Rattle.boundary.specs.BareLaws.{opcode_of, BareImagesStep}
 use Rattle.boundary.specs.Laws.{BareImagesArePrograms}
 use Rattle.boundary.specs.Setting.{limits, bare_setting}
-use Rattle.boundary.proofs.Obeys.{Plain, Obeys, IsCaught, sort_of, applied_obeys, onto_some}
+use Rattle.boundary.proofs.Obeys.{Plain, Obeys, IsCaught, sort_of, applied_obeys}
 use Rattle.boundary.proofs.BareRows.{IsSilent}
 use Rattle.boundary.proofs.BareWalk.{bare_at}
 use Rattle.boundary.proofs.Stages.{some_at, none_raised}

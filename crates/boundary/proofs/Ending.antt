@@ -3,6 +3,7 @@ use Rattle.std.proofs.Common.{◌≡◌, ℕ, zero, suc, ◌+◌, ◌-◌, ◌^�
 use Rattle.std.specs.Prelude.{IfSome, IsSomeAnd, nat_le, nat_lt, if◌then◌else◌, slice_get}
 use Rattle.std.specs.List.{flat_map}
 use Rattle.std.proofs.Math.Nat.{mul-le-mul}
+use Rattle.lists.specs.Lemmas.{onto_some}
 use Rattle.word32.specs.Packed.{words_for, words_of_bytes, PackedHasWords}
 use Rattle.method_cache.specs.Contents.{is_cached}
 use Rattle.micro_flow.specs.Walk.{IsCost}
@@ -36,7 +37,6 @@ use Rattle.machine_stands.specs.Comes.{params, IsFrameCost, IsTopCost, IsStepCos
 use Rattle.boundary.specs.Setting.{Setting, limits, IsSetting, Stands}
 use Rattle.boundary.specs.Session.{HasWaits}
 use Rattle.boundary.specs.StageLaws.{StagesAdvance, StagesEndSoon}
-use Rattle.boundary.proofs.Obeys.{onto_some}
 use Rattle.boundary.proofs.Stages.{some_in, code_of, linked_at, first_given, taken_of}
 
 -- ---- the cases of a switch are few

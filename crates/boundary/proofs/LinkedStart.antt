@@ -2,6 +2,7 @@
 use Rattle.std.proofs.Common.{◌≡◌, ℕ, ◌+◌, ◌-◌, ◌*◌, ◌/◌, ◌%◌, ◌^◌, ◌<◌, ◌≤◌, Bool, true, false, if◌then◌else◌, List, [], ◌∷◌, ◌++◌, Option, Some, None, map, length, refl, sym, ◌∙◌, ap, subst, arith, add-zero, append-nil, length-append}
 use Rattle.std.specs.Prelude.{slice_get, slice_index, slice_range, IsTrue}
 use Rattle.std.specs.List.{flat_map}
+use Rattle.lists.specs.Lemmas.{onto_some}
 use Rattle.word32.specs.Packed.{words_for, words_of_bytes, PackedHasBytes, PackedHasWords}
 use Rattle.method_cache.specs.Contents.{empty, can_load}
 use Rattle.jop_core.specs.Operations.{code_place, code_words}
@@ -27,7 +28,6 @@ use Rattle.image_facts.specs.Says.{IsCode, SaysAll, SaysLinked, argument_words, 
 use Rattle.machine_stands.specs.StandsFor.{StandsFor}
 use Rattle.boundary.specs.Linked.{LinkedRunsBegin}
 use Rattle.boundary.specs.Setting.{limits}
-use Rattle.boundary.proofs.Obeys.{onto_some}
 use Rattle.boundary.proofs.Resetting.{start_of, first_of, begun, HasPlace, reset_stands, zeros_there}
 use Rattle.boundary.proofs.Stages.{some_is, if_at}
 

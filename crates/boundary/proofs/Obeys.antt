@@ -1,6 +1,7 @@
 -- What a step takes of the input and puts out.
 use Rattle.std.proofs.Common.{◌≡◌, ℕ, Bool, true, false, List, [], ◌∷◌, ◌++◌, length, Option, Some, None, refl, sym, ◌∙◌, ap, subst}
 use Rattle.std.specs.Prelude.{if◌then◌else◌, nat_le, slice_get}
+use Rattle.lists.specs.Lemmas.{onto_some}
 use Rattle.bytecode_model.specs.declared.Value.{Value}
 use Rattle.bytecode_model.specs.declared.Value.TheVariants.{Ref}
 use Rattle.bytecode_model.specs.declared.Ending.{Ending}
@@ -41,10 +42,6 @@ Obeyed e answer s t = Obeys (sort_of e) answer s t × IsCaught t.mode
 
 some_state : (u t : State) → ◌≡◌ {A = Option State} (Some u) (Some t) → u ≡ t
 some_state u t h = cc
-
-pub onto_some : {A B : Type 0} (o : Option A) (g : A → Option B) (y : B) → onto o g ≡ Some y → (x : A) × (o ≡ Some x) × (g x ≡ Some y)
-onto_some None g y h = absurd (cc)
-onto_some (Some x) g y h = (x, refl, h)
 
 plainly : (answer : Option ℕ) (s u t : State) → u.answers ≡ s.answers → u.output ≡ s.output → IsCaught u.mode → ◌≡◌ {A = Option State} (Some u) (Some t) → Obeys Plain answer s t × IsCaught t.mode
 plainly answer s u t answers output caught h =

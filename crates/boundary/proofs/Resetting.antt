@@ -8,6 +8,7 @@ use Rattle.std.proofs.lemmas.List.Sums.{sum_by-cons}
 use Rattle.std.proofs.Math.Nat.{mod-eq_of_lt, mod-lt}
 use Rattle.std.proofs.lemmas.List.{get_or_append_left, take-replicate, length-replicate}
 use Rattle.std.proofs.Math.Seq.{drop-append_seam, take-append_seam}
+use Rattle.lists.specs.Lemmas.{onto_some}
 use Rattle.stack_cache.specs.Size.{IsSize}
 use Rattle.microcode_rom.specs.declared.TheConstants.{CONSTANTS as NUMBERS}
 use Rattle.jop_core.specs.declared.places.TheConstants.{CONSTANTS, STACK}
@@ -29,7 +30,6 @@ use Rattle.image_facts.specs.Places.{Places, image_of, image_words, object_place
 use Rattle.image_facts.specs.Says.{IsCode}
 use Rattle.machine_stands.specs.Frames.{AreLocals}
 use Rattle.machine_stands.specs.StandsFor.{StandsFor, IsCopy, stack_words}
-use Rattle.boundary.proofs.Obeys.{onto_some}
 use Rattle.boundary.proofs.Stages.{some_in}
 
 -- ---- the local variables of boot

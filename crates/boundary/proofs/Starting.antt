@@ -1,6 +1,7 @@
 -- A run that begins.
 use Rattle.std.proofs.Common.{◌≡◌, ℕ, List, Option, Some, map, refl, sym, ap, subst}
 use Rattle.std.specs.Prelude.{slice_get}
+use Rattle.lists.specs.Lemmas.{onto_some}
 use Rattle.stack_cache.specs.Size.{IsSize}
 use Rattle.memory_timing.specs.declared.Config.{Config}
 use Rattle.bare_image.specs.Bare.{Image, IsImage}
@@ -21,7 +22,6 @@ use Rattle.boundary.specs.Laws.{BareImagesArePrograms}
 use Rattle.boundary.specs.Linked.{IsHeldImage, BeginsEach, LinkedRunsBegin}
 use Rattle.boundary.specs.Setting.{Setting, IsSetting, bare_setting}
 use Rattle.boundary.specs.Session.{HasWaits, IsInStep, Begins}
-use Rattle.boundary.proofs.Obeys.{onto_some}
 
 pub boot_runs : (P : Program) (s : State) → boot_state P ≡ Some s → s.mode ≡ Running
 boot_runs P s h =

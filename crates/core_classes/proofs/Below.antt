@@ -6,6 +6,7 @@ use Rattle.std.specs.List.{list_all, list_any, filter, filter_map, cons_option, 
 use Rattle.std.proofs.Math.Dec.{eqb-suc-zero}
 use Rattle.std.proofs.lemmas.Bool.{eqb-true}
 use Rattle.std.proofs.lemmas.Option.{slice_get_within}
+use Rattle.lists.specs.Tests.{and_left, and_right}
 use Rattle.lists.specs.Lists.{onto}
 use Rattle.bytecode_model.specs.Program.{object_class}
 use Rattle.program_tables.specs.declared.refusal.Why.TheVariants.{NotImplemented}
@@ -20,7 +21,7 @@ use Rattle.program_tables.specs.Placed.{duplicate_of, lacks_superclass, has_bad_
 use Rattle.program_tables.specs.Unresolved.{unless, why, why_class, FieldDescriptor, mentions_in_method, abstract_methods_in, is_implemented, implements_all}
 use Rattle.program_tables.specs.Unsupported.{unsupported_in}
 use Rattle.core_classes.specs.Linkage.{CoreIsLinkable, CoreIsSupported}
-use Rattle.core_classes.proofs.Lists.{and_left, and_right, or_right, no_left, no_right, not_not, true_at, numbered_at, there, in_front, not_found, all_front, all_along, below_all, none_passes, nothing_of_all, not_among, reached_below}
+use Rattle.core_classes.proofs.Lists.{or_right, no_left, no_right, not_not, true_at, numbered_at, there, in_front, not_found, all_front, all_along, below_all, none_passes, nothing_of_all, not_among, reached_below}
 use Rattle.core_classes.proofs.Tests.{none_of, all_none, has_good_supertypes, has_good_members, stands_badly}
 use Rattle.core_classes.proofs.Core.{names_are_free, stand_well, members_are_good, supertypes_stand_before, core_long, nameless_core, object_bears_no_name, object_has_no_interface, object_is_no_interface, members_are_plain, all_are_supported}
 

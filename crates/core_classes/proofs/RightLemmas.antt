@@ -3,6 +3,7 @@ use Rattle.std.proofs.Common.{◌≡◌, ℕ, ◌<◌, ◌≤◌, nat_lt, ◌&&�
 use Rattle.std.specs.Prelude.{codes, bit_and}
 use Rattle.std.specs.List.{list_all}
 use Rattle.std.proofs.lemmas.Bool.{ltb-true}
+use Rattle.lists.specs.Tests.{and_left, and_right}
 use Rattle.class_pool.specs.Utf8.{utf8_bytes, AreUnits}
 use Rattle.class_pool.specs.Structure.{IsHalf}
 use Rattle.descriptors.specs.declared.descriptor.Element.TheVariants as elements
@@ -21,14 +22,6 @@ use Rattle.class_making.specs.Right.{IsPoolText, IsRightMention, IsRightCode, Is
 
 abbrev pub fits_pool : List ℕ → Bool
 fits_pool units = list_all (λ unit. nat_lt unit 65536) units && nat_lt (length (utf8_bytes units)) 65536
-
-and_left : (a b : Bool) → (a && b) ≡ true → a ≡ true
-and_left true b h = refl
-and_left false b h = h
-
-and_right : (a b : Bool) → (a && b) ≡ true → b ≡ true
-and_right true b h = h
-and_right false b h = absurd (let f : false ≡ true = h in cc)
 
 units_fit : (units : List ℕ) → list_all (λ unit. nat_lt unit 65536) units ≡ true → AreUnits units
 units_fit [] h = tt

@@ -2,6 +2,7 @@
 use Rattle.std.proofs.Common.{◌≡◌, ℕ, Bool, true, false, not, ◌&&◌, ◌||◌, List, [], ◌∷◌, ◌++◌, map, Option, Some, None, refl}
 use Rattle.std.specs.Prelude.{IsTrue, is_none}
 use Rattle.std.specs.List.{list_all, flat_map, AllByRecursion}
+use Rattle.lists.specs.Tests.{and_left, and_right}
 use Rattle.class_pool.specs.declared.class.ClassFile.{ClassFile}
 use Rattle.program_tables.specs.Resolving.{IsLinkable}
 use Rattle.program_tables.specs.Placed.{duplicate_of, supertype_entries, is_badly_placed, lacks_superclass, has_bad_superclass, has_bad_superinterface, is_bad_interface}
@@ -26,14 +27,6 @@ is_linkable cs c k = is_none (duplicate_of cs c) && (has_good_supertypes cs c k 
 pub none_of : {A : Type 0} (o : Option A) → is_none o ≡ true → o ≡ None
 none_of None h = refl
 none_of (Some x) h = absurd (let f : false ≡ true = h in cc)
-
-and_left : (a b : Bool) → (a && b) ≡ true → a ≡ true
-and_left true b h = refl
-and_left false b h = h
-
-and_right : (a b : Bool) → (a && b) ≡ true → b ≡ true
-and_right true b h = h
-and_right false b h = absurd (let f : false ≡ true = h in cc)
 
 pub all_none : {X Y : Type 0} (f : X → Option Y) (xs : List X) → list_all (λ x. is_none (f x)) xs ≡ true → AllByRecursion (λ x. f x ≡ None) xs
 all_none f [] h = tt

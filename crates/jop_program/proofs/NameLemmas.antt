@@ -5,6 +5,7 @@ use Rattle.std.specs.Option.{option_map_or}
 use Rattle.std.specs.List.{list_any, AllByRecursion}
 use Rattle.std.specs.Cmp.Lexicographic as texts
 use Rattle.std.proofs.lemmas.Bool.{ltb-false, eq-eqb}
+use Rattle.lists.specs.Tests.{and_left, and_right}
 use Rattle.lists.specs.Lists.{onto, index_of}
 use Rattle.lists.specs.Lemmas.{index_found, index_there}
 use Rattle.class_pool.specs.declared.entry.Entry.{Entry}
@@ -62,14 +63,6 @@ none_is_nameless (k ∷ ks) all =
 pub same_self : (a : List ℕ) → same_text a a ≡ true
 same_self [] = refl
 same_self (x ∷ xs) = ap₂ (λ (p q : Bool). p && q) (eq-eqb x x refl) (same_self xs)
-
-and_left : (a b : Bool) → (a && b) ≡ true → a ≡ true
-and_left true b h = refl
-and_left false b h = h
-
-and_right : (a b : Bool) → (a && b) ≡ true → b ≡ true
-and_right true b h = h
-and_right false b h = absurd (let f : false ≡ true = h in cc)
 
 same_texts : (a b c : List ℕ) → same_text a c ≡ true → same_text b c ≡ true → a ≡ b
 same_texts a b c h i = texts.same_text a c (sym h) ∙ sym (texts.same_text b c (sym i))

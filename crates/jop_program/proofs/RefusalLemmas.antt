@@ -4,6 +4,7 @@ use Rattle.std.specs.Prelude.{IfSome, if◌then◌else◌, nat_le, find, is_some
 use Rattle.std.specs.List.{range_with_len, AllByRecursion}
 use Rattle.std.proofs.lemmas.Bool.{leb-true}
 use Rattle.std.specs.Prelude.{IfOk, Result, Ok, Err}
+use Rattle.lists.specs.Tests.{and_left}
 use Rattle.lists.specs.Lists.{first}
 use Rattle.class_pool.specs.declared.class.ClassFile.{ClassFile}
 use Rattle.class_rules.specs.Grammar.{IsClass}
@@ -36,10 +37,6 @@ in_files named ks rest =
 chosen_calls : (b : Bool) (ks : List ClassFile) → (b ≡ true → length (core ++ ks) ≤ 10000) → length (if b then initialized (core ++ ks) else []) ≤ 10000
 chosen_calls true ks h = let few = few_initialized (core ++ ks) in let le = h refl in omega (arith, few, le)
 chosen_calls false ks h = omega arith
-
-and_left : (a b : Bool) → (a && b) ≡ true → a ≡ true
-and_left true b h = refl
-and_left false b h = h
 
 pub few_calls : CoreIsNamed → (ks : List ClassFile) → length (calls_of ks) ≤ 10000
 few_calls named ks =

@@ -6,6 +6,7 @@ use Rattle.std.specs.List.{filter, filter_map, cons_option, flat_map, enumerate_
 use Rattle.std.proofs.lemmas.Bool.{false≢true}
 use Rattle.std.proofs.lemmas.List.Folds.{list_all-append}
 use Rattle.std.proofs.lemmas.Option.{slice_get_within}
+use Rattle.lists.specs.Tests.{and_left, and_right}
 use Rattle.class_pool.specs.declared.class.Member.{Member}
 use Rattle.class_pool.specs.declared.class.ClassFile.{ClassFile}
 use Rattle.lists.specs.Lemmas.{none≢some, some_same}
@@ -14,14 +15,6 @@ use Rattle.bytecode_model.specs.Program.{Method}
 use Rattle.class_lookup.specs.Lookup.{Place}
 use Rattle.program_tables.specs.Numbers.{places_of, is_coded, methods_by_number, fields_by_number}
 use Rattle.program_tables.specs.Resolved.{method_in, resolved_method, resolved_methods}
-
-and_left : (a b : Bool) → (a && b) ≡ true → a ≡ true
-and_left true b h = refl
-and_left false b h = h
-
-and_right : (a b : Bool) → (a && b) ≡ true → b ≡ true
-and_right true b h = h
-and_right false b h = absurd (false≢true h)
 
 -- ---- what holds of all items
 

@@ -25,14 +25,6 @@ use Rattle.unresolved_names.specs.Causes.{signature_at}
 use Rattle.unresolved_names.specs.Words.{accessible_member, nameable_entry, usable_field, found_field_reason, field_reason, usable_method, rightly_named, rightly_special, right_method, found_method_reason, method_reason, class_use_reason, named_reason}
 use Rattle.unresolved_names.proofs.NameLemmas.{all_of_both}
 
-pub not_true : (b : Bool) → not b ≡ true → b ≡ false
-not_true true h = absurd (let f : false ≡ true = h in cc)
-not_true false h = refl
-
-pub not_false : (b : Bool) → not b ≡ false → b ≡ true
-not_false true h = refl
-not_false false h = absurd (let f : true ≡ false = h in cc)
-
 -- ---- judged by two tests
 
 -- two reasons, the first that applies

@@ -1,7 +1,8 @@
 use Rattle.std.proofs.Common.{ap, sym}
+use Rattle.lists.specs.Tests.{not_false, not_true}
 use Rattle.class_lookup.specs.Lookup.{Place}
 use Rattle.class_lookup.specs.Parts.{signature_of}
-use Rattle.unresolved_names.proofs.ReasonLemmas.{not_true, not_false, field_free, field_unnamed, field_closed, field_read, field_written}
+use Rattle.unresolved_names.proofs.ReasonLemmas.{field_free, field_unnamed, field_closed, field_read, field_written}
 use Rattle.unresolved_names.proofs.fields.may_use_field.Goals as goal
 
 pub returns-then-is_free : goal.returns-then-is_free

@@ -1,6 +1,7 @@
 use Rattle.std.proofs.Common.{ap}
+use Rattle.lists.specs.Tests.{not_false, not_true}
 use Rattle.class_lookup.specs.Lookup.{Place}
-use Rattle.unresolved_names.proofs.ReasonLemmas.{not_true, not_false, method_free, method_unnamed, method_open}
+use Rattle.unresolved_names.proofs.ReasonLemmas.{method_free, method_unnamed, method_open}
 use Rattle.unresolved_names.proofs.methods.may_use_method.Goals as goal
 
 pub returns-then-is_free : goal.returns-then-is_free
