@@ -1,6 +1,7 @@
 -- What the machine does from an instruction or a raise on, by where it then stands.
 use Rattle.std.proofs.Common.{◌≡◌, ◌≢◌, ℕ, ◌+◌, ◌≤◌, List, [], ◌∷◌, ◌++◌, length, Option, Some, refl, sym, ◌∙◌, ap, subst, arith, append-nil, length-append, ◌⊎◌, inl, inr}
 use Rattle.std.proofs.lemmas.List.{append_cancel_left}
+use Rattle.micro_sketch.proofs.Breaking.{empty}
 use Rattle.micro_flow.specs.Closed.{RaiseApart}
 use Rattle.microcode_rom.specs.declared.TheConstants.{RAISE}
 use Rattle.jop_core.specs.declared.halt.Halt.TheVariants as halts
@@ -34,10 +35,6 @@ are_given old new [] h = tt
 are_given old new (answer ∷ answers) h = (h.1.0, are_given h.0 new answers h.2)
 
 -- ---- lists
-
-empty : {A : Type 0} (xs : List A) → length xs ≤ 0 → xs ≡ []
-empty [] h = refl
-empty (x ∷ xs) h = absurd (omega (arith, h))
 
 some_byte : (xs : List ℕ) → xs ≢ [] → 1 ≤ length xs
 some_byte [] h = absurd (h refl)

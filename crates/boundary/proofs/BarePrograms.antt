@@ -1,6 +1,7 @@
 -- Bare images are programs, and the machine at reset stands for their first state.
 use Rattle.std.proofs.Common.{◌≡◌, ℕ, ◌≤◌, Option, Some, None, refl, arith, inr, ⊎_elim}
 use Rattle.std.specs.Prelude.{IsSomeAnd}
+use Rattle.machine_stands.proofs.Beginning.{least}
 use Rattle.stack_cache.specs.Size.{IsSize}
 use Rattle.jop_core.specs.Reset.{bare_reset}
 use Rattle.bytecode_model.specs.State.{State}
@@ -22,9 +23,6 @@ pub are_programs : BareImagesSay → BareProgramsAreTyped → BareImagesAreProgr
 are_programs say typed image n size grammar =
     let (lawful, types) = typed (bare.body_of image) (bare_body image grammar.bytes grammar) in
     record { says = say image grammar; lawful = lawful; typed = types; origin = inr (image, grammar, refl) }
-
-least : (n : ℕ) → IsSize n → 256 ≤ n
-least n h = ⊎_elim (λ is. omega (arith, is)) (λ larger. ⊎_elim (λ is. omega (arith, is)) (λ is. omega (arith, is)) larger) h
 
 pub runs_begin : BareImagesArePrograms → BareImagesBegin → TheBootStateFits → BareRunsBegin
 runs_begin programs begin fits n image config size grammar can =

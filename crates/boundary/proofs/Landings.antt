@@ -1,6 +1,7 @@
 -- Runs of a machine to its next boundary, compared.
 use Rattle.std.proofs.Common.{◌≡◌, ℕ, zero, suc, ◌+◌, ◌-◌, ◌<◌, ◌≤◌, Bool, true, false, List, [], ◌∷◌, ◌++◌, length, Option, None, refl, sym, ◌∙◌, ap, subst, arith, append-nil, append_assoc, length-append, add-zero, ◌⊎◌, inl, inr, ⊎_elim}
 use Rattle.std.proofs.lemmas.List.{append_cancel_right}
+use Rattle.micro_sketch.proofs.Stepping.{below_or_from}
 use Rattle.jop_core.specs.State as machine
 use Rattle.jop_core.specs.Cycle.{at_boundary, asks_input, output_of}
 use Rattle.jop_core.specs.Scene.{Scene, begun, run, next_scene, left_over, first_of, output_during}
@@ -26,11 +27,6 @@ comes_lands P pl n size m s s' c = record { positive = c.positive; ran = c.ran; 
 
 pub arrived_lands : (old new : machine.State) (t0 t1 : Told) (a : Arrived old new t0 t1) → Lands old a.answers a.cycles new
 arrived_lands old new t0 t1 a = record { positive = a.positive; ran = a.ran.state; left = a.ran.left; boundary = a.boundary; quiet = a.quiet }
-
-below_or_from : (k n : ℕ) → (k < n) ⊎ (n ≤ k)
-below_or_from k zero = inr (omega arith)
-below_or_from zero (suc n) = inl (omega arith)
-below_or_from (suc k) (suc n) = ⊎_elim (λ below. inl (omega (arith, below))) (λ from. inr (omega (arith, from))) (below_or_from k n)
 
 -- answers of the two that begin alike, as far as both take any
 pub record Meet (xs ys : List (Option ℕ)) : Type 0 where

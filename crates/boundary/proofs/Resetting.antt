@@ -8,6 +8,7 @@ use Rattle.std.proofs.lemmas.List.Sums.{sum_by-cons}
 use Rattle.std.proofs.Math.Nat.{mod-eq_of_lt, mod-lt}
 use Rattle.std.proofs.lemmas.List.{get_or_append_left, take-replicate, length-replicate}
 use Rattle.std.proofs.Math.Seq.{drop-append_seam, take-append_seam}
+use Rattle.machine_stands.proofs.Beginning.{cache_is, cached_one, contents_are, least}
 use Rattle.lists.specs.Lemmas.{onto_some}
 use Rattle.stack_cache.specs.Size.{IsSize}
 use Rattle.microcode_rom.specs.declared.TheConstants.{CONSTANTS as NUMBERS}
@@ -62,9 +63,6 @@ zeros_there place (Reference k ∷ ds) (suc n) ls h =
 
 -- ---- the on-chip words
 
-pub least : (n : ℕ) → IsSize n → 256 ≤ n
-least n h = ⊎_elim (λ is. omega (arith, is)) (λ larger. ⊎_elim (λ is. omega (arith, is)) (λ is. omega (arith, is)) larger) h
-
 -- those below the stack
 module _ (n memory words pool boot frame raise_list : ℕ) where
   abbrev front : List ℕ
@@ -87,29 +85,6 @@ module _ (n memory words pool boot frame raise_list : ℕ) where
 
   chip_word : (k : ℕ) → k < 64 → slice_index all k ≡ slice_index front k
   chip_word k h = get_or_append_left front (replicate (n - 64) 0) 0 k h
-
--- ---- the cache
-
--- the contents of a cache with one method that fits
-contents_are : (m : ℕ) (ws : List ℕ) (M W : ℕ) → nat_le (blocks_for W (length ws)) M ≡ true → (loaded m ws (empty M W)).contents ≡ record { method = m; words = ws } ∷ []
-contents_are m ws M W h = ap (λ (b : Bool). let e : Entry = record { method = m; words = ws } in if b then e ∷ [] else []) h
-
-cached_one : (m : ℕ) (ws : List ℕ) (es : List Entry) → es ≡ record { method = m; words = ws } ∷ [] → is_some (find_words m es) ≡ true
-cached_one m ws es h = ap (λ (xs : List Entry). is_some (find_words m xs)) h ∙ ap (λ (b : Bool). is_some (if b then Some ws else None)) (same m)
-  where
-    same : (k : ℕ) → k == k ≡ true
-    same k = grind (arith, nat_tests)
-
-cache_is : (m : ℕ) (ws : List ℕ) (M W : ℕ) → 0 < M → 0 < length ws → nat_le (blocks_for W (length ws)) M ≡ true → IsCache (loaded m ws (empty M W))
-cache_is m ws M W some words h =
-    let e : Entry = record { method = m; words = ws } in
-    let is = contents_are m ws M W h in
-    record {
-      fits = subst (λ (es : List Entry). total_blocks W es ≤ M) (sym is) (grind (arith, nat_tests, h));
-      apart = subst AreApart (sym is) (refl, tt);
-      have_words = subst HaveWords (sym is) (words, tt);
-      next = mod-lt (0 + blocks_for W (length ws)) some;
-    }
 
 -- ---- all of it
 

@@ -26,7 +26,7 @@ use Rattle.bytecode_typing.proofs.Parts.{numbers_length}
 
 -- ---- values, fields and elements
 
-default_long : (d : Declared) → is_long (default d) ≡ is_long_type (type_of d)
+pub default_long : (d : Declared) → is_long (default d) ≡ is_long_type (type_of d)
 default_long (Numeric IntType) = refl
 default_long (Numeric LongType) = refl
 default_long (Reference k) = refl

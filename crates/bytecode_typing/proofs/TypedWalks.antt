@@ -34,7 +34,7 @@ use Rattle.bytecode_typing.proofs.Walking.{typing_walks}
 
 -- ---- what passes
 
-unless_passed : (t : Bool) (r : Rule) (v : Verdict) (f : TypeFrame) (a : Option TypeFrame) → unless_broken t r v ≡ Passes f a → Holds t × (v ≡ Passes f a)
+pub unless_passed : (t : Bool) (r : Rule) (v : Verdict) (f : TypeFrame) (a : Option TypeFrame) → unless_broken t r v ≡ Passes f a → Holds t × (v ≡ Passes f a)
 unless_passed true r v f a e = (tt, e)
 unless_passed false r v f a e = absurd (cc)
 
@@ -131,7 +131,7 @@ module _ (P : Program) (n : ℕ) (m : Method) (b : Body) (maps : ℕ → Option 
 
 -- ---- a row that leaves a frame behind it falls through
 
-numbers_checked : (K : Option TypeFrame → Type 0) (ns : List NumberType) (st : List VarType) (go : List VarType → Checked) → IsChecked (on_number_types ns st go) K → (rest : List VarType) × IsChecked (go rest) K
+pub numbers_checked : (K : Option TypeFrame → Type 0) (ns : List NumberType) (st : List VarType) (go : List VarType → Checked) → IsChecked (on_number_types ns st go) K → (rest : List VarType) × IsChecked (go rest) K
 numbers_checked K [] st go h = (st, h)
 numbers_checked K (u ∷ ns) [] go h = absurd h
 numbers_checked K (u ∷ ns) (t ∷ st) go h = numbers_checked K ns st go (need_checked K (is_number_type u t) rule.Stack (on_number_types ns st go) h).1

@@ -4,6 +4,7 @@ use Rattle.std.specs.Prelude.{if◌then◌else◌}
 use Rattle.std.specs.Option.{option_map}
 use Rattle.std.proofs.lemmas.List.{length-map, length-reverse, get_or-reverse}
 use Rattle.std.proofs.Math.ListN.{get_or-map, drop_of_length-le}
+use Rattle.program_tables.proofs.TextLemmas.{and_assoc}
 use Rattle.bytecode_model.specs.Types as model
 use Rattle.bytecode_typing.specs.Types.{VarType, type_of, is_initialized}
 use Rattle.bytecode_typing.specs.Assignable.{is_assignable_item}
@@ -17,10 +18,6 @@ use Rattle.bytecode_verifier.specs.Arguments.{all_taken, and_all, arguments_foun
 pub and_all_true : (o : Option (Bool × List VarType)) → option_map (and_all true) o ≡ o
 and_all_true None = refl
 and_all_true (Some x) = refl
-
-and_assoc : (a b c : Bool) → (a && (b && c)) ≡ ((a && b) && c)
-and_assoc true b c = refl
-and_assoc false b c = refl
 
 pub and_all_twice : (a b : Bool) (o : Option (Bool × List VarType)) → option_map (and_all a) (option_map (and_all b) o) ≡ option_map (and_all (a && b)) o
 and_all_twice a b None = refl

@@ -4,6 +4,9 @@ use Rattle.std.specs.Prelude.{unwrap_or, option_map, codes}
 use Rattle.std.specs.Option.{option_map_or}
 use Rattle.std.specs.List.{flat_map, position_or_len, AllByRecursion}
 use Rattle.std.proofs.lemmas.List.{length-append}
+use Rattle.core_classes.proofs.BootSupport.{first_pair}
+use Rattle.class_making.proofs.ListLemmas.{all_left}
+use Rattle.core_classes.proofs.BootLaws.{boot_room}
 use Rattle.class_pool.specs.declared.entry.Entry.{Entry}
 use Rattle.class_pool.specs.declared.class.Body.TheVariants as bodies
 use Rattle.class_pool.specs.declared.class.Member.{Member}
@@ -41,9 +44,6 @@ index_from_fits (Some place) = chosen (nat_lt place 65534) refl
     chosen true e = let lt : place < 65534 = ltb-true place 65534 e in omega arith
     chosen false e = lit< tt
 
-pub index_fits : (items : List Item) (x : Item) → index_of items x < 2 ^ 16
-index_fits items x = index_from_fits (cond (nat_lt (position_or_len (same_item x) items) (length items)) (Some (position_or_len (same_item x) items)) None)
-
 calls_count : (calls : List (List ℕ)) (rest : List Piece) → length (flat_map piece_mentions (flat_map call_pieces calls ++ rest)) ≡ length calls + length (flat_map piece_mentions rest)
 unfolding call_pieces
 calls_count [] rest = omega arith
@@ -54,14 +54,7 @@ unfolding boot_plan boot_method boot_pieces main_pieces
 mentions_room calls main few =
     omega (arith, length-append (flat_map piece_mentions (flat_map call_pieces calls ++ main_pieces main)) [], calls_count calls (main_pieces main), few)
 
-pub boot_room : (few : ItemsAreFew) (calls : List (List ℕ)) (main : List ℕ) → length calls ≤ 10000 → length (items_of (boot_plan calls main)) ≤ 65534
-boot_room few calls main count = omega (arith, few (boot_plan calls main), mentions_room calls main count)
-
 -- ---- what has entries
-
-all_left : {X : Type 0} (P : X → Type 0) (xs ys : List X) → AllByRecursion P (xs ++ ys) → AllByRecursion P xs
-all_left P [] ys h = tt
-all_left P (x ∷ xs) ys h = (h.0, all_left P xs ys h.1)
 
 -- all that the calls mention, the array's class, and what the call of main mentions
 pub record AreMentioned (P : Item → Type 0) (calls : List (List ℕ)) (main : List ℕ) : Type 0 where
@@ -145,9 +138,6 @@ pub record SaysBoot (items : List Item) (calls : List (List ℕ)) (main : List �
   pub method : text_at (pool_of items) (index_of items (Text (codes "boot"))) ≡ codes "boot"
   pub descriptor : text_at (pool_of items) (index_of items (Text no_arguments)) ≡ codes "()V"
   pub mentioned : AreMentioned (λ m. AllByRecursion (Stands (pool_of items) items) (expanded m)) calls main
-
-first_pair : {A : Type 0} (a b : A × A) (xs ys : List (A × A)) → (a ∷ xs) ≡ (b ∷ ys) → a ≡ b
-first_pair a b xs ys h = cc
 
 pub says_boot : ItemsAreFew → PlansHaveEntries → BootSaysPlan → (calls : List (List ℕ)) (main : List ℕ) → length calls ≤ 10000 → SaysBoot (items_of (boot_plan calls main)) calls main
 unfolding boot class_of boot_plan core.boot_method

@@ -78,15 +78,6 @@ method_there stand cs n p c m at class member =
 
 -- ---- what an instruction of a method names
 
-pub operand_is : (cs : List ClassFile) (n : ℕ) (p : Place) (c : ClassFile) (m : Member) (k : Code) (pc : ℕ) (i : Instr) → slice_get (methods_by_number cs) n ≡ Some p → slice_get cs p.0 ≡ Some c → slice_get c.methods p.1 ≡ Some m → code_of m ≡ Some k → decoded k.code pc ≡ Ok i
-    → (resolved cs).operand n pc ≡ operand_in cs p.0 c i
-operand_is cs n p c m k pc i at class member code decode =
-    ap (λ (o : Option Place). option_map_or (λ q. at_instruction cs q pc NoOperand (operand_in cs)) o NoOperand) at
-    ∙ (ap (λ (o : Option ClassFile). option_map_or (λ c2. option_map_or (λ x. operand_in cs p.0 c2 x.instr) (onto (onto (onto o (λ k2. slice_get k2.methods p.1)) code_of) (λ k3. placed_at k3.code pc)) NoOperand) o NoOperand) class
-    ∙ (ap (λ (o : Option Member). option_map_or (λ x. operand_in cs p.0 c x.instr) (onto (onto o code_of) (λ k3. placed_at k3.code pc)) NoOperand) member
-    ∙ (ap (λ (o : Option Code). option_map_or (λ x. operand_in cs p.0 c x.instr) (onto o (λ k3. placed_at k3.code pc)) NoOperand) code
-    ∙ ap (λ (r : Result Instr DecodeFault). option_map_or (λ (x : named.Placed). operand_in cs p.0 c x.instr) (option_map (λ j. record { pc = pc; instr = j }) (as_instr r)) NoOperand) decode)))
-
 method_operand_is : (cs : List ClassFile) (current : ℕ) (c : ClassFile) (x index : ℕ) (s : Signature) (t : List ℕ) (d k : ℕ) (p : Place) → named_in c (index_instr 184 x) ≡ Some (named.Method false index s) → class_text c.pool index ≡ t → find_class cs t ≡ Some d
     → find_method cs d s ≡ Some p → method_number cs p ≡ Some k → operand_in cs current c (index_instr 184 x) ≡ AMethod d k
 method_operand_is cs current c x index s t d k p names text class method number =

@@ -4,6 +4,7 @@ use Rattle.std.specs.Prelude.{nat_le, nat_lt, if◌then◌else◌, slice_index, 
 use Rattle.std.proofs.Math.Seq.{drop-cons}
 use Rattle.std.proofs.lemmas.List.{drop_all}
 use Rattle.std.proofs.lemmas.Option.{slice_get_cases}
+use Rattle.core_classes.proofs.BootWalk.{index_number}
 use Rattle.class_pool.specs.Spelling as spelling
 use Rattle.jop_opcodes.specs.declared.instruction.Instr.{Instr}
 use Rattle.jop_opcodes.specs.declared.instruction.DecodeFault.{DecodeFault}
@@ -80,9 +81,6 @@ bare_at code pc op rest form at =
       behind = here.behind;
       inside = omega (arith, counts, inside);
     }
-
-index_number : (x : ℕ) → x < 2 ^ 16 → slice_index (spelling.u2 x) 0 * 256 + slice_index (spelling.u2 x) 1 ≡ x
-index_number x lt = omega arith
 
 pub index_at : (code : List ℕ) (pc op x : ℕ) (rest : List ℕ) → x < 2 ^ 16 → (row_of op).form ≡ Fixed (one UnsignedShort) → drop pc code ≡ op ∷ (spelling.u2 x ++ rest) → StandsAt code pc (index_instr op x) rest
 index_at code pc op x rest small form at =

@@ -5,6 +5,9 @@ use Rattle.std.specs.Option.{option_map, option_map_or}
 use Rattle.std.specs.List.{flat_map, AllByRecursion}
 use Rattle.std.proofs.lemmas.Bool.{lt-ltb}
 use Rattle.std.proofs.lemmas.List.{length-append}
+use Rattle.core_classes.proofs.First.{at_end}
+use Rattle.program_laws.proofs.Rows.{operand_is}
+use Rattle.class_making.proofs.PoolLemmas.{index_fits}
 use Rattle.lists.specs.Lists.{onto}
 use Rattle.class_pool.specs.declared.class.Code.{Code}
 use Rattle.class_pool.specs.declared.class.Member.{Member}
@@ -40,8 +43,8 @@ use Rattle.bytecode_verifier.specs.Failure.{Opcode, method_failure}
 use Rattle.bytecode_verifier.specs.CoreLaws.{BootIsVerified}
 use Rattle.bytecode_verifier.proofs.CoreWalks.{passes}
 use Rattle.bytecode_verifier.proofs.BootSteps.{bare_instr, index_instr, bare_at, index_at, boot_body, boot_here, with_stack, strings, Passing, none_passes, step, call_passes, constant_passes, array_passes, main_passes, return_passes}
-use Rattle.bytecode_verifier.proofs.BootFile.{call_item, main_item, index_fits, Stands, class_said, boot_member, boot_file, boot_is, SaysBoot, says_boot, call_named, main_named, array_named}
-use Rattle.bytecode_verifier.proofs.BootRun.{calls_method, method_there, operand_is, boot_code, first_frame, no_frames, nothing_taken, nothing_given}
+use Rattle.bytecode_verifier.proofs.BootFile.{call_item, main_item, Stands, class_said, boot_member, boot_file, boot_is, SaysBoot, says_boot, call_named, main_named, array_named}
+use Rattle.bytecode_verifier.proofs.BootRun.{calls_method, method_there, boot_code, first_frame, no_frames, nothing_taken, nothing_given}
 
 -- ---- forms
 
@@ -84,10 +87,6 @@ unfolding empty_init object_plan interface_plan length_method char_at_method str
 string_is_class others = refl
 
 -- ---- the last class
-
-at_end : (xs : List ClassFile) (x : ClassFile) → slice_get (xs ++ x ∷ []) (length xs) ≡ Some x
-at_end [] x = refl
-at_end (y ∷ xs) x = at_end xs x
 
 abbrev bytes_of : List Item → (main : List ℕ) → List (List ℕ) → List ℕ
 bytes_of items main calls = flat_map (piece_bytes items) (flat_map call_pieces calls ++ main_pieces main)

@@ -5,6 +5,9 @@ use Rattle.std.specs.Option.{option_to_list, option_map_or}
 use Rattle.std.specs.List.{list_all, range_with_len, flat_map, filter, enumerate_from}
 use Rattle.std.proofs.lemmas.Bool.{cases_lt}
 use Rattle.std.proofs.lemmas.List.{length-append}
+use Rattle.core_classes.proofs.First.{fuel, two_above}
+use Rattle.core_classes.proofs.Below.{object_is_uppermost}
+use Rattle.core_classes.proofs.Tests.{none_of}
 use Rattle.lists.specs.Lists.{onto, index_of}
 use Rattle.lists.specs.Numbers.{reached}
 use Rattle.class_pool.specs.declared.class.ClassFile.{ClassFile}
@@ -29,7 +32,7 @@ use Rattle.program_tables.specs.Numbers.{methods_by_number, is_coded, instance_f
 use Rattle.program_tables.specs.Resolved.{resolved, declared_fields}
 use Rattle.bytecode_verifier.specs.Failure.{method_failure}
 use Rattle.bytecode_verifier.specs.CoreLaws.{CoreIsVerified}
-use Rattle.bytecode_verifier.proofs.CoreNumbers.{none_of, all_in_range, places_in, past_front, all_numbered_behind}
+use Rattle.bytecode_verifier.proofs.CoreNumbers.{all_in_range, places_in, past_front, all_numbered_behind}
 use Rattle.bytecode_verifier.proofs.CoreWalks.{passes, length_walks, char_at_walks, keeping_walks, get_message_walks, length_body, char_at_body, keeping_body, get_message_body, length_here, char_at_here, keeping_here, get_message_here}
 
 object_init : (others : List ClassFile) → method_failure (core ++ others) 0 ≡ None
@@ -58,17 +61,6 @@ behind false (Some k) later go f = absurd (let no : Some (suc k) ≡ None = f in
 not_found : {X : Type 0} (p : X → Bool) (xs ys : List X) → index_of p xs ≡ None → index_of p ys ≡ None → index_of p (xs ++ ys) ≡ None
 not_found p [] ys none nothing = nothing
 not_found p (x ∷ xs) ys none nothing = behind (p x) (index_of p xs) (index_of p (xs ++ ys)) (λ at. not_found p xs ys at nothing) none
-
-object_is_uppermost : (others : List ClassFile) → find_class others [] ≡ None → superclass (core ++ others) 0 ≡ None
-object_is_uppermost others none = object_bears_no_name others ∙ not_found (λ c. same_text (name_of c) []) core others nameless_core none
-
-fuel : (others : List ClassFile) → length (core ++ others) ≡ suc (suc (21 + length others))
-fuel others = let long = core_long in omega (arith, length-append core others)
-
-two_above : (cs : List ClassFile) (n c : ℕ) → superclass cs 0 ≡ None → superclass cs c ≡ Some 0 → reached (λ k. option_to_list (superclass cs k)) (suc (suc n)) c ≡ c ∷ 0 ∷ []
-two_above cs n c top up =
-    ap (λ (o : Option ℕ). c ∷ flat_map (reached (λ k. option_to_list (superclass cs k)) (suc n)) (option_to_list o)) up
-    ∙ ap (λ (o : Option ℕ). c ∷ ((0 ∷ flat_map (reached (λ k. option_to_list (superclass cs k)) n) (option_to_list o)) ++ [])) top
 
 below_object : (others : List ClassFile) (c : ℕ) → find_class others [] ≡ None → superclass (core ++ others) c ≡ Some 0 → superclasses (core ++ others) c ≡ c ∷ 0 ∷ []
 unfolding superclasses

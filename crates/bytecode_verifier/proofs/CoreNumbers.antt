@@ -7,10 +7,6 @@ use Rattle.lists.specs.Tests.{and_left, and_right}
 use Rattle.class_pool.specs.declared.class.ClassFile.{ClassFile}
 use Rattle.class_lookup.specs.Lookup.{Place}
 
-pub none_of : {A : Type 0} (o : Option A) → is_none o ≡ true → o ≡ None
-none_of None h = refl
-none_of (Some x) h = absurd (let f : false ≡ true = h in cc)
-
 pub all_in_range : (t : ℕ → Bool) (a len n : ℕ) → list_all t (range_with_len a len) ≡ true → a ≤ n → n < a + len → t n ≡ true
 all_in_range t a zero n all from below = absurd (omega arith)
 all_in_range t a (suc len) n all from below =

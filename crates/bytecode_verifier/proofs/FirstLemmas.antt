@@ -11,19 +11,3 @@ spread_case long unset v vs ws false h = ap (λ l. v ∷ l) h
 pub spread_append : {A : Type 0} (long : A → Bool) (unset : A) (vs ws : List A) → spread long unset (vs ++ ws) ≡ spread long unset vs ++ spread long unset ws
 spread_append long unset [] ws = refl
 spread_append long unset (v ∷ vs) ws = spread_case long unset v vs ws (long v) (spread_append long unset vs ws)
-
-pub padded_past : {A : Type 0} (unset : A) (n : ℕ) (xs : List A) → n < length xs → padded unset n xs ≡ None
-padded_past unset n [] lt = absurd (omega arith)
-padded_past unset zero (x ∷ xs) lt = refl
-padded_past unset (suc n) (x ∷ xs) lt = rw (padded_past unset n xs (omega arith)) refl
-
-pub padded_more : {A : Type 0} (unset : A) (n : ℕ) (xs : List A) → length xs < n → padded unset n (xs ++ unset ∷ []) ≡ padded unset n xs
-padded_more unset zero xs lt = absurd (omega arith)
-padded_more unset (suc n) [] lt = refl
-padded_more unset (suc n) (x ∷ xs) lt = rw (padded_more unset n xs (omega arith)) refl
-
-pub padded_full : {A : Type 0} (unset : A) (n : ℕ) (xs : List A) → n ≤ length xs → length xs ≤ n → padded unset n xs ≡ Some xs
-padded_full unset zero [] ge le = refl
-padded_full unset zero (x ∷ xs) ge le = absurd (omega arith)
-padded_full unset (suc n) [] ge le = absurd (omega arith)
-padded_full unset (suc n) (x ∷ xs) ge le = rw (padded_full unset n xs (omega arith) (omega arith)) refl

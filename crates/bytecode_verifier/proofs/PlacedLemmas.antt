@@ -34,7 +34,7 @@ use Rattle.bytecode_typing.specs.Typings.{IsTypingOf, IsTyping, HasMapFrames, Ha
 use Rattle.bytecode_typing.proofs.Relations.{both_left, both_right, is_true, from_true, there_at, onto_is}
 use Rattle.bytecode_typing.proofs.Hierarchy.{equal, equal_in}
 use Rattle.bytecode_typing.proofs.Pairs.{need_checked, found_checked}
-use Rattle.bytecode_typing.proofs.TypedWalks.{IsPassed, passed}
+use Rattle.bytecode_typing.proofs.TypedWalks.{IsPassed, passed, numbers_checked, unless_passed}
 use Rattle.well_placed.specs.WellPlaced.{goes_on, offsets_of, LeadsToInstruction, local_words, HasItsOperand, RiseFrom, KeysRise, declared_words, argument_words, HasItsForm, IsWellPlacedAt, IsWellPlacedHandler, IsWellPlacedCode, WellPlaced}
 
 -- ---- the form of an instruction
@@ -89,10 +89,6 @@ form_is P b pc i (rows.CallInterface named c) h = (
 )
 form_is P b pc i row h = tt
 
-unless_passed : (t : Bool) (r : Rule) (v : Verdict) (f : TypeFrame) (a : Option TypeFrame) → unless_broken t r v ≡ Passes f a → Holds t × (v ≡ Passes f a)
-unless_passed true r v f a e = (tt, e)
-unless_passed false r v f a e = absurd (cc)
-
 -- ---- control
 
 falls_same : (row : Row) → falls_through (Some row) ≡ goes_on row
@@ -106,11 +102,6 @@ within false inside h e = absurd (let f : false ≡ true = e in cc)
 true_is : (b : Bool) → IsTrue b → b ≡ true
 true_is true h = refl
 true_is false h = h
-
-numbers_checked : (K : Option TypeFrame → Type 0) (ns : List NumberType) (st : List VarType) (go : List VarType → Checked) → IsChecked (on_number_types ns st go) K → (rest : List VarType) × IsChecked (go rest) K
-numbers_checked K [] st go h = (st, h)
-numbers_checked K (u ∷ ns) [] go h = absurd h
-numbers_checked K (u ∷ ns) (t ∷ st) go h = numbers_checked K ns st go (need_checked K (is_number_type u t) rule.Stack (on_number_types ns st go) h).1
 
 reference_checked : (K : Option TypeFrame → Type 0) (st : List VarType) (go : VarType → List VarType → Checked) → IsChecked (on_reference st go) K → (t : VarType) × (rest : List VarType) × IsChecked (go t rest) K
 reference_checked K [] go h = absurd h

@@ -12,14 +12,6 @@ use Rattle.verifier_types.specs.Site.{checked_seen}
 use Rattle.verifier_types.specs.Taken.{item_taken, numbers_taken}
 use Rattle.verifier_types.specs.Uses.{uses_initialized}
 
-pub item_found : (stack : List VarType) (t : VarType) (rest : List VarType) (go : VarType → List VarType → Checked) → Some (t, rest) ≡ item_taken stack → on_type stack go ≡ go t rest
-item_found [] t rest go h = cc
-item_found (u ∷ stack) t rest go h = ap (λ o. found o rule.Stack (λ x. go x.0 x.1)) (sym h)
-
-pub item_lost : (stack : List VarType) (go : VarType → List VarType → Checked) → None ≡ item_taken stack → on_type stack go ≡ Fails rule.Stack
-item_lost [] go h = refl
-item_lost (u ∷ stack) go h = cc
-
 pub found_is : {A : Type 0} (o : Option A) (x : A) (r : Rule) (go : A → Checked) → o ≡ Some x → found o r go ≡ go x
 found_is o x r go h = ap (λ p. found p r go) h
 

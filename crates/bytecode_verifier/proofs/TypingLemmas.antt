@@ -4,6 +4,7 @@ use Rattle.std.specs.Prelude.{IfSome, Result, Ok, Err, IsTrue}
 use Rattle.std.proofs.lemmas.Bool.{eqb-true}
 use Rattle.std.proofs.lemmas.List.Sums.{sum_by-append, sum_by-cons}
 use Rattle.std.proofs.lemmas.List.{map-append}
+use Rattle.verifier_types.proofs.ListLemmas.{reverse_cons}
 use Rattle.jop_opcodes.specs.Start.{IsStart, starts_of}
 use Rattle.class_pool.specs.declared.class.Code.{Code}
 use Rattle.class_pool.specs.declared.class.ClassFile.{ClassFile}
@@ -36,7 +37,6 @@ use Rattle.bytecode_verifier.specs.Failure.{Walk, walk_failure, types_failure, t
 use Rattle.bytecode_verifier.specs.Methods.{IsCodeOf, method_of, body_of}
 use Rattle.frame_types.proofs.SearchLemmas.{among_contains}
 use Rattle.program_laws.proofs.Programs.{some_and}
-use Rattle.bytecode_verifier.proofs.ListLemmas.{reverse_cons}
 use Rattle.bytecode_verifier.proofs.MethodLemmas.{failure_is, maps_are, has_code, right_code}
 
 -- ---- where nothing fails

@@ -5,6 +5,7 @@ use Rattle.std.specs.List.{sum_by}
 use Rattle.std.proofs.lemmas.Bool.{and_parts}
 use Rattle.std.proofs.lemmas.Option.{none-some}
 use Rattle.std.proofs.lemmas.List.Sums.{sum_by-cons}
+use Rattle.machine_stands.proofs.Defined.{only_if_defined}
 use Rattle.lists.specs.Lemmas.{onto_some, some_same}
 use mathlib.Core.List.{reverse_aux, reverse_aux-eq}
 use Rattle.bytecode_model.specs.declared.Value.{Value}
@@ -20,16 +21,6 @@ use Rattle.bytecode_model.specs.Steps.{applied, first_frame, called, taken_types
 use Rattle.image_facts.specs.Words.{declared_words}
 
 -- ---- what is taken
-
-pub on_defined : (P : Program) (limits : Limits) (answer : Option ℕ) (s : State) (f : Frame) (callers : List Frame) (s' : State) {A : Type 0} (o : Option A) (go : A → Effect)
-    → applied P limits answer s f callers (on o go) ≡ Some s' → (x : A) × (o ≡ Some x) × (applied P limits answer s f callers (go x) ≡ Some s')
-on_defined P limits answer s f callers s' None go h = absurd (none-some s' h)
-on_defined P limits answer s f callers s' (Some x) go h = (x, refl, h)
-
-pub only_if_defined : (P : Program) (limits : Limits) (answer : Option ℕ) (s : State) (f : Frame) (callers : List Frame) (s' : State) (b : Bool) (e : Effect)
-    → applied P limits answer s f callers (only_if b e) ≡ Some s' → (b ≡ true) × (applied P limits answer s f callers e ≡ Some s')
-only_if_defined P limits answer s f callers s' true e h = (refl, h)
-only_if_defined P limits answer s f callers s' false e h = absurd (none-some s' h)
 
 -- the topmost operands are taken, and come out in the opposite order
 pub values_taken : (P : Program) (limits : Limits) (answer : Option ℕ) (s : State) (f : Frame) (callers : List Frame) (s' : State) (ds : List Declared) (ops done : List Value) (go : List Value → List Value → Effect)

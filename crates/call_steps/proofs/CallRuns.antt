@@ -1,5 +1,6 @@
 -- Calls, from what a machine at their entry stands for.
 use Rattle.std.proofs.Common.{◌≡◌, ℕ, true, false, sym, subst, arith}
+use Rattle.micro_sketch.proofs.RowSteps.{no_stalls}
 use Rattle.micro_flow.specs.declared.CostParams.{CostParams}
 use Rattle.jop_core.specs.State.{State}
 use Rattle.micro_sketch.specs.Sketch.{Sketch}
@@ -8,7 +9,7 @@ use Rattle.micro_sketch.specs.Row.{StandsAt}
 use Rattle.micro_sketch.specs.Rows.{entered, head_of, tail_of, RunsToRaise}
 use Rattle.call_steps.specs.Calls.{Invokestatic, CanCall, fits, RunsCall, overflow}
 use Rattle.call_steps.specs.Laws.{CallsRun, CallsRaise}
-use Rattle.call_steps.proofs.Parts.{PartLaws, low_of, no_stalls}
+use Rattle.call_steps.proofs.Parts.{PartLaws, low_of}
 use Rattle.call_steps.proofs.CallMade.{call_made, call_raises}
 
 entry_runs : PartLaws → (n : ℕ) (p : CostParams) (x : Sketch) (e : Env) (s : State) → let z = entered 184 x in StandsAt n p 184 z e s → (c : CanCall n Invokestatic z) → fits Invokestatic z ≡ true

@@ -4,10 +4,6 @@ use Rattle.micro_sketch.specs.Sketch.{Sketch}
 use Rattle.micro_sketch.specs.Stands.{stalls, stalls_for}
 pub use Rattle.call_steps.specs.Parts.{PartLaws, Low, registers, low_words, low_of, at, computed, followed_by, to_split}
 
--- a sketch that counts no loads has none to stall for
-pub no_stalls : (y : Sketch) (r : ℕ) → y.loads ≡ 0 → y.words ≡ 0 → stalls y r ≡ 0
-no_stalls y r loads words = let none : stalls_for 0 0 r ≡ 0 = omega arith in ap (λ (k : ℕ). stalls_for k y.words r) loads ∙ ap (λ (k : ℕ). stalls_for 0 k r) words ∙ none
-
 -- so many words of a list, and four behind them
 pub record Off (k : ℕ) (xs : List ℕ) : Type 0 where
   pub first : List ℕ

@@ -5,6 +5,7 @@ use Rattle.std.proofs.Math.Nat.{mod-eq_of_lt}
 use Rattle.std.proofs.lemmas.Nat.{and_mask}
 use Rattle.std.proofs.lemmas.Bool.Decides.{nat_tests}
 use Rattle.std.proofs.lemmas.List.{length-reverse}
+use Rattle.micro_sketch.proofs.Frames.{reverse_aux-both}
 use mathlib.Core.List.{reverse_aux, reverse_aux-eq}
 use Rattle.microcode_rom.specs.declared.TheConstants.{RAISE}
 use Rattle.microcode_rom.specs.declared.addresses.TheConstants.{HANDLER_FOUND, DROP_FRAME, END}
@@ -100,10 +101,6 @@ looks laws n f v t u a b c us js e table h port =
     (go_through laws n es (record g { value = value }) v t u u t c us js type place r.env table.are (omega arith) table.jpc table.turns r.shape r.port)
 
 -- ---- lists
-
-reverse_aux-both : (ws us vs : List ℕ) → reverse_aux (ws ++ us) vs ≡ reverse_aux us (reverse_aux ws vs)
-reverse_aux-both [] us vs = refl
-reverse_aux-both (w ∷ ws) us vs = reverse_aux-both ws us (w ∷ vs)
 
 -- the words of the stack, of which the saved ones are apart from those that are left
 saved_apart : (deep us js left : List ℕ) (t u k : ℕ) (d : Saved) → t ∷ u ∷ us ≡ left ++ saved_words d

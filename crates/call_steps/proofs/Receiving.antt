@@ -4,6 +4,7 @@ use Rattle.std.specs.Prelude.{slice_get}
 use Rattle.std.specs.List.{sum_by}
 use Rattle.std.proofs.lemmas.Option.{none-some}
 use Rattle.std.proofs.lemmas.List.Sums.{sum_by-cons, sum_by-append}
+use Rattle.machine_stands.proofs.Defined.{on_defined, only_if_defined}
 use Rattle.lists.specs.Lemmas.{some_same}
 use mathlib.Core.List.{reverse_aux, reverse_aux-eq}
 use Rattle.jop_opcodes.specs.Bytes.{u2}
@@ -105,16 +106,6 @@ effect_is P limits s f next Invokespecial named t = refl
 effect_is P limits s f next Invokeinterface named t = refl
 
 -- ---- what it takes
-
-pub on_defined : (P : Program) (limits : Limits) (answer : Option ℕ) (s : State) (f : Frame) (callers : List Frame) (s' : State) {A : Type 0} (o : Option A) (go : A → Effect)
-    → applied P limits answer s f callers (on o go) ≡ Some s' → (x : A) × (o ≡ Some x) × (applied P limits answer s f callers (go x) ≡ Some s')
-on_defined P limits answer s f callers s' None go h = absurd (none-some s' h)
-on_defined P limits answer s f callers s' (Some x) go h = (x, refl, h)
-
-pub only_if_defined : (P : Program) (limits : Limits) (answer : Option ℕ) (s : State) (f : Frame) (callers : List Frame) (s' : State) (b : Bool) (e : Effect)
-    → applied P limits answer s f callers (only_if b e) ≡ Some s' → (b ≡ true) × (applied P limits answer s f callers e ≡ Some s')
-only_if_defined P limits answer s f callers s' true e h = (refl, h)
-only_if_defined P limits answer s f callers s' false e h = absurd (none-some s' h)
 
 suits_words : (d : Declared) (v : Value) → suits d v ≡ true → value_words v ≡ declared_words d
 suits_words (Numeric IntType) (Int n) h = refl

@@ -1,5 +1,6 @@
 -- Returns, from what a machine at their entry stands for.
 use Rattle.std.proofs.Common.{ℕ, ◌==◌, ◌&&◌, true, [], ◌∷◌, refl, sym, ap, subst, arith}
+use Rattle.micro_sketch.proofs.RowSteps.{no_stalls}
 use Rattle.micro_flow.specs.declared.CostParams.{CostParams}
 use Rattle.jop_core.specs.declared.halt.Halt.TheVariants.{Ended}
 use Rattle.jop_core.specs.State.{State}
@@ -10,7 +11,7 @@ use Rattle.micro_sketch.specs.Rows.{entered, head_of, tail_of, Finishes, end_of,
 use Rattle.call_steps.specs.Returns as returns
 use Rattle.call_steps.specs.Returns.{ReturnOp, Return, Ireturn, Areturn, Lreturn, return_code, CanReturn, IsLast, RunsToEnd}
 use Rattle.call_steps.specs.Laws.{ReturnsRun, ReturnsEnd}
-use Rattle.call_steps.proofs.Parts.{PartLaws, low_of, no_stalls}
+use Rattle.call_steps.proofs.Parts.{PartLaws, low_of}
 use Rattle.call_steps.proofs.Returning.{ReturnMade, return_made}
 
 made : PartLaws → (n : ℕ) (op : ReturnOp) (p : CostParams) (x : Sketch) (e : Env) (s : State) → let z = entered (return_code op) x in StandsAt n p (return_code op) z e s → (c : CanReturn op z) → ReturnMade n op z e c

@@ -1,6 +1,7 @@
 -- A return, from the step to where the machine stands for the next state.
 use Rattle.std.proofs.Common.{◌≡◌, ℕ, true, false, ℤ, List, [], ◌∷◌, ◌++◌, Option, Some, None, refl, sym, ap, ◌∙◌, subst}
 use Rattle.std.proofs.lemmas.Option.{none-some}
+use Rattle.machine_stands.proofs.Defined.{only_if_defined}
 use Rattle.lists.specs.Lemmas.{some_same}
 use Rattle.lists.specs.Members.{heads}
 use Rattle.jop_opcodes.specs.Form.{one, Absent}
@@ -22,7 +23,6 @@ use Rattle.image_facts.specs.Words.{high_word, low_word}
 use Rattle.machine_stands.specs.Frames.{AreOperands}
 use Rattle.machine_stands.specs.Reading.{operands_of}
 use Rattle.call_steps.specs.Returns.{ReturnOp, Return, Ireturn, Areturn, Lreturn, return_code, result}
-use Rattle.call_steps.proofs.Arguments.{only_if_defined}
 use Rattle.call_steps.proofs.Scenes.{StateLaws}
 
 -- ---- the instruction

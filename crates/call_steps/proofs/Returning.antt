@@ -4,6 +4,7 @@ use Rattle.std.proofs.Math.Nat.{mod-eq_of_lt}
 use Rattle.std.proofs.lemmas.Nat.{and_mask}
 use Rattle.std.proofs.lemmas.Bool.Decides.{nat_tests}
 use Rattle.std.proofs.lemmas.List.{length-reverse}
+use Rattle.micro_sketch.proofs.Frames.{reverse_aux-both}
 use mathlib.Core.List.{reverse_aux, reverse_aux-eq}
 use Rattle.micro_sketch.specs.Sketch.{Sketch, exec, same_bool, inside, can_find}
 use Rattle.micro_sketch.specs.Stands.{Env, Shaped, Reaches, IsDone}
@@ -97,10 +98,6 @@ to_method laws n op f v t u a b ws js e h port can =
     (resumes op f v t u a b ws js ∙ ap (λ (ok : Bool). resuming op f v a b ws above ok) (ap (λ (ok : Bool). (ok && true) && true) can)) refl
 
 -- ---- lists
-
-reverse_aux-both : (ws us vs : List ℕ) → reverse_aux (ws ++ us) vs ≡ reverse_aux us (reverse_aux ws vs)
-reverse_aux-both [] us vs = refl
-reverse_aux-both (w ∷ ws) us vs = reverse_aux-both ws us (w ∷ vs)
 
 tails : (x : ℕ) (xs ys : List ℕ) → x ∷ xs ≡ x ∷ ys → xs ≡ ys
 tails x xs ys e = cc

@@ -3,6 +3,7 @@ use Rattle.std.proofs.Common.{◌≡◌, ℕ, ◌+◌, ◌*◌, ◌%◌, ◌^◌
 use Rattle.std.specs.Prelude.{slice_get, slice_index, IsSome}
 use Rattle.std.proofs.Math.Nat.{mod-eq_of_lt}
 use Rattle.std.proofs.lemmas.Option.{none-some}
+use Rattle.machine_stands.proofs.Defined.{on_defined}
 use Rattle.lists.specs.Lemmas.{holds_at, onto_some, some_same}
 use Rattle.jop_opcodes.specs.declared.instruction.Instr.{Instr}
 use Rattle.jop_opcodes.specs.Bytes.{u1, u2}
@@ -35,7 +36,7 @@ use Rattle.call_steps.specs.Entry.{CanEnter, Enters}
 use Rattle.call_steps.specs.Coming.{RowEnters}
 use Rattle.call_steps.specs.Method.{argument_words}
 use Rattle.call_steps.specs.Calls.{Invokestatic, called, CanCall}
-use Rattle.call_steps.proofs.Arguments.{on_defined, values_taken, reversed}
+use Rattle.call_steps.proofs.Arguments.{values_taken, reversed}
 use Rattle.call_steps.proofs.Scenes.{StateLaws, register}
 use Rattle.call_steps.proofs.CallStates.{there}
 

@@ -7,6 +7,7 @@ use Rattle.std.proofs.lemmas.Nat.{and_mask}
 use Rattle.std.proofs.lemmas.Grind.{reverse_onto}
 use Rattle.std.proofs.lemmas.Bool.Decides.{nat_tests}
 use Rattle.std.proofs.lemmas.List.{length-reverse}
+use Rattle.micro_sketch.proofs.Frames.{reverse_aux-both}
 use mathlib.Core.List.{reverse_aux}
 use Rattle.micro_sketch.specs.Sketch.{Sketch, exec, same_bool}
 use Rattle.micro_sketch.specs.Stands.{Env, Shaped, Reaches}
@@ -97,10 +98,6 @@ read_is n op f v us upper others s count =
     λ i. read_of op f v (index_is f i) (first i) (second i) (taken i) (sp i) (place i)
 
 -- ---- the receiver
-
-reverse_aux-both : (ws us vs : List ℕ) → reverse_aux (ws ++ us) vs ≡ reverse_aux us (reverse_aux ws vs)
-reverse_aux-both [] us vs = refl
-reverse_aux-both (w ∷ ws) us vs = reverse_aux-both ws us (w ∷ vs)
 
 -- a word that so many are below
 word_over : (deep others : List ℕ) (w : ℕ) (rest : List ℕ) → get_or (deep ++ reverse_aux others (w ∷ rest)) (length deep + length others) 0 ≡ w

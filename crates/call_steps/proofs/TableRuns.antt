@@ -1,5 +1,6 @@
 -- Calls by a receiver, from what a machine at their entry stands for.
 use Rattle.std.proofs.Common.{◌≡◌, ℕ, ◌<◌, ◌++◌, List, [], ◌∷◌, true, false, refl, sym, ◌∙◌, subst, arith}
+use Rattle.micro_sketch.proofs.RowSteps.{no_stalls}
 use Rattle.micro_flow.specs.declared.CostParams.{CostParams}
 use Rattle.jop_core.specs.State.{State}
 use Rattle.micro_sketch.specs.Sketch.{Sketch}
@@ -9,7 +10,7 @@ use Rattle.micro_sketch.specs.Rows.{entered, head_of, tail_of, RunsToRaise}
 use Rattle.micro_plain.specs.Operand.{past}
 use Rattle.call_steps.specs.Entry.{CanEnter, raises_at, RunsEntry, Enters}
 use Rattle.call_steps.specs.Tables.{TableCall, Invokevirtual, Invokespecial, Invokeinterface, table_code, method_for, behind, HasReceiver, has_none, NullRaises, ChangeRaises, TableCallsRun}
-use Rattle.call_steps.proofs.Parts.{low_of, no_stalls}
+use Rattle.call_steps.proofs.Parts.{low_of}
 use Rattle.call_steps.proofs.InvokeMade.{EntryMade}
 use Rattle.call_steps.proofs.InvokeRaises.{RaiseMade}
 use Rattle.call_steps.proofs.TableRows.{starting}

@@ -8,6 +8,8 @@ use Rattle.std.proofs.lemmas.Bool.Decides.{nat_tests}
 use Rattle.std.proofs.lemmas.List.{reverse-append, get_or-drop}
 use Rattle.stack_cache.specs.Size.{IsSize}
 use Rattle.std.proofs.lemmas.List.Sums.{sum_by-cons, sum_by-append}
+use Rattle.machine_stands.proofs.Seeing.{parts_same}
+use Rattle.machine_stands.proofs.Defined.{class_is, object_at, on_defined}
 use Rattle.lists.specs.Lemmas.{holds_at, onto_some, some_is, some_same}
 use Rattle.jop_opcodes.specs.declared.instruction.Instr.{Instr}
 use Rattle.jop_opcodes.specs.Bytes.{u1, u2}
@@ -48,7 +50,7 @@ use Rattle.machine_stands.specs.Fixed.{RaiseListIsRead, PoolsAreRead}
 use Rattle.call_steps.specs.Entry.{CanEnter, Enters, raises_at}
 use Rattle.call_steps.specs.Coming.{MethodsAreRead, RowEnters, CallsCome}
 use Rattle.call_steps.specs.Tables.{TableCall, Invokevirtual, Invokespecial, Invokeinterface, table_code, first_word, second_word, taken_words, table_word, method_for, behind, HasReceiver, has_none, NullRaises, ChangeRaises, TableCallsRun}
-use Rattle.call_steps.proofs.Receiving.{form, form_read, long_enough, first_is, call_row, names_method, a_method_is_named, choose, on_defined, Received, received, arguments_are, IsChosen, Chosen, Changed, chosen}
+use Rattle.call_steps.proofs.Receiving.{form, form_read, long_enough, first_is, call_row, names_method, a_method_is_named, choose, Received, received, arguments_are, IsChosen, Chosen, Changed, chosen}
 use Rattle.call_steps.proofs.Receivers.{ObjectLaws, object_above, type_read, Tables, tables_read, table_read}
 
 pub record StateLaws : Type 0 where
@@ -76,34 +78,11 @@ is_there (Some x) h = (x, refl)
 size_small : (n : ℕ) → IsSize n → n ≤ 1024
 size_small n h = ⊎_elim (λ (e : n ≡ 256). omega (arith, e)) (λ other. ⊎_elim (λ (e : n ≡ 512). omega (arith, e)) (λ (e : n ≡ 1024). omega (arith, e)) other) h
 
--- two splits of a list, of which the upper parts are as long
-parts_same : (xs us ys vs : List ℕ) → xs ++ ys ≡ us ++ vs → length xs ≡ length us → (xs ≡ us) × (ys ≡ vs)
-parts_same [] [] ys vs e h = (refl, e)
-parts_same [] (u ∷ us) ys vs e h = absurd (omega (arith, h))
-parts_same (x ∷ xs) [] ys vs e h = absurd (omega (arith, h))
-parts_same (x ∷ xs) (u ∷ us) ys vs e h =
-    let r = parts_same xs us ys vs (tails x u (xs ++ ys) (us ++ vs) e) (omega (arith, h)) in
-    (ap (λ (z : ℕ). z ∷ xs) (heads x u (xs ++ ys) (us ++ vs) e) ∙ ap (λ (zs : List ℕ). u ∷ zs) r.0, r.1)
-  where
-    heads : (x u : ℕ) (xs us : List ℕ) → x ∷ xs ≡ u ∷ us → x ≡ u
-    heads x u xs us e = cc
-
     tails : (x u : ℕ) (xs us : List ℕ) → x ∷ xs ≡ u ∷ us → xs ≡ us
     tails x u xs us e = cc
 
-object_at : (P : Program) (n : ℕ) (os : List Object) (p : ℕ) (o : Object) → AreObjects P n os → slice_get os p ≡ Some o → IsObject P n o
-object_at P n [] p o h e = absurd (none-some o e)
-object_at P n (u ∷ os) zero o h e = subst (λ x. IsObject P n x) (some_same u o e) h.0
-object_at P n (u ∷ os) (suc p) o h e = object_at P n os p o h.1 e
-
 not_zero : (w : ℕ) → 0 < w → (w == 0) ≡ false
 not_zero w h = grind (arith, nat_tests, h)
-
-class_is : (P : Program) (k : Option Kind) (owner : ℕ) → has_class P k owner ≡ true → (c : ℕ) × (k ≡ Some (OfClass c)) × (P.extends c owner ≡ true)
-class_is P (Some (OfClass c)) owner h = (c, refl, h)
-class_is P (Some (OfNumbers a)) owner h = absurd (cc)
-class_is P (Some (OfReferences k)) owner h = absurd (cc)
-class_is P None owner h = absurd (cc)
 
 module _ (laws : StateLaws) (P : Program) (pl : Places) (n size : ℕ) (m : machine.State) (answer : Option ℕ) (s s' : State) (h : IsStep P pl n size m answer s s') (mode : s.mode ≡ Running) (linked : P.linked ≡ true) (op : TableCall) (opcode : m.opcode ≡ table_code op) where
   abbrev pub code : List ℕ

@@ -5,6 +5,8 @@ use Rattle.std.proofs.Math.Nat.{mod-eq_of_lt}
 use Rattle.std.proofs.lemmas.Option.{none-some}
 use Rattle.std.proofs.lemmas.Bool.Decides.{nat_tests}
 use Rattle.std.proofs.lemmas.List.{get_or-drop}
+use Rattle.micro_sketch.proofs.RowSteps.{no_stalls}
+use Rattle.machine_stands.proofs.Defined.{on_defined}
 use Rattle.lists.specs.Lemmas.{some_same}
 use Rattle.micro_flow.specs.declared.CostParams.{CostParams}
 use Rattle.jop_opcodes.specs.declared.instruction.Instr.{Instr}
@@ -115,9 +117,6 @@ null x none = record {
   };
 }
 
-no_stalls : (y : Sketch) (r : ℕ) → y.loads ≡ 0 → y.words ≡ 0 → stalls y r ≡ 0
-no_stalls y r loads words = let none : stalls_for 0 0 r ≡ 0 = omega arith in ap (λ (k : ℕ). stalls_for k y.words r) loads ∙ ap (λ (k : ℕ). stalls_for 0 k r) words ∙ none
-
 runs : ThrowLaws → (n : ℕ) (p : CostParams) (x : Sketch) (e : Env) (s : machine.State) (object : ℕ) → StandsAt n p 191 x e s → Ends x object → RunsToRaise n p 191 (thrown x object) x e
 runs laws n p x e s object h g =
     let y = end_of x g.finish in
@@ -149,11 +148,6 @@ form_read = refl
 is_throw : (code : List ℕ) (pc : ℕ) (o : Operand) (r : Row) → row_of code (plain_instr 191 code pc (one Absent)) o ≡ Some r → r ≡ Throw
 unfolding row_of
 is_throw code pc o r h = sym (some_same Throw r h)
-
-on_defined : (P : Program) (limits : Limits) (answer : Option ℕ) (s : State) (f : Frame) (callers : List Frame) (s' : State) {A : Type 0} (o : Option A) (go : A → Effect)
-    → applied P limits answer s f callers (on o go) ≡ Some s' → (x : A) × (o ≡ Some x) × (applied P limits answer s f callers (go x) ≡ Some s')
-on_defined P limits answer s f callers s' None go h = absurd (none-some s' h)
-on_defined P limits answer s f callers s' (Some x) go h = (x, refl, h)
 
 lies_within : (whole : List ℕ) (place : ℕ) (words : List ℕ) → LieAt whole place words → place + length words ≤ length whole
 lies_within whole place words l = omega (arith, ap length l.split, length-append l.before (words ++ l.after), length-append words l.after, l.place_is)

@@ -4,6 +4,7 @@ use Rattle.std.specs.Prelude.{unwrap_or, option_map}
 use Rattle.std.specs.Option.{option_map_or}
 use Rattle.std.specs.List.{flat_map, position_or_len, AllByRecursion}
 use Rattle.std.proofs.lemmas.List.{length-append}
+use Rattle.class_making.proofs.ListLemmas.{all_left}
 use Rattle.class_pool.specs.declared.entry.Entry.{Entry}
 use Rattle.class_pool.specs.Grammar.{entry_at, utf8_of, class_name_of, name_and_type_of}
 use Rattle.class_making.specs.declared.item.Item.{Item}
@@ -29,9 +30,6 @@ index_from_fits (Some place) = chosen (nat_lt place 65534) refl
     chosen true e = let lt : place < 65534 = ltb-true place 65534 e in omega arith
     chosen false e = lit< tt
 
-pub index_fits : (items : List Item) (x : Item) → index_of items x < 2 ^ 16
-index_fits items x = index_from_fits (cond (nat_lt (position_or_len (same_item x) items) (length items)) (Some (position_or_len (same_item x) items)) None)
-
 calls_count : (calls : List (List ℕ)) (rest : List Piece) → length (flat_map piece_mentions (flat_map call_pieces calls ++ rest)) ≡ length calls + length (flat_map piece_mentions rest)
 unfolding call_pieces
 calls_count [] rest = omega arith
@@ -46,10 +44,6 @@ pub boot_room : (few : ItemsAreFew) (calls : List (List ℕ)) (main : List ℕ) 
 boot_room few calls main count = omega (arith, few (boot_plan calls main), mentions_room calls main count)
 
 -- ---- what has entries
-
-all_left : {X : Type 0} (P : X → Type 0) (xs ys : List X) → AllByRecursion P (xs ++ ys) → AllByRecursion P xs
-all_left P [] ys h = tt
-all_left P (x ∷ xs) ys h = (h.0, all_left P xs ys h.1)
 
 -- all that the calls mention, the array's class, and what the call of main mentions
 pub record AreMentioned (P : Item → Type 0) (calls : List (List ℕ)) (main : List ℕ) : Type 0 where

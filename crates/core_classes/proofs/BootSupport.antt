@@ -3,6 +3,7 @@ use Rattle.std.proofs.Common.{◌≡◌, ℕ, ◌≤◌, List, [], ◌∷◌, �
 use Rattle.std.specs.Prelude.{codes}
 use Rattle.std.specs.List.{flat_map, AllByRecursion}
 use Rattle.std.proofs.lemmas.List.{append-nil}
+use Rattle.class_making.proofs.PoolLemmas.{index_fits}
 use Rattle.class_pool.specs.declared.class.Body.TheVariants as bodies
 use Rattle.class_pool.specs.declared.class.Member.{Member}
 use Rattle.class_pool.specs.declared.class.ClassFile.{ClassFile}
@@ -27,7 +28,7 @@ use Rattle.program_tables.specs.Unsupported.{items_of_types, types_in_method, it
 use Rattle.core_classes.specs.Linkage.{BootIsSupported}
 use Rattle.core_classes.proofs.Lists.{all_along, nothing_of_all}
 use Rattle.core_classes.proofs.BootWalk.{call_item, main_item, index_instr, HoldsOfMain, walk}
-use Rattle.core_classes.proofs.BootNames.{index_fits, boot_room, AreMentioned, boot_mentions, Stands, names_method, names_class}
+use Rattle.core_classes.proofs.BootNames.{boot_room, AreMentioned, boot_mentions, Stands, names_method, names_class}
 
 -- ---- the class file
 
@@ -70,7 +71,7 @@ pub record SaysBoot (items : List Item) (calls : List (List ℕ)) (main : List �
   pub descriptor : text_at (pool_of items) (index_of items (Text no_arguments)) ≡ codes "()V"
   pub mentioned : AreMentioned (λ m. AllByRecursion (Stands (pool_of items) items) (expanded m)) calls main
 
-first_pair : {A : Type 0} (a b : A × A) (xs ys : List (A × A)) → (a ∷ xs) ≡ (b ∷ ys) → a ≡ b
+pub first_pair : {A : Type 0} (a b : A × A) (xs ys : List (A × A)) → (a ∷ xs) ≡ (b ∷ ys) → a ≡ b
 first_pair a b xs ys h = cc
 
 pub says_boot : ItemsAreFew → PlansHaveEntries → BootSaysPlan → (calls : List (List ℕ)) (main : List ℕ) → length calls ≤ 10000 → SaysBoot (items_of (boot_plan calls main)) calls main

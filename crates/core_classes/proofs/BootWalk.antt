@@ -81,7 +81,7 @@ bare_at code pc op rest form at =
       inside = omega (arith, counts, inside);
     }
 
-index_number : (x : ℕ) → x < 2 ^ 16 → slice_index (spelling.u2 x) 0 * 256 + slice_index (spelling.u2 x) 1 ≡ x
+pub index_number : (x : ℕ) → x < 2 ^ 16 → slice_index (spelling.u2 x) 0 * 256 + slice_index (spelling.u2 x) 1 ≡ x
 index_number x lt = omega arith
 
 index_at : (code : List ℕ) (pc op x : ℕ) (rest : List ℕ) → x < 2 ^ 16 → (row_of op).form ≡ Fixed (one UnsignedShort) → drop pc code ≡ op ∷ (spelling.u2 x ++ rest) → StandsAt code pc (index_instr op x) rest

@@ -90,13 +90,13 @@ core_behind_object (x ∷ xs) k at h =
 
 -- ---- the superclasses of the class Object, and of one directly below it
 
-fuel : (others : List ClassFile) → length (core ++ others) ≡ suc (suc (21 + length others))
+pub fuel : (others : List ClassFile) → length (core ++ others) ≡ suc (suc (21 + length others))
 fuel others = let long = core_long in omega (arith, length-append core others)
 
 one_above : (cs : List ClassFile) (n : ℕ) → superclass cs 0 ≡ None → reached (λ k. option_to_list (superclass cs k)) (suc n) 0 ≡ 0 ∷ []
 one_above cs n top = ap (λ (o : Option ℕ). 0 ∷ flat_map (reached (λ k. option_to_list (superclass cs k)) n) (option_to_list o)) top
 
-two_above : (cs : List ClassFile) (n c : ℕ) → superclass cs 0 ≡ None → superclass cs c ≡ Some 0 → reached (λ k. option_to_list (superclass cs k)) (suc (suc n)) c ≡ c ∷ 0 ∷ []
+pub two_above : (cs : List ClassFile) (n c : ℕ) → superclass cs 0 ≡ None → superclass cs c ≡ Some 0 → reached (λ k. option_to_list (superclass cs k)) (suc (suc n)) c ≡ c ∷ 0 ∷ []
 two_above cs n c top up =
     ap (λ (o : Option ℕ). c ∷ flat_map (reached (λ k. option_to_list (superclass cs k)) (suc n)) (option_to_list o)) up
     ∙ ap (λ (xs : List ℕ). c ∷ (xs ++ [])) (one_above cs n top)

@@ -6,17 +6,6 @@ use Rattle.std.proofs.lemmas.List.Folds.{list_any_at}
 use Rattle.std.proofs.lemmas.List.Kept.{AllPairs-from_increasing}
 use Rattle.lists.specs.Numbers.{is_among}
 
-pub rising_all : (xs : List ℕ) → IsStrictlyIncreasing xs → (i j : ℕ) → i ≤ j → j < length xs → get_or xs i 0 ≤ get_or xs j 0
-rising_all xs h i j le below =
-    elim (cases_order i j) [
-      | inl same ↦ let e = ap (λ (k : ℕ). get_or xs k 0) same in omega arith
-      | inr apart ↦
-          elim apart [
-            | inl lt ↦ let p = AllPairs-from_increasing xs h i j 0 lt below in omega arith
-            | inr gt ↦ absurd (omega arith)
-          ]
-    ]
-
 none_among : (xs : List ℕ) (x : ℕ) → ((k : ℕ) → k < length xs → get_or xs k 0 ≡ x → ⊥) → is_among xs x ≡ false
 none_among [] x never = refl
 none_among (y ∷ ys) x never = rw (ne_eqb y x (never 0 (omega arith))) (none_among ys x (λ k lt. never (suc k) (omega arith)))

@@ -2,6 +2,7 @@
 use Rattle.std.proofs.Common.{◌≡◌, ℕ, zero, suc, ◌+◌, ◌*◌, Bool, true, false, List, [], ◌∷◌, ◌++◌, length, Option, Some, None, refl, sym, ap, ◌∙◌, subst, append_assoc, arith}
 use Rattle.std.specs.Prelude.{nat_lt, if◌then◌else◌, ◌==◌}
 use Rattle.std.proofs.lemmas.Bool.{eqb-true}
+use Rattle.class_reader.proofs.PartLaws.{step}
 use Rattle.lists.specs.Lemmas.{none≢some, some_same}
 use Rattle.jop_base.specs.Reading.{◌>>=◌}
 use Rattle.class_pool.specs.declared.entry.Entry.{Entry}
@@ -57,10 +58,6 @@ two_again front n rest h =
     ap (λ (l : List ℕ). number_in 2 (l ++ rest)) h.2 ∙ (two_in h.0 h.1 rest ∙ ap (λ (k : ℕ). Some (k, rest)) h.3)
 
 -- ---- types
-
--- the rest of reading a part, once its first part is read
-pub step : {X Y : Type 0} (read : List ℕ → Option (X × List ℕ)) (f : X × List ℕ → Option Y) (bytes : List ℕ) (x : X × List ℕ) → read bytes ≡ Some x → (read bytes >>= f) ≡ f x
-step read f bytes x e = ap (λ r. r >>= f) e
 
 alone : (pool : List Entry) (u t : VarType) (n tag : ℕ) (bytes rest : List ℕ) → ((l : List ℕ) → l ≡ n ∷ [] → IsType pool u l) → tag ≡ n → ◌≡◌ {A = Option (VarType × List ℕ)} (Some (u, bytes)) (Some (t, rest)) → Front (IsType pool t) (tag ∷ bytes) rest
 alone pool u t n tag bytes rest is e h = subst (At (IsType pool) (tag ∷ bytes)) (some_same (u, bytes) (t, rest) h) (tag ∷ [], refl, is (tag ∷ []) (ap (λ (k : ℕ). k ∷ []) e))

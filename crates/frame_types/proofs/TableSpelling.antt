@@ -3,6 +3,7 @@ use Rattle.std.proofs.Common.{◌≡◌, ◌≢◌, ℕ, zero, suc, ◌+◌, ◌
 use Rattle.std.specs.Prelude.{nat_lt, if◌then◌else◌, ◌==◌}
 use Rattle.std.proofs.lemmas.Bool.{eqb-true, ltb-true, lt-ltb}
 use Rattle.std.proofs.lemmas.List.{append-nil, nil_from_length}
+use Rattle.class_reader.proofs.PartLaws.{step}
 use Rattle.lists.specs.Lemmas.{none≢some, some_same}
 use Rattle.jop_base.specs.Reading.{◌>>=◌, whole}
 use Rattle.class_pool.specs.declared.entry.Entry.{Entry}
@@ -16,7 +17,7 @@ use Rattle.frame_types.specs.declared.read.MapEntry.{MapEntry}
 use Rattle.frame_types.specs.Table.{type_in, one_item_in, append_in, full_in, change_in, with_offset, frame_in, map_entry_in, table_in}
 use Rattle.frame_types.specs.Spelling.{Joined, IsByte, IsTwo, IsType, AreTypes, AreCounted, IsEntry, AreEntries, IsTable}
 use Rattle.frame_types.specs.Laws.{TablesAreSpelled}
-use Rattle.frame_types.proofs.SpellingLemmas.{Front, joins, begins, two_reads, two_again, step, type_reads, type_again, types_read, types_again, counted_reads, counted_again}
+use Rattle.frame_types.proofs.SpellingLemmas.{Front, joins, begins, two_reads, two_again, type_reads, type_again, types_read, types_again, counted_reads, counted_again}
 
 -- ---- what stands behind a tag
 

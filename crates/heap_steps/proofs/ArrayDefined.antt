@@ -15,19 +15,6 @@ use Rattle.bytecode_model.specs.Effects.{Effect, ArrayIndexOutOfBoundsException,
 use Rattle.bytecode_model.specs.Steps.{applied, written}
 use Rattle.heap_steps.specs.Widths.{has_longs}
 
--- an item is replaced where there is one
-pub item_at : {X : Type 0} (xs ys : List X) (k : ℕ) (y : X) → replaced xs k y ≡ Some ys → (x : X) × (slice_get xs k ≡ Some x)
-item_at [] ys k y h = absurd (none-some ys h)
-item_at (x ∷ xs) ys zero y h = (x, refl)
-item_at (x ∷ xs) ys (suc k) y h = let r = onto_some (replaced xs k y) (λ zs. Some (x ∷ zs)) ys h in item_at xs r.0 k y r.1
-
--- so a value of an object
-pub part_at : (objects changed : List Object) (p k : ℕ) (o : Object) (w : Value) → slice_get objects p ≡ Some o → written objects p k w ≡ Some changed → (v : Value) × (slice_get o.parts k ≡ Some v)
-part_at objects changed p k o w e h =
-    let r = onto_some (replaced o.parts k w) (λ vs. replaced objects p (record o { parts = vs })) changed
-    (sym (ap (λ x. onto x (λ (u : Object). onto (replaced u.parts k w) (λ vs. replaced objects p (record u { parts = vs })))) e) ∙ h) in
-    item_at o.parts r.0 k w r.1
-
 -- ---- indexes
 
 abbrev pub IsOutside : ℤ → (count : ℕ) → Type 0
@@ -103,15 +90,6 @@ module _ (P : Program) (limits : Limits) (answer : Option ℕ) (s : State) (f : 
   on_object_defined objects (Int n ∷ rest) go C h null there = absurd (none-some s' h)
   on_object_defined objects (Long n ∷ rest) go C h null there = absurd (none-some s' h)
   on_object_defined objects (Unset ∷ rest) go C h null there = absurd (none-some s' h)
-
--- ---- values
-
-pub long_is : (v : Value) → is_long v ≡ true → (n : ℤ) × (v ≡ Long n)
-long_is (Int n) h = absurd (cc)
-long_is (Long n) h = (n, refl)
-long_is (Ref p) h = absurd (cc)
-long_is Null h = absurd (cc)
-long_is Unset h = absurd (cc)
 
 -- ---- arrays of numbers and of references
 

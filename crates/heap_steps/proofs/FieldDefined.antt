@@ -13,19 +13,6 @@ use Rattle.bytecode_model.specs.Effects.{Effect, NullPointerException, fault, on
 use Rattle.bytecode_model.specs.Steps.{applied, written}
 use Rattle.image_facts.specs.Words.{is_long_type}
 
--- an item is replaced where there is one
-pub item_at : {X : Type 0} (xs ys : List X) (k : ℕ) (y : X) → replaced xs k y ≡ Some ys → (x : X) × (slice_get xs k ≡ Some x)
-item_at [] ys k y h = absurd (none-some ys h)
-item_at (x ∷ xs) ys zero y h = (x, refl)
-item_at (x ∷ xs) ys (suc k) y h = let r = onto_some (replaced xs k y) (λ zs. Some (x ∷ zs)) ys h in item_at xs r.0 k y r.1
-
--- so a value of an object
-pub part_at : (objects changed : List Object) (p k : ℕ) (o : Object) (w : Value) → slice_get objects p ≡ Some o → written objects p k w ≡ Some changed → (v : Value) × (slice_get o.parts k ≡ Some v)
-part_at objects changed p k o w e h =
-    let r = onto_some (replaced o.parts k w) (λ vs. replaced objects p (record o { parts = vs })) changed
-    (sym (ap (λ x. onto x (λ (u : Object). onto (replaced u.parts k w) (λ vs. replaced objects p (record u { parts = vs })))) e) ∙ h) in
-    item_at o.parts r.0 k w r.1
-
 module _ (P : Program) (limits : Limits) (answer : Option ℕ) (s : State) (f : Frame) (callers : List Frame) (s' : State) where
   -- the effect leads to the next state
   abbrev pub Leads : Effect → Type 0
@@ -58,12 +45,6 @@ module _ (P : Program) (limits : Limits) (answer : Option ℕ) (s : State) (f : 
 
 -- ---- values and types
 
-pub class_is : (P : Program) (k : Option Kind) (owner : ℕ) → has_class P k owner ≡ true → (c : ℕ) × (k ≡ Some (OfClass c)) × (P.extends c owner ≡ true)
-class_is P (Some (OfClass c)) owner h = (c, refl, h)
-class_is P (Some (OfNumbers a)) owner h = absurd (cc)
-class_is P (Some (OfReferences k)) owner h = absurd (cc)
-class_is P None owner h = absurd (cc)
-
 -- a value that suits a type has its width, and is set
 pub suits_wide : (d : Declared) (v : Value) → suits d v ≡ true → is_long v ≡ is_long_type d
 suits_wide (Numeric IntType) (Int n) h = refl
@@ -91,10 +72,3 @@ pub declared_wide : (d : Declared) → is_long (default d) ≡ is_long_type d
 declared_wide (Numeric IntType) = refl
 declared_wide (Numeric LongType) = refl
 declared_wide (Reference k) = refl
-
-pub long_is : (v : Value) → is_long v ≡ true → (n : ℤ) × (v ≡ Long n)
-long_is (Int n) h = absurd (cc)
-long_is (Long n) h = (n, refl)
-long_is (Ref p) h = absurd (cc)
-long_is Null h = absurd (cc)
-long_is Unset h = absurd (cc)

@@ -2,6 +2,7 @@
 use Rattle.std.proofs.Common.{◌≡◌, ℕ, ◌+◌, ◌%◌, ◌^◌, ◌<◌, Bool, true, false, List, ◌∷◌, ◌++◌, Some, length, refl, sym, ◌∙◌, ap, subst, arith}
 use Rattle.std.specs.Prelude.{slice_get, slice_index}
 use Rattle.std.proofs.lemmas.Option.{none-some}
+use Rattle.machine_stands.proofs.Defined.{class_is, long_is}
 use Rattle.lists.specs.Members.{heads, tails}
 use Rattle.lists.specs.Lemmas.{some_is, some_same}
 use Rattle.jop_opcodes.specs.Form.{one, UnsignedShort}
@@ -23,7 +24,7 @@ use Rattle.image_facts.specs.Laws.{part_place}
 use Rattle.machine_stands.specs.Frames.{IsWordOf, AreOperands}
 use Rattle.machine_stands.specs.Reading.{operands_of}
 use Rattle.heap_steps.proofs.FieldRows.{first, second, field_at, gets_word, gets_double, gets_null, getfield_word, getfield_double, getfield_null}
-use Rattle.heap_steps.proofs.FieldDefined.{on_defined, only_if_defined, on_object_defined, class_is, declared_wide, long_is}
+use Rattle.heap_steps.proofs.FieldDefined.{on_defined, only_if_defined, on_object_defined, declared_wide}
 use Rattle.heap_steps.proofs.FieldScenes.{Laws, Scene, Comes, limits, top, code, x, place, saved, At, effect_of, named, goes_by, null_by, has_entry, one_on_top, words_are, null_test, there_test, sum_is, next_is}
 
 -- ---- the instruction

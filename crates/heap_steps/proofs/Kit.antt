@@ -2,6 +2,8 @@
 use Rattle.std.proofs.Common.{◌≡◌, ℕ, zero, suc, ◌+◌, ◌-◌, ◌<◌, List, [], ◌∷◌, ◌++◌, Option, Some, None, length, replicate, refl, sym, ◌∙◌, ap, subst, arith, add-zero, length-append}
 use Rattle.std.specs.Prelude.{slice_get, slice_index, IsSomeAnd}
 use Rattle.std.proofs.lemmas.Option.{none-some}
+use Rattle.machine_stands.proofs.Fixed.{within_lie}
+use Rattle.machine_stands.proofs.Memory.{lie_padded}
 use Rattle.lists.specs.Lemmas.{some_same}
 use Rattle.memory_timing.specs.Port.{padded}
 use Rattle.jop_core.specs.State as machine
@@ -15,39 +17,7 @@ use Rattle.image_facts.specs.Laws.{WordsAreRead, ListsGoOn}
 use Rattle.machine_stands.specs.StandsFor.{StandsFor}
 use Rattle.heap_steps.specs.Reading.{Reads}
 
--- ---- options and lists
-
-pub object_at : (P : Program) (n : ℕ) (os : List Object) (p : ℕ) (o : Object) → AreObjects P n os → slice_get os p ≡ Some o → IsObject P n o
-object_at P n [] p o h e = absurd (none-some o e)
-object_at P n (u ∷ os) zero o h e = subst (λ x. IsObject P n x) (some_same u o e) h.0
-object_at P n (u ∷ os) (suc p) o h e = object_at P n os p o h.1 e
-
 -- ---- words of the memory
-
-pub lie_padded : (size : ℕ) (whole : List ℕ) (place : ℕ) (words : List ℕ) → ListsGoOn → LieAt whole place words → LieAt (padded whole size) place words
-lie_padded size whole place words ahead l =
-    let d = ahead whole whole (replicate (size - length whole) 0) place words words (record { before = l.before; after = l.after; split = l.split; changed = l.split; place_is = l.place_is }) in
-    record { before = d.before; after = d.after; split = d.split; place_is = d.place_is }
-
-same_count : (whole other : List ℕ) (place : ℕ) (words instead : List ℕ) → DifferAt whole other place words instead → length instead ≡ length words → length other ≡ length whole
-same_count whole other place words instead d e =
-    ap length d.changed ∙ length-append d.before (instead ++ d.after)
-    ∙ omega (arith, length-append instead d.after, length-append d.before (words ++ d.after), length-append words d.after, e) ∙ sym (ap length d.split)
-
-pub differ_padded : (size : ℕ) (whole other : List ℕ) (place : ℕ) (words instead : List ℕ) → ListsGoOn → DifferAt whole other place words instead → length instead ≡ length words
-    → DifferAt (padded whole size) (padded other size) place words instead
-differ_padded size whole other place words instead ahead d e =
-    let far = ahead whole other (replicate (size - length whole) 0) place words instead d in
-    record {
-      before = far.before;
-      after = far.after;
-      split = far.split;
-      changed = ap (λ (k : ℕ). other ++ replicate (size - k) 0) (same_count whole other place words instead d e) ∙ far.changed;
-      place_is = far.place_is;
-    }
-
-within_lie : (whole : List ℕ) (place : ℕ) (words : List ℕ) (k : ℕ) → LieAt whole place words → k < length words → place + k < length whole
-within_lie whole place words k l h = omega (arith, ap length l.split, length-append l.before (words ++ l.after), length-append words l.after, l.place_is, h)
 
 -- one of the words that lie among those of the image
 pub word_at : WordsAreRead → ListsGoOn → (P : Program) (pl : Places) (n size : ℕ) (m : machine.State) (s : State) (place : ℕ) (words : List ℕ) (k : ℕ) → StandsFor P pl n size m s

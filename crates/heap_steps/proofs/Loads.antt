@@ -3,6 +3,7 @@ use Rattle.std.proofs.Common.{◌≡◌, ℕ, ◌+◌, ◌%◌, ◌^◌, ◌≤�
 use Rattle.std.specs.Prelude.{slice_get, slice_index}
 use Rattle.std.specs.Int.{w32}
 use Rattle.std.specs.Int.RustNames.{FitsSigned}
+use Rattle.machine_stands.proofs.Defined.{long_is}
 use Rattle.lists.specs.Members.{heads, tails}
 use Rattle.lists.specs.Lemmas.{some_same}
 use Rattle.jop_opcodes.specs.Form.{one, Absent}
@@ -26,7 +27,7 @@ use Rattle.image_facts.specs.Laws.{part_place}
 use Rattle.machine_stands.specs.Frames.{IsWordOf, AreOperands}
 use Rattle.machine_stands.specs.Reading.{operands_of}
 use Rattle.heap_steps.proofs.ArrayRows.{element_at, long_at, load_null, load_outside, load_inside, loads_word, loads_long, LoadRows, iaload, laload, aaload, baload, caload, saload}
-use Rattle.heap_steps.proofs.ArrayDefined.{on_defined, only_if_defined, on_int_defined, on_object_defined, on_element_defined, IsOutside, IsArray, HaveWidth, numbers, references, long_is}
+use Rattle.heap_steps.proofs.ArrayDefined.{on_defined, only_if_defined, on_int_defined, on_object_defined, on_element_defined, IsOutside, IsArray, HaveWidth, numbers, references}
 use Rattle.heap_steps.proofs.ArrayScenes.{Laws, Scene, Comes, limits, top, code, x, place, saved, operands, At, effect_of, operand_values, goes_by, raises_by, one_on_top, words_are, null_test}
 use Rattle.heap_steps.proofs.Elements.{next_is, outside, inside, word_at, double_at}
 

@@ -5,6 +5,7 @@ use Rattle.std.specs.Int.{w32, w64}
 use Rattle.std.specs.Int.RustNames.{FitsSigned}
 use Rattle.std.proofs.lemmas.List.{length-set, length-reverse}
 use Rattle.std.proofs.lemmas.Bool.Decides.{nat_tests}
+use Rattle.machine_stands.proofs.Defined.{long_is}
 use Rattle.lists.specs.Members.{heads, tails}
 use Rattle.jop_opcodes.specs.Row as opcodes
 use Rattle.micro_sketch.specs.Rows.{head_of, tail_of}
@@ -23,7 +24,7 @@ use Rattle.image_facts.specs.Words.{int_word, high_word, low_word}
 use Rattle.image_facts.specs.Laws.{part_place}
 use Rattle.machine_stands.specs.Frames.{IsWordOf, AreOperands}
 use Rattle.heap_steps.proofs.ArrayRows.{long_at, four_under, long_null, long_outside, long_inside, lastore_null, lastore_outside, lastore_inside}
-use Rattle.heap_steps.proofs.ArrayDefined.{only_if_defined, on_int_defined, on_long_defined, on_object_defined, on_element_defined, IsOutside, IsArray, numbers, long_is}
+use Rattle.heap_steps.proofs.ArrayDefined.{only_if_defined, on_int_defined, on_long_defined, on_object_defined, on_element_defined, IsOutside, IsArray, numbers}
 use Rattle.heap_steps.proofs.Kept.{keeps_long}
 use Rattle.heap_steps.proofs.ArrayScenes.{Laws, Scene, Comes, limits, top, x, place, saved, operands, At, effect_of, operand_values, shows, writes_by, raises_by, one_on_top, long_on_top, words_are, null_test}
 use Rattle.heap_steps.proofs.Elements.{next_is, outside, inside, double_at}

@@ -3,6 +3,7 @@ use Rattle.std.proofs.Common.{◌≡◌, ℕ, ◌+◌, ◌%◌, ◌^◌, ◌<◌
 use Rattle.std.specs.Prelude.{slice_get, slice_set}
 use Rattle.std.proofs.lemmas.Option.{none-some}
 use Rattle.std.proofs.lemmas.List.{length-set}
+use Rattle.machine_stands.proofs.Defined.{class_is, long_is, part_at}
 use Rattle.lists.specs.Members.{heads, tails}
 use Rattle.lists.specs.Lemmas.{holds_at, onto_some, some_same}
 use Rattle.jop_opcodes.specs.Form.{one, UnsignedShort}
@@ -26,7 +27,7 @@ use Rattle.machine_stands.specs.Frames.{IsWordOf, AreOperands}
 use Rattle.machine_stands.specs.Reading.{operands_of}
 use Rattle.heap_steps.specs.Writing.{SamePlaces}
 use Rattle.heap_steps.proofs.FieldRows.{first, second, field_at, is_word, is_double, puts_word, puts_double, puts_word_null, puts_double_null, putfield_word, putfield_double, putfield_word_null, putfield_double_null}
-use Rattle.heap_steps.proofs.FieldDefined.{part_at, on_defined, only_if_defined, on_top_defined, on_object_defined, class_is, suits_wide, suits_set, declared_wide, long_is}
+use Rattle.heap_steps.proofs.FieldDefined.{on_defined, only_if_defined, on_top_defined, on_object_defined, suits_wide, suits_set, declared_wide}
 use Rattle.heap_steps.proofs.FieldScenes.{Laws, Scene, Comes, limits, top, code, x, place, saved, operands, At, effect_of, named, writes_by, null_by, has_entry, one_on_top, long_on_top, words_are, null_test, there_test, sum_is, next_is}
 
 -- ---- the instruction

@@ -3,6 +3,7 @@ use Rattle.std.proofs.Common.{◌≡◌, ℕ, suc, ◌+◌, ◌%◌, ◌^◌, Bo
 use Rattle.std.specs.Prelude.{slice_index}
 use Rattle.std.proofs.lemmas.List.{get_or-drop}
 use Rattle.std.proofs.Math.Nat.{mod-eq_of_lt}
+use Rattle.micro_sketch.proofs.RowSteps.{no_stalls}
 use Rattle.micro_sketch.specs.Sketch.{Sketch, exec}
 use Rattle.micro_sketch.specs.Stands.{PortFits, Reaches, stalls, stalls_for}
 use Rattle.micro_sketch.specs.Laws.{MachineFollows, CostsHold}
@@ -13,9 +14,6 @@ use Rattle.machine_stands.specs.Shown.{SketchesShow}
 use Rattle.machine_stands.specs.Going.{LeavesFrame, FramesRaise}
 use Rattle.machine_stands.specs.Fixed.{RaiseListIsRead}
 use Rattle.heap_steps.specs.Raising.{MadeRaisesRun, FaultsAreRaised, raised_by}
-
-no_stalls : (y : Sketch) (r : ℕ) → y.loads ≡ 0 → y.words ≡ 0 → stalls y r ≡ 0
-no_stalls y r loads words = let none : stalls_for 0 0 r ≡ 0 = omega arith in ap (λ (k : ℕ). stalls_for k y.words r) loads ∙ ap (λ (k : ℕ). stalls_for 0 k r) words ∙ none
 
 pub made_raises_run : MachineFollows → CostsHold → MadeRaisesRun
 made_raises_run follows costs n p op f x e m h g =

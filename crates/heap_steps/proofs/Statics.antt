@@ -3,6 +3,7 @@ use Rattle.std.proofs.Common.{◌≡◌, ℕ, ◌+◌, ◌%◌, ◌^◌, ◌<◌
 use Rattle.std.specs.Prelude.{slice_get, slice_index, slice_set}
 use Rattle.std.proofs.lemmas.Option.{none-some}
 use Rattle.std.proofs.lemmas.List.{length-set}
+use Rattle.machine_stands.proofs.Defined.{item_at, long_is}
 use Rattle.lists.specs.Members.{heads, tails}
 use Rattle.lists.specs.Lemmas.{holds_at, onto_some, some_is, some_same}
 use Rattle.jop_opcodes.specs.Form.{one, UnsignedShort}
@@ -27,7 +28,7 @@ use Rattle.machine_stands.specs.Frames.{IsWordOf}
 use Rattle.machine_stands.specs.Reading.{operands_of}
 use Rattle.heap_steps.specs.Writing.{SamePlaces}
 use Rattle.heap_steps.proofs.FieldRows.{first, second, is_word, is_double, getstatic_word, getstatic_double, putstatic_word, putstatic_double}
-use Rattle.heap_steps.proofs.FieldDefined.{item_at, on_defined, only_if_defined, on_top_defined, suits_wide, suits_set, declared_wide, long_is}
+use Rattle.heap_steps.proofs.FieldDefined.{on_defined, only_if_defined, on_top_defined, suits_wide, suits_set, declared_wide}
 use Rattle.heap_steps.proofs.FieldScenes.{Laws, Scene, Comes, limits, top, code, x, place, saved, operands, At, effect_of, named, shows, goes_by, writes_by, has_entry, one_on_top, long_on_top, words_are, null_test, there_test, next_is}
 
 -- ---- the instructions

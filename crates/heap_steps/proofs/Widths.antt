@@ -3,6 +3,7 @@ use Rattle.std.proofs.Common.{◌≡◌, ℕ, zero, suc, ◌+◌, ◌*◌, Bool,
 use Rattle.std.specs.Prelude.{slice_get, sum_by}
 use Rattle.std.proofs.lemmas.Option.{none-some}
 use Rattle.std.proofs.lemmas.List.Sums.{sum_by-cons}
+use Rattle.machine_stands.proofs.Defined.{object_at}
 use Rattle.lists.specs.Lemmas.{holds_at, some_same}
 use Rattle.bytecode_model.specs.declared.Value.{Value}
 use Rattle.bytecode_model.specs.declared.Value.TheVariants.{Null}
@@ -14,7 +15,6 @@ use Rattle.bytecode_model.specs.WellFormed.{AreAlike, IsLength, IsWellFormed, fi
 use Rattle.image_facts.specs.Places.{object_place}
 use Rattle.image_facts.specs.Laws.{FieldsAreWide}
 use Rattle.heap_steps.specs.Widths.{element_words, IsAsWide, ArraysAreShort, FieldsHaveWidths, FieldsHavePlaces, ElementsHaveWidths, ElementsHavePlaces, StaticsHaveWidths}
-use Rattle.heap_steps.proofs.Kit.{object_at}
 
 -- what is well formed of an object
 record HasShape (P : Program) (o : Object) (k : Kind) : Type 0 where

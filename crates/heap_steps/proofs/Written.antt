@@ -3,6 +3,8 @@ use Rattle.std.proofs.Common.{◌≡◌, ℕ, zero, suc, ◌+◌, ◌<◌, ℤ, 
 use Rattle.std.specs.Prelude.{slice_get, slice_set, sum_by}
 use Rattle.std.proofs.lemmas.Option.{none-some}
 use Rattle.std.proofs.lemmas.List.Sums.{sum_by-cons}
+use Rattle.machine_stands.proofs.Defined.{long_is}
+use Rattle.machine_stands.proofs.Memory.{differ_padded}
 use Rattle.lists.specs.Lemmas.{onto_some, some_same}
 use Rattle.bytecode_model.specs.declared.Value.{Value}
 use Rattle.bytecode_model.specs.declared.Value.TheVariants.{Int, Long, Ref, Null, Unset}
@@ -20,7 +22,6 @@ use Rattle.jop_core.specs.State as machine
 use Rattle.machine_stands.specs.Frames.{IsWordOf}
 use Rattle.machine_stands.specs.StandsFor.{StandsFor, memory_of}
 use Rattle.heap_steps.specs.Writing.{WritesLong, PartsAreWritten, LongPartsAreWritten, StaticsAreWritten, LongStaticsAreWritten, PlacesStay}
-use Rattle.heap_steps.proofs.Kit.{differ_padded}
 
 pub record WriteLaws : Type 0 where
   pub written : WordsAreWritten
@@ -76,13 +77,6 @@ long_written laws whole other place a b n d =
 
 same_words : (v w : Value) → is_long w ≡ is_long v → value_words w ≡ value_words v
 same_words v w e = ap (λ (b : Bool). if b then 2 else 1) e
-
-long_is : (v : Value) → is_long v ≡ true → (n : ℤ) × (v ≡ Long n)
-long_is (Int n) h = absurd (cc)
-long_is (Long n) h = (n, refl)
-long_is (Ref p) h = absurd (cc)
-long_is Null h = absurd (cc)
-long_is Unset h = absurd (cc)
 
 word_put : WriteLaws → (P : Program) (pl : Places) (n size : ℕ) (m : machine.State) (s t : State) (place : ℕ) (v w : Value) (word : ℕ) → StandsFor P pl n size m s → is_long v ≡ false → is_long w ≡ false → (w ≡ Unset → ⊥)
     → IsWordOf (object_place P pl s.objects) w word

@@ -5,6 +5,7 @@ use Rattle.std.specs.Option.{option_map_or, option_or, IsSomeAnd}
 use Rattle.std.specs.List.{list_any, range_with_len}
 use Rattle.std.proofs.lemmas.Bool.{false≢true, both_ways, eqb-true, or_cases, and_from, cases_Bool, cond-true, cond-false, false_from_ne_true}
 use Rattle.std.proofs.lemmas.Option.{slice_get_within}
+use Rattle.program_laws.proofs.Objects.{left_get}
 use Rattle.class_pool.specs.declared.class.Member.{Member}
 use Rattle.class_pool.specs.declared.class.ClassFile.{ClassFile}
 use Rattle.bytecode_model.specs.Program.{object_class}
@@ -31,7 +32,7 @@ use Rattle.program_laws.proofs.Numbering.{listed, place_has}
 use Rattle.program_laws.proofs.Programs.{some_and, list_at}
 use Rattle.image_words.specs.Slots.{are_named_alike, interface_methods, inherited_methods, own_methods, has_slot, own_slots, slots, table_slots, slot_of}
 use Rattle.image_laws.specs.Laws.{SlotSelects, CallsHaveSlots}
-use Rattle.image_laws.proofs.Items.{left_get, with_more, with_any, first_place}
+use Rattle.image_laws.proofs.Items.{with_more, with_any, first_place}
 use Rattle.image_laws.proofs.SlotLemmas.{above_slots, slots_step, begins, made_for}
 
 -- ---- signatures

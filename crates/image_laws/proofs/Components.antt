@@ -5,6 +5,7 @@ use Rattle.std.specs.List.{filter, flat_map, list_any, range_with_len, AllByRecu
 use Rattle.std.proofs.lemmas.Bool.{false≢true, both_ways, or_cases, or_left, or_right, eqb-true, eq-eqb, cases_Bool, not_from_false}
 use Rattle.std.proofs.lemmas.List.Folds.{list_any-append}
 use Rattle.std.proofs.lemmas.Option.{slice_get_within}
+use Rattle.program_laws.proofs.Rows.{same_self}
 use Rattle.descriptors.specs.declared.descriptor.Element.{Element}
 use Rattle.descriptors.specs.declared.descriptor.Element.TheVariants as elements
 use Rattle.class_pool.specs.declared.entry.Entry.{Entry}
@@ -25,11 +26,6 @@ use Rattle.program_laws.proofs.Facts.{all_at}
 use Rattle.image_laws.specs.Laws.{ComponentsAreNumbered}
 
 -- ---- kinds
-
-pub same_self : (k : Kind) → same_kind k k ≡ true
-same_self (OfClass c) = eq-eqb c c refl
-same_self (OfNumbers a) = eq-eqb a a refl
-same_self (OfReferences k) = same_self k
 
 pub same_is : (k l : Kind) → same_kind k l ≡ true → k ≡ l
 same_is (OfClass c) (OfClass d) h = ap OfClass (eqb-true c d h)

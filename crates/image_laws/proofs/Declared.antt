@@ -4,6 +4,7 @@ use Rattle.std.specs.Prelude.{slice_get, is_some, unwrap_or, if◌then◌else◌
 use Rattle.std.specs.Option.{option_map, option_map_or}
 use Rattle.std.specs.List.{filter, filter_map, cons_option, flat_map, list_any, enumerate_from, AllByRecursion}
 use Rattle.std.proofs.lemmas.Bool.{false≢true, and_parts, eqb-true, cond-true, cond-false, cases_Bool}
+use Rattle.program_laws.proofs.Rows.{left_all}
 use Rattle.class_pool.specs.declared.class.Member.{Member}
 use Rattle.class_pool.specs.declared.class.ClassFile.{ClassFile}
 use Rattle.descriptors.specs.declared.descriptor.Element.{Element}
@@ -29,9 +30,9 @@ use Rattle.program_tables.specs.Unresolved.{Mention, FieldDescriptor, is_there, 
 use Rattle.program_tables.specs.Unsupported.{is_float, is_double, items_where, items_of_types, items_at_field, items_in_method, sited, unsupported_in}
 use Rattle.program_tables.specs.Resolving.{IsResolved}
 use Rattle.program_laws.proofs.Facts.{all_at}
-use Rattle.program_laws.proofs.Selections.{unless_none}
+use Rattle.program_laws.proofs.Selections.{unless_none, left_nil, right_nil}
 use Rattle.program_laws.proofs.Statics.{ReadFields}
-use Rattle.image_laws.proofs.Instructions.{left_all, map_all}
+use Rattle.image_laws.proofs.Instructions.{map_all}
 
 -- ---- nothing unsupported
 
@@ -42,14 +43,6 @@ is_nil (x ∷ xs) = false
 nil_not : {A : Type 0} (x : A) (xs : List A) → x ∷ xs ≡ [] → ⊥
 unfolding is_nil
 nil_not x xs h = false≢true (ap is_nil h)
-
-left_nil : {A : Type 0} (xs ys : List A) → xs ++ ys ≡ [] → xs ≡ []
-left_nil [] ys h = refl
-left_nil (x ∷ xs) ys h = absurd (nil_not x (xs ++ ys) h)
-
-right_nil : {A : Type 0} (xs ys : List A) → xs ++ ys ≡ [] → ys ≡ []
-right_nil [] ys h = h
-right_nil (x ∷ xs) ys h = absurd (nil_not x (xs ++ ys) h)
 
 map_nil : {A B : Type 0} (f : A → B) (xs : List A) → map f xs ≡ [] → xs ≡ []
 map_nil f [] h = refl
@@ -129,9 +122,6 @@ field_mentioned cs r c k i f h e =
     let all = left_all P (map FieldDescriptor k.fields) (flat_map (mentions_in_method k) k.methods) (r.linkable c k h).mentions.1 in
     let one = all_at (λ m. P (FieldDescriptor m)) k.fields i f (map_all P FieldDescriptor k.fields all) e in
     unless_none (are_there cs (classes_in_field_descriptor (text_at k.pool f.descriptor))) NoClass one
-
-text_case : (o : Option (List ℕ)) (units : List ℕ) → o ≡ Some units → unwrap_or o [] ≡ units
-text_case o units h = ap (λ x. unwrap_or x []) h
 
 pub field_has_type : ReadFields → (cs : List ClassFile) → IsResolved cs → (f : Place) (m : Member) → field_at cs f ≡ Some m → (d : Declared) × (declared_at cs f ≡ Some d)
 field_has_type read cs r f m h =

@@ -3,6 +3,7 @@ use Rattle.std.proofs.Common.{◌≡◌, ℕ, zero, suc, List, [], ◌∷◌, Op
 use Rattle.std.specs.Prelude.{IfSome, slice_get}
 use Rattle.std.specs.Option.{IsSomeAnd}
 use Rattle.std.proofs.lemmas.List.{length-map}
+use Rattle.bytecode_typing.proofs.Formed.{default_long}
 use Rattle.bytecode_model.specs.declared.Value.{Value}
 use Rattle.bytecode_model.specs.declared.Value.TheVariants.{Null, Unset}
 use Rattle.bytecode_model.specs.Types.{NumberType, IntType, LongType, Kind, OfClass, OfNumbers, OfReferences, Declared, Numeric, Reference, is_long, zero_of, default, element_type}
@@ -18,11 +19,6 @@ use Rattle.bytecode_typing.proofs.Values.{declared_value, declared_long, declare
 use Rattle.program_tables.specs.Resolved.{resolved}
 use Rattle.program_laws.specs.Laws.{ProgramLaw}
 use Rattle.image_laws.specs.Laws.{FirstObjectsLaw}
-
-default_long : (d : Declared) → is_long (default d) ≡ is_long_type (type_of d)
-default_long (Numeric IntType) = refl
-default_long (Numeric LongType) = refl
-default_long (Reference k) = refl
 
 module _ (P : Program) (ks : List ℕ) where
   not_unset : (d : Declared) (v : Value) → HasDeclared P ks d v → v ≡ Unset → ⊥

@@ -5,6 +5,8 @@ use Rattle.std.specs.Option.{option_map, option_map_or}
 use Rattle.std.specs.List.{filter, filter_map, cons_option, find, flat_map, AllByRecursion}
 use Rattle.std.proofs.lemmas.Bool.{false≢true}
 use Rattle.std.proofs.lemmas.Option.{slice_get-get_or, slice_get_within}
+use Rattle.program_laws.proofs.Rows.{left_all, mapped, right_all}
+use Rattle.program_laws.proofs.Objects.{left_get}
 use Rattle.class_pool.specs.declared.entry.Entry.{Entry}
 use Rattle.class_pool.specs.Grammar.{entry_at}
 use Rattle.class_pool.specs.Found.{code_of}
@@ -27,7 +29,6 @@ use Rattle.program_tables.specs.Unresolved.{Mention, FieldDescriptor, AtInstruct
 use Rattle.program_tables.specs.Resolving.{IsResolved}
 use Rattle.program_laws.proofs.Numbering.{at_place}
 use Rattle.image_words.specs.Pools.{instructions_in}
-use Rattle.image_laws.proofs.Items.{left_get}
 
 -- ---- lists
 
@@ -39,14 +40,6 @@ pub flat_get : {A B : Type 0} (f : A → List B) (xs : List A) (i : ℕ) (x : A)
 flat_get f [] i x j y h e = absurd (none≢some x h)
 flat_get f (z ∷ xs) zero x j y h e = (j, left_get (f z) (flat_map f xs) j y (ap (λ w. slice_get (f w) j) (some_same z x h) ∙ e))
 flat_get f (z ∷ xs) (suc i) x j y h e = let r = flat_get f xs i x j y h e in right_get (f z) (flat_map f xs) r.0 y r.1
-
-pub left_all : {A : Type 0} (P : A → Type 0) (xs ys : List A) → AllByRecursion P (xs ++ ys) → AllByRecursion P xs
-left_all P [] ys a = tt
-left_all P (x ∷ xs) ys a = (a.0, left_all P xs ys a.1)
-
-pub right_all : {A : Type 0} (P : A → Type 0) (xs ys : List A) → AllByRecursion P (xs ++ ys) → AllByRecursion P ys
-right_all P [] ys a = a
-right_all P (x ∷ xs) ys a = right_all P xs ys a.1
 
 pub join_all : {A : Type 0} (P : A → Type 0) (xs ys : List A) → AllByRecursion P xs → AllByRecursion P ys → AllByRecursion P (xs ++ ys)
 join_all P [] ys a b = b
@@ -66,22 +59,9 @@ flat_all P Q f g h (x ∷ xs) a = join_all Q (g x) (flat_map g xs) (h x (left_al
 
 -- ---- the instructions of a method
 
-mapped_case : {B : Type 0} (o : Option B) (ys : List B) (y : B) → o ≡ Some y → (j : ℕ) × (slice_get (cons_option o ys) j ≡ Some y)
-mapped_case None ys y h = absurd (none≢some y h)
-mapped_case (Some z) ys y h = (0, h)
-
 later_case : {B : Type 0} (o : Option B) (ys : List B) (j : ℕ) (y : B) → slice_get ys j ≡ Some y → (k : ℕ) × (slice_get (cons_option o ys) k ≡ Some y)
 later_case None ys j y h = (j, h)
 later_case (Some z) ys j y h = (suc j, h)
-
-mapped : {A B : Type 0} (f : A → Option B) (xs : List A) (i : ℕ) (x : A) (y : B) → slice_get xs i ≡ Some x → f x ≡ Some y → (j : ℕ) × (slice_get (filter_map f xs) j ≡ Some y)
-mapped f [] i x y h e = absurd (none≢some x h)
-mapped f (z ∷ xs) zero x y h e = mapped_case (f z) (filter_map f xs) y (ap f (some_same z x h) ∙ e)
-mapped f (z ∷ xs) (suc i) x y h e = let r = mapped f xs i x y h e in later_case (f z) (filter_map f xs) r.0 y r.1
-
-pub instr_ok : {E : Type 0} (x : Result Instr E) (i : Instr) → as_instr x ≡ Some i → x ≡ Ok i
-instr_ok (Ok j) i h = ap Ok (some_same j i h)
-instr_ok (Err e) i h = absurd (none≢some i h)
 
 abbrev pub placed : ℕ → Instr → Placed
 placed pc i = record { pc = pc; instr = i }
@@ -93,15 +73,6 @@ among_instructions m k pc i h s d =
     let one : placed_at k.code pc ≡ Some (placed pc i) = ap (λ x. option_map (λ i. placed pc i) (as_instr x)) d in
     let r = mapped (placed_at k.code) (starts_of k.code) at.0 pc (placed pc i) at.1 one in
     (r.0, ap (λ o. slice_get (option_map_or (λ k. filter_map (placed_at k.code) (starts_of k.code)) o []) r.0) h ∙ r.1)
-
-pub operand_is : (cs : List ClassFile) (n : ℕ) (p : Place) (c : ClassFile) (m : Member) (k : Code) (pc : ℕ) (i : Instr) → slice_get (methods_by_number cs) n ≡ Some p → slice_get cs p.0 ≡ Some c → slice_get c.methods p.1 ≡ Some m → code_of m ≡ Some k
-    → decoded k.code pc ≡ Ok i → (resolved cs).operand n pc ≡ operand_in cs p.0 c i
-operand_is cs n p c m k pc i hn h e hk d =
-    let code : onto (method_at cs p) code_of ≡ Some k = ap (λ o. onto o code_of) (at_place cs p c m h e) ∙ hk in
-    let instr : onto (onto (method_at cs p) code_of) (λ k. placed_at k.code pc) ≡ Some (placed pc i) = ap (λ o. onto o (λ k. placed_at k.code pc)) code ∙ ap (λ x. option_map (λ i. placed pc i) (as_instr x)) d in
-    ap (λ o. option_map_or (λ p. at_instruction cs p pc NoOperand (operand_in cs)) o NoOperand) hn
-    ∙ (ap (λ o. option_map_or (λ c. option_map_or (λ q. operand_in cs p.0 c q.instr) (onto (onto (method_at cs p) code_of) (λ k. placed_at k.code pc)) NoOperand) o NoOperand) h
-    ∙ ap (λ o. option_map_or (λ q. operand_in cs p.0 c q.instr) o NoOperand) instr)
 
 -- ---- what they name is resolved
 

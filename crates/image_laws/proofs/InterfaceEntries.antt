@@ -31,9 +31,9 @@ use Rattle.program_tables.specs.Resolving.{IsResolved}
 use Rattle.program_laws.proofs.ClassLaws.{ClassLaws}
 use Rattle.program_laws.proofs.Facts.{all_at, map_or_at, set_of}
 use Rattle.program_laws.proofs.Hierarchies.{above_interface}
-use Rattle.program_laws.proofs.Selections.{right_nil, method_supported, code_or_abstract, interface_abstract}
+use Rattle.program_laws.proofs.Selections.{right_nil, method_supported, code_or_abstract, interface_abstract, no_interface_code}
 use Rattle.program_laws.proofs.Numbering.{at_place}
-use Rattle.program_laws.proofs.Calls.{IsNamed, method_is_named}
+use Rattle.program_laws.proofs.Calls.{IsNamed, method_is_named, own_init}
 use Rattle.image_words.specs.Pools.{no_words, is_fixed_call, operand_place, taken_place, interface_word, instructions_in, names_entry, naming, words_of_entry}
 use Rattle.image_laws.specs.InterfaceEntries.{HasBoot, IsInterfaceEntry, BootHasNoInterfaceEntry, InterfaceEntriesTakeNothing, InterfaceEntriesBeginWithZero, InterfaceWordsBeginWithZero}
 use Rattle.image_laws.proofs.Calls.{not_of_object}
@@ -52,9 +52,6 @@ some_of None h = absurd (false≢true h)
 some_of (Some x) h = (x, refl)
 
 -- ---- a method named as one of an interface is one
-
-own_init : ClassLaws → (cs : List ClassFile) → IsResolved cs → (n : ℕ) (s : Signature) (m : Place) → is_init s ≡ true → find_method cs n s ≡ Some m → m.0 ≡ n
-own_init laws cs r n s m i h = ((laws.methods.signatures cs).declared s n m (sym ((laws.lookups cs r.acyclic n s).of_init i) ∙ h)).0
 
 module _ (laws : ClassLaws) (law : MethodsHaveCode) (cs : List ClassFile) (r : IsResolved cs) (c : ℕ) (k : ClassFile) (owner : ℕ) (s : Signature) where
   of_interface : (op : ℕ) (n : IsNamed cs c k true op owner s) → is_interface cs n.place.0 ≡ true
@@ -82,11 +79,6 @@ module _ (laws : ClassLaws) (law : MethodsHaveCode) (cs : List ClassFile) (r : I
       both_ways (is_abstract x) (not-true (is_abstract x) (sym (map_or_at (λ m. not (is_abstract m)) (method_at cs n.place) x at) ∙ p.0)) (sym (map_or_at is_abstract (method_at cs n.place) x at) ∙ abstract)
 
 -- ---- a static method of an interface is its initialization method
-
-no_interface_code : (c : ClassFile) (i : ℕ) (m : Member) → unsupported_in c ≡ [] → slice_get c.methods i ≡ Some m → has_interface_code c m ≡ false
-no_interface_code c i m h e =
-    let later = right_nil (items_of_types (types_in_method (text_at c.pool m.descriptor))) (items_where (is_native m) Native ++ items_where (has_interface_code c m) InterfaceCode) (method_supported c i m h e) in
-    where_not (has_interface_code c m) InterfaceCode (right_nil (items_where (is_native m) Native) (items_where (has_interface_code c m) InterfaceCode) later)
 
 only_initializers : (a b c d : Bool) → (a && b && not (c && d)) ≡ false → a ≡ true → b ≡ true → c ≡ true
 only_initializers true true true d h p q = refl

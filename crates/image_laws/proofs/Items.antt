@@ -11,11 +11,6 @@ use Rattle.class_lookup.proofs.Overriding.{has, has_head, has_tail, has_cases, a
 use Rattle.program_tables.specs.Lists.{with_item, with_items}
 use Rattle.program_laws.proofs.Numbering.{has_place}
 
-pub left_get : {A : Type 0} (xs ys : List A) (k : ℕ) (x : A) → slice_get xs k ≡ Some x → slice_get (xs ++ ys) k ≡ Some x
-left_get [] ys k x h = absurd (none≢some x h)
-left_get (y ∷ xs) ys zero x h = h
-left_get (y ∷ xs) ys (suc k) x h = left_get xs ys k x h
-
 pub any_left : (test : Place → Bool) (xs ys : List Place) → list_any test xs ≡ true → list_any test (xs ++ ys) ≡ true
 any_left test xs ys h = list_any-append test xs ys ∙ or_left (list_any test xs) (list_any test ys) h
 

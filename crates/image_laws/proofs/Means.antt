@@ -3,6 +3,8 @@ use Rattle.std.proofs.Common.{◌≡◌, ◌⊎◌, inl, inr, ℕ, ◌+◌, ◌*
 use Rattle.std.specs.Prelude.{slice_get, Ok, is_some, IfSome, nat_le, unsigned_abs, if◌then◌else◌}
 use Rattle.std.specs.Option.{option_map, option_map_or}
 use Rattle.std.proofs.lemmas.Bool.{false≢true, or_left, or_right, eq-eqb}
+use Rattle.program_laws.proofs.Entries.{none_of}
+use Rattle.program_laws.proofs.Rows.{instr_ok, operand_is}
 use Rattle.class_pool.specs.declared.entry.Entry.{Entry}
 use Rattle.class_pool.specs.declared.entry.Entry.TheVariants as entries
 use Rattle.class_pool.specs.Grammar.{entry_at}
@@ -33,14 +35,14 @@ use Rattle.program_laws.proofs.ClassLaws.{ClassLaws}
 use Rattle.program_laws.proofs.Facts.{all_at}
 use Rattle.program_laws.proofs.Numbering.{numbered}
 use Rattle.program_laws.proofs.Objects.{in_range}
-use Rattle.program_laws.proofs.Statics.{ReadFields}
+use Rattle.program_laws.proofs.Statics.{ReadFields, range_of}
 use Rattle.program_laws.proofs.Calls.{IsNamed, method_is_named}
 use Rattle.image_words.specs.Layout.{pool_place, outline_of}
 use Rattle.image_words.specs.Pools.{no_words, string_words, numbered_place, field_words, is_fixed_call, taken_place, method_word, interface_word, instructions_in, words_of_entry, entry_words}
 use Rattle.image_words.specs.Regions.{places_of}
 use Rattle.image_words.specs.Laws.{EntriesLie}
 use Rattle.image_laws.specs.Laws.{EntriesAreNamed, IntsAreSaid, StringsAreSaid, ClassesAreSaid, InstanceFieldsAreSaid, StaticFieldsAreSaid, IsCalled, VirtualCallsAreSaid, InterfaceCallsAreSaid, IsSmall, OperandsLaw}
-use Rattle.image_laws.proofs.Instructions.{instr_ok, placed, among_instructions, operand_is, flat_get, IsLinked, all_linked, entry_within}
+use Rattle.image_laws.proofs.Instructions.{placed, among_instructions, flat_get, IsLinked, all_linked, entry_within}
 use Rattle.image_laws.proofs.Mentioned.{kind_there}
 use Rattle.image_laws.proofs.Operands.{Both, says_by, text_case, class_case, field_named_case, SaysCall, method_means, NamesAlike, taken_is}
 
@@ -90,9 +92,6 @@ when_map false f o named h = absurd (none≢some named h)
 kept_map : (b : Bool) (f : Signature → Named) (o : Option Signature) (s : Signature) → o ≡ Some s → is_some (if b then option_map f o else None) ≡ true → (if b then option_map f o else None) ≡ Some (f s)
 kept_map true f o s h e = ap (option_map f) h
 kept_map false f o s h e = absurd (false≢true e)
-
-range_of : (o : Option Entry) (e : Entry) → IfSome o IsInRange → o ≡ Some e → IsInRange e
-range_of o e h s = subst (λ x. IfSome x IsInRange) s h
 
 pub named_at : (c : ClassFile) (i : Instr) (index : ℕ) (e : Entry) → index_of_entry i ≡ index → entry_at c.pool index ≡ Some e → named_in c i ≡ named_by c.pool c.major i.op index e
 named_at c i index e h he =
@@ -148,10 +147,6 @@ interface_said law cs r small cn c ofi op owner s n hc why j m hj hm =
     let v = law cs r small cn c owner s hc why in
     let same = same_call cs cn c ofi op owner s n j m hj hm v.0 v.1 v.2 v.3 in
     (v.4 ∙ ap argument_words same.method, subst (λ (x : Method). IsInterfaceNumber (resolved cs) (places_of cs) j x.owner (word % 2 ^ 24)) same.method (subst (λ x. IsInterfaceNumber (resolved cs) (places_of cs) x v.2.owner (word % 2 ^ 24)) same.number v.5))
-
-none_of : (b : Bool) → (b && false) ≡ false
-none_of true = refl
-none_of false = refl
 
 no_interface : (op : ℕ) → takes_method op ≡ true → op ≡ 185 → ⊥
 no_interface op h e = false≢true (ap takes_method (sym e) ∙ h)

@@ -5,6 +5,9 @@ use Rattle.std.specs.Option.{option_map, option_map_or}
 use Rattle.std.specs.List.{flat_map, range_with_len}
 use Rattle.std.proofs.lemmas.Bool.{false≢true, both_ways, or_cases, or_left, eqb-true, cond-true, cond-false, cases_Bool}
 use Rattle.std.proofs.lemmas.Grind.{flat_map-append}
+use Rattle.program_tables.proofs.MentionLemmas.{is_array}
+use Rattle.program_laws.proofs.Entries.{kind_of_class}
+use Rattle.program_laws.proofs.Rows.{same_self}
 use Rattle.class_pool.specs.Grammar.{class_name_of}
 use Rattle.class_pool.specs.declared.class.ClassFile.{ClassFile}
 use Rattle.descriptors.specs.declared.descriptor.Element.TheVariants as elements
@@ -31,7 +34,7 @@ use Rattle.program_laws.proofs.Facts.{all_at, map_or_some}
 use Rattle.program_laws.proofs.Selections.{unless_none}
 use Rattle.program_laws.proofs.Calls.{first_none}
 use Rattle.image_words.specs.Pools.{instructions_in}
-use Rattle.image_laws.proofs.Components.{same_self, has_kind, kinds_left, kinds_right, kinds_distinct, kinds_range, any_index, IsOver, over_entry}
+use Rattle.image_laws.proofs.Components.{has_kind, kinds_left, kinds_right, kinds_distinct, kinds_range, any_index, IsOver, over_entry}
 
 -- ---- lists of lists
 
@@ -45,25 +48,6 @@ kinds_flat f (y ∷ xs) zero x k h e = kinds_left (f y) (flat_map f xs) k (ap (�
 kinds_flat f (y ∷ xs) (suc i) x k h e = kinds_right (f y) (flat_map f xs) k (kinds_flat f xs i x k h e)
 
 -- ---- a class that is named is no array
-
-name_is : (c : ClassFile) → IsClass c → is_class_name (name_of c) ≡ true
-name_is c k =
-    let t = k.rules.this_class in
-    let h = t.2 in
-    ap (λ o. is_class_name (option_map_or (text_at c.pool) (class_name_of o) [])) t.1 ∙ (ap (λ o. is_class_name (unwrap_or o [])) h.1 ∙ h.2)
-
-kind_of_class : ClassLaws → (cs : List ClassFile) → IsResolved cs → (c : ClassFile) (index d : ℕ) → class_named cs c index ≡ Some d → kind_of_entry cs c.pool index ≡ Some (OfClass d)
-kind_of_class laws cs r c index d h =
-    let text = class_text c.pool index in
-    let f = index_found (λ x. same_text (name_of x) text) cs d h in
-    let named : is_class_name text ≡ true = ap is_class_name (sym ((laws.comparisons.texts (name_of f.0) text).0 f.2)) ∙ name_is f.0 (all_at IsClass cs d f.0 r.grammar f.1) in
-    ap (λ o. onto o (kind_of_type cs)) (cond-true (is_class_name text) (Some (record { dimensions = 0; element = elements.Class text })) (field_in text) named)
-    ∙ ap (option_map (λ c. OfClass c)) h
-
-is_array : Kind → Bool
-is_array (OfReferences k) = true
-is_array (OfClass c) = false
-is_array (OfNumbers a) = false
 
 made_no_array : ClassLaws → (cs : List ClassFile) → IsResolved cs → (cur : ℕ) (c : ClassFile) (index : ℕ) (l : Kind) → why_class_use cs cur c 187 index ≡ None → kind_of_entry cs c.pool index ≡ Some (OfReferences l) → ⊥
 unfolding is_array

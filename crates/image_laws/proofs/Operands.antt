@@ -4,6 +4,7 @@ use Rattle.std.specs.Prelude.{slice_get, reverse, is_some, IsSome, if◌then◌e
 use Rattle.std.specs.Option.{option_map, option_map_or}
 use Rattle.std.specs.List.{flat_map, range_with_len, AllByRecursion}
 use Rattle.std.proofs.lemmas.Bool.{false≢true, both_ways, and_parts, and_from, or_cases, eqb-true, eq-eqb, cond-false, not-true, cases_Bool}
+use Rattle.class_lookup.proofs.Overriding.{place_same}
 use Rattle.class_pool.specs.declared.class.Member.{Member}
 use Rattle.class_pool.specs.declared.class.ClassFile.{ClassFile}
 use Rattle.class_pool.specs.Found.{code_of}
@@ -26,7 +27,6 @@ use Rattle.program_tables.specs.Resolved.{declared_at, declared_fields, body_in,
 use Rattle.program_tables.specs.Unresolved.{same_bool, why_method, why_named}
 use Rattle.program_tables.specs.Resolving.{IsResolved}
 use Rattle.program_laws.proofs.ClassLaws.{ClassLaws}
-use Rattle.program_laws.proofs.Places.{place_same}
 use Rattle.program_laws.proofs.Facts.{all_at, map_or_some, map_or_at}
 use Rattle.program_laws.proofs.Selections.{code_or_abstract}
 use Rattle.program_laws.proofs.Numbering.{at_place, number_of}

@@ -4,6 +4,7 @@ use Rattle.std.specs.Prelude.{slice_get, is_some, codes, unwrap_or}
 use Rattle.std.specs.Option.{option_map, option_map_or, IsSomeAnd}
 use Rattle.std.proofs.lemmas.Bool.{false≢true, both_ways, and_parts, cond-true, cond-false, false_from_ne_true}
 use Rattle.std.proofs.lemmas.Option.{slice_get_within}
+use Rattle.program_tables.proofs.NumberingLemmas.{got}
 use Rattle.class_pool.specs.declared.class.ClassFile.{ClassFile}
 use Rattle.class_pool.specs.Found.{code_of}
 use Rattle.class_rules.specs.Found.{MethodsHaveCode}
@@ -30,7 +31,7 @@ use Rattle.program_tables.specs.Resolving.{IsResolved}
 use Rattle.program_laws.proofs.ClassLaws.{OrderLaws}
 use Rattle.program_laws.proofs.Facts.{all_at, map_or_some, map_or_at, set_of, distinct}
 use Rattle.program_laws.proofs.Hierarchies.{above_class, above_interface, either, root}
-use Rattle.program_laws.proofs.Selections.{abstract_has_none, interface_abstract, to_object}
+use Rattle.program_laws.proofs.Selections.{abstract_has_none, interface_abstract, to_object, public_instance}
 use Rattle.program_laws.proofs.Numbering.{at_place, numbered, place_has}
 use Rattle.program_laws.proofs.Programs.{list_at}
 use Rattle.image_words.specs.Slots.{interface_methods, interface_number, table_slots, slot_of}
@@ -54,11 +55,6 @@ and_get (Some x) P p = (x, refl, p)
 pub some_get : {A : Type 0} (o : Option A) → is_some o ≡ true → (x : A) × (o ≡ Some x)
 some_get None h = absurd (false≢true h)
 some_get (Some x) h = (x, refl)
-
-got : {A : Type 0} (xs : List A) (i : ℕ) → i < length xs → (x : A) × (slice_get xs i ≡ Some x)
-got [] i lt = absurd (omega (arith, lt))
-got (x ∷ xs) zero lt = (x, refl)
-got (x ∷ xs) (suc i) lt = got xs i (omega (arith, lt))
 
 -- ---- methods by number
 
@@ -128,11 +124,6 @@ slots_said order law found cs r named s m slot n k hs hn t c u ht he hu some =
     (picked_place cs c m a.0 u w a.2) (slot_fixed cs c slot a.0 lt a.1)
 
 -- ---- interface methods
-
-public_instance : (cs : List ClassFile) (m : Place) → is_public_instance cs m ≡ true → is_instance cs m ≡ true
-public_instance cs m h =
-    let x = map_or_some (λ k. is_public k && not (is_static k)) (method_at cs m) h in
-    map_or_at (λ k. not (is_static k)) (method_at cs m) x.0 x.1 ∙ (and_parts (is_public x.0) (not (is_static x.0)) x.2).1
 
 -- no interface has an initialization method of instances
 not_initializer : (cs : List ClassFile) → IsResolved cs → (m : Place) (s : Signature) → IsMethod cs m s → is_interface cs m.0 ≡ true → is_init s ≡ true → ⊥

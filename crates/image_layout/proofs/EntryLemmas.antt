@@ -132,10 +132,6 @@ methods_more ms i m old new at h e =
     ∙ (sym (map-append instr_of done (instructions_of m))
     ∙ ap (map instr_of) (sym (ap (flat_map instructions_of) (take_some ms i m at) ∙ (flat_map-append instructions_of (take i ms) (m ∷ []) ∙ ap (λ ys. done ++ ys) (append-nil (instructions_of m)))))))
 
-pub no_instr : {E : Type 0} (r : Result Instr E) → ((x : Instr) → r ≡ Ok x → ⊥) → as_instr r ≡ None
-no_instr (Ok x) h = absurd (h x refl)
-no_instr (Err e) h = refl
-
 -- ---- classes and methods
 
 pub array_of : (cs : List ClassFile) (n d : ℕ) (b : Base) → n ≡ d + 1 → numbered_place cs (outline_of cs) (Some (arrays_of n (base_kind b))) ≡ numbered_place cs (outline_of cs) (Some (OfReferences (arrays_of d (base_kind b))))
@@ -178,19 +174,10 @@ pub called : (cs : List ClassFile) (m : Place) (n words word number : ℕ) → H
 called cs m n words word number h a e =
     e ∙ ap (λ (w : ℕ). w * 2 ^ 24 + number) (a h.method h.numbered ∙ sym (ap (λ o. option_map_or argument_words o 0) h.resolved))
 
-pub no_copy : {T : Type 0} (r : Option (Bor T)) → ((x : Bor T) → r ≡ Some x → ⊥) → option_copied r ≡ None
-no_copy None h = refl
-no_copy (Some x) h = absurd (h x refl)
-
 pub interface_called : (cs : List ClassFile) (m : Option Place) (p : Place) (word number : ℕ) → m ≡ Some p → word ≡ option_map_or argument_words (resolved_method cs p) 0 * 2 ^ 24 + number → number ≡ unwrap_or (interface_number cs p) 0 → word ≡ interface_word cs m
 interface_called cs m p word number hm e hn = e ∙ (ap (λ (x : ℕ). option_map_or argument_words (resolved_method cs p) 0 * 2 ^ 24 + x) hn ∙ sym (ap (interface_word cs) hm))
 
 -- ---- entries one after another
-
-pub entry_there : (entries : List Entry) (place : ℕ) (e : Entry) → place < length entries → e ≡ get_or entries place e → entry_at entries (place + 1) ≡ Some e
-entry_there entries place e lt h =
-    let next : place + 1 ≡ suc place = omega arith in
-    ap (entry_at entries) next ∙ (slice_get-get_or entries place e lt ∙ ap Some (sym h))
 
 pub use_read : (cs : List ClassFile) (c : ℕ) (k : ClassFile) (xs : List Instr) (uses : List Use) (many i : ℕ) (d : Use) → uses ≡ map (use_of cs c k xs) (range_with_len 0 many) → i < many → get_or uses i d ≡ use_of cs c k xs i
 use_read cs c k xs uses many i d h lt = ap (λ us. get_or us i d) h ∙ get_or-map-range_with_len (use_of cs c k xs) 0 many i i d lt (omega arith)

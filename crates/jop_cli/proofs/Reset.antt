@@ -2,6 +2,7 @@
 use Rattle.std.proofs.Common.{◌≡◌, ◌≢◌, ℕ, zero, suc, ◌<◌, ◌≤◌, true, [], ◌∷◌, Some, None, map, length, refl, sym, ◌∙◌, ap, subst, arith, ◌⊎◌, inl, ⊎_elim, le-leb, lt-ltb, length-append}
 use Rattle.std.specs.Prelude.{slice_get, IfOk, Result, Ok, Err}
 use Rattle.std.specs.declared.option.Option.{Option}
+use Rattle.boundary.proofs.Starting.{boot_runs}
 use Rattle.memory_timing.specs.declared.Config.{Config}
 use Rattle.jop_words.specs.declared.command.Settings.{Settings}
 use Rattle.method_cache.specs.Contents.{can_load, empty}
@@ -58,15 +59,6 @@ started programs image grammar n config (Err e) is mode methods begins = tt
 onto_some : {A B : Type 0} (o : Option A) (g : A → Option B) (y : B) → onto o g ≡ Some y → (x : A) × (o ≡ Some x) × (g x ≡ Some y)
 onto_some None g y h = absurd (cc)
 onto_some (Some x) g y h = (x, refl, h)
-
-boot_runs : (P : Program) (s : State) → boot_state P ≡ Some s → s.mode ≡ Running
-boot_runs P s h =
-    let (k, method, from_method) = onto_some (slice_get P.methods P.boot) _ s h in
-    let (f, frame, is) = onto_some (first_frame P P.boot (map default k.parameters)) _ s from_method in
-    some_mode _ s is refl
-  where
-    some_mode : (u t : State) → ◌≡◌ {A = Option State} (Some u) (Some t) → u.mode ≡ Running → t.mode ≡ Running
-    some_mode u t h e = let same : u ≡ t = cc in subst (λ (z : State). z.mode ≡ Running) same e
 
 -- what goes on of these two runs
 on : (mode : Ending) → (mode ≡ Running) ⊎ (mode ≡ Ended) → IsGoing mode → mode ≡ Running

@@ -3,6 +3,7 @@ use Rattle.std.proofs.Common.{◌≡◌, ℕ, suc, ◌+◌, ◌<◌, ◌≤◌, 
 use Rattle.std.specs.Prelude.{Result, Ok, Err, IfOk, IfErr, cond, if◌then◌else◌, nat_le, find, slice_get, is_some, IfSome}
 use Rattle.std.specs.Option.{option_map_or}
 use Rattle.std.specs.List.{flat_map, AllByRecursion}
+use Rattle.core_classes.proofs.Lists.{all_along}
 use Rattle.lists.specs.Lists.{first}
 use Rattle.class_pool.specs.declared.class.Code.{Code}
 use Rattle.class_pool.specs.declared.class.ClassFile.{ClassFile}
@@ -25,7 +26,6 @@ use Rattle.jop_program.specs.Refusals.{Names, Support, Supertypes, Places, Menti
 use Rattle.jop_program.specs.Resolving.{AreClassesOf, IsFirstRefusal, IsProgramOf}
 use Rattle.jop_program.specs.Linking.{refusals_of, IsFirstOr, AreToLink, AreAccepted, IsLinked}
 use Rattle.jop_program.proofs.NameLemmas.{main_is_static}
-use Rattle.jop_program.proofs.OrderedLemmas.{all_along}
 use Rattle.jop_program.proofs.ResolvedLemmas.{Laws, core_long, item_there, left_none, right_none, core_off_cycle, none_on_cycle, are_resolved}
 use Rattle.jop_program.proofs.RefusalLemmas.{in_files, few_calls, calls_are_initialized, first_early, NoneEarly, none_early, first_of_mentions, rest_alone}
 
@@ -139,11 +139,11 @@ has_main : (b : Bool) → (if b then [] else answers.NoMain ∷ []) ≡ [] → b
 has_main true h = refl
 has_main false h = absurd (let f : (answers.NoMain ∷ []) ≡ [] = h in cc)
 
-found_case : {X : Type 0} (b : Bool) (p : X → Bool) (y : X) (ys : List X) (x : X) → cond b (Some y) (find p ys) ≡ Some x → (find p ys ≡ Some x → (i : ℕ) × (slice_get ys i ≡ Some x)) → (i : ℕ) × (slice_get (y ∷ ys) i ≡ Some x)
+pub found_case : {X : Type 0} (b : Bool) (p : X → Bool) (y : X) (ys : List X) (x : X) → cond b (Some y) (find p ys) ≡ Some x → (find p ys ≡ Some x → (i : ℕ) × (slice_get ys i ≡ Some x)) → (i : ℕ) × (slice_get (y ∷ ys) i ≡ Some x)
 found_case true p y ys x h later = (0, h)
 found_case false p y ys x h later = let r = later h in (suc r.0, r.1)
 
-found_there : {X : Type 0} (p : X → Bool) (xs : List X) (x : X) → find p xs ≡ Some x → (i : ℕ) × (slice_get xs i ≡ Some x)
+pub found_there : {X : Type 0} (p : X → Bool) (xs : List X) (x : X) → find p xs ≡ Some x → (i : ℕ) × (slice_get xs i ≡ Some x)
 found_there p [] x h = absurd (let f : None ≡ Some x = h in cc)
 found_there p (y ∷ ys) x h = found_case (p y) p y ys x h (found_there p ys x)
 

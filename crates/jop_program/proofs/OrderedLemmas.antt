@@ -6,6 +6,7 @@ use Rattle.std.specs.List.{filter, filter_map, cons_option, flat_map, range_with
 use Rattle.std.proofs.lemmas.Bool.{eqb-true, eq-eqb}
 use Rattle.std.proofs.lemmas.List.{reverse-append}
 use Rattle.std.proofs.lemmas.Option.{slice_get_within}
+use Rattle.core_classes.proofs.Lists.{all_along, all_join, all_parts}
 use Rattle.lists.specs.Lists.{onto}
 use Rattle.lists.specs.Numbers.{reached}
 use Rattle.lists.specs.Lemmas.{index_found}
@@ -16,18 +17,6 @@ use Rattle.program_tables.specs.Lists.{distinct}
 use Rattle.jop_program.specs.Linked.{is_initialized, initialization_order, initialized}
 
 -- ---- all of a list
-
-pub all_join : {X : Type 0} (P : X → Type 0) (xs ys : List X) → AllByRecursion P xs → AllByRecursion P ys → AllByRecursion P (xs ++ ys)
-all_join P [] ys h i = i
-all_join P (x ∷ xs) ys h i = (h.0, all_join P xs ys h.1 i)
-
-pub all_along : {X : Type 0} (P Q : X → Type 0) → ((x : X) → P x → Q x) → (xs : List X) → AllByRecursion P xs → AllByRecursion Q xs
-all_along P Q f [] h = tt
-all_along P Q f (x ∷ xs) h = (f x h.0, all_along P Q f xs h.1)
-
-all_parts : {X Y : Type 0} (P : X → Type 0) (Q : Y → Type 0) (f : X → List Y) → ((x : X) → P x → AllByRecursion Q (f x)) → (xs : List X) → AllByRecursion P xs → AllByRecursion Q (flat_map f xs)
-all_parts P Q f g [] h = tt
-all_parts P Q f g (x ∷ xs) h = all_join Q (f x) (flat_map f xs) (g x h.0) (all_parts P Q f g xs h.1)
 
 all_kept : {X : Type 0} (P : X → Type 0) (t : X → Bool) (xs : List X) → AllByRecursion P xs → AllByRecursion P (filter t xs)
 all_kept P t [] h = tt

@@ -6,6 +6,7 @@ use Rattle.std.specs.List.{flat_map, enumerate_from, list_any, range_with_len, A
 use Rattle.std.proofs.lemmas.Bool.{eqb-true}
 use Rattle.std.proofs.lemmas.List.{length-map}
 use Rattle.std.proofs.lemmas.Option.{slice_get_within}
+use Rattle.core_classes.proofs.Lists.{all_join}
 use Rattle.lists.specs.Lists.{onto, index_of}
 use Rattle.lists.specs.Lemmas.{index_there}
 use Rattle.class_pool.specs.declared.class.ClassFile.{ClassFile}
@@ -32,7 +33,7 @@ use Rattle.jop_program.specs.Refusals.{Names, Support, Supertypes, Places, Menti
 use Rattle.jop_program.proofs.FileLemmas.{all_at}
 use Rattle.jop_program.proofs.AnyLemmas.{second_of}
 use Rattle.jop_program.proofs.NameLemmas.{is_called, none_is_nameless, same_self, declares_static}
-use Rattle.jop_program.proofs.OrderedLemmas.{IsInitialized, all_join}
+use Rattle.jop_program.proofs.OrderedLemmas.{IsInitialized}
 
 -- ---- lists
 
@@ -45,7 +46,7 @@ right_none [] ys h = h
 right_none (x ∷ xs) ys h = absurd (let f : (x ∷ (xs ++ ys)) ≡ [] = h in cc)
 
 -- nothing of each file
-nothing_from : {X Y : Type 0} (f : ℕ × X → List Y) (n : ℕ) (xs : List X) → flat_map f (enumerate_from n xs) ≡ [] → (i : ℕ) (x : X) → slice_get xs i ≡ Some x → f (n + i, x) ≡ []
+pub nothing_from : {X Y : Type 0} (f : ℕ × X → List Y) (n : ℕ) (xs : List X) → flat_map f (enumerate_from n xs) ≡ [] → (i : ℕ) (x : X) → slice_get xs i ≡ Some x → f (n + i, x) ≡ []
 nothing_from f n [] h i x at = absurd (let e : None ≡ Some x = at in cc)
 nothing_from f n (y ∷ ys) h zero x at =
     let e : y ≡ x = cc in
@@ -78,11 +79,11 @@ no_cause : {X : Type 0} (b : Bool) (x : X) → (if b then x ∷ [] else []) ≡ 
 no_cause true x h = absurd (let e : (x ∷ []) ≡ [] = h in cc)
 no_cause false x h = refl
 
-get_behind : {X : Type 0} (xs ys : List X) (i : ℕ) → slice_get (xs ++ ys) (length xs + i) ≡ slice_get ys i
+pub get_behind : {X : Type 0} (xs ys : List X) (i : ℕ) → slice_get (xs ++ ys) (length xs + i) ≡ slice_get ys i
 get_behind [] ys i = let e : 0 + i ≡ i = omega arith in ap (slice_get ys) e
 get_behind (x ∷ xs) ys i = let e : suc (length xs) + i ≡ suc (length xs + i) = omega arith in ap (slice_get (x ∷ (xs ++ ys))) e ∙ get_behind xs ys i
 
-get_in_front : {X : Type 0} (xs ys : List X) (i : ℕ) (x : X) → slice_get xs i ≡ Some x → slice_get (xs ++ ys) i ≡ Some x
+pub get_in_front : {X : Type 0} (xs ys : List X) (i : ℕ) (x : X) → slice_get xs i ≡ Some x → slice_get (xs ++ ys) i ≡ Some x
 get_in_front [] ys i x at = absurd (let e : None ≡ Some x = at in cc)
 get_in_front (y ∷ xs) ys zero x at = at
 get_in_front (y ∷ xs) ys (suc i) x at = get_in_front xs ys i x at

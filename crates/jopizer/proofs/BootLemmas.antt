@@ -6,6 +6,7 @@ use Rattle.std.specs.List.{flat_map, enumerate_from, AllByRecursion}
 use Rattle.std.proofs.lemmas.Bool.{cases_lt}
 use Rattle.std.proofs.lemmas.List.{length-append, length-map}
 use Rattle.std.proofs.lemmas.Option.{slice_get_within}
+use Rattle.jop_program.proofs.LinkingLemmas.{found_there}
 use Rattle.class_pool.specs.Utf8.{utf8_bytes}
 use Rattle.class_pool.specs.declared.class.ClassFile.{ClassFile}
 use Rattle.class_rules.specs.Grammar.{IsClass}
@@ -26,30 +27,10 @@ use Rattle.jop_program.specs.Refusals.{Names, Support, Supertypes, Places, Menti
 use Rattle.jop_program.specs.Resolving.{AreClassesOf, IsProgramOf}
 use Rattle.jop_program.proofs.FileLemmas.{all_at}
 use Rattle.jop_program.proofs.NameLemmas.{declares_static, main_is_static}
-use Rattle.jop_program.proofs.RefusalLemmas.{few_calls, calls_are_initialized}
-use Rattle.jop_program.proofs.ResolvedLemmas.{Laws, left_none, right_none, core_long, called}
-use Rattle.jopizer.proofs.NameLemmas.{are_classes}
+use Rattle.jop_program.proofs.RefusalLemmas.{few_calls, calls_are_initialized, are_classes, as_many}
+use Rattle.jop_program.proofs.ResolvedLemmas.{Laws, left_none, right_none, core_long, called, get_behind, get_in_front, nothing_from}
 
 -- ---- lists one behind the other
-
-get_behind : {X : Type 0} (xs ys : List X) (i : ℕ) → slice_get (xs ++ ys) (length xs + i) ≡ slice_get ys i
-get_behind [] ys i = let e : 0 + i ≡ i = omega arith in ap (slice_get ys) e
-get_behind (x ∷ xs) ys i = let e : suc (length xs) + i ≡ suc (length xs + i) = omega arith in ap (slice_get (x ∷ (xs ++ ys))) e ∙ get_behind xs ys i
-
-get_in_front : {X : Type 0} (xs ys : List X) (i : ℕ) (x : X) → slice_get xs i ≡ Some x → slice_get (xs ++ ys) i ≡ Some x
-get_in_front [] ys i x at = absurd (none≢some x at)
-get_in_front (y ∷ xs) ys zero x at = at
-get_in_front (y ∷ xs) ys (suc i) x at = get_in_front xs ys i x at
-
-nothing_from : {X Y : Type 0} (f : ℕ × X → List Y) (n : ℕ) (xs : List X) → flat_map f (enumerate_from n xs) ≡ [] → (i : ℕ) (x : X) → slice_get xs i ≡ Some x → f (n + i, x) ≡ []
-nothing_from f n [] h i x at = absurd (none≢some x at)
-nothing_from f n (y ∷ ys) h zero x at =
-    let same : y ≡ x = some_same y x at in
-    let z : n + 0 ≡ n = omega arith in
-    ap₂ (λ (k : ℕ) (c : _). f (k, c)) z (sym same) ∙ left_none (f (n, y)) (flat_map f (enumerate_from (n + 1) ys)) h
-nothing_from f n (y ∷ ys) h (suc i) x at =
-    let z : n + suc i ≡ n + 1 + i = omega arith in
-    ap (λ (k : ℕ). f (k, x)) z ∙ nothing_from f (n + 1) ys (right_none (f (n, y)) (flat_map f (enumerate_from (n + 1) ys)) h) i x at
 
 no_mapped : {X Y : Type 0} (f : X → Y) (o : Option X) → option_to_list (option_map f o) ≡ [] → o ≡ None
 no_mapped f None h = refl
@@ -68,25 +49,11 @@ has_main : (b : Bool) → (if b then [] else resolving.NoMain ∷ []) ≡ [] →
 has_main true h = refl
 has_main false h = absurd (let f : (resolving.NoMain ∷ []) ≡ [] = h in cc)
 
-found_case : {X : Type 0} (b : Bool) (p : X → Bool) (y : X) (ys : List X) (x : X) → cond b (Some y) (find p ys) ≡ Some x → (find p ys ≡ Some x → (i : ℕ) × (slice_get ys i ≡ Some x)) → (i : ℕ) × (slice_get (y ∷ ys) i ≡ Some x)
-found_case true p y ys x h later = (0, h)
-found_case false p y ys x h later = let r = later h in (suc r.0, r.1)
-
-found_there : {X : Type 0} (p : X → Bool) (xs : List X) (x : X) → find p xs ≡ Some x → (i : ℕ) × (slice_get xs i ≡ Some x)
-found_there p [] x h = absurd (none≢some x h)
-found_there p (y ∷ ys) x h = found_case (p y) p y ys x h (found_there p ys x)
-
 main_case : (ks : List ClassFile) (main : List ℕ) (o : Option ClassFile) → main_class ks main ≡ o → option_map_or declares_main o false ≡ true → HasMain ks main
 main_case ks main None e h = absurd (let f : false ≡ true = h in cc)
 main_case ks main (Some k) e h =
     let at = found_there (λ (x : ClassFile). same_text (utf8_bytes (name_of x)) main) ks k e in
     record { place = at.0; class = k; there = at.1; name = ap (λ (o : Option ClassFile). option_map_or name_of o []) (sym e); declares = h }
-
-as_many : (files : List (List ℕ)) (ks : List ClassFile) → AreClassesOf files ks → length ks ≡ length files
-as_many [] [] h = refl
-as_many [] (k ∷ ks) h = absurd h
-as_many (f ∷ files) [] h = absurd h
-as_many (f ∷ files) (k ∷ ks) h = let e = as_many files ks h.1 in omega arith
 
 -- ---- the class that is run
 

@@ -4,6 +4,7 @@ use Rattle.std.specs.Prelude.{nat_lt, if◌then◌else◌, IfSome, IsSome, slice
 use Rattle.std.specs.List.{list_all, AllByRecursion}
 use Rattle.std.proofs.lemmas.Bool.{eqb-true, false≢true}
 use Rattle.std.proofs.lemmas.List.Elements.{All-from_recursion}
+use Rattle.program_laws.proofs.Rows.{same_self}
 use Rattle.class_pool.specs.declared.class.Code.{Code}
 use Rattle.class_pool.specs.declared.class.ClassFile.{ClassFile}
 use Rattle.class_rules.specs.Found.{MethodsHaveCode}
@@ -28,7 +29,7 @@ use Rattle.program_tables.specs.Resolved.{resolved, handler_of}
 use Rattle.program_laws.proofs.Objects.{class_type}
 use Rattle.image_facts.specs.Says.{IsBetween}
 use Rattle.image_laws.specs.Laws.{CatchesAreNumbered, TablesAreAtStarts}
-use Rattle.image_laws.proofs.Components.{same_self, IsOver, over_entry}
+use Rattle.image_laws.proofs.Components.{IsOver, over_entry}
 use Rattle.bytecode_verifier.specs.Failure.{table_failure, types_failure, opcode_failure, is_bad_entry, method_failure, maps_of, IsVerified}
 use Rattle.bytecode_verifier.specs.Methods.{IsCodeOf, method_of, body_of}
 use Rattle.bytecode_verifier.proofs.MethodLemmas.{failure_is, has_code}

@@ -4,6 +4,8 @@ use Rattle.std.specs.Prelude.{if◌then◌else◌}
 use Rattle.std.specs.Option.{option_map_or}
 use Rattle.std.specs.List.{flat_map, AllByRecursion}
 use Rattle.std.specs.Cmp.Lexicographic as texts
+use Rattle.jop_program.proofs.RefusalLemmas.{are_classes}
+use Rattle.program_laws.proofs.Selections.{right_nil}
 use Rattle.class_pool.specs.Utf8.{utf8_bytes}
 use Rattle.class_pool.specs.declared.class.ClassFile.{ClassFile}
 use Rattle.class_rules.specs.Grammar.{IsClass}
@@ -13,10 +15,6 @@ use Rattle.jop_program.specs.Linked.{linked_classes, main_class, declares_main}
 use Rattle.jop_program.specs.Refusals.{passes, causes_in, too_many, without_main, refusals}
 use Rattle.jop_program.specs.Resolving.{AreClassesOf, IsProgramOf}
 use Rattle.jop_program.proofs.NameLemmas.{is_called}
-
-right_nil : {A : Type 0} (xs ys : List A) → xs ++ ys ≡ [] → ys ≡ []
-right_nil [] ys h = h
-right_nil (x ∷ xs) ys h = absurd (let e : x ∷ (xs ++ ys) ≡ [] = h in cc)
 
 has_main : (b : Bool) → (if b then [] else resolving.NoMain ∷ []) ≡ [] → b ≡ true
 has_main true h = refl
@@ -40,12 +38,6 @@ first_short main k false later is e h f = f h
 among_short : (ks : List ClassFile) (main : List ℕ) → AllByRecursion IsClass ks → option_map_or declares_main (main_class ks main) false ≡ true → IsShort main
 among_short [] main all h = absurd (let e : false ≡ true = h in cc)
 among_short (k ∷ ks) main all h = first_short main k (spells main k) (main_class ks main) all.0 refl h (among_short ks main all.1)
-
-pub are_classes : (files : List (List ℕ)) (ks : List ClassFile) → AreClassesOf files ks → AllByRecursion IsClass ks
-are_classes [] [] h = tt
-are_classes [] (k ∷ ks) h = absurd h
-are_classes (f ∷ files) [] h = absurd h
-are_classes (f ∷ files) (k ∷ ks) h = (h.0.grammar, are_classes files ks h.1)
 
 without_none : (ks : List ClassFile) (main : List ℕ) → refusals ks main ≡ [] → without_main ks main ≡ []
 unfolding refusals

@@ -1,5 +1,6 @@
 -- The static fields of a lawful program begin with values of their widths.
 use Rattle.std.proofs.Common.{◌≡◌, ℕ, List, [], ◌∷◌, map, refl, sym, ◌∙◌, subst}
+use Rattle.bytecode_typing.proofs.Formed.{default_long}
 use Rattle.bytecode_model.specs.declared.Value.{Value}
 use Rattle.bytecode_model.specs.Types.{IntType, LongType, Declared, Numeric, Reference, is_long, default}
 use Rattle.bytecode_model.specs.Program.{Program}
@@ -9,11 +10,6 @@ use Rattle.bytecode_typing.specs.Types.{is_long_type, type_of}
 use Rattle.bytecode_typing.specs.Fits.{HasDeclared}
 use Rattle.bytecode_typing.specs.Lawful.{Lawful}
 use Rattle.bytecode_typing.proofs.Values.{declared_long, declared_set}
-
-default_long : (d : Declared) → is_long (default d) ≡ is_long_type (type_of d)
-default_long (Numeric IntType) = refl
-default_long (Numeric LongType) = refl
-default_long (Reference k) = refl
 
 values_alike : (P : Program) (numbers : List ℕ) (ds : List Declared) (vs : List Value) → AllTwo (HasDeclared P numbers) ds vs → AreAlike vs (map default ds)
 values_alike P ks [] [] h = tt

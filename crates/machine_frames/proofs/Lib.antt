@@ -1,6 +1,5 @@
 mod Options
 mod Stack
-mod Counts
 mod Known
 mod Standing
 mod Walking

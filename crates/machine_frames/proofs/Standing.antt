@@ -3,6 +3,7 @@ use Rattle.std.proofs.Common.{◌≡◌, ℕ, ◌+◌, ◌-◌, ◌<◌, ◌≤�
 use Rattle.std.specs.Prelude.{sum_by, slice_index, IsSomeAnd, Result, Ok, Err}
 use Rattle.std.proofs.lemmas.List.{length-reverse}
 use Rattle.std.proofs.lemmas.List.Sums.{sum_by-cons}
+use Rattle.machine_stands.proofs.Counting.{locals_count, operands_count}
 use Rattle.lists.specs.Lemmas.{some_in, some_is}
 use Rattle.coded_methods.specs.declared.method.CodedMethod.{CodedMethod}
 use Rattle.jop_opcodes.specs.declared.instruction.Instr.{Instr}
@@ -25,7 +26,6 @@ use Rattle.machine_stands.specs.Counted.{FramesHaveRoom, FiveAreSaved}
 use Rattle.machine_frames.specs.Frames.{HasStack}
 use Rattle.machine_frames.specs.Shows.{Shows, top_frame}
 use Rattle.machine_frames.proofs.Options.{some_at, if_at}
-use Rattle.machine_frames.proofs.Counts.{locals_count, operands_count}
 use Rattle.machine_frames.proofs.Stack.{stack_count}
 
 pub record FrameLaws : Type 0 where

@@ -2,6 +2,7 @@
 use Rattle.std.proofs.Common.{◌≡◌, ℕ, suc, Some, ◌+◌, ◌-◌, ◌<◌, ◌≤◌, List, [], ◌∷◌, ◌++◌, length, get_or, reverse, refl, ◌∙◌, ap, arith, length-append, append_assoc, ⊎_elim}
 use Rattle.std.specs.Prelude.{slice_index}
 use Rattle.std.proofs.lemmas.List.{length-reverse}
+use Rattle.machine_stands.proofs.Counting.{locals_count}
 use Rattle.lists.specs.Lemmas.{some_is}
 use Rattle.coded_methods.specs.declared.method.CodedMethod.{CodedMethod}
 use Rattle.jop_core.specs.declared.places.TheConstants.{STACK, METHOD}
@@ -16,7 +17,6 @@ use Rattle.machine_frames.specs.declared.frames.FramePlace.{FramePlace}
 use Rattle.machine_frames.specs.Frames.{HasStack, IsFrameAt}
 use Rattle.machine_frames.specs.Methods.{IsMethodAt}
 use Rattle.machine_frames.specs.Shows.{Shows}
-use Rattle.machine_frames.proofs.Counts.{locals_count}
 use Rattle.machine_frames.proofs.Known.{of_method}
 use Rattle.machine_frames.proofs.Stack.{read_between, stack_count}
 use Rattle.machine_frames.proofs.Standing.{FrameLaws, formed_frames, has_stack}

@@ -83,7 +83,7 @@ locals_are place (suc n) = (refl, locals_are place n)
 abbrev words_of_boot : Image → FrameWords
 words_of_boot image = record { locals = replicate image.max_locals 0; saved = 0 ∷ 0 ∷ 0 ∷ 0 ∷ 0 ∷ []; operands = [] }
 
-least : (n : ℕ) → IsSize n → 256 ≤ n
+pub least : (n : ℕ) → IsSize n → 256 ≤ n
 least n h = ⊎_elim (λ is. omega (arith, is)) (λ larger. ⊎_elim (λ is. omega (arith, is)) (λ is. omega (arith, is)) larger) h
 
 -- the on-chip words below the stack
@@ -111,16 +111,16 @@ fits_is : (b : Bool) (e : Entry) (es : List Entry) → b ≡ true → (if b then
 fits_is b e es h = ap (λ (c : Bool). if c then e ∷ es else []) h
 
 -- the contents of a cache with one method that fits
-contents_are : (m : ℕ) (ws : List ℕ) (M W : ℕ) → nat_le (blocks_for W (length ws)) M ≡ true → (loaded m ws (empty M W)).contents ≡ record { method = m; words = ws } ∷ []
+pub contents_are : (m : ℕ) (ws : List ℕ) (M W : ℕ) → nat_le (blocks_for W (length ws)) M ≡ true → (loaded m ws (empty M W)).contents ≡ record { method = m; words = ws } ∷ []
 contents_are m ws M W h = ap (λ (b : Bool). let e : Entry = record { method = m; words = ws } in if b then e ∷ [] else []) h
 
-cached_one : (m : ℕ) (ws : List ℕ) (es : List Entry) → es ≡ record { method = m; words = ws } ∷ [] → is_some (find_words m es) ≡ true
+pub cached_one : (m : ℕ) (ws : List ℕ) (es : List Entry) → es ≡ record { method = m; words = ws } ∷ [] → is_some (find_words m es) ≡ true
 cached_one m ws es h = ap (λ (xs : List Entry). is_some (find_words m xs)) h ∙ ap (λ (b : Bool). is_some (if b then Some ws else None)) (same m)
   where
     same : (k : ℕ) → k == k ≡ true
     same k = grind (arith, nat_tests)
 
-cache_is : (m : ℕ) (ws : List ℕ) (M W : ℕ) → 0 < M → 0 < length ws → nat_le (blocks_for W (length ws)) M ≡ true → IsCache (loaded m ws (empty M W))
+pub cache_is : (m : ℕ) (ws : List ℕ) (M W : ℕ) → 0 < M → 0 < length ws → nat_le (blocks_for W (length ws)) M ≡ true → IsCache (loaded m ws (empty M W))
 cache_is m ws M W some words h =
     let e : Entry = record { method = m; words = ws } in
     let is = contents_are m ws M W h in

@@ -20,7 +20,7 @@ pub record FixedLaws : Type 0 where
   pub ahead : ListsGoOn
   pub fixed : FixedWordsLie
 
-within_lie : (whole : List ℕ) (place : ℕ) (words : List ℕ) (k : ℕ) → LieAt whole place words → k < length words → place + k < length whole
+pub within_lie : (whole : List ℕ) (place : ℕ) (words : List ℕ) (k : ℕ) → LieAt whole place words → k < length words → place + k < length whole
 within_lie whole place words k l h = omega (arith, ap length l.split, length-append l.before (words ++ l.after), length-append words l.after, l.place_is, h)
 
 pub fixed_read : FixedLaws → FixedWordsAreRead

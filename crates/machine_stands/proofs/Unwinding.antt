@@ -4,6 +4,7 @@ use Rattle.std.specs.Prelude.{slice_get, slice_index, IfSome, IsSomeAnd}
 use Rattle.std.proofs.lemmas.List.Sums.{sum_by-cons}
 use Rattle.std.proofs.lemmas.List.{append-nil, length-reverse, reverse-append, reverse-reverse}
 use Rattle.std.proofs.Math.Nat.{mod-eq_of_lt}
+use Rattle.micro_sketch.proofs.RowSteps.{no_stalls}
 use Rattle.lists.specs.Lemmas.{holds_at}
 use mathlib.Core.List.{reverse_aux}
 use Rattle.word32.specs.Packed.{byte_of, words_of_bytes, PackedHasWords}
@@ -304,10 +305,6 @@ still_raising s s' p q mode mode' = ap (λ (md : Ending). found_between s.frames
 
 none_found : (s s' : State) (p c : ℕ) → s.mode ≡ Raising p → s'.mode ≡ Uncaught c → found_by s s' ≡ None
 none_found s s' p c mode mode' = ap (λ (md : Ending). found_between s.frames s'.frames md s'.mode) mode ∙ ap (λ (md : Ending). found_between s.frames s'.frames (Raising p) md) mode'
-
--- a sketch that counts no loads has none to stall for
-no_stalls : (y : Sketch) (r : ℕ) → y.loads ≡ 0 → y.words ≡ 0 → stalls y r ≡ 0
-no_stalls y r loads words = let none : stalls_for 0 0 r ≡ 0 = omega arith in ap (λ (k : ℕ). stalls_for k y.words r) loads ∙ ap (λ (k : ℕ). stalls_for 0 k r) words ∙ none
 
 -- the place of the object, on the chip
 raised_is : (low rest : List ℕ) (P : Program) (pl : Places) (n size : ℕ) (s : State) (f : Frame) (raised : ℕ) → length low ≡ 32 → drop 24 low ≡ registers_of P pl n size s f raised → slice_index (low ++ rest) 31 ≡ raised

@@ -1,11 +1,12 @@
 -- The laws of plain opcodes: a row as a run of the machine, in at most its opcode's cost.
 use Rattle.std.proofs.Common.{arith}
+use Rattle.micro_sketch.proofs.RowSteps.{no_stalls}
 use Rattle.micro_sketch.specs.Laws.{CostsHold}
 use Rattle.micro_sketch.specs.RowLaws.{AreRowLaws}
 use Rattle.micro_plain.specs.Opcodes.{code_of}
 use Rattle.micro_plain.specs.Laws.{PlainRowsRun, PlainRowsRaise}
 use Rattle.micro_plain.proofs.DivideRunning.{DivisionLaws}
-use Rattle.micro_plain.proofs.Steps.{no_stalls, row_run, raise_run}
+use Rattle.micro_plain.proofs.Steps.{row_run, raise_run}
 
 pub rows_run : AreRowLaws → DivisionLaws → CostsHold → PlainRowsRun
 rows_run laws divides costs n p op x e s stands ready calm =

@@ -30,9 +30,6 @@ use Rattle.micro_plain.proofs.Wides.{wide_row}
 use Rattle.micro_plain.proofs.Switches.{tableswitch}
 use Rattle.micro_plain.proofs.Lookups.{lookupswitch}
 
-pub no_stalls : (y : Sketch) (r : ℕ) → y.loads ≡ 0 → y.words ≡ 0 → stalls y r ≡ 0
-no_stalls y r loads words = let none : stalls_for 0 0 r ≡ 0 = omega arith in ap (λ k. stalls_for k y.words r) loads ∙ ap (λ k. stalls_for 0 k r) words ∙ none
-
 not_zero_by : (d : ℕ) → (d == 0) ≡ false → d ≢ 0
 not_zero_by d other same = let yes : (d == 0) ≡ true = eq-eqb d 0 same in let clash : true ≡ false = sym yes ∙ other in cc
 

@@ -14,7 +14,7 @@ use Rattle.micro_sketch.proofs.During.{output-reversed, output_during-add}
 use Rattle.micro_sketch.proofs.FirstBoundaries.{ComesAfter, Leads-comes}
 use Rattle.micro_sketch.proofs.Rowing.{leads, broke_before}
 
-empty : {A : Type 0} (xs : List A) → length xs ≤ 0 → xs ≡ []
+pub empty : {A : Type 0} (xs : List A) → length xs ≤ 0 → xs ≡ []
 empty [] none = refl
 empty (x ∷ xs) none = absurd (omega (arith, none))
 

@@ -35,7 +35,7 @@ stands_expecting n p op x e s answers h = record {
   above = h.above;
 }
 
-no_stalls : (y : Sketch) (r : ℕ) → y.loads ≡ 0 → y.words ≡ 0 → stalls y r ≡ 0
+pub no_stalls : (y : Sketch) (r : ℕ) → y.loads ≡ 0 → y.words ≡ 0 → stalls y r ≡ 0
 no_stalls y r loads words = let none : stalls_for 0 0 r ≡ 0 = omega arith in ap (λ k. stalls_for k y.words r) loads ∙ ap (λ k. stalls_for 0 k r) words ∙ none
 
 pub finish_runs : FinishRuns

@@ -1,6 +1,8 @@
 -- The first word of an object, read in the memory of a machine that stands for a state.
 use Rattle.std.proofs.Common.{◌≡◌, ℕ, ◌+◌, ◌-◌, ◌<◌, ◌==◌, Bool, true, false, List, ◌++◌, length, replicate, Some, ⊎_elim, refl, sym, ◌∙◌, ap, arith, length-append, eqb-true}
 use Rattle.std.specs.Prelude.{slice_get, slice_index}
+use Rattle.machine_stands.proofs.Fixed.{within_lie}
+use Rattle.machine_stands.proofs.Memory.{lie_padded}
 use Rattle.memory_timing.specs.Port.{padded}
 use Rattle.jop_core.specs.State as machine
 use Rattle.bytecode_model.specs.State.{Object, State}
@@ -17,14 +19,6 @@ pub record ObjectLaws : Type 0 where
   pub read : WordsAreRead
   pub ahead : ListsGoOn
   pub lie : ObjectsLie
-
-pub lie_padded : (size : ℕ) (whole : List ℕ) (place : ℕ) (words : List ℕ) → ListsGoOn → LieAt whole place words → LieAt (padded whole size) place words
-lie_padded size whole place words ahead l =
-    let d = ahead whole whole (replicate (size - length whole) 0) place words words (record { before = l.before; after = l.after; split = l.split; changed = l.split; place_is = l.place_is }) in
-    record { before = d.before; after = d.after; split = d.split; place_is = d.place_is }
-
-pub within_lie : (whole : List ℕ) (place : ℕ) (words : List ℕ) (k : ℕ) → LieAt whole place words → k < length words → place + k < length whole
-within_lie whole place words k l h = omega (arith, ap length l.split, length-append l.before (words ++ l.after), length-append words l.after, l.place_is, h)
 
 -- the place of its type
 pub type_read : ObjectLaws → (P : Program) (pl : Places) (n size : ℕ) (m : machine.State) (s : State) (p : ℕ) (o : Object) → StandsFor P pl n size m s → IsWellFormed P (limits_of P pl n size) s → slice_get s.objects p ≡ Some o

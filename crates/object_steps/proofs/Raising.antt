@@ -2,6 +2,7 @@
 use Rattle.std.proofs.Common.{◌≡◌, ℕ, suc, Bool, true, false, List, [], drop, ap, ◌∙◌, subst, arith}
 use Rattle.std.specs.Prelude.{slice_set}
 use Rattle.std.specs.declared.option.Option.{Option}
+use Rattle.micro_sketch.proofs.RowSteps.{no_stalls}
 use Rattle.microcode_rom.specs.declared.TheConstants.{RAISE}
 use Rattle.method_cache.specs.Contents.{Cache}
 use Rattle.micro_flow.specs.declared.CostParams.{CostParams}
@@ -125,9 +126,6 @@ raised k guesses f x allowed h fine = record {
 -- where the row computes to a raw form of what it leaves
 pub raises_raw : (k : ℕ) (guesses : List Bool) (raw f : Raising) (x : Sketch) (allowed : Bool) → stopped_of (exec (suc k) guesses x) ≡ stopped allowed raw x → allowed ≡ true → raw ≡ f → MakesRaise f x
 raises_raw k guesses raw f x allowed h fine same = let P : Raising → Type 0 = λ g. MakesRaise g x in subst P same (raised k guesses raw x allowed h fine)
-
-no_stalls : (y : Sketch) (r : ℕ) → y.loads ≡ 0 → y.words ≡ 0 → stalls y r ≡ 0
-no_stalls y r loads words = let none : stalls_for 0 0 r ≡ 0 = omega arith in ap (λ (k : ℕ). stalls_for k y.words r) loads ∙ ap (λ (k : ℕ). stalls_for 0 k r) words ∙ none
 
 -- such a row is a run of the machine, in at most its opcode's cost
 pub raise_runs : AreRowLaws → CostsHold → (n : ℕ) (p : CostParams) (op : ℕ) (f : Raising) (x : Sketch) (e : Env) (s : State) → StandsAt n p op x e s → MakesRaise f x → RunsToRaise n p op f x e

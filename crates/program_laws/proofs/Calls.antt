@@ -4,6 +4,7 @@ use Rattle.std.specs.Prelude.{slice_get, unwrap_or, codes, if◌then◌else◌}
 use Rattle.std.specs.Option.{option_map_or, IsSomeAnd}
 use Rattle.std.specs.List.{find}
 use Rattle.std.proofs.lemmas.Bool.{false≢true, both_ways, not-true, or_cases, or_left, or_right, and_parts, eqb-true, eq-eqb, false_from_ne_true}
+use Rattle.bytecode_typing.proofs.Relations.{is_true}
 use Rattle.class_pool.specs.declared.class.Member.{Member}
 use Rattle.class_pool.specs.declared.class.ClassFile.{ClassFile}
 use Rattle.class_pool.specs.Grammar.{entry_at, utf8_of}
@@ -39,7 +40,7 @@ use Rattle.program_laws.proofs.Facts.{all_at, map_or_some, map_or_at, set_of}
 use Rattle.program_laws.proofs.Hierarchies.{either, root}
 use Rattle.program_laws.proofs.Selections.{unless_none, code_or_abstract}
 use Rattle.program_laws.proofs.Numbering.{at_place}
-use Rattle.program_laws.proofs.Programs.{holds, is_true, some_and, coded, body_there}
+use Rattle.program_laws.proofs.Programs.{holds, some_and, coded, body_there}
 
 -- ---- reasons that don't apply
 
@@ -227,7 +228,7 @@ run_by cs cur c ofi index s n =
 abbrev pub ReadMethods : Type 0
 ReadMethods = (units : List ℕ) (t : MethodType) → (descriptors.method_in units ≡ Some t) ↔ IsMethodDescriptor units t
 
-text_case : (o : Option (List ℕ)) (units : List ℕ) → o ≡ Some units → unwrap_or o [] ≡ units
+pub text_case : (o : Option (List ℕ)) (units : List ℕ) → o ≡ Some units → unwrap_or o [] ≡ units
 text_case o units h = ap (λ x. unwrap_or x []) h
 
 name_text : ClassLaws → (o : Option (List ℕ)) → is_instance_initializer (unwrap_or o []) ≡ true → o ≡ Some (codes "<init>")
@@ -244,7 +245,7 @@ init_void laws read cs r t s d h =
     let read_as : descriptors.method_in s.descriptor ≡ Some m.0 = ap descriptors.method_in text ∙ (read nothing.0 m.0).1 m.1 in
     ap (λ o. onto o (λ m. onto m.result (declared_of cs))) read_as ∙ ap (λ o. onto o (declared_of cs)) m.2
 
-own_init : ClassLaws → (cs : List ClassFile) → IsResolved cs → (n : ℕ) (s : Signature) (m : Place) → is_init s ≡ true → find_method cs n s ≡ Some m → m.0 ≡ n
+pub own_init : ClassLaws → (cs : List ClassFile) → IsResolved cs → (n : ℕ) (s : Signature) (m : Place) → is_init s ≡ true → find_method cs n s ≡ Some m → m.0 ≡ n
 own_init laws cs r n s m i h = ((laws.methods.signatures cs).declared s n m (sym ((laws.lookups cs r.acyclic n s).of_init i) ∙ h)).0
 
 special_above : OrderLaws → (cs : List ClassFile) (r : IsResolved cs) (cur n : ℕ) (m : Method) (t : Place) → m.owner ≡ cur → extends cs n t.0 ≡ true → is_own_class (resolved cs) m n ≡ true → (eqb t.0 object_class || extends cs m.owner t.0) ≡ true

@@ -70,7 +70,7 @@ method_ranged : (op owner : ℕ) (s : Option Signature) → Ranged op (option_ma
 method_ranged op owner None = tt
 method_ranged op owner (Some s) = λ e f. false≢true e
 
-none_of : (b : Bool) → (b && false) ≡ false
+pub none_of : (b : Bool) → (b && false) ≡ false
 none_of true = refl
 none_of false = refl
 
@@ -178,13 +178,13 @@ field_fits laws cs r m op c index s =
 -- ---- classes
 
 -- the name of a class is that of no array
-name_is : (c : ClassFile) → IsClass c → is_class_name (name_of c) ≡ true
+pub name_is : (c : ClassFile) → IsClass c → is_class_name (name_of c) ≡ true
 name_is c k =
     let t = k.rules.this_class in
     let h = t.2 in
     ap (λ o. is_class_name (option_map_or (text_at c.pool) (class_name_of o) [])) t.1 ∙ (ap (λ o. is_class_name (unwrap_or o [])) h.1 ∙ h.2)
 
-kind_of_class : ClassLaws → (cs : List ClassFile) → IsResolved cs → (c : ClassFile) (index d : ℕ) → class_named cs c index ≡ Some d → kind_of_entry cs c.pool index ≡ Some (OfClass d)
+pub kind_of_class : ClassLaws → (cs : List ClassFile) → IsResolved cs → (c : ClassFile) (index d : ℕ) → class_named cs c index ≡ Some d → kind_of_entry cs c.pool index ≡ Some (OfClass d)
 kind_of_class laws cs r c index d h =
     let text = class_text c.pool index in
     let f = index_found (λ x. same_text (name_of x) text) cs d h in

@@ -6,6 +6,8 @@ use Rattle.std.specs.List.{filter, filter_map, cons_option, flat_map, enumerate_
 use Rattle.std.proofs.lemmas.Bool.{false≢true, cases_Bool, or_cases}
 use Rattle.std.proofs.lemmas.List.Folds.{list_any-append}
 use Rattle.std.proofs.lemmas.Option.{slice_get_within}
+use Rattle.program_tables.proofs.NumberingLemmas.{got}
+use Rattle.class_lookup.proofs.Overriding.{place_same, same_is_place}
 use Rattle.class_pool.specs.declared.class.Member.{Member}
 use Rattle.class_pool.specs.declared.class.ClassFile.{ClassFile}
 use Rattle.bytecode_model.specs.Lists.{onto}
@@ -14,7 +16,7 @@ use Rattle.lists.specs.Lemmas.{none≢some, some_same, onto_some, map_some, inde
 use Rattle.class_lookup.specs.Lookup.{Place, method_at, same_place}
 use Rattle.program_tables.specs.Numbers.{places_of, is_coded, methods_by_number, method_number}
 use Rattle.program_tables.specs.Resolved.{method_in, resolved_method, resolved_methods}
-use Rattle.program_laws.proofs.Places.{has, place_same, same_is_place, has_head, has_tail, has_cases}
+use Rattle.program_laws.proofs.Places.{has, has_head, has_tail, has_cases}
 use Rattle.program_laws.proofs.Selections.{has_left, has_right, has_filter, has_range}
 
 -- ---- the places of all members
@@ -70,11 +72,6 @@ listed_is members n (c ∷ cs) p h =
           let own = r.2 in
           (suc r.0, r.1, omega (arith, own), r.3, r.4)
     ]
-
-got : {A : Type 0} (xs : List A) (i : ℕ) → i < length xs → (x : A) × (slice_get xs i ≡ Some x)
-got [] i lt = absurd (omega (arith, lt))
-got (x ∷ xs) zero lt = (x, refl)
-got (x ∷ xs) (suc i) lt = got xs i (omega (arith, lt))
 
 pub IsMember : (ClassFile → List Member) → List ClassFile → Place → Type 0
 IsMember members cs p = (k : ClassFile) × (m : Member) × (slice_get cs p.0 ≡ Some k) × (slice_get (members k) p.1 ≡ Some m)

@@ -43,7 +43,7 @@ range_get a zero c lt = absurd (omega (arith, lt))
 range_get a (suc n) zero lt = let same : a ≡ a + 0 = omega arith in ap Some same
 range_get a (suc n) (suc c) lt = let same : a + 1 + c ≡ a + suc c = omega arith in range_get (a + 1) n c (omega (arith, lt)) ∙ ap Some same
 
-left_get : {A : Type 0} (xs ys : List A) (k : ℕ) (x : A) → slice_get xs k ≡ Some x → slice_get (xs ++ ys) k ≡ Some x
+pub left_get : {A : Type 0} (xs ys : List A) (k : ℕ) (x : A) → slice_get xs k ≡ Some x → slice_get (xs ++ ys) k ≡ Some x
 left_get [] ys k x h = absurd (none≢some x h)
 left_get (y ∷ xs) ys zero x h = h
 left_get (y ∷ xs) ys (suc k) x h = left_get xs ys k x h

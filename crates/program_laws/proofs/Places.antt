@@ -2,19 +2,11 @@
 use Rattle.std.proofs.Common.{◌≡◌, ℕ, Bool, true, eqb, List, ◌∷◌, ◌⊎◌, inl, inr, refl, ap, ap₂}
 use Rattle.std.specs.List.{list_any}
 use Rattle.std.proofs.lemmas.Bool.{or_cases, or_left, or_right, and_parts, and_from, eqb-true, eq-eqb}
+use Rattle.class_lookup.proofs.Overriding.{place_same, same_is_place}
 use Rattle.class_lookup.specs.Lookup.{Place, same_place}
 
 abbrev pub has : List Place → Place → Bool
 has ms m = list_any (same_place m) ms
-
-pub place_same : (p q : Place) → same_place p q ≡ true → p ≡ q
-place_same p q h =
-    let e = and_parts (eqb p.0 q.0) (eqb p.1 q.1) h in
-    ap₂ (λ (x : ℕ) (y : ℕ). (x, y)) (eqb-true p.0 q.0 e.0) (eqb-true p.1 q.1 e.1)
-
-pub same_is_place : (p q : Place) → p ≡ q → same_place p q ≡ true
-same_is_place p q h =
-    and_from (eqb p.0 q.0) (eqb p.1 q.1) (eq-eqb p.0 q.0 (ap (λ (x : Place). x.0) h)) (eq-eqb p.1 q.1 (ap (λ (x : Place). x.1) h))
 
 pub has_head : (m : Place) (ms : List Place) → has (m ∷ ms) m ≡ true
 has_head m ms = or_left (same_place m m) (has ms m) (same_is_place m m refl)

@@ -4,6 +4,7 @@ use Rattle.std.specs.Prelude.{slice_get, is_some, unwrap_or}
 use Rattle.std.specs.Option.{option_map, option_map_or, IsSomeAnd}
 use Rattle.std.specs.List.{list_all}
 use Rattle.std.proofs.lemmas.Bool.{false≢true, or_right, and_parts}
+use Rattle.bytecode_typing.proofs.Relations.{is_true}
 use Rattle.class_pool.specs.declared.class.Member.{Member}
 use Rattle.class_pool.specs.declared.class.ClassFile.{ClassFile}
 use Rattle.class_pool.specs.declared.class.Code.{Code}
@@ -36,10 +37,6 @@ use Rattle.program_laws.proofs.Numbering.{IsMethodOf, at_place, IsNumbered, numb
 pub holds : (b : Bool) → b ≡ true → Holds b
 holds true h = tt
 holds false h = false≢true h
-
-pub is_true : (b : Bool) → Holds b → b ≡ true
-is_true true h = refl
-is_true false h = absurd h
 
 pub some_and : {A : Type 0} (o : Option A) (P : A → Type 0) (x : A) → o ≡ Some x → P x → IsSomeAnd o P
 some_and o P x h p = subst (λ z. IsSomeAnd z P) (sym h) p

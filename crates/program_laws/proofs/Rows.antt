@@ -5,6 +5,7 @@ use Rattle.std.specs.Option.{option_map, option_map_or}
 use Rattle.std.specs.List.{filter, filter_map, cons_option, flat_map, list_any, range_with_len, AllByRecursion}
 use Rattle.std.proofs.lemmas.Bool.{false≢true, both_ways, cases_Bool, or_cases, or_left, or_right, eqb-true, eq-eqb, false_from_ne_true}
 use Rattle.std.proofs.lemmas.Option.{slice_get-get_or}
+use Rattle.bytecode_typing.proofs.Relations.{is_true}
 use Rattle.class_pool.specs.declared.entry.Entry.{Entry}
 use Rattle.class_pool.specs.Grammar.{entry_at}
 use Rattle.class_pool.specs.Found.{code_of}
@@ -40,7 +41,7 @@ use Rattle.program_laws.proofs.Facts.{all_at}
 use Rattle.program_laws.proofs.Hierarchies.{hierarchy}
 use Rattle.program_laws.proofs.Fields.{fields}
 use Rattle.program_laws.proofs.Numbering.{at_place, numbered}
-use Rattle.program_laws.proofs.Programs.{holds, is_true, selects, object_methods, boot}
+use Rattle.program_laws.proofs.Programs.{holds, selects, object_methods, boot}
 use Rattle.program_laws.proofs.Objects.{faults, first_objects, in_range}
 use Rattle.program_laws.proofs.Statics.{ReadFields, first_statics}
 use Rattle.program_laws.proofs.Calls.{ReadMethods}
@@ -58,11 +59,11 @@ if_map : {A B : Type 0} (o : Option A) (f : A → B) (P : B → Type 0) (Q : A �
 if_map None f P Q h g = tt
 if_map (Some x) f P Q h g = g x h
 
-right_all : {A : Type 0} (P : A → Type 0) (xs ys : List A) → AllByRecursion P (xs ++ ys) → AllByRecursion P ys
+pub right_all : {A : Type 0} (P : A → Type 0) (xs ys : List A) → AllByRecursion P (xs ++ ys) → AllByRecursion P ys
 right_all P [] ys a = a
 right_all P (x ∷ xs) ys a = right_all P xs ys a.1
 
-left_all : {A : Type 0} (P : A → Type 0) (xs ys : List A) → AllByRecursion P (xs ++ ys) → AllByRecursion P xs
+pub left_all : {A : Type 0} (P : A → Type 0) (xs ys : List A) → AllByRecursion P (xs ++ ys) → AllByRecursion P xs
 left_all P [] ys a = tt
 left_all P (x ∷ xs) ys a = (a.0, left_all P xs ys a.1)
 
@@ -78,7 +79,7 @@ map_all P f (y ∷ xs) (suc i) x a h = map_all P f xs i x a.1 h
 
 -- ---- the instructions of a method
 
-mapped_case : {B : Type 0} (o : Option B) (ys : List B) (y : B) → o ≡ Some y → (j : ℕ) × (slice_get (cons_option o ys) j ≡ Some y)
+pub mapped_case : {B : Type 0} (o : Option B) (ys : List B) (y : B) → o ≡ Some y → (j : ℕ) × (slice_get (cons_option o ys) j ≡ Some y)
 mapped_case None ys y h = absurd (none≢some y h)
 mapped_case (Some z) ys y h = (0, h)
 
@@ -86,7 +87,7 @@ later_case : {A : Type 0} (o : Option A) (ys : List A) (j : ℕ) (y : A) → sli
 later_case None ys j y h = (j, h)
 later_case (Some z) ys j y h = (suc j, h)
 
-mapped : {A B : Type 0} (f : A → Option B) (xs : List A) (i : ℕ) (x : A) (y : B) → slice_get xs i ≡ Some x → f x ≡ Some y → (j : ℕ) × (slice_get (filter_map f xs) j ≡ Some y)
+pub mapped : {A B : Type 0} (f : A → Option B) (xs : List A) (i : ℕ) (x : A) (y : B) → slice_get xs i ≡ Some x → f x ≡ Some y → (j : ℕ) × (slice_get (filter_map f xs) j ≡ Some y)
 mapped f [] i x y h e = absurd (none≢some x h)
 mapped f (z ∷ xs) zero x y h e = mapped_case (f z) (filter_map f xs) y (ap f (some_same z x h) ∙ e)
 mapped f (z ∷ xs) (suc i) x y h e = let r = mapped f xs i x y h e in later_case (f z) (filter_map f xs) r.0 y r.1
@@ -94,7 +95,7 @@ mapped f (z ∷ xs) (suc i) x y h e = let r = mapped f xs i x y h e in later_cas
 contained : (xs : List ℕ) (x : ℕ) → Contains xs x → (i : ℕ) × (slice_get xs i ≡ Some x)
 contained xs x c = (c.0, slice_get-get_or xs c.0 x c.1 ∙ ap Some c.2)
 
-instr_ok : {E : Type 0} (x : Result Instr E) (i : Instr) → as_instr x ≡ Some i → x ≡ Ok i
+pub instr_ok : {E : Type 0} (x : Result Instr E) (i : Instr) → as_instr x ≡ Some i → x ≡ Ok i
 instr_ok (Ok j) i h = ap Ok (some_same j i h)
 instr_ok (Err e) i h = absurd (none≢some i h)
 
@@ -133,7 +134,7 @@ kind_same (OfNumbers a) (OfReferences l) h = absurd (false≢true h)
 kind_same (OfReferences k) (OfClass d) h = absurd (false≢true h)
 kind_same (OfReferences k) (OfNumbers b) h = absurd (false≢true h)
 
-same_self : (k : Kind) → same_kind k k ≡ true
+pub same_self : (k : Kind) → same_kind k k ≡ true
 same_self (OfClass c) = eq-eqb c c refl
 same_self (OfNumbers a) = eq-eqb a a refl
 same_self (OfReferences k) = same_self k
@@ -241,7 +242,7 @@ numbers cs code h =
 
 -- ---- the rows
 
-operand_is : (cs : List ClassFile) (n : ℕ) (p : Place) (c : ClassFile) (m : Member) (k : Code) (pc : ℕ) (i : Instr) → slice_get (methods_by_number cs) n ≡ Some p → slice_get cs p.0 ≡ Some c → slice_get c.methods p.1 ≡ Some m → code_of m ≡ Some k
+pub operand_is : (cs : List ClassFile) (n : ℕ) (p : Place) (c : ClassFile) (m : Member) (k : Code) (pc : ℕ) (i : Instr) → slice_get (methods_by_number cs) n ≡ Some p → slice_get cs p.0 ≡ Some c → slice_get c.methods p.1 ≡ Some m → code_of m ≡ Some k
     → decoded k.code pc ≡ Ok i → (resolved cs).operand n pc ≡ operand_in cs p.0 c i
 operand_is cs n p c m k pc i hn h e hk d =
     let code : onto (method_at cs p) code_of ≡ Some k = ap (λ o. onto o code_of) (at_place cs p c m h e) ∙ hk in

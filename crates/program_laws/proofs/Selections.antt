@@ -6,6 +6,7 @@ use Rattle.std.specs.List.{filter, flat_map, list_all, enumerate_from, range_wit
 use Rattle.std.proofs.lemmas.Bool.{false≢true, both_ways, eqb-true, eq-eqb, not-true, not-false, or_cases, or_left, or_right, and_parts, cases_Bool, false_from_ne_true}
 use Rattle.std.proofs.lemmas.List.Folds.{list_any-append}
 use Rattle.std.proofs.lemmas.Option.{slice_get_within}
+use Rattle.class_lookup.proofs.Overriding.{same_is_place}
 use Rattle.class_pool.specs.declared.class.Member.{Member}
 use Rattle.class_pool.specs.declared.class.ClassFile.{ClassFile}
 use Rattle.class_rules.specs.Rules.{IsRightMethod}
@@ -31,7 +32,7 @@ use Rattle.program_tables.specs.Unresolved.{unless, abstract_methods_in, is_impl
 use Rattle.program_tables.specs.Resolving.{IsResolved}
 use Rattle.program_laws.specs.Laws.{IsSelectedMethod, SelectionLaw}
 use Rattle.program_laws.proofs.ClassLaws.{OrderLaws, MethodLaws, super_is_above, method_is}
-use Rattle.program_laws.proofs.Places.{has, has_head, has_tail, has_cases, same_is_place}
+use Rattle.program_laws.proofs.Places.{has, has_head, has_tail, has_cases}
 use Rattle.program_laws.proofs.Facts.{all_at, map_or_some, map_or_at, set_of, has_of, distinct, well_placed, interface_not_concrete}
 use Rattle.program_laws.proofs.Hierarchies.{above_class, superclass_is_class}
 
@@ -105,7 +106,7 @@ abstract_has_none law cs r m s d a k =
     false≢true (sym (ap is_some none) ∙ (ap has_code (sym other) ∙ y.2))
 
 -- an instance method of an interface is abstract
-no_interface_code : (c : ClassFile) (i : ℕ) (m : Member) → unsupported_in c ≡ [] → slice_get c.methods i ≡ Some m → has_interface_code c m ≡ false
+pub no_interface_code : (c : ClassFile) (i : ℕ) (m : Member) → unsupported_in c ≡ [] → slice_get c.methods i ≡ Some m → has_interface_code c m ≡ false
 no_interface_code c i m h e =
     let items = method_supported c i m h e in
     let later = right_nil (items_of_types (types_in_method _)) (items_where (is_native m) Native ++ items_where (has_interface_code c m) InterfaceCode) items in
@@ -246,7 +247,7 @@ virtual_instance cs m h =
     let x = map_or_some (λ k. not (is_static k || is_private k)) (method_at cs m) h in
     map_or_at (λ k. not (is_static k)) (method_at cs m) x.0 x.1 ∙ or_left_false (is_static x.0) (is_private x.0) x.2
 
-public_instance : (cs : List ClassFile) (m : Place) → is_public_instance cs m ≡ true → is_instance cs m ≡ true
+pub public_instance : (cs : List ClassFile) (m : Place) → is_public_instance cs m ≡ true → is_instance cs m ≡ true
 public_instance cs m h =
     let x = map_or_some (λ k. is_public k && not (is_static k)) (method_at cs m) h in
     map_or_at (λ k. not (is_static k)) (method_at cs m) x.0 x.1 ∙ (and_parts (is_public x.0) (not (is_static x.0)) x.2).1

@@ -128,7 +128,7 @@ constant_fits order cs r pool d e (elements.Class name) h i = string_for order c
 abbrev pub ReadFields : Type 0
 ReadFields = (units : List ℕ) (t : FieldType) → (field_in units ≡ Some t) ↔ IsFieldDescriptor units t
 
-range_of : (o : Option Entry) (e : Entry) → IfSome o IsInRange → o ≡ Some e → IsInRange e
+pub range_of : (o : Option Entry) (e : Entry) → IfSome o IsInRange → o ≡ Some e → IsInRange e
 range_of o e h s = subst (λ x. IfSome x IsInRange) s h
 
 constant_value_fits : OrderLaws → FieldsHaveConstants → ReadFields → (cs : List ClassFile) → IsResolved cs → (f : Place) (d : Declared) (v : Value) → is_static_field cs f ≡ true → declared_at cs f ≡ Some d → constant_at cs f ≡ Some v → HasDeclared (resolved cs) (ks_of cs) d v

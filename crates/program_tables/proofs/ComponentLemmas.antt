@@ -36,7 +36,7 @@ or_right : (x y : Bool) → y ≡ true → (x || y) ≡ true
 or_right true y h = refl
 or_right false y h = h
 
-or_false : (x : Bool) → (x || false) ≡ x
+pub or_false : (x : Bool) → (x || false) ≡ x
 or_false true = refl
 or_false false = refl
 
@@ -140,12 +140,12 @@ closed_used n op (Some k) h = used_case n k (h k refl) (op == 189) (op == 192) (
 
 -- ---- types that Class entries name
 
-below_case : (b : Bool) (o : Option ℕ) (k n : ℕ) → (if b then Some 0 else onto o (λ j. Some (suc j))) ≡ Some k → ((j : ℕ) → o ≡ Some j → j < n) → k < suc n
+pub below_case : (b : Bool) (o : Option ℕ) (k n : ℕ) → (if b then Some 0 else onto o (λ j. Some (suc j))) ≡ Some k → ((j : ℕ) → o ≡ Some j → j < n) → k < suc n
 below_case true o k n h f = let e : Some 0 ≡ Some k = h in let z : 0 ≡ k = cc in omega arith
 below_case false None k n h f = let e : None ≡ Some k = h in absurd (cc)
 below_case false (Some j) k n h f = let e : Some (suc j) ≡ Some k = h in let z : suc j ≡ k = cc in let lt = f j refl in omega arith
 
-index_below : {A : Type 0} (t : A → Bool) (xs : List A) (k : ℕ) → index_of t xs ≡ Some k → k < length xs
+pub index_below : {A : Type 0} (t : A → Bool) (xs : List A) (k : ℕ) → index_of t xs ≡ Some k → k < length xs
 index_below t [] k h = let e : None ≡ Some k = h in absurd (cc)
 index_below t (x ∷ xs) k h = below_case (t x) (index_of t xs) k (length xs) h (index_below t xs)
 

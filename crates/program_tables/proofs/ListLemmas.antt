@@ -49,14 +49,6 @@ pub found_old : {K : Type 0} (t : K → Bool) (es : List (K × ℕ)) (xs : List 
     → lookup t es ≡ index_of t (xs ++ x ∷ [])
 found_old t es xs x h there = h ∙ (old_case t xs x (index_of t xs) refl (t x) refl there ∙ sym (index_of-one_more t xs x))
 
-pub copied_none : (r : Option (Bor ℕ)) → is_some r ≡ false → option_copied r ≡ None
-copied_none None h = refl
-copied_none (Some x) h = absurd (true≢false h)
-
-pub copied_some : (r : Option (Bor ℕ)) → is_some r ≡ true → is_some (option_copied r) ≡ true
-copied_some None h = absurd (false≢true h)
-copied_some (Some x) h = refl
-
 pub no_copy : {T : Type 0} (r : Option (Bor T)) → ((x : Bor T) → r ≡ Some x → ⊥) → option_copied r ≡ None
 no_copy None h = refl
 no_copy (Some x) h = absurd (h x refl)

@@ -117,15 +117,6 @@ all_filter w cs s (k ∷ ks) at =
 pub all_chosen : (w : Which) (cs : List ClassFile) → all_own w 0 cs ≡ chosen w cs
 all_chosen w cs = sym (all_filter w cs 0 cs (λ j. let none : 0 + j ≡ j = omega arith in ap (slice_get cs) none))
 
--- ---- members are told apart
-
-pub place_same : (p q : Place) → same_place p q ≡ true → p ≡ q
-place_same p q h =
-    let both = (Decides-and (p.0 == q.0) (p.1 == q.1) (Decides-eqb p.0 q.0) (Decides-eqb p.1 q.1)).0 h in
-    let first = both.0 in
-    let second = both.1 in
-    ap₂ (λ (a b : ℕ). (a, b)) first second
-
 -- ---- the tables of a program
 
 all_kept : (ps : List Place) → filter (λ p. true) ps ≡ ps

@@ -156,7 +156,7 @@ split_and true b h = (refl, h)
 split_and false b h = absurd (false≢true h)
 
 -- an array of references
-is_array : Kind → Bool
+pub is_array : Kind → Bool
 is_array (OfReferences k) = true
 is_array k = false
 

@@ -49,7 +49,7 @@ is_there members cs p = is_some (member_at members cs p)
 there : (members : ClassFile → List Member) (cs : List ClassFile) (n i : ℕ) (c : ClassFile) (m : Member) → slice_get cs n ≡ Some c → slice_get (members c) i ≡ Some m → is_there members cs (n, i) ≡ true
 there members cs n i c m h e = ap is_some (ap (λ o. onto o (λ k. slice_get (members k) i)) h ∙ e)
 
-got : {A : Type 0} (xs : List A) (i : ℕ) → i < length xs → (x : A) × (slice_get xs i ≡ Some x)
+pub got : {A : Type 0} (xs : List A) (i : ℕ) → i < length xs → (x : A) × (slice_get xs i ≡ Some x)
 got [] i lt = absurd (omega (arith, lt))
 got (x ∷ xs) zero lt = (x, refl)
 got (x ∷ xs) (suc i) lt = got xs i (omega (arith, lt))

@@ -8,6 +8,8 @@ use Rattle.std.proofs.lemmas.Grind.{flat_map-append}
 use Rattle.std.proofs.lemmas.List.FromFn.{map-range_with_len_more, get_or-map-range_with_len, length-map-range_with_len}
 use Rattle.std.proofs.lemmas.Option.{slice_get_past}
 use Rattle.std.proofs.lemmas.Bool.{or_parts, eqb-false, ne_eqb}
+use Rattle.program_tables.proofs.ShapeLemmas.{front_get}
+use Rattle.program_tables.proofs.ComponentLemmas.{index_below}
 use Rattle.class_pool.specs.declared.class.ClassFile.{ClassFile}
 use Rattle.bytecode_model.specs.Lists.{onto, index_of}
 use Rattle.class_lookup.specs.Hierarchy.{find_class, superclass, superclasses, is_among, is_subclass}
@@ -115,15 +117,6 @@ chain_falls cs are c = subst (λ (xs : List ℕ). chain_length cs (superclass cs
 
 -- ---- superclasses are classes
 
-below_case : (b : Bool) (o : Option ℕ) (k n : ℕ) → (if b then Some 0 else onto o (λ j. Some (suc j))) ≡ Some k → ((j : ℕ) → o ≡ Some j → j < n) → k < suc n
-below_case true o k n h f = let e : Some 0 ≡ Some k = h in let z : 0 ≡ k = cc in omega arith
-below_case false None k n h f = let e : None ≡ Some k = h in absurd (cc)
-below_case false (Some j) k n h f = let e : Some (suc j) ≡ Some k = h in let z : suc j ≡ k = cc in let lt = f j refl in omega arith
-
-pub index_below : {A : Type 0} (t : A → Bool) (xs : List A) (k : ℕ) → index_of t xs ≡ Some k → k < length xs
-index_below t [] k h = let e : None ≡ Some k = h in absurd (cc)
-index_below t (x ∷ xs) k h = below_case (t x) (index_of t xs) k (length xs) h (index_below t xs)
-
 super_case : (cs : List ClassFile) (o : Option ClassFile) (d : ℕ) → onto o (λ k. find_class cs (superclass_name k)) ≡ Some d → d < length cs
 super_case cs None d h = let e : None ≡ Some d = h in absurd (cc)
 super_case cs (Some k) d h = index_below _ cs d h
@@ -153,11 +146,6 @@ pub own_past : (cs : List ClassFile) (c : ℕ) → length cs ≤ c → own_insta
 own_past cs c h = ap (λ o. filter (is_instance_field cs) (option_map_or (λ k. map (λ i. (c, i)) (range_with_len 0 (length k.fields))) o [])) (slice_get_past cs c h)
 
 -- ---- a field by its index
-
-front_get : {A : Type 0} (xs ys : List A) (i : ℕ) → i < length xs → slice_get (xs ++ ys) i ≡ slice_get xs i
-front_get [] ys i lt = absurd (omega (arith, lt))
-front_get (x ∷ xs) ys zero lt = refl
-front_get (x ∷ xs) ys (suc i) lt = front_get xs ys i (omega (arith, lt))
 
 behind_get : {A : Type 0} (xs ys : List A) (j : ℕ) → slice_get (xs ++ ys) (length xs + j) ≡ slice_get ys j
 behind_get [] ys j = let same : 0 + j ≡ j = omega arith in ap (slice_get ys) same

@@ -1,4 +1,3 @@
-pub mod NameLemmas
 pub mod PartLemmas
 pub mod ManyLemmas
 pub mod MentionLemmas

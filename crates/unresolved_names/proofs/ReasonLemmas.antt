@@ -2,6 +2,7 @@
 use Rattle.std.proofs.Common.{◌≡◌, ℕ, Bool, true, false, not, ◌&&◌, ◌||◌, ◌==◌, List, [], ◌∷◌, ◌++◌, Option, Some, None, refl, sym, ap, ap₂, ◌∙◌}
 use Rattle.std.specs.Prelude.{option_map}
 use Rattle.std.specs.Option.{option_map_or}
+use Rattle.program_tables.proofs.TextLemmas.{all_of_both}
 use Rattle.lists.specs.Lists.{first_some}
 use Rattle.bytecode_model.specs.Lists.{onto}
 use Rattle.class_pool.specs.declared.entry.Entry.{Entry}
@@ -23,7 +24,6 @@ use Rattle.program_tables.specs.Tables.{seen_in}
 use Rattle.program_tables.specs.Unresolved.{unless, are_there, is_there, is_free, may_name_entry, writes_field, needs_static_field, same_bool, calls_no_private, is_callable_name, why_field_named, why_field_found, why_method_named, why_method_found}
 use Rattle.unresolved_names.specs.Causes.{signature_at}
 use Rattle.unresolved_names.specs.Words.{accessible_member, nameable_entry, usable_field, found_field_reason, field_reason, usable_method, rightly_named, rightly_special, right_method, found_method_reason, method_reason, class_use_reason, named_reason}
-use Rattle.unresolved_names.proofs.NameLemmas.{all_of_both}
 
 -- ---- judged by two tests
 

@@ -4,6 +4,7 @@ use Rattle.std.specs.Prelude.{slice_get}
 use Rattle.std.specs.Option.{option_map_or, option_to_list}
 use Rattle.std.specs.List.{filter_map, flat_map, list_any}
 use Rattle.std.proofs.lemmas.Option.{slice_get_past}
+use Rattle.program_tables.proofs.ComponentLemmas.{or_false}
 use Rattle.lists.specs.Lists.{onto}
 use Rattle.lists.specs.Numbers.{reached}
 use Rattle.class_pool.specs.declared.class.ClassFile.{ClassFile}
@@ -47,10 +48,6 @@ of_more_class P k d (suc n) zero h = refl
 of_more_class P k d (suc n) (suc m) h = of_more_class P k d n m (omega (arith, h))
 
 -- ---- beyond the classes
-
-or_false : (x : Bool) → (x || false) ≡ x
-or_false true = refl
-or_false false = refl
 
 none_above : (cs : List ClassFile) (c : ℕ) → slice_get cs c ≡ None → direct_supertypes cs c ≡ []
 none_above cs c h =

@@ -1,10 +1,11 @@
 use Rattle.std.proofs.Common.{◌≡◌, sym, ap, ◌∙◌, ◌&&◌, map, rules}
 use Rattle.std.specs.Vec.{with_items}
 use Rattle.std.proofs.lemmas.List.{with_items_is, places}
+use Rattle.verifier_types.proofs.RowLemmas.{item_found}
 use Rattle.bytecode_typing.specs.Types.{substituted}
 use Rattle.verifier_types.specs.Frame.{frame_seen, operands_seen}
 use Rattle.verifier_types.specs.Seen.{type_seen, types_seen}
-use Rattle.bytecode_verifier.proofs.RowLemmas.{item_found, need_holds}
+use Rattle.bytecode_verifier.proofs.RowLemmas.{need_holds}
 use Rattle.bytecode_verifier.proofs.CallLemmas.{leaves_frame}
 use Rattle.bytecode_verifier.proofs.calls.check_begin.Goals as goal
 

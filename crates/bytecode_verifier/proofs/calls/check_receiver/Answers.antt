@@ -1,8 +1,9 @@
 use Rattle.std.proofs.Common.{sym, ap, ◌∙◌, ◌++◌, ◌&&◌}
+use Rattle.verifier_types.proofs.RowLemmas.{item_found}
 use Rattle.bytecode_typing.specs.Types.{result_types}
 use Rattle.verifier_types.specs.Frame.{frame_seen, operands_seen}
 use Rattle.verifier_types.specs.Seen.{type_seen}
-use Rattle.bytecode_verifier.proofs.RowLemmas.{item_found, need_holds, need_fails, left_with}
+use Rattle.bytecode_verifier.proofs.RowLemmas.{need_holds, need_fails, left_with}
 use Rattle.bytecode_verifier.proofs.calls.check_receiver.Goals as goal
 
 pub returns-then-not-is_seen_as : goal.returns-then-not-is_seen_as

@@ -1,10 +1,11 @@
 use Rattle.std.proofs.Common.{sym, ap, ap₂, ◌∙◌, ◌++◌, ◌&&◌}
+use Rattle.verifier_types.proofs.RowLemmas.{item_found}
 use Rattle.bytecode_model.specs.Types.{OfClass}
 use Rattle.bytecode_typing.specs.Types.{result_types}
 use Rattle.bytecode_typing.specs.Checks as checks
 use Rattle.verifier_types.specs.Frame.{frame_seen, operands_seen}
 use Rattle.verifier_types.specs.Seen.{type_seen}
-use Rattle.bytecode_verifier.proofs.RowLemmas.{item_found, need_holds, need_fails, left_with}
+use Rattle.bytecode_verifier.proofs.RowLemmas.{need_holds, need_fails, left_with}
 use Rattle.bytecode_verifier.proofs.calls.check_super.Goals as goal
 
 pub returns-then-not-both : goal.returns-then-not-both

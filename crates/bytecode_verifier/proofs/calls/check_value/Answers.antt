@@ -1,8 +1,9 @@
 use Rattle.std.proofs.Common.{sym, ap, ap₂, ◌∙◌, ◌&&◌, true, None, refl}
+use Rattle.verifier_types.proofs.RowLemmas.{item_found}
 use Rattle.bytecode_typing.specs.Rules.{Leaves}
 use Rattle.verifier_types.specs.Frame.{frame_seen, operands_seen}
 use Rattle.verifier_types.specs.Seen.{type_seen}
-use Rattle.bytecode_verifier.proofs.RowLemmas.{item_found, need_holds, need_fails}
+use Rattle.bytecode_verifier.proofs.RowLemmas.{need_holds, need_fails}
 use Rattle.bytecode_verifier.proofs.calls.check_value.Goals as goal
 
 pub returns-then-not-both : goal.returns-then-not-both

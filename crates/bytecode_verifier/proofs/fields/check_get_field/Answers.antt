@@ -1,8 +1,9 @@
 use Rattle.std.proofs.Common.{sym, ap, ◌∙◌, ◌∷◌}
+use Rattle.verifier_types.proofs.RowLemmas.{item_found}
 use Rattle.program_tables.specs.Meanings.{declared_seen}
 use Rattle.verifier_types.specs.Frame.{frame_seen, operands_seen}
 use Rattle.verifier_types.specs.Seen.{type_seen}
-use Rattle.bytecode_verifier.proofs.RowLemmas.{item_found, found_is, need_holds, need_fails, left_with}
+use Rattle.bytecode_verifier.proofs.RowLemmas.{found_is, need_holds, need_fails, left_with}
 use Rattle.bytecode_verifier.proofs.fields.check_get_field.Goals as goal
 
 pub returns-then-not-is_seen_as : goal.returns-then-not-is_seen_as

@@ -1,10 +1,11 @@
 use Rattle.std.proofs.Common.{sym, ap, ap₂, ◌∙◌, ◌&&◌, refl}
+use Rattle.verifier_types.proofs.RowLemmas.{item_found}
 use Rattle.bytecode_model.specs.Types.{OfClass}
 use Rattle.bytecode_typing.specs.Checks as checks
 use Rattle.program_tables.specs.Meanings.{declared_seen}
 use Rattle.verifier_types.specs.Frame.{frame_seen, operands_seen}
 use Rattle.verifier_types.specs.Seen.{type_seen}
-use Rattle.bytecode_verifier.proofs.RowLemmas.{item_found, found_is, need_holds, need_fails, left_with}
+use Rattle.bytecode_verifier.proofs.RowLemmas.{found_is, need_holds, need_fails, left_with}
 use Rattle.bytecode_verifier.proofs.fields.check_put_field.Goals as goal
 
 pub returns-then-not-is_seen_for : goal.returns-then-not-is_seen_for

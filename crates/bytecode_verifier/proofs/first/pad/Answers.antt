@@ -1,10 +1,10 @@
 use Rattle.std.proofs.Common.{sym, ap, ◌∙◌, ◌∷◌, [], length, arith}
 use Rattle.std.proofs.lemmas.List.{length-map, map-append, length-append}
+use Rattle.frame_types.proofs.LocalLemmas.{padded_full, padded_more, padded_past}
 use Rattle.verifier_types.specs.declared.types.VarType.TheVariants as codes
 use Rattle.bytecode_model.specs.Slots.{padded}
 use Rattle.bytecode_typing.specs.Types.{Top}
 use Rattle.verifier_types.specs.Seen.{type_seen, types_seen}
-use Rattle.bytecode_verifier.proofs.FirstLemmas.{padded_past, padded_more, padded_full}
 use Rattle.bytecode_verifier.proofs.first.pad.Goals as goal
 
 pub returns-then-len-count : goal.returns-then-len-count

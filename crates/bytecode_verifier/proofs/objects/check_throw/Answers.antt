@@ -1,8 +1,9 @@
 use Rattle.std.proofs.Common.{sym, ap, ◌∙◌, true, None}
+use Rattle.verifier_types.proofs.RowLemmas.{item_found}
 use Rattle.bytecode_typing.specs.Rules.{Leaves}
 use Rattle.verifier_types.specs.Frame.{frame_seen, operands_seen}
 use Rattle.verifier_types.specs.Seen.{type_seen}
-use Rattle.bytecode_verifier.proofs.RowLemmas.{item_found, need_holds, need_fails}
+use Rattle.bytecode_verifier.proofs.RowLemmas.{need_holds, need_fails}
 use Rattle.bytecode_verifier.proofs.objects.check_throw.Goals as goal
 
 pub returns-then-not-is_seen_as : goal.returns-then-not-is_seen_as

@@ -1,6 +1,7 @@
 use Rattle.std.proofs.Common.{◌∙◌}
 use Rattle.std.proofs.lemmas.List.Sorted.{searched}
-use Rattle.frame_types.proofs.SearchLemmas.{rising_all, told}
+use Rattle.lists.specs.Members.{rising_all}
+use Rattle.frame_types.proofs.SearchLemmas.{told}
 use Rattle.frame_types.proofs.code.is_among.Goals as goal
 
 pub returns : goal.returns

@@ -1,10 +1,11 @@
 use Rattle.std.proofs.Common.{◌≡◌, ◌+◌, ◌<◌, List, map, length, get_or, refl, ap, sym, ◌∙◌, subst, arith}
+use Rattle.program_tables.proofs.TableLemmas.{entry_there}
 use Rattle.class_pool.specs.declared.class.ClassFile.{ClassFile}
 use Rattle.class_pool.specs.declared.entry.Entry.{Entry}
 use Rattle.lists.specs.Lemmas.{some_same}
 use Rattle.image_words.specs.Pools.{instructions_in}
 use Rattle.image_layout.specs.Uses.{instr_of}
-use Rattle.image_layout.proofs.EntryLemmas.{uses_long, use_read, entry_there}
+use Rattle.image_layout.proofs.EntryLemmas.{uses_long, use_read}
 use Rattle.image_layout.proofs.PoolLemmas.{pool_more}
 use Rattle.image_layout.proofs.entries.add_pool.Goals as goal
 

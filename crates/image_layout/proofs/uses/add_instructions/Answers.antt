@@ -3,12 +3,13 @@ use Rattle.std.specs.Option.{option_map}
 use Rattle.std.specs.List.{filter_map}
 use Rattle.std.proofs.lemmas.Option.{slice_get-get_or}
 use Rattle.std.proofs.lemmas.List.Elements.{Contains-get_or}
+use Rattle.program_tables.proofs.MentionLemmas.{no_instr}
 use Rattle.jop_opcodes.specs.declared.instruction.Instr.{Instr}
 use Rattle.jop_opcodes.specs.Start.{starts_of}
 use Rattle.bytecode_model.specs.Program.{as_instr}
 use Rattle.program_tables.specs.Instructions.{Placed, placed_at, instructions_in}
 use Rattle.image_layout.specs.Uses.{instr_of}
-use Rattle.image_layout.proofs.EntryLemmas.{instructions_more, no_instr}
+use Rattle.image_layout.proofs.EntryLemmas.{instructions_more}
 use Rattle.image_layout.proofs.uses.add_instructions.Goals as goal
 use Rattle.image_layout.proofs.uses.add_instructions.Goals.{in-Ok+in_ok-push, in_default}
 

@@ -2,11 +2,12 @@ use Rattle.std.proofs.Common.{◌≡◌, ◌<◌, ◌++◌, List, ℕ, [], Optio
 use Rattle.std.specs.Prelude.{slice_get}
 use Rattle.std.specs.Option.{option_copied, option_map_or}
 use Rattle.std.proofs.lemmas.Option.{slice_get-get_or}
+use Rattle.program_tables.proofs.ListLemmas.{no_copy}
 use Rattle.class_pool.specs.declared.class.Code.{Code}
 use Rattle.class_pool.specs.declared.class.Member.{Member}
 use Rattle.program_tables.specs.Instructions as definitions
 use Rattle.image_layout.specs.Uses.{instr_of}
-use Rattle.image_layout.proofs.EntryLemmas.{methods_more, no_copy}
+use Rattle.image_layout.proofs.EntryLemmas.{methods_more}
 use Rattle.image_layout.proofs.uses.instructions_of.Goals as goal
 use Rattle.image_layout.proofs.uses.instructions_of.Goals.{in-Some+in_ok-add_instructions, in_default}
 

@@ -2,11 +2,12 @@ use Rattle.std.proofs.Common.{◌≡◌, ◌+◌, ◌++◌, ◌∷◌, [], true,
 use Rattle.std.specs.Prelude.{is_some}
 use Rattle.std.specs.Map.{lookup}
 use Rattle.std.proofs.lemmas.Grind.{take_at_read}
+use Rattle.class_lookup.proofs.Overriding.{place_same}
+use Rattle.lists.proofs.Lookups.{copied_none, copied_some}
 use Rattle.indexmap.proofs.CallerLemmas.{insert_entry-new}
 use Rattle.bytecode_model.specs.Lists.{index_of}
 use Rattle.class_lookup.specs.Lookup.{Place, same_place}
-use Rattle.program_tables.proofs.ListLemmas.{found_new, found_old, copied_none, copied_some}
-use Rattle.program_tables.proofs.MemberLemmas.{place_same}
+use Rattle.program_tables.proofs.ListLemmas.{found_new, found_old}
 use Rattle.program_tables.proofs.members.numbers_of.Goals as goal
 use Rattle.program_tables.proofs.members.numbers_of.Goals.{then-is_none+in_ok-insert, else-is_none}
 

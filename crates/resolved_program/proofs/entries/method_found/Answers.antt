@@ -1,6 +1,6 @@
 use Rattle.std.proofs.Common.{◌<◌, List, length, slice_get, sym, ap, ◌∙◌, subst}
+use Rattle.program_tables.proofs.ComponentLemmas.{index_below}
 use Rattle.class_pool.specs.declared.class.ClassFile.{ClassFile}
-use Rattle.resolved_program.proofs.InstanceLemmas.{index_below}
 use Rattle.resolved_program.proofs.entries.method_found.Goals as goal
 
 pub find_method_by-requires : goal.find_method_by-requires

@@ -1,10 +1,11 @@
 use Rattle.std.proofs.Common.{◌≡◌, ◌+◌, ◌<◌, ◌≤◌, length, Some, sym, ap, ◌∙◌, arith}
 use Rattle.std.specs.Option.{option_map}
+use Rattle.program_tables.proofs.ComponentLemmas.{index_below}
 use Rattle.bytecode_model.specs.Lists.{index_of}
 use Rattle.class_lookup.specs.Lookup.{Place, same_place}
 use Rattle.program_tables.specs.Numbers.{own_instance_fields}
 use Rattle.resolved_program.specs.Instances.{fields_above}
-use Rattle.resolved_program.proofs.InstanceLemmas.{own_long, own_read, own_past, index_below, number_step}
+use Rattle.resolved_program.proofs.InstanceLemmas.{own_long, own_read, own_past, number_step}
 use Rattle.resolved_program.proofs.instances.Instances.number.Goals as goal
 
 pub index-requires : goal.index-requires
