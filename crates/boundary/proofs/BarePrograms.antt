@@ -1,8 +1,7 @@
 -- Bare images are programs, and the machine at reset stands for their first state.
-use Rattle.std.proofs.Common.{◌≡◌, ℕ, ◌≤◌, Option, Some, None, refl, arith, inr, ⊎_elim}
+use Rattle.std.proofs.Common.{◌≡◌, Option, Some, None, refl, arith, inr}
 use Rattle.std.specs.Prelude.{IsSomeAnd}
 use Rattle.machine_stands.proofs.Beginning.{least}
-use Rattle.stack_cache.specs.Size.{IsSize}
 use Rattle.jop_core.specs.Reset.{bare_reset}
 use Rattle.bytecode_model.specs.State.{State}
 use Rattle.bytecode_model.specs.Steps.{boot_state}

@@ -1,11 +1,11 @@
 -- A machine at reset, whose stack has the frame of boot: all of its words are 0.
-use Rattle.std.proofs.Common.{◌≡◌, ℕ, zero, suc, pos, ◌+◌, ◌-◌, ◌<◌, ◌≤◌, Bool, true, if◌then◌else◌, List, [], ◌∷◌, ◌++◌, Option, Some, None, map, length, take, drop, replicate, refl, sym, ◌∙◌, ap, subst, arith, append_assoc, length-append, ⊎_elim}
-use Rattle.std.specs.Prelude.{◌==◌, nat_le, nat_lt, slice_index, All, IsTrue, IfSome, is_some}
+use Rattle.std.proofs.Common.{◌≡◌, ℕ, zero, suc, pos, ◌+◌, ◌-◌, ◌<◌, ◌≤◌, true, List, [], ◌∷◌, ◌++◌, Option, Some, None, map, length, take, drop, replicate, refl, sym, ◌∙◌, ap, subst, arith, append_assoc, length-append}
+use Rattle.std.specs.Prelude.{nat_le, nat_lt, slice_index, All, IsTrue, IfSome}
 use Rattle.std.proofs.lemmas.Bool.{and_parts}
 use Rattle.std.proofs.lemmas.Bool.Decides.{nat_tests}
 use Rattle.std.proofs.lemmas.List.{append-nil, replicate-append-replicate}
 use Rattle.std.proofs.lemmas.List.Sums.{sum_by-cons}
-use Rattle.std.proofs.Math.Nat.{mod-eq_of_lt, mod-lt}
+use Rattle.std.proofs.Math.Nat.{mod-eq_of_lt}
 use Rattle.std.proofs.lemmas.List.{get_or_append_left, take-replicate, length-replicate}
 use Rattle.std.proofs.Math.Seq.{drop-append_seam, take-append_seam}
 use Rattle.machine_stands.proofs.Beginning.{cache_is, cached_one, contents_are, least}
@@ -14,7 +14,7 @@ use Rattle.stack_cache.specs.Size.{IsSize}
 use Rattle.microcode_rom.specs.declared.TheConstants.{CONSTANTS as NUMBERS}
 use Rattle.jop_core.specs.declared.places.TheConstants.{CONSTANTS, STACK}
 use Rattle.word32.specs.Packed.{words_for, words_of_bytes, PackedHasBytes, PackedHasWords}
-use Rattle.method_cache.specs.Contents.{Entry, Cache, IsCache, AreApart, HaveWords, total_blocks, blocks_for, empty, loaded, can_load, find_words}
+use Rattle.method_cache.specs.Contents.{Entry, Cache, blocks_for, empty, loaded, can_load}
 use Rattle.memory_timing.specs.declared.Config.{Config}
 use Rattle.jop_core.specs.Reset.{Start, reset_of, reset_words, places}
 use Rattle.bytecode_model.specs.declared.Value.{Value}

@@ -2,7 +2,7 @@
 use Rattle.std.proofs.Common.{◌≡◌, ℕ, ◌+◌, ◌*◌, ◌^◌, ◌<◌, ◌≤◌, Bool, true, false, cond, List, [], ◌∷◌, ◌++◌, length, Option, Some, None, refl, ◌∙◌, ap, ap₂, arith, nat_lt, lit<, ltb-true}
 use Rattle.std.specs.Prelude.{unwrap_or, option_map, codes}
 use Rattle.std.specs.Option.{option_map_or}
-use Rattle.std.specs.List.{flat_map, position_or_len, AllByRecursion}
+use Rattle.std.specs.List.{flat_map, AllByRecursion}
 use Rattle.std.proofs.lemmas.List.{length-append}
 use Rattle.core_classes.proofs.BootSupport.{first_pair}
 use Rattle.class_making.proofs.ListLemmas.{all_left}
@@ -15,7 +15,7 @@ use Rattle.class_pool.specs.Grammar.{entry_at, utf8_of, class_name_of, name_and_
 use Rattle.class_making.specs.declared.item.Item.{Item}
 use Rattle.class_making.specs.declared.item.Item.TheVariants.{Text, Class, Method}
 use Rattle.class_making.specs.declared.plan.Piece.{Piece}
-use Rattle.class_making.specs.Making.{expanded, same_item, index_from, index_of, entry_of, pool_of}
+use Rattle.class_making.specs.Making.{expanded, index_from, index_of, entry_of, pool_of}
 use Rattle.class_making.specs.Plans.{code_name, piece_bytes, piece_mentions, plan_mentions, items_of, class_of}
 use Rattle.class_making.specs.Laws.{PlansHaveEntries, ItemsAreFew}
 use Rattle.core_classes.specs.Core as core

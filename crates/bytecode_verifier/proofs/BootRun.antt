@@ -1,5 +1,5 @@
 -- The class that is run is verified, where it calls methods that are there.
-use Rattle.std.proofs.Common.{◌≡◌, ℕ, suc, Bool, true, false, ◌&&◌, List, [], ◌∷◌, ◌++◌, length, Option, Some, None, Result, Ok, refl, sym, ap, ap₂, ◌∙◌, subst}
+use Rattle.std.proofs.Common.{◌≡◌, ℕ, suc, Bool, true, false, ◌&&◌, List, [], ◌∷◌, ◌++◌, length, Option, Some, None, Ok, refl, sym, ap, ap₂, ◌∙◌, subst}
 use Rattle.std.specs.Prelude.{slice_get, codes, if◌then◌else◌}
 use Rattle.std.specs.Option.{option_map, option_map_or}
 use Rattle.std.specs.Cmp.Lexicographic.{same_text as texts_same}
@@ -9,27 +9,23 @@ use Rattle.lists.specs.Lemmas.{index_found, map_some, onto_some}
 use Rattle.class_pool.specs.declared.class.Code.{Code}
 use Rattle.class_pool.specs.declared.class.Member.{Member}
 use Rattle.class_pool.specs.declared.class.ClassFile.{ClassFile}
-use Rattle.class_pool.specs.Found.{code_of}
 use Rattle.core_classes.specs.Linkage.{DeclaresStatic}
 use Rattle.class_lookup.specs.Parts.{Signature, signature_of, text_at, class_text, is_static, is_init, same_text, same_signature}
 use Rattle.class_lookup.specs.Hierarchy.{find_class}
 use Rattle.class_lookup.specs.Lookup.{Place, declared_in, declared_method, find_method}
 use Rattle.descriptors.specs.Parsing.{primitive_in, split_in, class_in, element_in, type_from, types_in, field_in, result_in, method_in as method_type_in}
-use Rattle.jop_opcodes.specs.declared.instruction.Instr.{Instr}
-use Rattle.jop_opcodes.specs.declared.instruction.DecodeFault.{DecodeFault}
-use Rattle.jop_opcodes.specs.Instruction.{decoded}
-use Rattle.bytecode_model.specs.Program.{Program, Method, Operand, NoOperand, AMethod, as_instr}
+use Rattle.bytecode_model.specs.Program.{Program, Method, Operand, NoOperand, AMethod}
 use Rattle.frame_types.specs.declared.types.VarType.{VarType as MapType}
 use Rattle.frame_types.specs.declared.types.TypeFrame.{TypeFrame as MapFrame}
 use Rattle.frame_types.specs.Table.{entries_of}
 use Rattle.frame_types.specs.Locals.{types_of, this_type, this_types, first_locals}
 use Rattle.frame_types.specs.Frames.{or_fails_at, frame_of, with_first, frames_from, frames_of}
-use Rattle.program_tables.specs.Instructions.{Named, named_in, placed_at}
+use Rattle.program_tables.specs.Instructions.{Named, named_in}
 use Rattle.program_tables.specs.Instructions as named
 use Rattle.program_tables.specs.Kinds.{parameters_declared, result_declared}
 use Rattle.program_tables.specs.Laws.{MethodsStandByNumber}
 use Rattle.program_tables.specs.Numbers.{methods_by_number, method_number}
-use Rattle.program_tables.specs.Operands.{operand_in, operand_by, method_operand, method_taken, at_instruction}
+use Rattle.program_tables.specs.Operands.{operand_in, operand_by, method_operand, method_taken}
 use Rattle.program_tables.specs.Resolved.{resolved, resolved_method, method_in}
 use Rattle.bytecode_verifier.proofs.BootPlaces.{has_number, found_first}
 use Rattle.bytecode_verifier.proofs.BootSteps.{index_instr}

@@ -4,7 +4,6 @@ use Rattle.std.specs.Prelude.{is_none, slice_get}
 use Rattle.std.specs.Option.{option_to_list, option_map_or}
 use Rattle.std.specs.List.{list_all, range_with_len, flat_map, filter, enumerate_from}
 use Rattle.std.proofs.lemmas.Bool.{cases_lt}
-use Rattle.std.proofs.lemmas.List.{length-append}
 use Rattle.core_classes.proofs.First.{fuel, two_above}
 use Rattle.core_classes.proofs.Below.{object_is_uppermost}
 use Rattle.core_classes.proofs.Tests.{none_of}
@@ -13,7 +12,6 @@ use Rattle.lists.specs.Numbers.{reached}
 use Rattle.class_pool.specs.declared.class.ClassFile.{ClassFile}
 use Rattle.class_making.specs.Plans.{items_of, class_of}
 use Rattle.core_classes.specs.Core.{empty_init, object_plan, interface_plan, length_method, char_at_method, string_plan, plain_init, keeping_init, get_message_method, throwable_plan, handing_init, error_plan, error_plans, read_method, write_method, io_plan, first_plans, core_plans, core}
-use Rattle.class_lookup.specs.Parts.{same_text, name_of}
 use Rattle.class_lookup.specs.Hierarchy.{find_class, superclass, superclasses, with_superinterfaces, supertypes}
 use Rattle.class_lookup.specs.Lookup.{Place, same_place, find_field, find_method}
 use Rattle.class_lookup.specs.Selection.{select, special}

@@ -3,7 +3,7 @@ use Rattle.std.proofs.Common.{◌≡◌, ℕ, ◌+◌, ◌<◌, ◌≤◌, Bool,
 use Rattle.std.specs.Prelude.{◌&&◌, ◌||◌, ◌==◌, nat_le, nat_lt, sum_by, IfSome, IsTrue, T, ℤ, pos, negsuc, ◌+ℤ◌, ◌<ℤ◌, int_le, int_lt, slice_get, slice_index}
 use Rattle.std.specs.Int.Signed.{lt_z_yes}
 use Rattle.std.specs.List.{list_all, AllByRecursion}
-use Rattle.std.proofs.lemmas.Bool.{eqb-true, leb-true, ltb-true}
+use Rattle.std.proofs.lemmas.Bool.{leb-true, ltb-true}
 use Rattle.std.proofs.lemmas.Option.{slice_get_within}
 use Rattle.std.proofs.lemmas.List.Sums.{sum_by-cons}
 use Rattle.jop_opcodes.specs.declared.instruction.Instr.{Instr}
@@ -15,7 +15,7 @@ use Rattle.lists.specs.Lists.{onto}
 use Rattle.lists.specs.Lemmas.{none≢some, onto_some}
 use Rattle.lists.specs.Members.{cons_cases, nil_contains}
 use Rattle.bytecode_model.specs.Lists.{natural}
-use Rattle.bytecode_model.specs.Types.{NumberType, IntType, LongType, Declared, Numeric, Reference, Moved, Numbers, References}
+use Rattle.bytecode_model.specs.Types.{IntType, LongType, Declared, Numeric, Reference, Moved, Numbers, References}
 use Rattle.bytecode_model.specs.Program.{Program, Method, Body, body_of, instr_at, as_instr}
 use Rattle.bytecode_model.specs.Rows as rows
 use Rattle.bytecode_model.specs.Rows.{Row}
@@ -25,13 +25,13 @@ use Rattle.bytecode_typing.specs.Tests.{Holds}
 use Rattle.bytecode_typing.specs.Types.{VarType, TypeFrame, is_reference_type, type_words, type_of, moved_words, stack_words}
 use Rattle.bytecode_typing.specs.Assignable.{flows_to}
 use Rattle.bytecode_typing.specs.Rules as rule
-use Rattle.bytecode_typing.specs.Rules.{Rule, Checked, on_type, on_reference, on_number_types, is_number_type, need, found}
+use Rattle.bytecode_typing.specs.Rules.{Checked, on_reference}
 use Rattle.bytecode_typing.specs.Checks.{frame_at, reaches, row_check}
 use Rattle.bytecode_typing.specs.Walk as walk
-use Rattle.bytecode_typing.specs.Walk.{Verdict, Breaks, Passes, unless_broken, on_frame, incoming, merges, falls_through, is_formed, rises_from, keys_rise, has_words, on_row, on_instr, verdict_at, first_types}
+use Rattle.bytecode_typing.specs.Walk.{Passes, on_frame, merges, falls_through, is_formed, rises_from, keys_rise, has_words, on_row, on_instr, verdict_at, first_types}
 use Rattle.bytecode_typing.specs.Typed.{Typing, IsChecked}
 use Rattle.bytecode_typing.specs.Typings.{IsTypingOf, IsTyping, HasMapFrames, HaveTypings}
-use Rattle.bytecode_typing.proofs.Relations.{both_left, both_right, is_true, from_true, there_at, onto_is}
+use Rattle.bytecode_typing.proofs.Relations.{both_left, both_right, is_true, there_at, onto_is}
 use Rattle.bytecode_typing.proofs.Hierarchy.{equal, equal_in}
 use Rattle.bytecode_typing.proofs.Pairs.{need_checked, found_checked}
 use Rattle.bytecode_typing.proofs.TypedWalks.{IsPassed, passed, numbers_checked, unless_passed}

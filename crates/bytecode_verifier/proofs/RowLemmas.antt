@@ -1,15 +1,15 @@
 -- What the rules say where what they ask for is there, and where it isn't.
-use Rattle.std.proofs.Common.{◌≡◌, Bool, true, false, List, [], ◌∷◌, Option, Some, None, refl, sym, ap}
+use Rattle.std.proofs.Common.{◌≡◌, Bool, true, false, List, [], ◌∷◌, Option, Some, None, sym, ap}
 use Rattle.std.specs.Prelude.{if◌then◌else◌}
 use Rattle.bytecode_model.specs.Types.{IntType}
 use Rattle.bytecode_typing.specs.Types.{VarType, TypeFrame, is_initialized}
 use Rattle.bytecode_typing.specs.Rules as rule
-use Rattle.bytecode_typing.specs.Rules.{Rule, Checked, Fails, Leaves, need, found, on_type, on_number_types, is_number_type}
+use Rattle.bytecode_typing.specs.Rules.{Rule, Checked, Fails, Leaves, need, found, on_number_types, is_number_type}
 use Rattle.verifier_types.specs.declared.types.VarType as codes
 use Rattle.verifier_types.specs.declared.checked.Checked as codes_checked
 use Rattle.verifier_types.specs.Seen.{type_seen}
 use Rattle.verifier_types.specs.Site.{checked_seen}
-use Rattle.verifier_types.specs.Taken.{item_taken, numbers_taken}
+use Rattle.verifier_types.specs.Taken.{numbers_taken}
 use Rattle.verifier_types.specs.Uses.{uses_initialized}
 
 pub found_is : {A : Type 0} (o : Option A) (x : A) (r : Rule) (go : A → Checked) → o ≡ Some x → found o r go ≡ go x

@@ -15,7 +15,7 @@ use Rattle.bytecode_model.specs.Types.{IntType, LongType, Declared, Numeric, Ref
 use Rattle.bytecode_model.specs.State.{Frame, State}
 use Rattle.bytecode_model.specs.Program.{Program, Limits, Method, Body}
 use Rattle.bytecode_model.specs.Sizes.{value_words}
-use Rattle.bytecode_model.specs.Effects.{Effect, Call, on, only_if, on_values}
+use Rattle.bytecode_model.specs.Effects.{Effect, Call, on_values}
 use Rattle.bytecode_model.specs.Slots.{spread, padded}
 use Rattle.bytecode_model.specs.Steps.{applied, first_frame, called, taken_types, all_suit}
 use Rattle.image_facts.specs.Words.{declared_words}

@@ -1,7 +1,6 @@
 -- Parts of lists that rows in parts need, and of stalls.
-use Rattle.std.proofs.Common.{◌≡◌, ℕ, zero, suc, ◌+◌, ◌≤◌, List, [], ◌∷◌, ◌++◌, length, refl, ap, ◌∙◌, arith}
-use Rattle.micro_sketch.specs.Sketch.{Sketch}
-use Rattle.micro_sketch.specs.Stands.{stalls, stalls_for}
+use Rattle.std.proofs.Common.{◌≡◌, ℕ, zero, suc, ◌+◌, ◌≤◌, List, [], ◌∷◌, ◌++◌, length, refl, ap, arith}
+use Rattle.micro_sketch.specs.Stands.{stalls}
 pub use Rattle.call_steps.specs.Parts.{PartLaws, Low, registers, low_words, low_of, at, computed, followed_by, to_split}
 
 -- so many words of a list, and four behind them

@@ -1,5 +1,5 @@
 -- A step of the raise routine, put together of its parts.
-use Rattle.std.proofs.Common.{◌≡◌, ℕ, zero, suc, ◌+◌, ◌-◌, ◌*◌, ◌/◌, ◌%◌, ◌^◌, ◌<◌, ◌≤◌, ◌==◌, ◌&&◌, Bool, true, false, nat_lt, if◌then◌else◌, List, [], ◌∷◌, ◌++◌, Option, Some, None, length, reverse, drop, bit_and, refl, sym, ap, ◌∙◌, subst, arith, append_assoc, length-append, zero-add, lt-ltb, le-ltb}
+use Rattle.std.proofs.Common.{◌≡◌, ℕ, zero, suc, ◌+◌, ◌-◌, ◌/◌, ◌%◌, ◌^◌, ◌<◌, ◌≤◌, ◌==◌, ◌&&◌, Bool, true, false, nat_lt, if◌then◌else◌, List, [], ◌∷◌, ◌++◌, Option, Some, None, length, reverse, bit_and, refl, sym, ap, ◌∙◌, subst, arith, append_assoc, length-append, zero-add, lt-ltb, le-ltb}
 use Rattle.std.specs.Prelude.{slice_index}
 use Rattle.std.proofs.Math.Nat.{mod-eq_of_lt}
 use Rattle.std.proofs.lemmas.Nat.{and_mask}
@@ -9,17 +9,16 @@ use Rattle.micro_sketch.proofs.Frames.{reverse_aux-both}
 use mathlib.Core.List.{reverse_aux, reverse_aux-eq}
 use Rattle.microcode_rom.specs.declared.TheConstants.{RAISE}
 use Rattle.microcode_rom.specs.declared.addresses.TheConstants.{HANDLER_FOUND, DROP_FRAME, END}
-use Rattle.jop_core.specs.declared.halt.Halt.TheVariants.{Running, Uncaught}
-use Rattle.micro_sketch.specs.Sketch.{Sketch, exec, same_bool, inside, can_find}
-use Rattle.micro_sketch.specs.Stands.{Env, Shaped, Reaches, IsDone}
-use Rattle.micro_sketch.specs.Row.{words_of}
-use Rattle.micro_sketch.specs.Rows.{head_of, tail_of, shown, Switches, Halts}
+use Rattle.jop_core.specs.declared.halt.Halt.TheVariants.{Running}
+use Rattle.micro_sketch.specs.Sketch.{Sketch, exec, same_bool, inside}
+use Rattle.micro_sketch.specs.Stands.{Env, Shaped, Reaches}
+use Rattle.micro_sketch.specs.Rows.{head_of, tail_of, shown}
 use Rattle.call_steps.specs.Method.{max_locals, frame_words}
 use Rattle.call_steps.specs.Returns.{Saved, saved_words}
 use Rattle.call_steps.specs.Parts.{PartLaws, Low, low_of, at, computed, followed_by}
-use Rattle.call_steps.specs.Raise.{IsRaising, method_of, type_of, HasTable, handler_of, target_for, HasFrame, handle, Handled, HandlersRun, HasCaller, Drops, Dropped, FramesDrop, Stopped, LastStops}
-use Rattle.call_steps.proofs.RaiseRows.{unloaded, entries_read, low_turn, turning, opens, limits_of, raw_top, raw_target, at_cut, cuts, at_saved, handling, handles, raw_frames, raw_last, left_over, low_left, at_drop, leaves, at_dropped, low_taken, at_second, takes_over, at_caller, again, goes_again, stopped, stops}
-use Rattle.call_steps.proofs.RaiseSearch.{Looked, LookedAt, Ends, go_through}
+use Rattle.call_steps.specs.Raise.{IsRaising, HasTable, handler_of, target_for, HasFrame, Handled, HandlersRun, HasCaller, Dropped, FramesDrop, Stopped, LastStops}
+use Rattle.call_steps.proofs.RaiseRows.{unloaded, entries_read, turning, opens, limits_of, raw_top, raw_target, at_cut, cuts, at_saved, handling, handles, left_over, low_left, at_drop, leaves, at_dropped, low_taken, at_second, takes_over, at_caller, again, goes_again, stopped, stops}
+use Rattle.call_steps.proofs.RaiseSearch.{Looked, Ends, go_through}
 
 -- ---- the sketch with its words shown
 

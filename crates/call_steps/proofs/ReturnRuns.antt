@@ -9,7 +9,7 @@ use Rattle.micro_sketch.specs.Stands.{Env}
 use Rattle.micro_sketch.specs.Row.{StandsAt}
 use Rattle.micro_sketch.specs.Rows.{entered, head_of, tail_of, Finishes, end_of, Halts, RunsSwitch}
 use Rattle.call_steps.specs.Returns as returns
-use Rattle.call_steps.specs.Returns.{ReturnOp, Return, Ireturn, Areturn, Lreturn, return_code, CanReturn, IsLast, RunsToEnd}
+use Rattle.call_steps.specs.Returns.{ReturnOp, Return, Ireturn, Areturn, Lreturn, return_code, CanReturn, IsLast}
 use Rattle.call_steps.specs.Laws.{ReturnsRun, ReturnsEnd}
 use Rattle.call_steps.proofs.Parts.{PartLaws, low_of}
 use Rattle.call_steps.proofs.Returning.{ReturnMade, return_made}

@@ -1,6 +1,6 @@
 -- A call by a receiver, from the step to where the machine stands for the next state.
-use Rattle.std.proofs.Common.{◌≡◌, ℕ, zero, suc, ◌+◌, ◌*◌, ◌/◌, ◌%◌, ◌^◌, ◌<◌, ◌≤◌, ◌==◌, true, false, List, [], ◌∷◌, ◌++◌, Option, Some, None, inl, length, reverse, refl, sym, ap, ◌∙◌, subst, arith, append_assoc, length-append, ⊎_elim}
-use Rattle.std.specs.Prelude.{slice_get, slice_index, IsSome, IsSomeAnd}
+use Rattle.std.proofs.Common.{◌≡◌, ℕ, ◌+◌, ◌*◌, ◌/◌, ◌%◌, ◌^◌, ◌<◌, ◌≤◌, ◌==◌, true, false, List, [], ◌∷◌, ◌++◌, Option, Some, None, inl, length, reverse, refl, sym, ap, ◌∙◌, subst, arith, append_assoc, length-append, ⊎_elim}
+use Rattle.std.specs.Prelude.{slice_get, slice_index, IsSome}
 use Rattle.std.specs.List.{sum_by}
 use Rattle.std.proofs.Math.Nat.{mod-eq_of_lt}
 use Rattle.std.proofs.lemmas.Option.{none-some}
@@ -24,18 +24,16 @@ use Rattle.micro_plain.specs.Operand.{past, two_byte_operand}
 use Rattle.bytecode_model.specs.declared.Value.{Value}
 use Rattle.bytecode_model.specs.declared.Value.TheVariants.{Int, Long, Ref, Null, Unset}
 use Rattle.bytecode_model.specs.declared.Ending.TheVariants.{Running}
-use Rattle.bytecode_model.specs.Lists.{onto}
-use Rattle.bytecode_model.specs.Types.{Kind, OfClass, OfNumbers, OfReferences, is_long}
+use Rattle.bytecode_model.specs.Types.{Kind, is_long}
 use Rattle.bytecode_model.specs.Rows.{Row}
 use Rattle.bytecode_model.specs.State.{Object, Frame, State}
 use Rattle.bytecode_model.specs.Program.{Program, Method, Operand, AMethod, body_of, kind_of}
 use Rattle.bytecode_model.specs.Sizes.{value_words}
-use Rattle.bytecode_model.specs.WellFormed.{IsObject, AreObjects}
 use Rattle.bytecode_model.specs.Effects.{Call, Fault, NullPointerException, IncompatibleClassChangeError, StackOverflowError, fault, fault_object, on, on_object, has_class, selected}
 use Rattle.bytecode_model.specs.Steps.{applied, raising}
 use Rattle.image_facts.specs.Places.{Places, AreFixed, object_place, pool_of}
 use Rattle.image_facts.specs.Says as says
-use Rattle.image_facts.specs.Says.{SaysAll, SaysLinked, Means, MeansMethod, FindsMethod, IsSlot, IsInterfaceNumber}
+use Rattle.image_facts.specs.Says.{SaysAll, SaysLinked, Means, MeansMethod}
 use Rattle.machine_stands.specs.Frames.{IsWordOf, AreOperands}
 use Rattle.machine_stands.specs.StandsFor.{limits_of}
 use Rattle.machine_stands.specs.Comes.{params, ComesTo}

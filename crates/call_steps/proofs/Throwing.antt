@@ -1,5 +1,5 @@
 -- An athrow, from the step to where the machine stands for the next state.
-use Rattle.std.proofs.Common.{◌≡◌, ◌⊎◌, ℕ, suc, ◌+◌, ◌*◌, ◌%◌, ◌^◌, ◌<◌, ◌≤◌, ◌==◌, ◌&&◌, Bool, true, false, List, [], ◌∷◌, ◌++◌, Option, Some, None, length, drop, reverse, refl, sym, ap, ◌∙◌, subst, arith, ⊎_elim, eqb-true, length-append}
+use Rattle.std.proofs.Common.{◌≡◌, ◌⊎◌, ℕ, ◌+◌, ◌%◌, ◌^◌, ◌<◌, ◌≤◌, ◌==◌, ◌&&◌, Bool, true, false, List, [], ◌∷◌, ◌++◌, Option, Some, None, length, reverse, refl, sym, ap, ◌∙◌, subst, arith, ⊎_elim, eqb-true, length-append}
 use Rattle.std.specs.Prelude.{slice_get, slice_index, IsTrue}
 use Rattle.std.proofs.Math.Nat.{mod-eq_of_lt}
 use Rattle.std.proofs.lemmas.Option.{none-some}
@@ -14,11 +14,11 @@ use Rattle.jop_opcodes.specs.Form.{one, Absent}
 use Rattle.jop_opcodes.specs.Row as opcodes
 use Rattle.jop_opcodes.specs.Reading.{plain_instr}
 use Rattle.jop_core.specs.State as machine
-use Rattle.micro_sketch.specs.Sketch.{Sketch, exec, same_bool}
-use Rattle.micro_sketch.specs.Stands.{Env, stalls, stalls_for}
+use Rattle.micro_sketch.specs.Sketch.{Sketch, same_bool}
+use Rattle.micro_sketch.specs.Stands.{Env}
 use Rattle.micro_sketch.specs.Laws.{CostsHold}
 use Rattle.micro_sketch.specs.View.{env_of}
-use Rattle.micro_sketch.specs.Row.{StandsAt, words_of}
+use Rattle.micro_sketch.specs.Row.{StandsAt}
 use Rattle.micro_sketch.specs.Rows.{entered, Finishes, end_of, Raising, Raises, RunsToRaise}
 use Rattle.micro_sketch.specs.RowLaws.{AreRowLaws}
 use Rattle.bytecode_model.specs.declared.Value.{Value}
@@ -26,9 +26,9 @@ use Rattle.bytecode_model.specs.declared.Value.TheVariants.{Int, Long, Ref, Null
 use Rattle.bytecode_model.specs.declared.Ending.TheVariants.{Running}
 use Rattle.bytecode_model.specs.Rows.{Row, Throw}
 use Rattle.bytecode_model.specs.State.{Object, Frame, State}
-use Rattle.bytecode_model.specs.Program.{Program, Limits, Operand}
+use Rattle.bytecode_model.specs.Program.{Program, Operand}
 use Rattle.bytecode_model.specs.Table.{row_of}
-use Rattle.bytecode_model.specs.Effects.{Effect, Raise, NullPointerException, fault_object, on, on_object, effect}
+use Rattle.bytecode_model.specs.Effects.{Raise, NullPointerException, fault_object, on, on_object, effect}
 use Rattle.bytecode_model.specs.Steps.{applied}
 use Rattle.image_facts.specs.Within.{LieAt}
 use Rattle.image_facts.specs.Places.{Places, AreFixed, object_place, objects_place, middle_place}

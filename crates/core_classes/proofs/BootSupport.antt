@@ -23,7 +23,7 @@ use Rattle.program_tables.specs.declared.refusal.Site.{Site}
 use Rattle.program_tables.specs.declared.refusal.Site.TheVariants as sites
 use Rattle.program_tables.specs.Core.{boot_name}
 use Rattle.program_tables.specs.Instructions as named
-use Rattle.program_tables.specs.Instructions.{Placed, Named, named_in, instructions_of}
+use Rattle.program_tables.specs.Instructions.{Placed, named_in, instructions_of}
 use Rattle.program_tables.specs.Unsupported.{items_of_types, types_in_method, items_of_named, items_at_instruction, items_at_method, sited, unsupported_in}
 use Rattle.core_classes.specs.Linkage.{BootIsSupported}
 use Rattle.core_classes.proofs.Lists.{all_along, nothing_of_all}

@@ -1,18 +1,17 @@
 -- What follows where an effect gives a next state.
 use Rattle.std.proofs.Common.{◌≡◌, ℕ, zero, suc, ◌<◌, ◌≤◌, ◌==◌, ◌||◌, Bool, true, false, ℤ, pos, negsuc, List, [], ◌∷◌, Option, Some, None, length, refl, sym, ap, ◌∙◌, subst, arith}
-use Rattle.std.specs.Prelude.{IsSomeAnd, slice_get}
+use Rattle.std.specs.Prelude.{slice_get}
 use Rattle.std.specs.List.{list_any}
 use Rattle.std.proofs.lemmas.Option.{none-some}
 use Rattle.std.proofs.lemmas.Bool.Decides.{nat_tests}
-use Rattle.lists.specs.Lemmas.{onto_some, some_same}
+use Rattle.lists.specs.Lemmas.{some_same}
 use Rattle.bytecode_model.specs.declared.Value.{Value}
 use Rattle.bytecode_model.specs.declared.Value.TheVariants.{Int, Long, Ref, Null, Unset}
-use Rattle.bytecode_model.specs.Lists.{onto, replaced}
-use Rattle.bytecode_model.specs.Types.{Kind, OfClass, OfNumbers, OfReferences, IntType, LongType, is_long}
+use Rattle.bytecode_model.specs.Types.{Kind, OfClass, OfNumbers, OfReferences, IntType, LongType}
 use Rattle.bytecode_model.specs.State.{Object, Frame, State}
 use Rattle.bytecode_model.specs.Program.{Program, Limits, kind_of}
 use Rattle.bytecode_model.specs.Effects.{Effect, ArrayIndexOutOfBoundsException, NullPointerException, fault, on, or_fault, only_if, on_top, on_number, on_object, on_element, is_array, is_array_of, component_of}
-use Rattle.bytecode_model.specs.Steps.{applied, written}
+use Rattle.bytecode_model.specs.Steps.{applied}
 use Rattle.heap_steps.specs.Widths.{has_longs}
 
 -- ---- indexes

@@ -1,16 +1,14 @@
 -- What follows where an effect gives a next state.
-use Rattle.std.proofs.Common.{◌≡◌, ℕ, zero, suc, Bool, true, false, ℤ, List, [], ◌∷◌, Option, Some, None, refl, sym, ap, ◌∙◌, subst}
-use Rattle.std.specs.Prelude.{IsSomeAnd, slice_get}
+use Rattle.std.proofs.Common.{◌≡◌, ℕ, Bool, true, false, List, [], ◌∷◌, Option, Some, None, refl, sym, ap, ◌∙◌}
+use Rattle.std.specs.Prelude.{slice_get}
 use Rattle.std.proofs.lemmas.Option.{none-some}
-use Rattle.lists.specs.Lemmas.{onto_some}
 use Rattle.bytecode_model.specs.declared.Value.{Value}
 use Rattle.bytecode_model.specs.declared.Value.TheVariants.{Int, Long, Ref, Null, Unset}
-use Rattle.bytecode_model.specs.Lists.{onto, replaced}
-use Rattle.bytecode_model.specs.Types.{Kind, OfClass, OfNumbers, OfReferences, IntType, LongType, Declared, Numeric, Reference, is_long, default, suits}
+use Rattle.bytecode_model.specs.Types.{IntType, LongType, Declared, Numeric, Reference, is_long, default, suits}
 use Rattle.bytecode_model.specs.State.{Object, Frame, State}
 use Rattle.bytecode_model.specs.Program.{Program, Limits}
-use Rattle.bytecode_model.specs.Effects.{Effect, NullPointerException, fault, on, only_if, on_top, on_object, has_class}
-use Rattle.bytecode_model.specs.Steps.{applied, written}
+use Rattle.bytecode_model.specs.Effects.{Effect, NullPointerException, fault, on, only_if, on_top, on_object}
+use Rattle.bytecode_model.specs.Steps.{applied}
 use Rattle.image_facts.specs.Words.{is_long_type}
 
 module _ (P : Program) (limits : Limits) (answer : Option ℕ) (s : State) (f : Frame) (callers : List Frame) (s' : State) where

@@ -1,17 +1,12 @@
 -- Words that lie in the memory, and items of lists.
-use Rattle.std.proofs.Common.{◌≡◌, ℕ, zero, suc, ◌+◌, ◌-◌, ◌<◌, List, [], ◌∷◌, ◌++◌, Option, Some, None, length, replicate, refl, sym, ◌∙◌, ap, subst, arith, add-zero, length-append}
-use Rattle.std.specs.Prelude.{slice_get, slice_index, IsSomeAnd}
-use Rattle.std.proofs.lemmas.Option.{none-some}
+use Rattle.std.proofs.Common.{ℕ, ◌+◌, ◌-◌, ◌<◌, List, ◌∷◌, length, sym, subst, arith, add-zero}
+use Rattle.std.specs.Prelude.{slice_index}
 use Rattle.machine_stands.proofs.Fixed.{within_lie}
 use Rattle.machine_stands.proofs.Memory.{lie_padded}
-use Rattle.lists.specs.Lemmas.{some_same}
-use Rattle.memory_timing.specs.Port.{padded}
 use Rattle.jop_core.specs.State as machine
-use Rattle.bytecode_model.specs.Lists.{onto}
-use Rattle.bytecode_model.specs.State.{Object, State}
+use Rattle.bytecode_model.specs.State.{State}
 use Rattle.bytecode_model.specs.Program.{Program}
-use Rattle.bytecode_model.specs.WellFormed.{IsObject, AreObjects}
-use Rattle.image_facts.specs.Within.{LieAt, DifferAt}
+use Rattle.image_facts.specs.Within.{LieAt}
 use Rattle.image_facts.specs.Places.{Places, words_with}
 use Rattle.image_facts.specs.Laws.{WordsAreRead, ListsGoOn}
 use Rattle.machine_stands.specs.StandsFor.{StandsFor}

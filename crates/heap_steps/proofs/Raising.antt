@@ -5,7 +5,7 @@ use Rattle.std.proofs.lemmas.List.{get_or-drop}
 use Rattle.std.proofs.Math.Nat.{mod-eq_of_lt}
 use Rattle.micro_sketch.proofs.RowSteps.{no_stalls}
 use Rattle.micro_sketch.specs.Sketch.{Sketch, exec}
-use Rattle.micro_sketch.specs.Stands.{PortFits, Reaches, stalls, stalls_for}
+use Rattle.micro_sketch.specs.Stands.{PortFits, Reaches, stalls}
 use Rattle.micro_sketch.specs.Laws.{MachineFollows, CostsHold}
 use Rattle.bytecode_model.specs.Effects.{fault_object}
 use Rattle.machine_stands.specs.Comes.{params}

@@ -1,6 +1,6 @@
 -- The instructions of a class whose classes are resolved: what each names is resolved.
 use Rattle.std.proofs.Common.{◌≡◌, ℕ, zero, suc, ◌≤◌, Bool, true, false, List, [], ◌∷◌, ◌++◌, Option, Some, None, map, length, refl, sym, ap, ◌∙◌, subst, arith}
-use Rattle.std.specs.Prelude.{slice_get, Result, Ok, Err, if◌then◌else◌}
+use Rattle.std.specs.Prelude.{slice_get, Ok, if◌then◌else◌}
 use Rattle.std.specs.Option.{option_map, option_map_or}
 use Rattle.std.specs.List.{filter, filter_map, cons_option, find, flat_map, AllByRecursion}
 use Rattle.std.proofs.lemmas.Bool.{false≢true}
@@ -16,18 +16,13 @@ use Rattle.class_pool.specs.declared.class.ClassFile.{ClassFile}
 use Rattle.jop_opcodes.specs.declared.instruction.Instr.{Instr}
 use Rattle.jop_opcodes.specs.Instruction.{decoded}
 use Rattle.jop_opcodes.specs.Start.{starts_of, IsStart}
-use Rattle.bytecode_model.specs.Program.{NoOperand, as_instr}
-use Rattle.lists.specs.Lists.{onto}
+use Rattle.bytecode_model.specs.Program.{as_instr}
 use Rattle.lists.specs.Lemmas.{none≢some, some_same}
 use Rattle.class_lookup.specs.Parts.{Signature, signature_of}
-use Rattle.class_lookup.specs.Lookup.{Place, method_at}
 use Rattle.program_tables.specs.Instructions.{Placed, placed_at, instructions_in as code_instructions, instructions_of, named_in}
-use Rattle.program_tables.specs.Numbers.{methods_by_number}
-use Rattle.program_tables.specs.Operands.{operand_in, at_instruction}
 use Rattle.program_tables.specs.Resolved.{resolved}
 use Rattle.program_tables.specs.Unresolved.{Mention, FieldDescriptor, AtInstruction, mentions_in_code, mentions_in_method, why, why_named}
 use Rattle.program_tables.specs.Resolving.{IsResolved}
-use Rattle.program_laws.proofs.Numbering.{at_place}
 use Rattle.image_words.specs.Pools.{instructions_in}
 
 -- ---- lists

@@ -1,12 +1,11 @@
 -- No method of an interface is taken without a selection, so the first word of its entry is 0.
-use Rattle.std.proofs.Common.{◌≡◌, inl, inr, ℕ, ◌+◌, ◌-◌, Bool, true, false, not, ◌&&◌, ◌||◌, eqb, List, [], ◌∷◌, ◌++◌, Option, Some, None, length, refl, sym, ap, ◌∙◌, subst, arith}
+use Rattle.std.proofs.Common.{◌≡◌, inl, inr, ℕ, ◌+◌, ◌-◌, Bool, true, false, not, ◌&&◌, ◌||◌, eqb, List, [], ◌∷◌, Option, Some, None, length, refl, sym, ap, ◌∙◌, subst, arith}
 use Rattle.std.specs.Prelude.{slice_get, is_some, nat_lt, if◌then◌else◌}
 use Rattle.std.specs.Option.{option_map_or}
 use Rattle.std.specs.List.{find, AllByRecursion}
 use Rattle.std.proofs.lemmas.Bool.{false≢true, both_ways, and_parts, or_cases, eqb-true, cond-false, not-true, not_from_false, cases_Bool}
 use Rattle.class_pool.specs.declared.entry.Entry.TheVariants as entries
 use Rattle.class_pool.specs.Grammar.{entry_at}
-use Rattle.class_pool.specs.declared.class.Member.{Member}
 use Rattle.class_pool.specs.declared.class.ClassFile.{ClassFile}
 use Rattle.class_rules.specs.Rules.{IsRightMethod}
 use Rattle.class_rules.specs.Found.{MethodsHaveCode}
@@ -15,29 +14,27 @@ use Rattle.core_classes.specs.Core.{boot}
 use Rattle.lists.specs.Lists.{onto}
 use Rattle.lists.specs.Lemmas.{none≢some, some_same, index_there}
 use Rattle.image_facts.specs.Places.{Places}
-use Rattle.class_lookup.specs.Parts.{Signature, signature_of, text_at, same_text, name_of, is_interface_class, is_native, is_static, is_abstract, has_code, is_init, is_clinit}
+use Rattle.class_lookup.specs.Parts.{Signature, signature_of, same_text, name_of, is_interface_class, is_static, is_abstract, has_code, is_init, is_clinit}
 use Rattle.class_lookup.specs.Hierarchy.{is_interface, find_class}
-use Rattle.class_lookup.specs.Lookup.{Place, method_at, find_method}
+use Rattle.class_lookup.specs.Lookup.{method_at}
 use Rattle.class_lookup.specs.Selection.{is_method_with, is_instance, special}
 use Rattle.class_lookup.specs.Laws.{IsMethod}
-use Rattle.program_tables.specs.declared.refusal.Item.TheVariants.{Native, InterfaceCode}
 use Rattle.program_tables.specs.Core.{is_boot}
 use Rattle.program_tables.specs.Instructions.{Placed, Method as MethodNamed, signature_in, takes_interface_method, named_in, index_of_entry}
 use Rattle.program_tables.specs.Operands.{class_named, method_named, operand_in}
 use Rattle.program_tables.specs.Placed.{duplicate_by}
 use Rattle.program_tables.specs.Unresolved.{is_free, why_method, why_named}
-use Rattle.program_tables.specs.Unsupported.{items_where, items_of_types, types_in_method, has_interface_code, unsupported_in}
+use Rattle.program_tables.specs.Unsupported.{unsupported_in}
 use Rattle.program_tables.specs.Resolving.{IsResolved}
 use Rattle.program_laws.proofs.ClassLaws.{ClassLaws}
 use Rattle.program_laws.proofs.Facts.{all_at, map_or_at, set_of}
 use Rattle.program_laws.proofs.Hierarchies.{above_interface}
-use Rattle.program_laws.proofs.Selections.{right_nil, method_supported, code_or_abstract, interface_abstract, no_interface_code}
+use Rattle.program_laws.proofs.Selections.{code_or_abstract, interface_abstract, no_interface_code}
 use Rattle.program_laws.proofs.Numbering.{at_place}
 use Rattle.program_laws.proofs.Calls.{IsNamed, method_is_named, own_init}
 use Rattle.image_words.specs.Pools.{no_words, is_fixed_call, operand_place, taken_place, interface_word, instructions_in, names_entry, naming, words_of_entry}
 use Rattle.image_laws.specs.InterfaceEntries.{HasBoot, IsInterfaceEntry, BootHasNoInterfaceEntry, InterfaceEntriesTakeNothing, InterfaceEntriesBeginWithZero, InterfaceWordsBeginWithZero}
 use Rattle.image_laws.proofs.Calls.{not_of_object}
-use Rattle.image_laws.proofs.Declared.{where_not}
 use Rattle.image_laws.proofs.Instructions.{IsLinked, all_linked, kept_all}
 use Rattle.image_laws.proofs.Means.{when_map, named_at}
 

@@ -1,11 +1,11 @@
 -- Lists of methods to which others are added.
-use Rattle.std.proofs.Common.{◌≡◌, ℕ, zero, suc, Bool, true, false, List, [], ◌∷◌, ◌++◌, ◌⊎◌, inl, inr, Some, map, refl, sym, ap, ◌∙◌, subst, append-nil, append_assoc}
+use Rattle.std.proofs.Common.{◌≡◌, ℕ, Bool, true, false, List, [], ◌∷◌, ◌++◌, ◌⊎◌, inl, inr, Some, map, refl, sym, ap, ◌∙◌, subst, append-nil, append_assoc}
 use Rattle.std.specs.Prelude.{slice_get, if◌then◌else◌}
 use Rattle.std.specs.List.{list_any, filter}
 use Rattle.std.proofs.lemmas.Bool.{false≢true, or_cases, or_left, or_right}
 use Rattle.std.proofs.lemmas.List.Folds.{list_any-append}
 use Rattle.lists.specs.Lists.{index_of}
-use Rattle.lists.specs.Lemmas.{none≢some, index_there, index_found}
+use Rattle.lists.specs.Lemmas.{index_there, index_found}
 use Rattle.class_lookup.specs.Lookup.{Place, same_place}
 use Rattle.class_lookup.proofs.Overriding.{has, has_head, has_tail, has_cases, any_place}
 use Rattle.program_tables.specs.Lists.{with_item, with_items}

@@ -1,36 +1,28 @@
 -- The types that class entries name have numbers, where an instruction names them.
 use Rattle.std.proofs.Common.{◌≡◌, ℕ, zero, suc, ◌<◌, Bool, true, false, ◌||◌, eqb, List, [], ◌∷◌, ◌++◌, inl, inr, Some, None, map, length, refl, sym, ap, ◌∙◌, subst, arith}
-use Rattle.std.specs.Prelude.{slice_get, is_some, unwrap_or, if◌then◌else◌}
-use Rattle.std.specs.Option.{option_map, option_map_or}
+use Rattle.std.specs.Prelude.{slice_get, is_some, if◌then◌else◌}
 use Rattle.std.specs.List.{flat_map, range_with_len}
 use Rattle.std.proofs.lemmas.Bool.{false≢true, both_ways, or_cases, or_left, eqb-true, cond-true, cond-false, cases_Bool}
 use Rattle.std.proofs.lemmas.Grind.{flat_map-append}
 use Rattle.program_tables.proofs.MentionLemmas.{is_array}
 use Rattle.program_laws.proofs.Entries.{kind_of_class}
 use Rattle.program_laws.proofs.Rows.{same_self}
-use Rattle.class_pool.specs.Grammar.{class_name_of}
 use Rattle.class_pool.specs.declared.class.ClassFile.{ClassFile}
-use Rattle.descriptors.specs.declared.descriptor.Element.TheVariants as elements
-use Rattle.descriptors.specs.Names.{is_class_name}
-use Rattle.descriptors.specs.Parsing.{field_in}
-use Rattle.class_rules.specs.Grammar.{IsClass}
 use Rattle.bytecode_model.specs.Types.{Kind, OfClass, OfNumbers, OfReferences, same_kind}
 use Rattle.bytecode_model.specs.Program.{type_number}
-use Rattle.lists.specs.Lists.{onto}
-use Rattle.lists.specs.Lemmas.{none≢some, some_same, index_found}
-use Rattle.class_lookup.specs.Parts.{same_text, name_of, text_at, class_text}
+use Rattle.lists.specs.Lemmas.{none≢some, some_same}
 use Rattle.class_lookup.specs.Hierarchy.{is_concrete}
 use Rattle.program_tables.specs.declared.refusal.Why.TheVariants.{WrongKind}
 use Rattle.program_tables.specs.Lists.{distinct}
 use Rattle.program_tables.specs.Instructions.{Placed, Class, is_class_use, instructions_of, named_in}
-use Rattle.program_tables.specs.Kinds.{kind_of_type, kind_of_entry}
+use Rattle.program_tables.specs.Kinds.{kind_of_entry}
 use Rattle.program_tables.specs.Numbers.{reference_arrays, used_by, class_kind, arrays_mentioned_by, arrays_mentioned_in, types_of}
 use Rattle.program_tables.specs.Operands.{class_named}
 use Rattle.program_tables.specs.Resolved.{resolved}
 use Rattle.program_tables.specs.Unresolved.{unless, may_be_made, why_class, why_class_use}
 use Rattle.program_tables.specs.Resolving.{IsResolved}
 use Rattle.program_laws.proofs.ClassLaws.{ClassLaws}
-use Rattle.program_laws.proofs.Facts.{all_at, map_or_some}
+use Rattle.program_laws.proofs.Facts.{map_or_some}
 use Rattle.program_laws.proofs.Selections.{unless_none}
 use Rattle.program_laws.proofs.Calls.{first_none}
 use Rattle.image_words.specs.Pools.{instructions_in}

@@ -1,8 +1,8 @@
 -- The tables of an image have what is selected.
-use Rattle.std.proofs.Common.{◌≡◌, ℕ, zero, suc, ◌+◌, ◌<◌, Bool, true, false, not, ◌&&◌, ◌||◌, eqb, List, [], ◌∷◌, inl, inr, Option, Some, None, length, refl, sym, ap, ◌∙◌, subst, arith}
+use Rattle.std.proofs.Common.{◌≡◌, ℕ, ◌+◌, ◌<◌, Bool, true, false, not, ◌||◌, eqb, List, [], ◌∷◌, inl, inr, Option, Some, None, refl, sym, ap, ◌∙◌, subst}
 use Rattle.std.specs.Prelude.{slice_get, is_some, codes, unwrap_or}
 use Rattle.std.specs.Option.{option_map, option_map_or, IsSomeAnd}
-use Rattle.std.proofs.lemmas.Bool.{false≢true, both_ways, and_parts, cond-true, cond-false, false_from_ne_true}
+use Rattle.std.proofs.lemmas.Bool.{false≢true, both_ways, cond-true, cond-false, false_from_ne_true}
 use Rattle.std.proofs.lemmas.Option.{slice_get_within}
 use Rattle.program_tables.proofs.NumberingLemmas.{got}
 use Rattle.class_pool.specs.declared.class.ClassFile.{ClassFile}
@@ -16,10 +16,10 @@ use Rattle.bytecode_model.specs.Effects.{has_class, selected}
 use Rattle.image_facts.specs.Places.{Places, AreFixed}
 use Rattle.lists.specs.Lists.{onto}
 use Rattle.lists.specs.Lemmas.{none≢some, some_same, onto_some, map_some, index_found}
-use Rattle.class_lookup.specs.Parts.{Signature, signature_of, has_code, is_static, is_public, is_init, is_interface_class}
+use Rattle.class_lookup.specs.Parts.{Signature, signature_of, has_code, is_static, is_init, is_interface_class}
 use Rattle.class_lookup.specs.Hierarchy.{is_interface, extends}
 use Rattle.class_lookup.specs.Lookup.{Place, same_place, method_at}
-use Rattle.class_lookup.specs.Selection.{signature_at, is_public_instance, is_instance, select}
+use Rattle.class_lookup.specs.Selection.{signature_at, is_instance, select}
 use Rattle.class_lookup.specs.Laws.{FoundMethods, SelectionLaw}
 use Rattle.class_lookup.proofs.Hierarchies.{IsUpward, upward_extends}
 use Rattle.class_lookup.proofs.Overriding.{place_same}

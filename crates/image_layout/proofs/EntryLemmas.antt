@@ -1,7 +1,7 @@
 -- The words of pool entries.
-use Rattle.std.proofs.Common.{◌≡◌, ℕ, suc, ◌+◌, ◌*◌, ◌^◌, ◌<◌, Bool, true, false, not, eqb, List, [], ◌∷◌, ◌++◌, Option, Some, None, Bor, Result, Ok, Err, map, take, length, get_or, append_assoc, append-nil, refl, sym, ap, ap₂, ◌∙◌, arith}
+use Rattle.std.proofs.Common.{◌≡◌, ℕ, suc, ◌+◌, ◌*◌, ◌^◌, ◌<◌, Bool, true, false, not, eqb, List, [], ◌∷◌, ◌++◌, Option, Some, None, map, take, length, get_or, append_assoc, append-nil, refl, sym, ap, ap₂, ◌∙◌, arith}
 use Rattle.std.specs.Prelude.{IsTrue, is_some, slice_get, unwrap_or, if◌then◌else◌}
-use Rattle.std.specs.Option.{option_map, option_map_or, option_copied}
+use Rattle.std.specs.Option.{option_map, option_map_or}
 use Rattle.std.specs.List.{filter, filter_map, cons_option, find, flat_map, range_with_len}
 use Rattle.std.proofs.lemmas.List.{length-map, map-append}
 use Rattle.std.proofs.lemmas.List.FromFn.{length-map-range_with_len, get_or-map-range_with_len}
@@ -10,7 +10,7 @@ use Rattle.class_pool.specs.declared.entry.Entry.{Entry}
 use Rattle.class_pool.specs.declared.entry.Entry.TheVariants.{Text}
 use Rattle.std.proofs.lemmas.Grind.{flat_map-append}
 use Rattle.std.proofs.lemmas.Bool.{false≢true, cond-true, cond-false, and_parts, eqb-true}
-use Rattle.std.proofs.lemmas.Option.{slice_get_within, slice_get-get_or}
+use Rattle.std.proofs.lemmas.Option.{slice_get_within}
 use Rattle.lists.specs.Lists.{onto}
 use Rattle.lists.specs.Lemmas.{some_same, onto_some, index_found}
 use Rattle.class_lookup.specs.Parts.{Signature, same_text, name_of, class_text, text_at}
@@ -29,7 +29,6 @@ use Rattle.class_pool.specs.declared.class.Member.{Member}
 use Rattle.class_pool.specs.declared.class.ClassFile.{ClassFile}
 use Rattle.jop_opcodes.specs.declared.instruction.Instr.{Instr}
 use Rattle.program_tables.specs.Instructions.{Placed, placed_at, instructions_of, signature_in}
-use Rattle.bytecode_model.specs.Program.{as_instr}
 use Rattle.program_tables.specs.Entries.{found_from, field_found, method_found}
 use Rattle.program_tables.specs.Operands.{string_object, operand_in, class_named, field_named, method_named}
 use Rattle.image_words.specs.Layout.{outline_of}

@@ -1,8 +1,8 @@
 -- No rule fails in the class that is run, so a method in which a rule fails is one of a file.
-use Rattle.std.proofs.Common.{◌≡◌, ℕ, zero, suc, ◌+◌, ◌<◌, ◌≤◌, Bool, true, false, inl, inr, List, [], ◌∷◌, ◌++◌, length, Option, Some, None, refl, sym, ap, ap₂, ◌∙◌, subst, cond, arith, append_assoc}
-use Rattle.std.specs.Prelude.{find, slice_get, if◌then◌else◌}
+use Rattle.std.proofs.Common.{◌≡◌, ℕ, ◌+◌, ◌<◌, ◌≤◌, Bool, true, false, inl, inr, List, [], ◌∷◌, ◌++◌, length, Option, Some, None, refl, sym, ap, ap₂, ◌∙◌, subst, arith, append_assoc}
+use Rattle.std.specs.Prelude.{slice_get, if◌then◌else◌}
 use Rattle.std.specs.Option.{option_map, option_map_or, option_to_list, IsSomeAnd}
-use Rattle.std.specs.List.{flat_map, enumerate_from, AllByRecursion}
+use Rattle.std.specs.List.{AllByRecursion}
 use Rattle.std.proofs.lemmas.Bool.{cases_lt}
 use Rattle.std.proofs.lemmas.List.{length-append, length-map}
 use Rattle.std.proofs.lemmas.Option.{slice_get_within}
@@ -11,7 +11,7 @@ use Rattle.class_pool.specs.Utf8.{utf8_bytes}
 use Rattle.class_pool.specs.declared.class.ClassFile.{ClassFile}
 use Rattle.class_rules.specs.Grammar.{IsClass}
 use Rattle.class_making.specs.Laws.{member_signature}
-use Rattle.lists.specs.Lemmas.{none≢some, some_same}
+use Rattle.lists.specs.Lemmas.{some_same}
 use Rattle.class_lookup.specs.Parts.{same_text, name_of}
 use Rattle.class_lookup.specs.Lookup.{Place}
 use Rattle.core_classes.specs.Core.{core, boot, boot_plan}
@@ -24,7 +24,7 @@ use Rattle.bytecode_verifier.specs.Failure.{method_failure}
 use Rattle.jop_program.specs.declared.refusal.ProgramRefusal.TheVariants as resolving
 use Rattle.jop_program.specs.Linked.{main_class, main_name, declares_main, calls_of, linked_classes, number_of}
 use Rattle.jop_program.specs.Refusals.{Names, Support, Supertypes, Places, Mentions, causes, causes_in, too_many, without_main, refusals}
-use Rattle.jop_program.specs.Resolving.{AreClassesOf, IsProgramOf}
+use Rattle.jop_program.specs.Resolving.{IsProgramOf}
 use Rattle.jop_program.proofs.FileLemmas.{all_at}
 use Rattle.jop_program.proofs.NameLemmas.{declares_static, main_is_static}
 use Rattle.jop_program.proofs.RefusalLemmas.{few_calls, calls_are_initialized, are_classes, as_many}

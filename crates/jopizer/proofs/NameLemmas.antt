@@ -13,7 +13,7 @@ use Rattle.class_lookup.specs.Parts.{same_text, name_of}
 use Rattle.jop_program.specs.declared.refusal.ProgramRefusal.TheVariants as resolving
 use Rattle.jop_program.specs.Linked.{linked_classes, main_class, declares_main}
 use Rattle.jop_program.specs.Refusals.{passes, causes_in, too_many, without_main, refusals}
-use Rattle.jop_program.specs.Resolving.{AreClassesOf, IsProgramOf}
+use Rattle.jop_program.specs.Resolving.{IsProgramOf}
 use Rattle.jop_program.proofs.NameLemmas.{is_called}
 
 has_main : (b : Bool) → (if b then [] else resolving.NoMain ∷ []) ≡ [] → b ≡ true

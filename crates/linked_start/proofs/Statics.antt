@@ -1,12 +1,11 @@
 -- The static fields of a lawful program begin with values of their widths.
-use Rattle.std.proofs.Common.{◌≡◌, ℕ, List, [], ◌∷◌, map, refl, sym, ◌∙◌, subst}
+use Rattle.std.proofs.Common.{ℕ, List, [], ◌∷◌, map, sym, ◌∙◌, subst}
 use Rattle.bytecode_typing.proofs.Formed.{default_long}
 use Rattle.bytecode_model.specs.declared.Value.{Value}
-use Rattle.bytecode_model.specs.Types.{IntType, LongType, Declared, Numeric, Reference, is_long, default}
+use Rattle.bytecode_model.specs.Types.{Declared, default}
 use Rattle.bytecode_model.specs.Program.{Program}
 use Rattle.bytecode_model.specs.WellFormed.{AreAlike}
 use Rattle.bytecode_typing.specs.Tests.{AllTwo}
-use Rattle.bytecode_typing.specs.Types.{is_long_type, type_of}
 use Rattle.bytecode_typing.specs.Fits.{HasDeclared}
 use Rattle.bytecode_typing.specs.Lawful.{Lawful}
 use Rattle.bytecode_typing.proofs.Values.{declared_long, declared_set}

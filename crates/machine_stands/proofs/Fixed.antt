@@ -6,7 +6,6 @@ use Rattle.bytecode_model.specs.State.{Frame}
 use Rattle.bytecode_model.specs.Program.{Program, Method, Operand, NoOperand, AnInt, ALong, AString, AStatic, AField, AMethod, AType, body_of}
 use Rattle.bytecode_model.specs.Effects.{Fault, fault_object, ArithmeticException, ArrayIndexOutOfBoundsException, ArrayStoreException, ClassCastException, IncompatibleClassChangeError, NegativeArraySizeException, NullPointerException, OutOfMemoryError, StackOverflowError}
 use Rattle.bytecode_model.specs.WellFormed as formed
-use Rattle.bytecode_model.specs.WellFormed.{IsWellFormed}
 use Rattle.image_facts.specs.Within.{LieAt}
 use Rattle.image_facts.specs.Places.{Places, object_place, pool_of, words_with}
 use Rattle.image_facts.specs.Says.{Says, SaysAll, SaysLinked, SaysEntry, SaysOperand}

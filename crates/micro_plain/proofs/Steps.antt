@@ -1,9 +1,9 @@
 -- The row of a plain opcode, or the way to the raise routine, from the sketch as it stands at the entry.
-use Rattle.std.proofs.Common.{◌≡◌, ◌≢◌, ℕ, ◌==◌, true, false, sym, subst, ap, ◌∙◌, arith, eq-eqb, eqb-true}
+use Rattle.std.proofs.Common.{◌≡◌, ◌≢◌, ℕ, ◌==◌, true, false, sym, subst, ◌∙◌, eq-eqb, eqb-true}
 use Rattle.micro_flow.specs.declared.CostParams.{CostParams}
 use Rattle.jop_core.specs.State.{State}
 use Rattle.micro_sketch.specs.Sketch.{Sketch}
-use Rattle.micro_sketch.specs.Stands.{Env, stalls, stalls_for}
+use Rattle.micro_sketch.specs.Stands.{Env}
 use Rattle.micro_sketch.specs.Row.{StandsAt, Effect}
 use Rattle.micro_sketch.specs.Rows.{Makes, finishes, end_of}
 use Rattle.micro_sketch.specs.RowLaws.{AreRowLaws}

@@ -1,14 +1,12 @@
 -- The first word of an object, read in the memory of a machine that stands for a state.
-use Rattle.std.proofs.Common.{◌≡◌, ℕ, ◌+◌, ◌-◌, ◌<◌, ◌==◌, Bool, true, false, List, ◌++◌, length, replicate, Some, ⊎_elim, refl, sym, ◌∙◌, ap, arith, length-append, eqb-true}
+use Rattle.std.proofs.Common.{◌≡◌, ℕ, ◌+◌, ◌-◌, ◌<◌, ◌==◌, Bool, true, false, List, length, Some, ⊎_elim, refl, sym, ◌∙◌, ap, arith, eqb-true}
 use Rattle.std.specs.Prelude.{slice_get, slice_index}
 use Rattle.machine_stands.proofs.Fixed.{within_lie}
 use Rattle.machine_stands.proofs.Memory.{lie_padded}
-use Rattle.memory_timing.specs.Port.{padded}
 use Rattle.jop_core.specs.State as machine
 use Rattle.bytecode_model.specs.State.{Object, State}
 use Rattle.bytecode_model.specs.Program.{Program}
 use Rattle.bytecode_model.specs.WellFormed.{IsWellFormed}
-use Rattle.image_facts.specs.Within.{LieAt}
 use Rattle.image_facts.specs.Words.{object_image}
 use Rattle.image_facts.specs.Places.{Places, object_place, objects_place, words_with}
 use Rattle.image_facts.specs.Says.{SaysLinked, header_words}

@@ -10,7 +10,7 @@ use Rattle.jop_core.specs.declared.halt.Halt.{Halt}
 use Rattle.jop_core.specs.declared.halt.Halt.TheVariants.{Running}
 use Rattle.jop_core.specs.State.{State}
 use Rattle.micro_sketch.specs.Sketch.{Sketch, exec}
-use Rattle.micro_sketch.specs.Stands.{Env, IsDone, stalls, stalls_for}
+use Rattle.micro_sketch.specs.Stands.{Env, IsDone}
 use Rattle.micro_sketch.specs.Laws.{CostsHold}
 use Rattle.micro_sketch.specs.Row.{StandsAt, words_of}
 use Rattle.micro_sketch.specs.Rows.{Finishes, Raising, Raises, RunsToRaise, end_of}

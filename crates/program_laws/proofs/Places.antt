@@ -1,7 +1,7 @@
 -- Places in a list.
-use Rattle.std.proofs.Common.{◌≡◌, ℕ, Bool, true, eqb, List, ◌∷◌, ◌⊎◌, inl, inr, refl, ap, ap₂}
+use Rattle.std.proofs.Common.{◌≡◌, Bool, true, List, ◌∷◌, ◌⊎◌, inl, inr, refl}
 use Rattle.std.specs.List.{list_any}
-use Rattle.std.proofs.lemmas.Bool.{or_cases, or_left, or_right, and_parts, and_from, eqb-true, eq-eqb}
+use Rattle.std.proofs.lemmas.Bool.{or_cases, or_left, or_right}
 use Rattle.class_lookup.proofs.Overriding.{place_same, same_is_place}
 use Rattle.class_lookup.specs.Lookup.{Place, same_place}
 

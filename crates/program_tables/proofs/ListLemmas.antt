@@ -4,7 +4,7 @@ use Rattle.std.specs.Prelude.{is_some, if◌then◌else◌, slice_get, position}
 use Rattle.std.specs.List.{position_or_len}
 use Rattle.std.specs.Option.{option_or, option_map, option_copied}
 use Rattle.std.specs.Map.{lookup}
-use Rattle.std.proofs.lemmas.Bool.{false≢true, true≢false, lt-ltb, le-ltb, ltb-true, ltb-false}
+use Rattle.std.proofs.lemmas.Bool.{false≢true, lt-ltb, le-ltb, ltb-true, ltb-false}
 use Rattle.bytecode_model.specs.Lists.{onto, index_of}
 
 lookup_case : {K : Type 0} (t : K → Bool) (e : K × ℕ) (es : List (K × ℕ)) (k : K) (v : ℕ) (b : Bool) → lookup t (es ++ (k, v) ∷ []) ≡ option_or (lookup t es) (if t k then Some v else None)

@@ -1,5 +1,5 @@
 -- Members by number, one after another.
-use Rattle.std.proofs.Common.{◌≡◌, ℕ, suc, ◌+◌, ◌<◌, Bool, true, false, not, List, [], ◌∷◌, ◌++◌, map, take, get_or, length, length-take, append_assoc, append-nil, Some, refl, sym, ap, ap₂, ◌∙◌, arith, ◌==◌}
+use Rattle.std.proofs.Common.{◌≡◌, ℕ, suc, ◌+◌, ◌<◌, Bool, true, false, not, List, [], ◌∷◌, ◌++◌, map, take, get_or, length, length-take, append_assoc, append-nil, Some, refl, sym, ap, ap₂, ◌∙◌, arith}
 use Rattle.std.specs.Prelude.{slice_get, if◌then◌else◌}
 use Rattle.std.specs.Option.{option_map_or}
 use Rattle.std.specs.List.{filter, flat_map, range_with_len, enumerate_from}
@@ -9,8 +9,7 @@ use Rattle.class_pool.specs.declared.class.Member.{Member}
 use Rattle.class_pool.specs.declared.class.ClassFile.{ClassFile}
 use Rattle.bytecode_model.specs.Lists.{onto}
 use Rattle.class_lookup.specs.Parts.{has_code, is_static}
-use Rattle.class_lookup.specs.Lookup.{Place, same_place}
-use Rattle.std.proofs.lemmas.Bool.Decides.{Decides-eqb, Decides-and}
+use Rattle.class_lookup.specs.Lookup.{Place}
 use Rattle.program_tables.specs.declared.members.Which.{Which}
 use Rattle.program_tables.specs.declared.members.Which.TheVariants.{Field, StaticField, InstanceField, MethodWithCode, OtherMethod}
 use Rattle.program_tables.specs.Numbers.{places_of, methods_by_number, fields_by_number, static_fields, is_instance_field, own_instance_fields}
