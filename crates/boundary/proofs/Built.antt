@@ -106,7 +106,7 @@ one_and_not true false h g = absurd (cc)
 one_and_not false b h g = absurd (cc)
 
 supported_are_built : map (λ op. is_supported op && not (is_built op)) (range_with_len 0 256) ≡ map (λ op. false) (range_with_len 0 256)
-unfolding is_built
+unfolding is_built opcodes.row_of
 supported_are_built = refl
 
 abbrev is_wide : Form → Bool

@@ -59,7 +59,7 @@ unfolding has_row operands sample row_of opcodes.row_of
 rows_found = refl
 
 all_listed : map (λ op. listed op instructions) (range_with_len 0 256) ≡ map is_supported (range_with_len 0 256)
-unfolding listed
+unfolding listed opcodes.row_of
 all_listed = refl
 
 at : (f g : ℕ → Bool) → map f (range_with_len 0 256) ≡ map g (range_with_len 0 256) → (op : ℕ) → op < 256 → f op ≡ g op

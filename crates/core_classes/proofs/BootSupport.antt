@@ -8,6 +8,7 @@ use Rattle.class_pool.specs.declared.class.Body.TheVariants as bodies
 use Rattle.class_pool.specs.declared.class.Member.{Member}
 use Rattle.class_pool.specs.declared.class.ClassFile.{ClassFile}
 use Rattle.jop_opcodes.specs.declared.instruction.Instr.{Instr}
+use Rattle.jop_opcodes.specs.Row.{row_of}
 use Rattle.class_making.specs.declared.item.Item.{Item}
 use Rattle.class_making.specs.declared.item.Item.TheVariants.{Text, Class}
 use Rattle.class_making.specs.Making.{expanded, index_of, pool_of}
@@ -119,9 +120,11 @@ module _ (items : List Item) (calls : List (List ℕ)) (main : List ℕ) (says :
   -- ---- none is refused
 
   call_supported : (name : List ℕ) → AllByRecursion (Stands (pool_of items) items) (expanded (call_item name)) → items_at_instruction (boot_file items calls main) (index_instr 184 (index_of items (call_item name))) ≡ []
+  unfolding row_of
   call_supported name h = ap items_of_named (call_named name h) ∙ nothing_taken
 
   code_supported : AllByRecursion (λ (x : Placed). items_at_instruction (boot_file items calls main) x.instr ≡ []) (instructions_of (boot_member items calls main))
+  unfolding row_of
   code_supported =
       of_code (λ i. items_at_instruction (boot_file items calls main) i ≡ [])
       (all_along (λ name. AllByRecursion (Stands (pool_of items) items) (expanded (call_item name)))

@@ -29,7 +29,7 @@ entry_form forms.LookupSwitch = LookupSwitch
 entry_form forms.Wide = Wide
 
 abbrev pub parts_of : Entry → Row
-parts_of e = record { number = e.opcode; mnemonic = e.name.now; form = entry_form e.form; kind = e.kind; raises = e.raises }
+parts_of e = record { number = e.opcode; mnemonic = e.name.now; form = entry_form e.form; kind = e.kind; raises = e.raises; supported = e.supported }
 
 -- the row that an entry stands for; it is opaque, so that a goal on an entry stays short
 unfoldable pub entry_row : Entry → Row

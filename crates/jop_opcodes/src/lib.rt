@@ -41,3 +41,12 @@ pub fn raises(op: u8) -> bool
 {
     entry_of(op).raises
 }
+
+/// Whether this machine runs an opcode. It runs no byte that is no opcode, and not `wide` alone, which is the beginning of
+/// an instruction with another opcode. It runs `impdep1` and `impdep2` in `jop/Io` only.
+#[tactic(auto, unfolding(crate::specs::Entry::entry_row))]
+pub fn supported(op: u8) -> bool
+    ensures { result ≡ (row_of op).supported }
+{
+    entry_of(op).supported
+}

@@ -6,16 +6,6 @@ pub const LDC_W: u8 = 19;
 
 pub const LDC2_W: u8 = 20;
 
-pub const LMUL: u8 = 105;
-
-pub const LDIV: u8 = 109;
-
-pub const LREM: u8 = 113;
-
-pub const JSR: u8 = 168;
-
-pub const RET: u8 = 169;
-
 pub const GETSTATIC: u8 = 178;
 
 pub const PUTSTATIC: u8 = 179;
@@ -32,8 +22,6 @@ pub const INVOKESTATIC: u8 = 184;
 
 pub const INVOKEINTERFACE: u8 = 185;
 
-pub const INVOKEDYNAMIC: u8 = 186;
-
 pub const NEW: u8 = 187;
 
 pub const ANEWARRAY: u8 = 189;
@@ -41,12 +29,6 @@ pub const ANEWARRAY: u8 = 189;
 pub const CHECKCAST: u8 = 192;
 
 pub const INSTANCEOF: u8 = 193;
-
-pub const MULTIANEWARRAY: u8 = 197;
-
-pub const JSR_W: u8 = 201;
-
-pub const BREAKPOINT: u8 = 202;
 
 pub const IMPDEP1: u8 = 254;
 

@@ -3,6 +3,7 @@ use Rattle.std.proofs.Common.{◌≡◌, ℕ, ◌<◌, ◌^◌, Bool, true, fals
 use Rattle.std.specs.List.{list_any, range_with_len}
 use Rattle.std.proofs.lemmas.Bool.{false≢true}
 use Rattle.std.proofs.lemmas.List.FromFn.{get_or-map-range_with_len}
+use Rattle.jop_opcodes.specs.Row as opcodes
 use Rattle.bytecode_model.specs.Program.{body_of}
 use Rattle.machine_stands.specs.Simulates.{Simulates}
 use Rattle.number_steps.specs.Laws.{computes_numbers}
@@ -50,7 +51,7 @@ is_member : ℕ → Bool
 is_member op = list_any (λ c. c == op) members
 
 all_members : map computes_numbers (range_with_len 0 256) ≡ map is_member (range_with_len 0 256)
-unfolding is_member members
+unfolding is_member members opcodes.row_of
 all_members = refl
 
 member_is : (op : ℕ) → op < 2 ^ 8 → computes_numbers op ≡ is_member op

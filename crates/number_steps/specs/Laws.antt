@@ -1,7 +1,10 @@
 -- The opcodes that compute, compare and jump (JVM Specification SE 8, 6.5).
-use Rattle.std.specs.Prelude.{ℕ, Bool, ◌&&◌, ◌||◌}
-use Rattle.bytecode_model.specs.Supported.{is_between, is_supported}
+use Rattle.std.specs.Prelude.{ℕ, Bool, ◌&&◌, ◌||◌, nat_le}
+use Rattle.bytecode_model.specs.Supported.{is_supported}
 use Rattle.machine_stands.specs.Simulates.{Simulates}
+
+abbrev pub is_between : (low high : ℕ) → ℕ → Bool
+is_between low high op = nat_le low op && nat_le op high
 
 -- arithmetic, conversions, comparisons, branches, jumps and switches, as far as they are supported
 abbrev pub computes_numbers : ℕ → Bool

@@ -1,5 +1,5 @@
 -- What this machine doesn't support, and where it stands in a class file.
-use Rattle.std.specs.Prelude.{ℕ, Bool, true, false, not, ◌&&◌, ◌||◌, ◌==◌, nat_le, if◌then◌else◌, List, [], ◌∷◌, ◌++◌, map, Option, Some, None, unsigned_abs, Contains}
+use Rattle.std.specs.Prelude.{ℕ, Bool, true, false, not, ◌&&◌, ◌||◌, ◌==◌, if◌then◌else◌, List, [], ◌∷◌, ◌++◌, map, Option, Some, None, unsigned_abs, Contains}
 use Rattle.std.specs.Option.{option_map_or}
 use Rattle.std.specs.List.{flat_map, list_any, enumerate_from}
 use Rattle.class_pool.specs.declared.entry.Entry.{Entry}
@@ -13,6 +13,7 @@ use Rattle.class_pool.specs.declared.class.Member.{Member}
 use Rattle.class_pool.specs.declared.class.ClassFile.{ClassFile}
 use Rattle.class_lookup.specs.Parts.{text_at}
 use Rattle.jop_opcodes.specs.declared.instruction.Instr.{Instr}
+use Rattle.jop_opcodes.specs.Row.{row_of}
 use Rattle.class_lookup.specs.Parts.{signature_of, is_interface_class, is_native, is_static, is_clinit, has_code}
 use Rattle.program_tables.specs.declared.refusal.Item.{Item}
 use Rattle.program_tables.specs.declared.refusal.Item.TheVariants.{Opcode, LdcFloat, LdcClass, LdcMethod, LdcDouble, NewarrayFloat, NewarrayDouble, DescriptorFloat, DescriptorDouble, Native, InterfaceCode}
@@ -23,33 +24,12 @@ use Rattle.program_tables.specs.Instructions.{instructions_of, Named, Constant, 
 
 -- ---- opcodes
 
-abbrev pub is_between : ℕ → ℕ → ℕ → Bool
-is_between low high op = nat_le low op && nat_le op high
-
--- the opcodes of float and double, plain or behind `wide`
-abbrev pub is_of_floats : (op : ℕ) → Bool
-is_of_floats op =
-    -- fconst and dconst; loads, of locals and of array elements
-    is_between 11 15 op || is_between 23 24 op || is_between 34 41 op || is_between 48 49 op
-    -- stores
-    || is_between 56 57 op || is_between 67 74 op || is_between 81 82 op
-    -- add, sub, mul, div, rem, neg
-    || is_between 98 99 op || is_between 102 103 op || is_between 106 107 op || is_between 110 111 op || is_between 114 115 op || is_between 118 119 op
-    -- i2f, i2d, l2f, l2d, those from f2i to d2f, and the comparisons
-    || is_between 134 135 op || is_between 137 138 op || is_between 139 144 op || is_between 149 152 op
-    -- freturn and dreturn
-    || is_between 174 175 op
-
--- lmul, ldiv, lrem, jsr, ret, invokedynamic, multianewarray, jsr_w and breakpoint
-abbrev pub is_left_out : (op : ℕ) → Bool
-is_left_out op = op == 105 || op == 109 || op == 113 || op == 168 || op == 169 || op == 186 || op == 197 || op == 201 || op == 202
-
 -- impdep1 and impdep2 stand only in jop/Io
 abbrev pub is_of_devices : (op : ℕ) → Bool
 is_of_devices op = op == 254 || op == 255
 
 abbrev pub is_refused_opcode : (in_io : Bool) → (op : ℕ) → Bool
-is_refused_opcode in_io op = is_of_floats op || is_left_out op || (is_of_devices op && not in_io)
+is_refused_opcode in_io op = not (row_of op).supported || (is_of_devices op && not in_io)
 
 -- ---- descriptors
 
