@@ -10,4 +10,5 @@ mod read;
 mod types;
 
 pub use mapping::frames;
+pub use read::{Change, MapEntry};
 pub use types::{Frames, MapFault, TypeFrame, VarType};

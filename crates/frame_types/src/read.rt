@@ -14,7 +14,7 @@ use std::alloc::Global;
 
 /// What an entry changes of the frame before it. The operand stack is empty where nothing is said of it.
 #[derive(Drop)]
-pub(crate) enum Change {
+pub enum Change {
     /// same_frame and same_frame_extended: the same local variables.
     Same,
     /// same_locals_1_stack_item_frame and its extended form: the same local variables, and one item on the operand stack.
@@ -29,7 +29,7 @@ pub(crate) enum Change {
 
 /// An entry of a StackMapTable.
 #[derive(Drop)]
-pub(crate) struct MapEntry {
+pub struct MapEntry {
     /// How far it stands behind the least place at which it may stand.
     pub offset: u16,
     pub change: Change,
