@@ -8,6 +8,7 @@ pub mod Graphs
 pub mod Compact
 pub mod Flow
 pub mod Regions
+pub mod Recursion
 pub mod Costs
 pub mod Keeping
 pub mod Examples
