@@ -6,15 +6,9 @@ use Rattle.micro_flow.specs.Costs.{AreInRange, IsGreatestInvoke}
 use Rattle.micro_flow.specs.Walk.{IsCost, IsRaiseCost}
 use Rattle.jop_opcodes.specs.Bytes.{u1}
 use Rattle.bytecode_model.specs.Program.{Program, body_of, instr_at}
+pub use Rattle.method_flow.specs.declared.timing.Timing.{Timing}
 use Rattle.method_flow.specs.Nodes.{Node, At, RaiseAt}
 use Rattle.method_flow.specs.Calls.{IsCall}
-
--- the cycles that a read and a write of main memory wait, and the blocks of the method cache with their words
-pub record Timing : Type 0 where
-  pub read : ℕ
-  pub write : ℕ
-  pub blocks : ℕ
-  pub block_words : ℕ
 
 -- what a walk of the microcode depends on: the waits, the pairs of a lookup switch, and the entries of an exception table
 abbrev pub params : Timing → (pairs entries : ℕ) → CostParams

@@ -5,5 +5,7 @@
 
 mod flow;
 pub mod laws;
+mod timing;
 
 pub use flow::{Call, FlowMethod, FlowProgram, HandlerRange};
+pub use timing::Timing;
