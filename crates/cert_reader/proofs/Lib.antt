@@ -1,0 +1,4 @@
+pub mod Going
+pub mod Sorts
+pub mod Next
+pub mod Counting
