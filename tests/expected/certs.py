@@ -1,5 +1,5 @@
 #!/usr/bin/env python3
-"""What texts of certificates are read as, by the words of the format: the rows of crates/test_certs.
+"""What texts of certificates are read as, by the words of the format: the rows of crates/test_certs. One that is read is written so again.
 
     python3 certs.py < crates/test_certs/stdin > crates/test_certs/stdout
 
@@ -64,7 +64,7 @@ def read(text):
     for k, m, ns, lo in ss:
         o += f' {k} {m}' + ''.join(f' {u}:{z}' for u, z in ns)
         for w, h, c, ms in lo: o += f' {w} {h} {c}' + ''.join(f',{u}' for u in ms)
-    return o + ' bound=' + ('never' if b is None else str(b))
+    return o + ' bound=' + ('never' if b is None else str(b)) + ' written'
 if __name__ == '__main__':
     for row in sys.stdin.read().split('\n')[:-1]:
         print(read(row.replace('|', '\n').replace('^', '\r')))

@@ -4,3 +4,4 @@ pub mod Adding
 pub mod Running
 pub mod LinesRead
 pub mod Texts
+pub mod Examples

@@ -3,3 +3,4 @@ pub mod Texts
 pub mod Drafts
 pub mod Written
 pub mod Laws
+pub mod Examples

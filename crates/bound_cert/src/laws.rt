@@ -1,5 +1,6 @@
 //! What follows of texts of certificates. Each function does nothing: its contract is the law.
 ghost use Rattle.bound_cert.specs.Laws.{HasOneCertificate, IsReadBack};
+ghost use Rattle.bound_cert.specs.Examples.{WorkedTexts};
 
 /// A text is of one certificate.
 pub fn has_one_certificate()
@@ -9,4 +10,9 @@ pub fn has_one_certificate()
 /// What is written of a certificate is read as that certificate.
 pub fn is_read_back()
     ensures { IsReadBack }
+{}
+
+/// Certificates and lines that were worked out by hand.
+pub fn worked_texts()
+    ensures { WorkedTexts }
 {}

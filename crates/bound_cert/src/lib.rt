@@ -13,6 +13,6 @@ mod writing;
 
 pub use cert::{Cert, CertSection, SectionSort};
 pub use cert_lines::SectionKind;
-pub use laws::{has_one_certificate, is_read_back};
+pub use laws::{has_one_certificate, is_read_back, worked_texts};
 pub use section_check::section::{CertLoop, Section};
 pub use writing::write_cert;

@@ -1,11 +1,12 @@
-//! Shows on a table what texts of certificates are read as.
+//! Shows on a table what texts of certificates are read as, and that they are written so again.
 //!
 //! Each line of the input is a text, in which `|` stands for a line feed and `^` for a carriage return. Shown are the
-//! version, the method, the sections with the numbers of their nodes and the nodes of their loops, and the bound;
-//! or the line that is refused.
+//! version, the method, the sections with the numbers of their nodes and the nodes of their loops, and the bound, and
+//! then `written` where the certificate, put together anew of its parts, is written as the text, with a line feed at
+//! its end; or the line that is refused.
 #![tactic(auto)]
 
-use bound_cert::{Cert, CertSection};
+use bound_cert::{Cert, CertSection, write_cert};
 use cert_lines::SectionKind;
 use cert_reader::{CertFault, read_cert};
 use std::alloc::{AllocError, Global};
@@ -50,20 +51,42 @@ fn show(rt: &HostRuntime, c: &Cert) -> io::Result<()> {
         show_section(rt, s)?;
     }
     match c.bound() {
-        Some(bound) => println!(rt; " bound={bound}"),
-        None => println!(rt; " bound=never"),
+        Some(bound) => print!(rt; " bound={bound}"),
+        None => print!(rt; " bound=never"),
+    }
+}
+
+/// The certificate, put together anew of its parts.
+fn anew(c: Cert) -> Cert
+    ensures { result ≡ c }
+{
+    let (version, root, bound) = (c.version(), c.root(), c.bound());
+    Cert::new(version, root, c.into_sections(), bound)
+}
+
+/// Whether one is the other with a line feed at its end.
+fn is_written(text: &[u8], written: &[u8]) -> bool {
+    written.strip_suffix(b"\n") == Some(text.strip_suffix(b"\n").unwrap_or(text))
+}
+
+/// Shows what a text is read as.
+fn show_text(rt: &HostRuntime, text: &[u8]) -> io::Result<()> {
+    match read_cert(rt.alloc(), text) {
+        Ok(c) => {
+            let c = anew(c);
+            show(rt, &c)?;
+            let written = write_cert(rt.alloc(), &c)?;
+            let same = if is_written(text, &written) { "written" } else { "written otherwise" };
+            println!(rt; " {same}")
+        }
+        Err(CertFault::Line(number)) => println!(rt; "bad line={number}"),
+        Err(CertFault::NoMemory) => Err(io::Error::from(AllocError)),
     }
 }
 
 fn main(rt: HostRuntime) -> io::Result<()> {
     for line in rt.lines(rt.alloc()) {
-        let line = line?;
-        let text = text_of(rt.alloc(), line.as_bytes())?;
-        match read_cert(rt.alloc(), &text) {
-            Ok(c) => show(&rt, &c)?,
-            Err(CertFault::Line(number)) => println!(rt; "bad line={number}")?,
-            Err(CertFault::NoMemory) => return Err(io::Error::from(AllocError)),
-        }
+        show_text(&rt, &text_of(rt.alloc(), line?.as_bytes())?)?;
     }
     Ok(())
 }
