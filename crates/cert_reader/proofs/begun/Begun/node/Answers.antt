@@ -14,4 +14,4 @@ returns c =
     let added = MatchBool-at_true {b = c.in_ok-add_node.field-0} _ _ (search rules) c.in_ok-add_node.ensures in
     gives_node c.args.self _ c.in-Some.current c.add_node.new.self c.args.u c.args.potential c.requires.kept c.requires.draft
     (record { version = refl; root = refl; closed = refl; sorts = refl; old = search rules; new = refl }) added.0
-    (subst (λ (p : ℤ). with_node c.args.u p c.in-Some.current ≡ Some c.add_node.new.self) (to_z-of_z w128 c.args.potential (search rules)) added.1) (search rules) c.requires.potential
+    (subst (λ (p : ℤ). with_node c.args.u p c.in-Some.current ≡ Some c.add_node.new.self) (to_z-of_z w128 c.args.potential c.ranges.potential) added.1) (search rules) c.requires.potential
