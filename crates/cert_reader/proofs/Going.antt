@@ -1,19 +1,16 @@
 -- How a draft goes on with a node, a loop, a section or a bound.
-use Rattle.std.proofs.Common.{◌≡◌, ◌≢◌, ℕ, ◌<◌, ◌^◌, List, [], ◌∷◌, ◌++◌, map, append-nil, refl, sym, ◌∙◌, ap, subst, Option, Some, None, ℤ}
+use Rattle.std.proofs.Common.{◌≡◌, ◌≢◌, ℕ, ◌<◌, ◌^◌, List, [], ◌∷◌, ◌++◌, map, refl, Option, Some, None, ℤ}
 use Rattle.std.specs.Prelude.{IsSomeAnd, All}
 use Rattle.std.specs.Option.{option_map, option_to_list}
-use Rattle.lists.specs.Lemmas.{some_is}
-use Rattle.section_check.specs.Section.{CertifiedLoop, listed}
+use Rattle.section_check.specs.Section.{CertifiedLoop}
 use Rattle.cert_lines.specs.declared.line.SectionKind.{SectionKind}
 use Rattle.cert_lines.specs.declared.line.SectionKind.TheVariants.{Loops}
-use Rattle.cert_lines.specs.declared.line.CertLine.{CertLine}
-use Rattle.cert_lines.specs.declared.line.CertLine.TheVariants.{Version, Root, Start, Node, Loop, Bound}
+use Rattle.cert_lines.specs.declared.line.CertLine.TheVariants.{Start, Node, Loop}
 use Rattle.cert_lines.specs.Loop.{LoopSaid, IsLoopSaid}
 use Rattle.cert_lines.specs.Lines.{IsPotential, IsBound}
 use Rattle.bound_cert.specs.declared.cert.CertSection.{CertSection}
-use Rattle.bound_cert.specs.Certificate.{Certificate, IsSectionInText, sort_of, IsInGrammar}
-use Rattle.bound_cert.specs.Drafts.{Draft, Begun, Whole, IsDraft, never_with, empty_section, if_empty, with_node, with_loop, put, GoesOn, TakesNode, TakesLoop}
-use Rattle.bound_cert.proofs.Adding.{Puts, puts}
+use Rattle.bound_cert.specs.Certificate.{sort_of, IsInGrammar}
+use Rattle.bound_cert.specs.Drafts.{Draft, Begun, IsDraft, never_with, empty_section, if_empty, with_loop, GoesOn, TakesNode, TakesLoop}
 use Rattle.bound_cert.proofs.Sections.{added_node, node_forth, node_above, loop_forth, loop_taken, empty_in_text, with_last, last_in_text, last_differs, changed_last}
 
 -- ---- nodes

@@ -1,5 +1,5 @@
 -- What a line gives of the fields.
-use Rattle.std.proofs.Common.{◌≡◌, ◌≢◌, ℕ, ◌<◌, ◌^◌, Bool, true, false, List, [], ◌∷◌, ◌++◌, map, refl, sym, ◌∙◌, ap, subst, Option, Some, None, ℤ}
+use Rattle.std.proofs.Common.{◌≡◌, ◌≢◌, ℕ, ◌<◌, ◌^◌, true, false, List, [], ◌∷◌, ◌++◌, map, refl, sym, ◌∙◌, ap, subst, Option, Some, None, ℤ}
 use Rattle.std.specs.Prelude.{All, Result, Ok, Err, IfOk, MatchOption}
 use Rattle.std.specs.Option.{option_map, option_to_list}
 use Rattle.std.specs.List.{list_any}
@@ -7,14 +7,14 @@ use Rattle.lists.specs.Lemmas.{some_same as same_value}
 use Rattle.cert_lines.specs.declared.line.SectionKind.{SectionKind}
 use Rattle.cert_lines.specs.declared.line.SectionKind.TheVariants.{Loops}
 use Rattle.cert_lines.specs.declared.line.CertLine.{CertLine}
-use Rattle.cert_lines.specs.declared.line.CertLine.TheVariants.{Version, Root, Start, Node, Loop, Bound}
+use Rattle.cert_lines.specs.declared.line.CertLine.TheVariants.{Start, Node, Loop, Bound}
 use Rattle.cert_lines.specs.Loop.{LoopSaid, IsLoopSaid}
 use Rattle.cert_lines.specs.Lines.{line_text, IsPotential, IsBound, IsInRange}
 use Rattle.cert_lines.proofs.LineLemmas.{says_one_thing}
 use Rattle.bound_cert.specs.declared.cert.CertSection.{CertSection}
 use Rattle.bound_cert.specs.declared.cert.SectionSort.{SectionSort}
 use Rattle.bound_cert.specs.Certificate.{Certificate, sort_of}
-use Rattle.bound_cert.specs.Drafts.{Draft, Begun as BegunDraft, Whole, IsDraft, empty_section, if_empty, with_node, with_loop, put, GoesOn, Adds, Refuses, TakesNode, TakesLoop}
+use Rattle.bound_cert.specs.Drafts.{Draft, Begun as BegunDraft, Whole, IsDraft, empty_section, with_node, with_loop, put, GoesOn, Refuses, TakesNode, TakesLoop}
 use Rattle.bound_cert.proofs.Lists.{map-push}
 use Rattle.bound_cert.proofs.Sections.{added_node}
 use Rattle.cert_reader.specs.declared.begun.Begun.{Begun}

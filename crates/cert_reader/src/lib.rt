@@ -8,11 +8,6 @@ ghost use Rattle.cert_reader.specs.Refused.{IsRefused};
 
 mod begun;
 mod current;
-mod kind;
-mod line;
-mod members;
-mod number;
-mod part;
 mod reading;
 
 use bound_cert::Cert;

@@ -5,8 +5,8 @@ ghost use Rattle.bound_cert.specs.Drafts.{Blank, Versioned, Refuses, GoesOn};
 ghost use Rattle.cert_reader.specs.Steps.{draft_of, IsReading, GivesNext, AddsNext};
 
 use crate::begun::Begun;
-use crate::line::read_line;
 use bound_cert::Cert;
+use cert_line_reader::read_line;
 use cert_lines::CertLine;
 use jop_base::NoMemory;
 use std::alloc::Global;
