@@ -1,5 +1,6 @@
 #!/usr/bin/env python3
-"""What texts of certificates are read as, by the words of the format: the rows of crates/test_certs. One that is read is written so again.
+"""What texts of certificates are read as, by the words of the format: the rows of crates/test_certs. One that is
+read is written so again, and of one behind a # only that is shown.
 
     python3 certs.py < crates/test_certs/stdin > crates/test_certs/stdout
 
@@ -67,4 +68,7 @@ def read(text):
     return o + ' bound=' + ('never' if b is None else str(b)) + ' written'
 if __name__ == '__main__':
     for row in sys.stdin.read().split('\n')[:-1]:
-        print(read(row.replace('|', '\n').replace('^', '\r')))
+        text = row.replace('|', '\n').replace('^', '\r')
+        short = text.startswith('#')
+        wanted = read(text[short:])
+        print('written' if short and wanted.endswith('written') else wanted)

@@ -3,8 +3,11 @@
 //! Each line of the input is a text, in which `|` stands for a line feed and `^` for a carriage return. Shown are the
 //! version, the method, the sections with the numbers of their nodes and the nodes of their loops, and the bound, and
 //! then `written` where the certificate, put together anew of its parts, is written as the text, with a line feed at
-//! its end; or the line that is refused.
+//! its end; or the line that is refused. Of a text behind a `#` only the last is shown.
 #![tactic(auto)]
+
+ghost use Rattle.std.specs.Prelude.{◌≡◌};
+ghost use Rattle.bound_cert.specs.Certificate.{IsInGrammar};
 
 use bound_cert::{Cert, CertSection, write_cert};
 use cert_lines::SectionKind;
@@ -51,8 +54,8 @@ fn show(rt: &HostRuntime, c: &Cert) -> io::Result<()> {
         show_section(rt, s)?;
     }
     match c.bound() {
-        Some(bound) => print!(rt; " bound={bound}"),
-        None => print!(rt; " bound=never"),
+        Some(bound) => print!(rt; " bound={bound} "),
+        None => print!(rt; " bound=never "),
     }
 }
 
@@ -69,15 +72,26 @@ fn is_written(text: &[u8], written: &[u8]) -> bool {
     written.strip_suffix(b"\n") == Some(text.strip_suffix(b"\n").unwrap_or(text))
 }
 
+/// Writes a certificate, and shows whether that gives the text.
+fn show_written(rt: &HostRuntime, text: &[u8], c: &Cert) -> io::Result<()>
+    requires { IsInGrammar c.now }
+{
+    match write_cert(rt.alloc(), c) {
+        Ok(written) if is_written(text, &written) => println!(rt; "written"),
+        Ok(_) => println!(rt; "written otherwise"),
+        Err(_) => Err(io::Error::from(AllocError)),
+    }
+}
+
 /// Shows what a text is read as.
-fn show_text(rt: &HostRuntime, text: &[u8]) -> io::Result<()> {
+fn show_text(rt: &HostRuntime, text: &[u8], in_full: bool) -> io::Result<()> {
     match read_cert(rt.alloc(), text) {
         Ok(c) => {
             let c = anew(c);
-            show(rt, &c)?;
-            let written = write_cert(rt.alloc(), &c)?;
-            let same = if is_written(text, &written) { "written" } else { "written otherwise" };
-            println!(rt; " {same}")
+            if in_full {
+                show(rt, &c)?;
+            }
+            show_written(rt, text, &c)
         }
         Err(CertFault::Line(number)) => println!(rt; "bad line={number}"),
         Err(CertFault::NoMemory) => Err(io::Error::from(AllocError)),
@@ -86,7 +100,11 @@ fn show_text(rt: &HostRuntime, text: &[u8]) -> io::Result<()> {
 
 fn main(rt: HostRuntime) -> io::Result<()> {
     for line in rt.lines(rt.alloc()) {
-        show_text(&rt, &text_of(rt.alloc(), line?.as_bytes())?)?;
+        let text = text_of(rt.alloc(), line?.as_bytes())?;
+        match text.strip_prefix(b"#") {
+            Some(behind) => show_text(&rt, behind, false)?,
+            None => show_text(&rt, &text, true)?,
+        }
     }
     Ok(())
 }
