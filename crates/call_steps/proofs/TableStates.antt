@@ -76,9 +76,6 @@ is_there (Some x) h = (x, refl)
 size_small : (n : ℕ) → IsSize n → n ≤ 1024
 size_small n h = ⊎_elim (λ (e : n ≡ 256). omega (arith, e)) (λ other. ⊎_elim (λ (e : n ≡ 512). omega (arith, e)) (λ (e : n ≡ 1024). omega (arith, e)) other) h
 
-    tails : (x u : ℕ) (xs us : List ℕ) → x ∷ xs ≡ u ∷ us → xs ≡ us
-    tails x u xs us e = cc
-
 not_zero : (w : ℕ) → 0 < w → (w == 0) ≡ false
 not_zero w h = grind (arith, nat_tests, h)
 

@@ -4,7 +4,6 @@ use Rattle.std.specs.Prelude.{slice_get, is_some, if◌then◌else◌}
 use Rattle.std.specs.List.{flat_map, range_with_len}
 use Rattle.std.proofs.lemmas.Bool.{false≢true, both_ways, or_cases, or_left, eqb-true, cond-true, cond-false, cases_Bool}
 use Rattle.std.proofs.lemmas.Grind.{flat_map-append}
-use Rattle.program_tables.proofs.MentionLemmas.{is_array}
 use Rattle.program_laws.proofs.Entries.{kind_of_class}
 use Rattle.program_laws.proofs.Rows.{same_self}
 use Rattle.class_pool.specs.declared.class.ClassFile.{ClassFile}
@@ -40,6 +39,11 @@ kinds_flat f (y ∷ xs) zero x k h e = kinds_left (f y) (flat_map f xs) k (ap (�
 kinds_flat f (y ∷ xs) (suc i) x k h e = kinds_right (f y) (flat_map f xs) k (kinds_flat f xs i x k h e)
 
 -- ---- a class that is named is no array
+
+is_array : Kind → Bool
+is_array (OfReferences k) = true
+is_array (OfClass c) = false
+is_array (OfNumbers a) = false
 
 made_no_array : ClassLaws → (cs : List ClassFile) → IsResolved cs → (cur : ℕ) (c : ClassFile) (index : ℕ) (l : Kind) → why_class_use cs cur c 187 index ≡ None → kind_of_entry cs c.pool index ≡ Some (OfReferences l) → ⊥
 unfolding is_array
