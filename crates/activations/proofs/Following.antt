@@ -28,7 +28,8 @@ use Rattle.bytecode_typing.specs.Laws.{FittingStatesAreWellFormed}
 use Rattle.machine_stands.specs.StandsFor.{IsAt}
 use Rattle.machine_stands.specs.Comes.{params as of_machine, IsFrameCost, IsTopCost, found_by, Found, LooksUp}
 use Rattle.method_flow.specs.Shapes.{node_of, AreConcrete, NamesAbove, FramesStep, StepsHaveShapes}
-use Rattle.method_flow.specs.Costs.{Timing, params, IsOwnCost}
+use Rattle.method_flow.specs.declared.timing.Timing.{Timing}
+use Rattle.method_flow.specs.Costs.{params, IsOwnCost}
 use Rattle.activations.specs.Setting.{Setting, limits, IsSetting}
 use Rattle.activations.specs.Activations.{Stage, Follows}
 use Rattle.activations.specs.Steps.{HasTiming, AreWords, place_of, StepsAreTold}

@@ -12,7 +12,8 @@ use Rattle.bytecode_typing.specs.Fits.{IsGoing}
 use Rattle.image_facts.specs.Places.{Places}
 use Rattle.machine_stands.specs.Comes.{found_by}
 use Rattle.method_flow.specs.Calls.{IsStartOf}
-use Rattle.method_flow.specs.Costs.{Timing, IsOwnCost}
+use Rattle.method_flow.specs.declared.timing.Timing.{Timing}
+use Rattle.method_flow.specs.Costs.{IsOwnCost}
 use Rattle.method_flow.specs.Shapes.{node_of, FramesStep}
 use Rattle.activations.specs.Setting.{Setting, IsSetting}
 use Rattle.activations.specs.Activations.{Stage, Follows}

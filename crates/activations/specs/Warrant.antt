@@ -2,7 +2,7 @@
 use Rattle.std.specs.Prelude.{◌≡◌, ℕ, ◌≤◌, MatchOption}
 use Rattle.std.specs.declared.option.Option.{Option}
 use Rattle.bytecode_model.specs.Program.{Program}
-use Rattle.method_flow.specs.Costs.{Timing}
+use Rattle.method_flow.specs.declared.timing.Timing.{Timing}
 use Rattle.method_flow.specs.Keeping.{BoundOf}
 use Rattle.activations.specs.Setting.{Setting, IsSetting}
 use Rattle.activations.specs.Activations.{Stage, IsActivation, cycles_of}
