@@ -6,7 +6,7 @@ use Rattle.micro_flow.specs.Costs.{AreInRange, IsGreatestInvoke}
 use Rattle.micro_flow.specs.Walk.{IsCost, IsRaiseCost}
 use Rattle.jop_opcodes.specs.Bytes.{u1}
 use Rattle.bytecode_model.specs.Program.{Program, body_of, instr_at}
-pub use Rattle.method_flow.specs.declared.timing.Timing.{Timing}
+use Rattle.method_flow.specs.declared.timing.Timing.{Timing}
 use Rattle.method_flow.specs.Nodes.{Node, At, RaiseAt}
 use Rattle.method_flow.specs.Calls.{IsCall}
 
