@@ -28,25 +28,29 @@
 //! repository.
 #![tactic(auto)]
 
+mod found;
 mod question;
 mod show;
 mod walks;
 
+use found::{Asked, show_chain, show_found};
 use question::Question;
-use show::{show_blocks, show_chain, show_check, show_longest, show_nest, show_regions};
+use show::{show_blocks, show_check, show_counts, show_nest};
 use std::io;
 use test_rows::RowFault;
-use walks::show_walks;
 
 // Prints what is found of what a line asks.
 fn answer(rt: &HostRuntime, question: &Question) -> io::Result<()> {
     match question {
         Question::Nest(graph) => show_nest(rt, graph),
         Question::Blocks(graph) => show_blocks(rt, graph),
-        Question::Longest(problem) => show_longest(rt, problem),
-        Question::Regions(problem, regions) => show_regions(rt, problem, regions),
-        Question::Walks(problem) => show_walks(rt, problem),
-        Question::Check(problem, section) => show_check(rt, problem, section),
+        Question::Counts(graph) => show_counts(rt, graph),
+        Question::Value(problem) => show_found(rt, problem, Asked::Value),
+        Question::Longest(problem) => show_found(rt, problem, Asked::Section),
+        Question::Regions(problem, regions) => show_found(rt, problem, Asked::Regions(regions)),
+        Question::Walks(problem) => show_found(rt, problem, Asked::Walks),
+        Question::Check(problem, section) => show_check(rt, problem, section, true),
+        Question::Index(problem, section) => show_check(rt, problem, section, false),
         Question::Chain(nodes) => show_chain(rt, *nodes),
     }
 }

@@ -22,14 +22,20 @@ pub enum Question {
     Nest(Graph),
     /// The basic blocks of a graph.
     Blocks(Graph),
+    /// How many loops and blocks a graph has.
+    Counts(Graph),
+    /// The value of the greatest walk alone.
+    Value(Problem),
     /// The greatest walk.
     Longest(Problem),
     /// The greatest walk, where it is said of each loop whether it is a region.
     Regions(Problem, Vec<bool>),
     /// The greatest walk, found in several ways.
     Walks(Problem),
-    /// The check of a section.
+    /// The checks of a section, with an index of its loops and without.
     Check(Problem, Section),
+    /// The check of a section with an index alone.
+    Index(Problem, Section),
     /// So many nodes, one after another.
     Chain(u32),
 }
@@ -118,53 +124,84 @@ fn read_problem(alloc: Global, fields: &[&str]) -> Result<Problem, RowFault> {
     problem_of(alloc, graph, &fields[3..])
 }
 
-/// The section with these nodes and loops, of which these are regions.
-fn section(alloc: Global, nodes: &str, loops: &str, regions: &str) -> Result<Section, RowFault> {
-    let nodes: Vec<(u32, i128)> = nodes.split_whitespace().map(potential).try_collect(alloc)?;
+/// The loops of a section.
+fn certified_loops(alloc: Global, loops: &str) -> Result<Vec<CertLoop>, RowFault> {
     let mut certified = Vec::new(alloc);
     for word in loops.split_whitespace() {
         certified.push(certified_loop(alloc, word)?)?;
     }
-    let section = Section::new(nodes, certified);
-    let regions = flags(alloc, regions)?;
+    Ok(certified)
+}
+
+/// A section, with these marks of its loops.
+fn marked(section: Section, regions: &[bool]) -> Result<Section, RowFault> {
     if regions.len() != section.loops().len() {
         return Err(RowFault::Malformed);
     }
-    Ok(section.with_regions(&regions))
+    Ok(section.with_regions(regions))
+}
+
+/// The section of three fields: its nodes, its loops and which of these are regions.
+fn section(alloc: Global, fields: &[&str]) -> Result<Section, RowFault> {
+    let [nodes, loops, regions] = fields else {
+        return Err(RowFault::Malformed);
+    };
+    let nodes: Vec<(u32, i128)> = nodes.split_whitespace().map(potential).try_collect(alloc)?;
+    let section = Section::new(nodes, certified_loops(alloc, loops)?);
+    marked(section, &flags(alloc, regions)?)
 }
 
 /// A problem, and of each loop whether it is a region.
-fn regions(alloc: Global, fields: &[&str]) -> Result<Question, RowFault> {
+fn regions(alloc: Global, fields: &[&str]) -> Result<(Problem, Vec<bool>), RowFault> {
     if fields.len() != 7 {
         return Err(RowFault::Malformed);
     }
-    let problem = read_problem(alloc, &fields[..6])?;
-    Ok(Question::Regions(problem, flags(alloc, fields[6])?))
+    Ok((read_problem(alloc, &fields[..6])?, flags(alloc, fields[6])?))
 }
 
 /// A problem and a section.
-fn check(alloc: Global, fields: &[&str]) -> Result<Question, RowFault> {
+fn check(alloc: Global, fields: &[&str]) -> Result<(Problem, Section), RowFault> {
     if fields.len() != 9 {
         return Err(RowFault::Malformed);
     }
-    let problem = read_problem(alloc, &fields[..6])?;
-    let section = section(alloc, fields[6], fields[7], fields[8])?;
-    Ok(Question::Check(problem, section))
+    Ok((
+        read_problem(alloc, &fields[..6])?,
+        section(alloc, &fields[6..])?,
+    ))
+}
+
+/// How many nodes follow one another.
+fn chain(fields: &[&str]) -> Result<Question, RowFault> {
+    match fields {
+        [nodes] => Ok(Question::Chain(nodes.parse()?)),
+        _ => Err(RowFault::Malformed),
+    }
 }
 
 impl Question {
+    /// What some fields ask.
+    fn of_fields(alloc: Global, fields: &[&str]) -> Result<Question, RowFault> {
+        let [word, rest @ ..] = fields else {
+            return Err(RowFault::Malformed);
+        };
+        match *word {
+            "nest" => graph(alloc, rest).map(Question::Nest),
+            "blocks" => graph(alloc, rest).map(Question::Blocks),
+            "counts" => graph(alloc, rest).map(Question::Counts),
+            "value" => read_problem(alloc, rest).map(Question::Value),
+            "longest" => read_problem(alloc, rest).map(Question::Longest),
+            "walks" => read_problem(alloc, rest).map(Question::Walks),
+            "regions" => regions(alloc, rest).map(|asked| Question::Regions(asked.0, asked.1)),
+            "check" => check(alloc, rest).map(|asked| Question::Check(asked.0, asked.1)),
+            "index" => check(alloc, rest).map(|asked| Question::Index(asked.0, asked.1)),
+            "chain" => chain(rest),
+            _ => Err(RowFault::Malformed),
+        }
+    }
+
     /// What a line asks.
     pub fn parse(alloc: Global, line: &str) -> Result<Question, RowFault> {
         let fields: Vec<&str> = line.split('|').map(|field| field.trim()).collect(alloc)?;
-        match fields.as_slice() {
-            ["chain", nodes] => Ok(Question::Chain(nodes.parse()?)),
-            ["nest", rest @ ..] => Ok(Question::Nest(graph(alloc, rest)?)),
-            ["blocks", rest @ ..] => Ok(Question::Blocks(graph(alloc, rest)?)),
-            ["longest", rest @ ..] => Ok(Question::Longest(read_problem(alloc, rest)?)),
-            ["walks", rest @ ..] => Ok(Question::Walks(read_problem(alloc, rest)?)),
-            ["regions", rest @ ..] => regions(alloc, rest),
-            ["check", rest @ ..] => check(alloc, rest),
-            _ => Err(RowFault::Malformed),
-        }
+        Question::of_fields(alloc, &fields)
     }
 }

@@ -1,15 +1,13 @@
-//! What is printed of a graph.
+//! What is printed of a graph: its loops, its basic blocks and what the checks of a section say.
 
 use crate::question::Problem;
 use loop_nest::loops::{Loop, NestFault};
-use loop_nest::{Graph, blocks, is_graph, nest};
+use loop_nest::{Graph, blocks, nest};
+use path_solver::check_section;
 use path_solver::form::is_in_form;
-use path_solver::regions::longest_with_regions;
 use path_solver::section::{Section, SectionFault};
-use path_solver::solved::SolveFault;
-use path_solver::{check_section, longest};
 use section_index::check_with_index;
-use std::alloc::{AllocError, Global};
+use std::alloc::AllocError;
 use std::{fmt, io};
 
 /// Nodes, each behind a blank.
@@ -25,161 +23,63 @@ impl fmt::Display for Nodes<'_> {
     }
 }
 
-/// Listed nodes with their potentials, each behind a blank.
-#[derive(Drop)]
-struct Potentials<'a>(&'a [(u32, i128)]);
-
-impl fmt::Display for Potentials<'_> {
-    fn fmt<W: fmt::Write>(&self, f: &mut fmt::Formatter<W>) -> fmt::Result {
-        for (u, p) in self.0 {
-            write!(f, " {u}:{p}")?;
+// Prints loops, each with the next loop around it.
+fn show_loops(rt: &HostRuntime, loops: &[Loop]) -> io::Result<()> {
+    for l in loops {
+        let (header, members) = (l.header(), Nodes(l.members()));
+        match l.outer().and_then(|number| loops.get(number as usize)) {
+            Some(outer) => println!(rt; "  loop {header}:{members}, in loop {}", outer.header())?,
+            None => println!(rt; "  loop {header}:{members}")?,
         }
-        Ok(())
-    }
-}
-
-/// Prints a loop, and the next loop around it.
-fn show_loop(rt: &impl Print, loops: &[Loop], l: &Loop) -> io::Result<()> {
-    let (header, members) = (l.header(), Nodes(l.members()));
-    match l.outer() {
-        Some(number) if (number as usize) < loops.len() => {
-            let outer = loops[number as usize].header();
-            println!(rt; "  loop {header}:{members}, in loop {outer}")
-        }
-        _ => println!(rt; "  loop {header}:{members}"),
-    }
-}
-
-/// Prints the loops of a graph, or what its reduction leaves.
-pub fn show_nest(rt: &(impl Print + Alloc<A = Global>), g: &Graph) -> io::Result<()> {
-    match nest(rt.alloc(), g) {
-        Ok(nest) => {
-            for l in nest.loops() {
-                show_loop(rt, nest.loops(), l)?;
-            }
-            Ok(())
-        }
-        Err(NestFault::Irreducible(left)) => {
-            let left = Nodes(&left);
-            println!(rt; "  irreducible:{left}")
-        }
-        Err(NestFault::NoMemory) => Err(io::Error::from(AllocError)),
-    }
-}
-
-/// Prints the basic blocks of a graph.
-pub fn show_blocks(rt: &(impl Print + Alloc<A = Global>), g: &Graph) -> io::Result<()> {
-    let Ok(blocks) = blocks(rt.alloc(), g) else {
-        return Err(io::Error::from(AllocError));
-    };
-    for chain in blocks.chains() {
-        let nodes = Nodes(chain);
-        println!(rt; "  block{nodes}")?;
     }
     Ok(())
 }
 
-/// Prints the value of the greatest walk, and the section that shows it.
-pub fn show_longest(rt: &(impl Print + Alloc<A = Global>), problem: &Problem) -> io::Result<()> {
-    let Problem {
-        graph: g,
-        costs,
-        bounds,
-        loads,
-    } = problem;
-    let Ok(nest) = nest(rt.alloc(), g) else {
-        return println!(rt; "  no nest");
-    };
-    let loops = nest.loops().len();
-    if costs.len() != g.nodes() as usize || bounds.len() != loops || loads.len() != loops {
-        return println!(rt; "  bad line");
-    }
-    let loads: Vec<u64> = loads
-        .iter()
-        .map(|load| load.unwrap_or(0))
-        .collect(rt.alloc())?;
-    match longest(rt.alloc(), g, &nest, costs, bounds, &loads) {
-        Ok(Some(solved)) => {
-            let (value, section) = (solved.value(), solved.section());
-            let potentials = Potentials(section.nodes());
-            println!(rt; "  value {value}, potentials{potentials}")?;
-            for l in section.loops() {
-                let (header, cost) = (l.header(), l.iteration_cost());
-                println!(rt; "  loop {header}, an iteration costs {cost}")?;
-            }
-            Ok(())
-        }
-        Ok(None) => println!(rt; "  no walk"),
-        Err(SolveFault::TooLarge) => println!(rt; "  too large"),
-        Err(SolveFault::NoMemory) => Err(io::Error::from(AllocError)),
+/// Prints the loops of a graph, or what its reduction leaves.
+pub fn show_nest(rt: &HostRuntime, g: &Graph) -> io::Result<()> {
+    match nest(rt.alloc(), g) {
+        Ok(nest) => show_loops(rt, nest.loops()),
+        Err(NestFault::Irreducible(left)) => println!(rt; "  irreducible:{}", Nodes(&left)),
+        Err(NestFault::NoMemory) => Err(io::Error::from(AllocError)),
     }
 }
 
-/// Prints the value of the greatest walk, and which loops are regions in the section that shows it.
-pub fn show_regions(
-    rt: &(impl Print + Alloc<A = Global>),
-    problem: &Problem,
-    regions: &[bool],
-) -> io::Result<()> {
-    let Problem {
-        graph: g,
-        costs,
-        bounds,
-        loads,
-    } = problem;
-    let Ok(nest) = nest(rt.alloc(), g) else {
-        return println!(rt; "  no nest");
-    };
-    let loops = nest.loops().len();
-    if costs.len() != g.nodes() as usize || bounds.len() != loops {
-        return println!(rt; "  bad line");
+// Prints basic blocks.
+fn show_chains(rt: &HostRuntime, chains: &[Vec<u32>]) -> io::Result<()> {
+    for chain in chains {
+        println!(rt; "  block{}", Nodes(chain))?;
     }
-    if loads.len() != loops || regions.len() != loops {
-        return println!(rt; "  bad line");
-    }
-    let loads: Vec<u64> = loads
-        .iter()
-        .map(|load| load.unwrap_or(0))
-        .collect(rt.alloc())?;
-    match longest_with_regions(rt.alloc(), g, &nest, costs, bounds, &loads, regions) {
-        Ok(Some(solved)) => {
-            let value = solved.value();
-            println!(rt; "  value {value}")?;
-            for l in solved.section().loops() {
-                let (header, article) = (l.header(), if l.region() { "a" } else { "no" });
-                println!(rt; "  loop {header}, {article} region")?;
-            }
-            Ok(())
-        }
-        Ok(None) => println!(rt; "  no walk"),
-        Err(SolveFault::TooLarge) => println!(rt; "  too large"),
-        Err(SolveFault::NoMemory) => Err(io::Error::from(AllocError)),
+    Ok(())
+}
+
+/// Prints the basic blocks of a graph.
+pub fn show_blocks(rt: &HostRuntime, g: &Graph) -> io::Result<()> {
+    match blocks(rt.alloc(), g) {
+        Ok(blocks) => show_chains(rt, blocks.chains()),
+        Err(_) => Err(io::Error::from(AllocError)),
     }
 }
 
-/// Prints what the checks of a section say, with an index of its loops and without.
-pub fn show_check(
-    rt: &(impl Print + Alloc<A = Global>),
-    problem: &Problem,
-    section: &Section,
-) -> io::Result<()> {
-    let Problem {
-        graph: g,
-        costs,
-        bounds,
-        loads,
-    } = problem;
-    if costs.len() != g.nodes() as usize || !is_in_form(section, bounds, loads) {
-        return println!(rt; "  bad line");
-    }
-    let shown = check_section(g, costs, bounds, loads, section);
-    let Ok(indexed) = check_with_index(rt.alloc(), g, costs, bounds, loads, section) else {
-        return Err(io::Error::from(AllocError));
+/// Prints how many loops and basic blocks a graph has.
+pub fn show_counts(rt: &HostRuntime, g: &Graph) -> io::Result<()> {
+    let Ok(nest) = nest(rt.alloc(), g) else {
+        return println!(rt; "  no nest");
     };
-    if indexed != shown {
-        println!(rt; "  the two checks differ")?;
+    match blocks(rt.alloc(), g) {
+        Ok(blocks) => {
+            println!(rt;
+                "  loops {}, blocks {}",
+                nest.loops().len(),
+                blocks.chains().len()
+            )
+        }
+        Err(_) => Err(io::Error::from(AllocError)),
     }
-    match shown {
+}
+
+// Prints what a check of a section says.
+fn show_answer(rt: &HostRuntime, answer: Result<Option<u64>, SectionFault>) -> io::Result<()> {
+    match answer {
         Ok(Some(value)) => println!(rt; "  value {value}"),
         Ok(None) => println!(rt; "  no value"),
         Err(SectionFault::Member(u)) => println!(rt; "  node {u} is misplaced"),
@@ -188,37 +88,24 @@ pub fn show_check(
     }
 }
 
-/// Prints the blocks and the greatest walk of so many nodes, one after another, of cost 1.
-pub fn show_chain(rt: &(impl Print + Alloc<A = Global>), nodes: u32) -> io::Result<()> {
-    let mut edges = Vec::new(rt.alloc());
-    for u in 1..nodes {
-        edges.push((u - 1, u))?;
-    }
-    let exits = vec![in rt.alloc(); nodes.saturating_sub(1)]?;
-    if !is_graph(nodes, &edges, &exits) {
+/// Prints what the check of a section says that has an index of its loops, and, where `both` says so, whether the check
+/// without an index says the same.
+pub fn show_check(
+    rt: &HostRuntime,
+    problem: &Problem,
+    section: &Section,
+    both: bool,
+) -> io::Result<()> {
+    let (g, costs) = (&problem.graph, &problem.costs);
+    let (bounds, loads) = (&problem.bounds, &problem.loads);
+    if costs.len() != g.nodes() as usize || !is_in_form(section, bounds, loads) {
         return println!(rt; "  bad line");
     }
-    let g = Graph::new(nodes, edges, exits);
-    let Ok(blocks) = blocks(rt.alloc(), &g) else {
+    let Ok(answer) = check_with_index(rt.alloc(), g, costs, bounds, loads, section) else {
         return Err(io::Error::from(AllocError));
     };
-    let (count, first) = (
-        blocks.chains().len(),
-        blocks.chains().first().map_or(0, |b| b.len()),
-    );
-    println!(rt; "  blocks {count}, the first of {first} nodes")?;
-    let Ok(nest) = nest(rt.alloc(), &g) else {
-        return println!(rt; "  no nest");
-    };
-    if !nest.loops().is_empty() {
-        return println!(rt; "  loops");
+    if both && check_section(g, costs, bounds, loads, section) != answer {
+        return println!(rt; "  the two checks differ");
     }
-    let costs = vec![in rt.alloc(); 1; nodes as usize]?;
-    match longest(rt.alloc(), &g, &nest, &costs, &[], &[]) {
-        Ok(Some(solved)) => {
-            let value = solved.value();
-            println!(rt; "  value {value}")
-        }
-        _ => println!(rt; "  no walk"),
-    }
+    show_answer(rt, answer)
 }

@@ -1,15 +1,8 @@
-//! The greatest walk, and all walks from node 0 that keep the bounds of loops, made one after another.
-ghost use Rattle.std.specs.Prelude.{◌≡◌, ◌<◌, length, vec_len};
-ghost use Rattle.loop_nest.specs.Nest.{IsNest};
-ghost use Rattle.loop_nest.specs.Reduction.{IsReducible};
+//! All walks from node 0 that keep the bounds of loops, made one after another.
 
 use crate::question::Problem;
 use loop_nest::loops::Nest;
-use loop_nest::nest;
-use path_solver::solved::SolveFault;
-use path_solver::{check_section, greatest, longest};
 use std::alloc::{AllocError, Global};
-use std::io;
 
 /// How many walks are made at most.
 const MOST_WALKS: u32 = 100_000;
@@ -32,21 +25,22 @@ struct Walk {
     iterations_left: Vec<Option<u32>>,
 }
 
-/// The loops of a problem with their bounds and loads.
+/// Loops with their bounds and loads.
 fn bounded_loops<'a>(
     alloc: Global,
-    problem: &Problem,
     nest: &'a Nest,
+    bounds: &[u32],
+    loads: &[u64],
 ) -> Result<Vec<BoundedLoop<'a>>, AllocError> {
     nest.loops()
         .iter()
-        .zip(&problem.bounds)
-        .zip(&problem.loads)
+        .zip(bounds)
+        .zip(loads)
         .map(|((l, bound), load)| BoundedLoop {
             header: l.header(),
             members: l.members(),
             bound: *bound,
-            load: load.unwrap_or(0),
+            load: *load,
         })
         .collect(alloc)
 }
@@ -100,7 +94,7 @@ impl Walk {
 
 /// What all walks to an exit come to.
 #[derive(Clone, Copy)]
-enum Greatest {
+pub enum Greatest {
     /// What the greatest costs.
     Value(u128),
     /// There is none.
@@ -109,10 +103,15 @@ enum Greatest {
     CutOff,
 }
 
-// What the greatest walk to an exit costs, found by making all walks.
-fn greatest_walk(alloc: Global, problem: &Problem, nest: &Nest) -> Result<Greatest, AllocError> {
+/// What the greatest walk to an exit costs, found by making all walks.
+pub fn greatest_walk(
+    alloc: Global,
+    problem: &Problem,
+    nest: &Nest,
+    loads: &[u64],
+) -> Result<Greatest, AllocError> {
     let (edges, exits) = (problem.graph.edges(), problem.graph.exits());
-    let loops = bounded_loops(alloc, problem, nest)?;
+    let loops = bounded_loops(alloc, nest, &problem.bounds, loads)?;
     let mut unfinished = Vec::new(alloc);
     unfinished.extend(Walk::new(alloc, &loops)?.onward(alloc, problem, &loops, 0)?)?;
     let mut greatest = None;
@@ -130,84 +129,4 @@ fn greatest_walk(alloc: Global, problem: &Problem, nest: &Nest) -> Result<Greate
         }
     }
     Ok(Greatest::CutOff)
-}
-
-// Prints the value of the greatest walk, and whether the section that shows it is accepted.
-fn show_solved(rt: &HostRuntime, problem: &Problem, nest: &Nest) -> io::Result<()>
-    requires nest { IsNest problem.now.graph nest.now }
-    requires reducible { IsReducible problem.now.graph }
-    requires costs { vec_len problem.now.costs ≡ problem.now.graph.nodes }
-    requires bounds { vec_len problem.now.bounds ≡ length nest.now }
-    requires loads { vec_len problem.now.loads ≡ length nest.now }
-{
-    let (g, costs, bounds) = (&problem.graph, &problem.costs, &problem.bounds);
-    let loads: Vec<u64> = problem
-        .loads
-        .iter()
-        .map(|load| load.unwrap_or(0))
-        .collect(rt.alloc())?;
-    match longest(rt.alloc(), g, nest, costs, bounds, &loads) {
-        Ok(Some(solved)) => {
-            let fitting: Vec<Option<u64>> = loads
-                .iter()
-                .map(|load| Some(*load))
-                .collect(rt.alloc())?;
-            let (value, section) = (solved.value(), solved.section());
-            let shown = check_section(g, costs, bounds, &fitting, section);
-            println!(rt; "  longest {value}, accepted {}", shown == Ok(Some(value)))
-        }
-        Ok(None) => println!(rt; "  longest none"),
-        Err(SolveFault::TooLarge) => println!(rt; "  longest too large"),
-        Err(SolveFault::NoMemory) => Err(io::Error::from(AllocError)),
-    }
-}
-
-// Prints the value of the greatest walk, whatever iterations cost, and whether they exceed 64 bits.
-fn show_greatest(rt: &HostRuntime, problem: &Problem, nest: &Nest) -> io::Result<()>
-    requires nest { IsNest problem.now.graph nest.now }
-    requires reducible { IsReducible problem.now.graph }
-    requires costs { vec_len problem.now.costs ≡ problem.now.graph.nodes }
-    requires bounds { vec_len problem.now.bounds ≡ length nest.now }
-    requires loads { vec_len problem.now.loads ≡ length nest.now }
-{
-    let (g, costs, bounds) = (&problem.graph, &problem.costs, &problem.bounds);
-    let loads: Vec<u64> = problem
-        .loads
-        .iter()
-        .map(|load| load.unwrap_or(0))
-        .collect(rt.alloc())?;
-    let Ok(found) = greatest(rt.alloc(), g, nest, costs, bounds, &loads) else {
-        return Err(io::Error::from(AllocError));
-    };
-    let Some(found) = found else {
-        return println!(rt; "  greatest none");
-    };
-    let iterations = if found.turns_exceed {
-        ", iterations exceed"
-    } else {
-        ""
-    };
-    match found.value {
-        Some(value) => println!(rt; "  greatest {value}{iterations}"),
-        None => println!(rt; "  greatest too large{iterations}"),
-    }
-}
-
-/// Prints the greatest walk as it is found in several ways.
-pub fn show_walks(rt: &HostRuntime, problem: &Problem) -> io::Result<()> {
-    let Ok(nest) = nest(rt.alloc(), &problem.graph) else {
-        return println!(rt; "  no nest");
-    };
-    let loops = nest.loops().len();
-    let are_costs = problem.costs.len() == problem.graph.nodes() as usize;
-    if !are_costs || problem.bounds.len() != loops || problem.loads.len() != loops {
-        return println!(rt; "  bad line");
-    }
-    show_solved(rt, problem, &nest)?;
-    show_greatest(rt, problem, &nest)?;
-    match greatest_walk(rt.alloc(), problem, &nest)? {
-        Greatest::Value(value) => println!(rt; "  walks {value}"),
-        Greatest::NoWalk => println!(rt; "  walks none"),
-        Greatest::CutOff => println!(rt; "  walks cut off"),
-    }
 }
