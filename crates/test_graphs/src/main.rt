@@ -3,29 +3,32 @@
 //! definitions.
 //!
 //! Each line of the input is a word and the fields of a graph, with a `|` between them: how many nodes
-//! there are; the edges, rising; the exits, rising; and for `longest`, `regions` and `check` the cost of
-//! each node, the bound of each loop and what an entry of each loop loads, `-` for a region that doesn't
-//! fit. `check` has a section, too: the listed nodes with their potentials, as `0:76`, and the loops with
-//! what an iteration costs and the members, as `1:7:1,2`. At last `regions` and `check` have for each loop
-//! `1` where it is a region, else `0`. In place of a graph, `chain` has how many nodes follow one another.
+//! there are; the edges, rising; the exits, rising; behind `nest`, `blocks` and `counts` (how many loops and
+//! blocks there are) that is all. Behind the other words there are the cost of each node, the bound of each
+//! loop and what an entry of each loop loads, `-` for a region that doesn't fit: `value` is the greatest
+//! walk's value alone, `longest` has its section, too, and `regions` the loops' kinds. `check` and `index`
+//! have a section: the listed nodes with their potentials, as `0:76`, and the loops with what an iteration
+//! costs and the members, as `1:7:1,2`. At last `regions`, `check` and `index` have for each loop `1` where
+//! it is a region, else `0`. In place of a graph, `chain` has how many nodes follow one another.
 //!
-//! The rows of `walks` have the fields of `longest`. What is found is the greatest walk from node 0 to an exit that keeps all
-//! bounds, whether its section is accepted; the greatest walk whatever iterations cost, and whether those of the loops that hold
-//! a node exceed 64 bits together; the greatest walk that may stop anywhere, where entries load nothing; and the greatest of all
-//! walks to an exit, made one after another. Their values were found by brute force from the definitions, with no code of this
-//! repository, by `tests/expected/walks.py`. So in
+//! The rows of `walks` have the fields of `longest`. What is found is the greatest walk from node 0 to an exit
+//! that keeps all bounds, and whether its section is accepted; the greatest walk whatever iterations cost, and
+//! whether those of the loops that hold a node exceed 64 bits together; and the greatest of all walks to an
+//! exit, made one after another. Their values were found by brute force from the definitions, with no code of
+//! this repository, by `tests/expected/walks.py`. So in
 //!
 //!     walks | 4 | 0-1 1-2 1-3 2-1 | 3 | 2 3 4 1 | 10 | 100
 //!
 //! the nodes 1 and 2 are a loop. The greatest walk enters it once, with the load 100, makes ten iterations and leaves it for the
 //! exit: 2 + 100 + 10 * (3 + 4) + 3 + 1 = 176.
 //!
-//! Each row of `check` goes through both checks, with an index of the section's loops and without. Where they
-//! differ, that is printed.
+//! A section behind `check` goes through both checks, with an index of the section's loops and without, and where they
+//! differ, that is printed; behind `index` it goes through the first alone. `bench/graphs.py` gives rows of large graphs.
 //!
 //! The later rows of `check` are random sections with faults of every kind. What they and the rows of
 //! `regions` must print was found by a program of its own, from the definitions, with no code of this
-//! repository.
+//! repository. The last five rows are three groups of eight nodes with a loop in a loop, whose greatest walk makes
+//! 28 steps in each group, and four interleaved loops, at last with two that cross.
 #![tactic(auto)]
 
 mod found;
