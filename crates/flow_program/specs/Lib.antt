@@ -1,0 +1,5 @@
+pub mod Invokes
+pub mod Made
+pub mod Receivers
+pub mod Targets
+pub mod Names

@@ -1,0 +1,128 @@
+//! The lists of what invokes may run (JVM Specification SE 8, 6.5.invokevirtual and 6.5.invokeinterface).
+ghost use Rattle.std.specs.Prelude.{◌≡◌, ◌↔◌, ℕ, ◌<◌, [], ◌∷◌, length, map, Contains, IfOk};
+ghost use Rattle.std.specs.List.{filter_map, range_with_len};
+ghost use Rattle.std.specs.List.Sorted.{IsStrictlyIncreasing};
+ghost use Rattle.bytecode_model.specs.Lists.{onto};
+ghost use Rattle.bytecode_typing.specs.Lawful.{Lawful};
+ghost use Rattle.program_tables.specs.Numbers.{methods_by_number, method_number};
+ghost use Rattle.program_tables.specs.Resolved.{resolved};
+ghost use Rattle.flow_program.specs.Receivers.{lists_of, AreBelow};
+ghost use Rattle.flow_program.specs.Targets.{IsVirtual, IsSelectedList, AreReceivers, AreSelected, AreTargets};
+
+use crate::receivers::receivers_of;
+use class_hierarchy::Place;
+use items::Items;
+use jop_base::NoMemory;
+use program_tables::laws::{members_are_there, methods_stand_by_number};
+use resolved_program::Program;
+use std::alloc::Global;
+
+/// A list for each method with code, that has it alone.
+fn alone(alloc: Global, coded: u32) -> Result<Vec<Items<u32>>, NoMemory>
+    ensures { IfOk result (λ lists. lists.items ≡ map (λ t. t ∷ []) (range_with_len 0 coded)) }
+{
+    let mut lists = Vec::new(alloc);
+    for method in 0..coded {
+        let list = Vec::from_slice(alloc, &[method])?;
+        lists.push(Items::new(list))?;
+    }
+    Ok(lists)
+}
+
+/// The numbers of those of these methods that are there.
+fn numbers_of(
+    alloc: Global,
+    program: &Program,
+    places: &[Option<Place>],
+) -> Result<Vec<u32>, NoMemory>
+    ensures { IfOk result (λ numbers. numbers.items ≡ filter_map (λ p. onto p (method_number program.now)) places.now) }
+{
+    let mut numbers = Vec::new(alloc);
+    for place in places {
+        if let Some(number) = place.and_then(|place| program.method_number(place)) {
+            numbers.push(number)?;
+        }
+    }
+    Ok(numbers)
+}
+
+/// The numbers, each once, rising.
+fn rising(mut numbers: Vec<u32>) -> Vec<u32>
+    ensures rising { IsStrictlyIncreasing result.items }
+    ensures same { (n : ℕ) → Contains result.items n ↔ Contains numbers.items n }
+{
+    numbers.sort_unstable();
+    numbers.dedup();
+    numbers
+}
+
+/// The methods that are selected for a method and these receivers, which are the classes of objects of its class, rising.
+fn selected_among(
+    alloc: Global,
+    program: &Program,
+    receivers: &[u32],
+    method: u32,
+) -> Result<Items<u32>, NoMemory>
+    requires lawful { Lawful (resolved program.now) }
+    requires method { method < length (methods_by_number program.now) }
+    requires virtual { IsVirtual (resolved program.now) method }
+    requires receivers { AreReceivers program.now method receivers.now }
+    ensures { IfOk result (IsSelectedList (resolved program.now) method) }
+{
+    methods_stand_by_number();
+    let places = program
+        .hierarchy()
+        .select_each(alloc, receivers, program.method(method))?;
+    let numbers = numbers_of(alloc, program, &places)?;
+    Ok(Items::new(rising(numbers)))
+}
+
+/// The methods that are selected for a method, rising; none where it is no instance method or an instance initialization method.
+fn selected_list(
+    alloc: Global,
+    program: &Program,
+    below: &[Vec<u32>],
+    method: u32,
+) -> Result<Items<u32>, NoMemory>
+    requires lawful { Lawful (resolved program.now) }
+    requires method { method < length (methods_by_number program.now) }
+    requires below { AreBelow program.now (length program.now) (lists_of below.now) }
+    ensures { IfOk result (IsSelectedList (resolved program.now) method) }
+{
+    methods_stand_by_number();
+    members_are_there();
+    let shape = program.shape(method);
+    if !shape.has_this || shape.is_init {
+        return Ok(Items::new(Vec::new(alloc)));
+    }
+    let owner = program.method(method).class;
+    selected_among(alloc, program, &below[owner as usize], method)
+}
+
+/// For each method those that are selected for it.
+fn selected_lists(alloc: Global, program: &Program) -> Result<Vec<Items<u32>>, NoMemory>
+    requires { Lawful (resolved program.now) }
+    ensures { IfOk result (λ lists. AreSelected (resolved program.now) (length (methods_by_number program.now)) lists.items) }
+{
+    let below = receivers_of(alloc, program.hierarchy())?;
+    let mut lists = Vec::new(alloc);
+    for method in 0..program.method_count() {
+        lists.push(selected_list(alloc, program, &below, method)?)?;
+    }
+    Ok(lists)
+}
+
+/// Each method with code alone, then for each method those that are selected for it. `coded` methods have code.
+pub(crate) fn target_lists(
+    alloc: Global,
+    program: &Program,
+    coded: u32,
+) -> Result<Vec<Items<u32>>, NoMemory>
+    requires { Lawful (resolved program.now) }
+    ensures { IfOk result (λ lists. AreTargets program.now coded lists.items) }
+{
+    let mut lists = alone(alloc, coded)?;
+    let mut selected = selected_lists(alloc, program)?;
+    lists.append(&mut selected)?;
+    Ok(lists)
+}
