@@ -94,14 +94,20 @@ not_call r h = refl
 
 -- ---- at a place of a method
 
+abbrev with_place : ℕ → Row → Option (ℕ × Row)
+with_place n r = Some (n, r)
+
+abbrev of_pair : ℕ × Row → Option Invoked
+of_pair x = invoked_by x.1
+
 module _ (law : CallsAreInvokes) (P : Program) (m p : ℕ) where
   abbrev operand : Operand
   operand = P.operand m p
 
   row_here : (b : Body) (i : Instr) (r : Row) → body_of P m ≡ Some b → instr_at P m p ≡ Some i → row_of b.code i operand ≡ Some r → row_in P m p ≡ Some (p + i.length, r)
   row_here b i r eb ei er =
-      ap (λ o. onto o (λ b. onto (instr_at P m p) (λ i. onto (row_of b.code i operand) (λ r. Some (p + i.length, r))))) eb
-      ∙ (ap (λ o. onto o (λ i. onto (row_of b.code i operand) (λ r. Some (p + i.length, r)))) ei ∙ ap (λ o. onto o (λ r. Some (p + i.length, r))) er)
+      ap (λ o. onto o (λ b. onto (instr_at P m p) (λ i. onto (row_of b.code i operand) (with_place (p + i.length))))) eb
+      ∙ (ap (λ o. onto o (λ i. onto (row_of b.code i operand) (with_place (p + i.length)))) ei ∙ ap (λ o. onto o (with_place (p + i.length))) er)
 
   others : (b : Body) (i : Instr) → body_of P m ≡ Some b → instr_at P m p ≡ Some i → IsOther i.op → (s : Option Row) → row_of b.code i operand ≡ s → onto s invoked_by ≡ None
   others b i eb ei other None er = refl
@@ -145,23 +151,23 @@ module _ (law : CallsAreInvokes) (P : Program) (m p : ℕ) where
           ]
       ]
 
-  rows_onto : (n : ℕ) (s : Option Row) → onto (onto s (λ r. Some (n, r))) (λ x. invoked_by x.1) ≡ onto s invoked_by
+  rows_onto : (n : ℕ) (s : Option Row) → onto (onto s (with_place n)) of_pair ≡ onto s invoked_by
   rows_onto n None = refl
   rows_onto n (Some r) = refl
 
   by_instr : (b : Body) → body_of P m ≡ Some b → (o : Option Instr) → instr_at P m p ≡ o → onto o (λ i. invoked_as i.op operand) ≡ invoked_at P m p
   by_instr b eb None ei =
-      sym (ap (λ o. onto (onto o (λ b. onto (instr_at P m p) (λ i. onto (row_of b.code i operand) (λ r. Some (p + i.length, r))))) (λ x. invoked_by x.1)) eb
-      ∙ ap (λ o. onto (onto o (λ i. onto (row_of b.code i operand) (λ r. Some (p + i.length, r)))) (λ x. invoked_by x.1)) ei)
+      sym (ap (λ o. onto (onto o (λ b. onto (instr_at P m p) (λ i. onto (row_of b.code i operand) (with_place (p + i.length))))) of_pair) eb
+      ∙ ap (λ o. onto (onto o (λ i. onto (row_of b.code i operand) (with_place (p + i.length)))) of_pair) ei)
   by_instr b eb (Some i) ei =
-      sym (ap (λ o. onto (onto o (λ b. onto (instr_at P m p) (λ i. onto (row_of b.code i operand) (λ r. Some (p + i.length, r))))) (λ x. invoked_by x.1)) eb
-      ∙ (ap (λ o. onto (onto o (λ i. onto (row_of b.code i operand) (λ r. Some (p + i.length, r)))) (λ x. invoked_by x.1)) ei
+      sym (ap (λ o. onto (onto o (λ b. onto (instr_at P m p) (λ i. onto (row_of b.code i operand) (with_place (p + i.length))))) of_pair) eb
+      ∙ (ap (λ o. onto (onto o (λ i. onto (row_of b.code i operand) (with_place (p + i.length)))) of_pair) ei
       ∙ (rows_onto (p + i.length) (row_of b.code i operand) ∙ by_opcode b i eb ei)))
 
   by_body : (o : Option Body) → body_of P m ≡ o → onto (instr_at P m p) (λ i. invoked_as i.op operand) ≡ invoked_at P m p
   by_body None eb =
       ap (λ o. onto (onto o (λ b. as_instr (decoded b.code p))) (λ i. invoked_as i.op operand)) eb
-      ∙ sym (ap (λ o. onto (onto o (λ b. onto (instr_at P m p) (λ i. onto (row_of b.code i operand) (λ r. Some (p + i.length, r))))) (λ x. invoked_by x.1)) eb)
+      ∙ sym (ap (λ o. onto (onto o (λ b. onto (instr_at P m p) (λ i. onto (row_of b.code i operand) (with_place (p + i.length))))) of_pair) eb)
   by_body (Some b) eb = by_instr b eb (instr_at P m p) refl
 
   pub invoked_same : onto (instr_at P m p) (λ i. invoked_as i.op operand) ≡ invoked_at P m p

@@ -1,2 +1,6 @@
+pub mod Listing
 pub mod Receiving
 pub mod Invoking
+pub mod Coding
+pub mod Bounds
+pub mod Codes
