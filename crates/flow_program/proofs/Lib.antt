@@ -4,3 +4,5 @@ pub mod Invoking
 pub mod Coding
 pub mod Bounds
 pub mod Codes
+pub mod Selecting
+pub mod Flowing

@@ -1,5 +1,5 @@
 -- What lists contain that are made of others.
-use Rattle.std.proofs.Common.{◌≡◌, ◌⊎◌, ℕ, zero, suc, ◌+◌, ◌<◌, ◌≤◌, Bool, true, false, cond, List, [], ◌∷◌, ◌++◌, length, get_or, take, Contains, Option, Some, None, refl, sym, ap, ◌∙◌, subst, inl, inr, arith, append-nil}
+use Rattle.std.proofs.Common.{◌≡◌, ◌⊎◌, ℕ, zero, suc, ◌+◌, ◌<◌, ◌≤◌, Bool, true, false, cond, List, [], ◌∷◌, ◌++◌, map, length, get_or, take, Contains, Option, Some, None, refl, sym, ap, ◌∙◌, subst, inl, inr, arith, append-nil}
 use Rattle.std.specs.Prelude.{slice_get}
 use Rattle.std.specs.List.{filter, filter_map, cons_option, range_with_len}
 use Rattle.std.proofs.lemmas.Bool.{false≢true}
@@ -52,6 +52,14 @@ filter_map_in {X = X} {Y = Y} f (z ∷ xs) x y c e =
     elim (cons_cases z x xs c) [
       | inl same ↦ subst (λ (o : Option Y). Contains (cons_option o (filter_map f xs)) y) (sym (ap f same ∙ e)) (at_head y (filter_map f xs))
       | inr there ↦ option_in (f z) (filter_map f xs) y (filter_map_in f xs x y there e)
+    ]
+
+pub map_found : {X Y : Type 0} (f : X → Y) (xs : List X) (y : Y) → Contains (map f xs) y → (x : X) × Contains xs x × (f x ≡ y)
+map_found f [] y c = absurd (nil_contains y c)
+map_found f (x ∷ xs) y c =
+    elim (cons_cases (f x) y (map f xs) c) [
+      | inl same ↦ (x, at_head x xs, same)
+      | inr there ↦ let found = map_found f xs y there in (found.0, in_tail x found.0 xs found.1, found.2)
     ]
 
 -- ---- what passes a test
