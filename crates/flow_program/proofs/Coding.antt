@@ -1,7 +1,7 @@
 -- The methods with code: they have the first numbers, and are those of the program that have a body.
-use Rattle.std.proofs.Common.{◌≡◌, ℕ, zero, suc, ◌-◌, ◌<◌, ◌≤◌, Bool, true, false, not, List, [], ◌∷◌, ◌++◌, map, length, Option, Some, None, refl, sym, ◌∙◌, ap, ◌+◌, arith, ⊎_elim}
+use Rattle.std.proofs.Common.{◌≡◌, Bor, ℕ, zero, suc, ◌-◌, ◌<◌, ◌≤◌, Bool, true, false, not, List, [], ◌∷◌, ◌++◌, map, length, Option, Some, None, refl, sym, ◌∙◌, ap, ◌+◌, arith, ⊎_elim}
 use Rattle.std.specs.Prelude.{slice_get, is_some}
-use Rattle.std.specs.Option.{option_map, option_map_or}
+use Rattle.std.specs.Option.{option_copied, option_map, option_map_or}
 use Rattle.std.specs.List.{filter}
 use Rattle.std.proofs.lemmas.Bool.{cases_lt, false≢true}
 use Rattle.std.proofs.lemmas.Option.{slice_get_past}
@@ -138,6 +138,14 @@ one_coded stand cs n k h is m lt =
 pub there_is : {A : Type 0} (o : Option A) → is_some o ≡ true → (x : A) × (o ≡ Some x)
 there_is None h = absurd (false≢true h)
 there_is (Some x) h = (x, refl)
+
+pub copied_none : {T : Type 0} (o : Option (Bor T)) → is_some o ≡ false → option_copied o ≡ None
+copied_none None h = refl
+copied_none (Some x) h = absurd (false≢true (sym h))
+
+pub copied_some : {T : Type 0} (o : Option (Bor T)) → is_some o ≡ true → (x : T) × (option_copied o ≡ Some x)
+copied_some None h = absurd (false≢true h)
+copied_some (Some x) h = (x.now, refl)
 
 -- where no method is left that has code
 pub just_coded : MethodsStandByNumber → (cs : List ClassFile) (n : ℕ) → AllCoded cs n → code_at cs n ≡ None → (m : ℕ) → ((is_some (body_of (resolved cs) m) ≡ true) → m < n) × (m < n → is_some (body_of (resolved cs) m) ≡ true)

@@ -24,7 +24,7 @@ pub(crate) enum Invoked {
 }
 
 /// What an instruction with this opcode invokes, which names this.
-fn invoked(op: u8, operand: Operand) -> Option<Invoked>
+fn invoked_as(op: u8, operand: Operand) -> Option<Invoked>
     ensures { result ≡ invoked_as op (operand_seen operand) }
 {
     match operand {
@@ -48,7 +48,7 @@ fn invoked_at(program: &Program, method: u32, place: u32) -> Option<Invoked>
 {
     calls_are_invokes();
     let x = program.instruction(method, place)?;
-    invoked(x.instr.op, x.operand)
+    invoked_as(x.instr.op, x.operand)
 }
 
 /// An invoke, with the number of the list of what it may run.

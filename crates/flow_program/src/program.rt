@@ -51,5 +51,10 @@ pub fn flow_of(alloc: Global, p: &Program) -> Result<FlowProgram, NoMemory>
 pub fn find_method(f: &FlowProgram, name: &[u8]) -> Option<u32>
     ensures { IsFirstNamed f.now name.now result }
 {
-    (0..f.method_count()).find(|number| f.method(*number).name() == name)
+    for number in 0..f.method_count() {
+        if f.method(number).name() == name {
+            return Some(number);
+        }
+    }
+    None
 }

@@ -29,6 +29,16 @@ fn alone(alloc: Global, coded: u32) -> Result<Vec<Items<u32>>, NoMemory>
     Ok(lists)
 }
 
+/// The number of a method, if there is one.
+fn number_of(program: &Program, place: Option<Place>) -> Option<u32>
+    ensures { result ≡ onto place (method_number program.now) }
+{
+    match place {
+        Some(place) => program.method_number(place),
+        None => None,
+    }
+}
+
 /// The numbers of those of these methods that are there.
 fn numbers_of(
     alloc: Global,
@@ -39,7 +49,7 @@ fn numbers_of(
 {
     let mut numbers = Vec::new(alloc);
     for place in places {
-        if let Some(number) = place.and_then(|place| program.method_number(place)) {
+        if let Some(number) = number_of(program, *place) {
             numbers.push(number)?;
         }
     }
@@ -65,7 +75,7 @@ fn selected_among(
 ) -> Result<Items<u32>, NoMemory>
     requires lawful { Lawful (resolved program.now) }
     requires method { method < length (methods_by_number program.now) }
-    requires virtual { IsVirtual (resolved program.now) method }
+    requires is_virtual { IsVirtual (resolved program.now) method }
     requires receivers { AreReceivers program.now method receivers.now }
     ensures { IfOk result (IsSelectedList (resolved program.now) method) }
 {
