@@ -6,3 +6,4 @@ pub mod Bounds
 pub mod Codes
 pub mod Selecting
 pub mod Flowing
+pub mod Making

@@ -7,9 +7,9 @@ use Rattle.std.specs.List.Sorted.{IsStrictlyIncreasing}
 use Rattle.std.proofs.lemmas.Bool.{ne_eqb, false≢true}
 use Rattle.std.proofs.lemmas.Option.{slice_get_within, slice_get-map}
 use Rattle.lists.specs.Lists.{onto}
-use Rattle.lists.specs.Lemmas.{none≢some, some_same, onto_some, map_some, some_is, holds_at}
+use Rattle.lists.specs.Lemmas.{none≢some, some_same, onto_some, map_some, some_is, some_in, holds_at}
 use Rattle.lists.specs.Members.{map_contains, nil_contains}
-use Rattle.lists.specs.Tests.{and_left, and_right}
+use Rattle.lists.specs.Tests.{and_left, and_right, not_true}
 use Rattle.class_pool.specs.declared.class.ClassFile.{ClassFile}
 use Rattle.class_pool.specs.declared.class.Member.{Member}
 use Rattle.class_lookup.specs.Hierarchy.{is_concrete, extends}
@@ -144,20 +144,15 @@ none_selected P m never = record {
   selected = λ virtual. absurd (never virtual);
 }
 
--- of the shape of a method
-pub static_none : (P : Program) (m : ℕ) (s : MethodShape) → IsSomeAnd (slice_get P.methods m) (HasShape s) → s.has_this ≡ false → IsVirtual P m → ⊥
-static_none P m s shape static virtual =
+-- whether a method of this shape is such a one
+pub virtual_by : (P : Program) (m : ℕ) (s : MethodShape) → IsSomeAnd (slice_get P.methods m) (HasShape s) → (s.has_this && not s.is_init) ≡ true → IsVirtual P m
+virtual_by P m s shape test =
+    let k = some_is (slice_get P.methods m) (HasShape s) shape in
+    some_in (slice_get P.methods m) k.0 (λ (k : Method). (k.has_this ≡ true) × (k.is_init ≡ false)) k.1
+    (k.2.has_this ∙ and_left s.has_this (not s.is_init) test, k.2.is_init ∙ not_true s.is_init (and_right s.has_this (not s.is_init) test))
+
+pub none_by : (P : Program) (m : ℕ) (s : MethodShape) → IsSomeAnd (slice_get P.methods m) (HasShape s) → (s.has_this && not s.is_init) ≡ false → IsVirtual P m → ⊥
+none_by P m s shape test virtual =
     let k = some_is (slice_get P.methods m) (HasShape s) shape in
     let v = holds_at (slice_get P.methods m) k.0 (λ (k : Method). (k.has_this ≡ true) × (k.is_init ≡ false)) k.1 virtual in
-    false≢true (sym static ∙ sym k.2.has_this ∙ v.0)
-
-pub init_none : (P : Program) (m : ℕ) (s : MethodShape) → IsSomeAnd (slice_get P.methods m) (HasShape s) → s.is_init ≡ true → IsVirtual P m → ⊥
-init_none P m s shape init virtual =
-    let k = some_is (slice_get P.methods m) (HasShape s) shape in
-    let v = holds_at (slice_get P.methods m) k.0 (λ (k : Method). (k.has_this ≡ true) × (k.is_init ≡ false)) k.1 virtual in
-    false≢true (sym v.1 ∙ k.2.is_init ∙ init)
-
-pub is_virtual : (P : Program) (m : ℕ) (s : MethodShape) → IsSomeAnd (slice_get P.methods m) (HasShape s) → s.has_this ≡ true → s.is_init ≡ false → IsVirtual P m
-is_virtual P m s shape this other =
-    let k = some_is (slice_get P.methods m) (HasShape s) shape in
-    subst (λ (o : Option Method). IsSomeAnd o (λ k. (k.has_this ≡ true) × (k.is_init ≡ false))) (sym k.1) (k.2.has_this ∙ this, k.2.is_init ∙ other)
+    false≢true (sym test ∙ (ap (λ (b : Bool). b && not s.is_init) (sym k.2.has_this ∙ v.0) ∙ ap not (sym k.2.is_init ∙ v.1)))

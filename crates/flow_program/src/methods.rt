@@ -1,12 +1,10 @@
 //! The methods of the table.
-ghost use Rattle.std.specs.Prelude.{◌≡◌, ◌<◌, ◌≤◌, [], length, map, Some, IfOk};
+ghost use Rattle.std.specs.Prelude.{◌≡◌, [], map, IfOk};
+ghost use Rattle.bytecode_typing.specs.Lawful.{Lawful};
 ghost use Rattle.well_placed.specs.WellPlaced.{WellPlaced};
-ghost use Rattle.class_pool.specs.Found.{code_of};
-ghost use Rattle.method_flow.specs.Flow.{IsCoded};
-ghost use Rattle.program_tables.specs.Numbers.{methods_by_number, method_text};
+ghost use Rattle.program_tables.specs.Numbers.{method_text};
 ghost use Rattle.program_tables.specs.Resolved.{at_method, resolved};
 ghost use Rattle.flow_program.specs.Made.{range_at, AreCoded, HasCode, IsMade, AreMade};
-ghost use Rattle.flow_program.specs.Invokes.{calls_in};
 
 use crate::invokes::calls_of;
 use class_pool::Code;
@@ -49,6 +47,7 @@ fn method_with(
     ranges: Vec<HandlerRange>,
 ) -> Result<FlowMethod, NoMemory>
     requires placed { WellPlaced (resolved program.now) }
+    requires lawful { Lawful (resolved program.now) }
     requires coded { AreCoded program.now coded }
     requires code { HasCode program.now number code.now }
     requires name { name.items ≡ at_method program.now number [] (method_text program.now) }
@@ -76,6 +75,7 @@ fn method_of(
     coded: u32,
 ) -> Result<FlowMethod, NoMemory>
     requires placed { WellPlaced (resolved program.now) }
+    requires lawful { Lawful (resolved program.now) }
     requires coded { AreCoded program.now coded }
     requires code { HasCode program.now number code.now }
     ensures { IfOk result (IsMade program.now coded number) }
@@ -92,6 +92,7 @@ pub(crate) fn methods_of(
     coded: u32,
 ) -> Result<Vec<FlowMethod>, NoMemory>
     requires placed { WellPlaced (resolved program.now) }
+    requires lawful { Lawful (resolved program.now) }
     requires coded { AreCoded program.now coded }
     ensures { IfOk result (λ methods. AreMade program.now coded coded methods.items) }
 {

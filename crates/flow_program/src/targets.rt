@@ -1,5 +1,5 @@
 //! The lists of what invokes may run (JVM Specification SE 8, 6.5.invokevirtual and 6.5.invokeinterface).
-ghost use Rattle.std.specs.Prelude.{◌≡◌, ◌↔◌, ℕ, ◌<◌, [], ◌∷◌, length, map, Contains, IfOk};
+ghost use Rattle.std.specs.Prelude.{◌≡◌, ◌↔◌, ℕ, ◌<◌, ◌&&◌, not, [], ◌∷◌, length, map, Contains, IfOk};
 ghost use Rattle.std.specs.List.{filter_map, range_with_len};
 ghost use Rattle.std.specs.List.Sorted.{IsStrictlyIncreasing};
 ghost use Rattle.bytecode_model.specs.Lists.{onto};
@@ -13,6 +13,7 @@ use crate::receivers::receivers_of;
 use class_hierarchy::Place;
 use items::Items;
 use jop_base::NoMemory;
+use program_tables::MethodShape;
 use program_tables::laws::{members_are_there, methods_stand_by_number};
 use resolved_program::Program;
 use std::alloc::Global;
@@ -87,6 +88,13 @@ fn selected_among(
     Ok(Items::new(rising(numbers)))
 }
 
+/// Whether it is an instance method and no instance initialization method.
+fn is_virtual(shape: &MethodShape) -> bool
+    ensures { result ≡ (shape.now.has_this && not shape.now.is_init) }
+{
+    shape.has_this && !shape.is_init
+}
+
 /// The methods that are selected for a method, rising; none where it is no instance method or an instance initialization method.
 fn selected_list(
     alloc: Global,
@@ -101,12 +109,12 @@ fn selected_list(
 {
     methods_stand_by_number();
     members_are_there();
-    let shape = program.shape(method);
-    if !shape.has_this || shape.is_init {
-        return Ok(Items::new(Vec::new(alloc)));
+    if is_virtual(program.shape(method)) {
+        let owner = program.method(method).class;
+        selected_among(alloc, program, &below[owner as usize], method)
+    } else {
+        Ok(Items::new(Vec::new(alloc)))
     }
-    let owner = program.method(method).class;
-    selected_among(alloc, program, &below[owner as usize], method)
 }
 
 /// For each method those that are selected for it.
