@@ -28,7 +28,7 @@ use Rattle.flow_program.specs.declared.invokes.Invoked.TheVariants.{Fixed, Resol
 use Rattle.flow_program.specs.Invokes.{invoked_by, invoked_at, list_number, call_of, call_at, calls_in}
 use Rattle.flow_program.specs.Made.{AreCoded, IsMade, AreMade}
 use Rattle.flow_program.specs.Targets.{IsVirtual, IsSelectedList, AreTargets}
-use Rattle.flow_program.proofs.Listing.{filter_map_found, get_contained}
+use Rattle.flow_program.proofs.Listing.{filter_map_found}
 use Rattle.flow_program.proofs.Receiving.{single}
 use Rattle.flow_program.proofs.Selecting.{coded_by}
 

@@ -14,19 +14,6 @@ use Rattle.lists.specs.Members.{at_head, in_tail, cons_cases, nil_contains}
 pub contains_get : {X : Type 0} (xs : List X) (k : ℕ) (x : X) → slice_get xs k ≡ Some x → Contains xs x
 contains_get xs k x h = (k, slice_get_within xs k x h, get_or_from_slice_get xs k x x h)
 
-pub get_contained : {X : Type 0} (xs : List X) (x : X) → Contains xs x → (k : ℕ) × (slice_get xs k ≡ Some x)
-get_contained xs x c = (c.0, slice_get-get_or xs c.0 x c.1 ∙ ap Some c.2)
-
-pub range_get : (a n c : ℕ) → c < n → slice_get (range_with_len a n) c ≡ Some (a + c)
-range_get a zero c lt = absurd (omega (arith, lt))
-range_get a (suc n) zero lt = let same : a ≡ a + 0 = omega arith in ap Some same
-range_get a (suc n) (suc c) lt = let same : a + 1 + c ≡ a + suc c = omega arith in range_get (a + 1) n c (omega (arith, lt)) ∙ ap Some same
-
-pub get_front : {X : Type 0} (xs ys : List X) (k : ℕ) (x : X) → slice_get xs k ≡ Some x → slice_get (xs ++ ys) k ≡ Some x
-get_front [] ys k x h = absurd (none≢some x h)
-get_front (y ∷ xs) ys zero x h = h
-get_front (y ∷ xs) ys (suc k) x h = get_front xs ys k x h
-
 -- ---- what a partial function gives of the items
 
 found_case : {X Y : Type 0} (f : X → Option Y) (x : X) (xs : List X) (y : Y) (o : Option Y) → f x ≡ o → (Contains (filter_map f xs) y → (z : X) × Contains xs z × (f z ≡ Some y)) → Contains (cons_option o (filter_map f xs)) y

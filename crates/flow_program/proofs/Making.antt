@@ -10,14 +10,14 @@ use Rattle.std.proofs.lemmas.List.FromFn.{length-map-range_with_len, get_or-map-
 use Rattle.std.proofs.lemmas.Option.{slice_get_within, slice_get-get_or, get_or_from_slice_get}
 use Rattle.jop_opcodes.specs.Start.{IsStart, AreStarts}
 use Rattle.lists.specs.Lists.{onto}
-use Rattle.lists.specs.Lemmas.{none≢some, some_same, some_is, some_in, holds_at}
+use Rattle.lists.specs.Lemmas.{none≢some, some_same, onto_some, some_is, some_in, holds_at}
 use Rattle.lists.specs.Members.{at_head}
 use Rattle.class_pool.specs.declared.class.ClassFile.{ClassFile}
 use Rattle.class_pool.specs.declared.class.Code.{Code}
 use Rattle.class_pool.specs.declared.class.Member.{Member}
 use Rattle.class_rules.specs.Found.{MethodsHaveCode}
 use Rattle.class_lookup.specs.Lookup.{Place}
-use Rattle.bytecode_model.specs.Program.{Program, Body, body_of}
+use Rattle.bytecode_model.specs.Program.{Program, Method, Body, body_of}
 use Rattle.bytecode_typing.specs.Lawful.{Lawful}
 use Rattle.well_placed.specs.Laws.{ControlStays}
 use Rattle.well_placed.specs.WellPlaced.{WellPlaced}
@@ -27,7 +27,7 @@ use Rattle.method_flow.specs.Flow.{Coded, IsCoded, range_of}
 use Rattle.method_flow.specs.Kinds.{RowsAreOfTheirKinds}
 use Rattle.program_tables.specs.Laws.{MethodsStandByNumber, MembersAreThere}
 use Rattle.program_tables.specs.Numbers.{methods_by_number, method_text}
-use Rattle.program_tables.specs.Resolved.{at_method, resolved}
+use Rattle.program_tables.specs.Resolved.{at_method, resolved_method, resolved_methods, resolved}
 use Rattle.program_tables.specs.Resolving.{IsResolved}
 use Rattle.flow_program.specs.declared.invokes.Invoked.{Invoked}
 use Rattle.flow_program.specs.Invokes.{invoked_at, list_number, calls_in}
@@ -74,6 +74,12 @@ module _ (stand : MethodsStandByNumber) (cs : List ClassFile) (coded m : ℕ) (k
       let b = body_of_code stand cs m k is in
       each_if (invoked_at P m p) (λ i. list_number coded i < 2 ^ 32)
       (λ i e. few_numbers stand cs w lawful coded are m b.body b.is_body p (subst (λ (xs : List ℕ). IsStart xs p) (same ∙ sym b.code) start) i e)
+
+  pub few_bytes : MethodsHaveCode → IsResolved cs → (code : List ℕ) → code ≡ k.code → length code ≤ 33554432
+  few_bytes law resolved code same =
+      let bounds = code_bounds law cs resolved.grammar m k is in
+      let short : length code < 65536 = subst (λ (xs : List ℕ). length xs < 65536) (sym same) bounds.code in
+      omega arith
 
   module _ (name code : List ℕ) (ranges : List HandlerRange) (calls : List Call) (ec : code ≡ k.code) (er : ranges ≡ map range_at k.handlers) (el : calls ≡ calls_in P coded m code) where
     pub form : ControlStays → ((code : List ℕ) → AreStarts code) → RowsAreOfTheirKinds → MethodsHaveCode → IsResolved cs → WellPlaced P → IsCoded (record { name = name; code = code; ranges = ranges; calls = calls })
@@ -123,6 +129,13 @@ has_code stand cs coded m are lt none =
     let k = code_of_body stand cs m b.0 b.1 in
     none≢some k.0 (sym none ∙ k.1)
 
+pub coded_within : MethodsStandByNumber → (cs : List ClassFile) (coded m : ℕ) → AreCoded cs coded → m < coded → m < length (methods_by_number cs)
+coded_within stand cs coded m are lt =
+    let b = there_is (body_of (resolved cs) m) (are.all m lt) in
+    let k = onto_some (slice_get (resolved_methods cs) m) (λ (k : Method). k.body) b.0 b.1 in
+    let p = onto_some (slice_get (methods_by_number cs) m) (resolved_method cs) k.0 (sym (stand cs m) ∙ k.1) in
+    slice_get_within (methods_by_number cs) m p.0 p.1
+
 -- ---- the lists
 
 pub none_selected_yet : (P : Program) → AreSelected P 0 []
@@ -145,8 +158,8 @@ selected_more P n ls ms ts are is e = subst (λ (xs : List (List ℕ)). AreSelec
 pub are_targets : (cs : List ClassFile) (coded count : ℕ) (xs ys zs : List (List ℕ)) → xs ≡ map (λ t. t ∷ []) (range_with_len 0 coded) → count ≡ length (methods_by_number cs) → AreSelected (resolved cs) count ys → zs ≡ xs ++ ys
     → AreTargets cs coded zs
 are_targets cs coded count xs ys zs alone many are e = subst (λ (ls : List (List ℕ)). AreTargets cs coded ls) (sym e) (record {
-  long = length-append xs ys ∙ (let size = are.long in omega arith);
-  alone = λ t lt. get_left xs ys t [] (omega arith) ∙ (ap (λ (ls : List (List ℕ)). get_or ls t []) alone ∙ get_or-map-range_with_len (λ (t : ℕ). t ∷ []) 0 coded t t [] lt (omega arith));
+  long = length-append xs ys ∙ (let size = are.long in let first = long in omega arith);
+  alone = λ t lt. get_left xs ys t [] (let first = long in omega arith) ∙ (ap (λ (ls : List (List ℕ)). get_or ls t []) alone ∙ get_or-map-range_with_len (λ (t : ℕ). t ∷ []) 0 coded t t [] lt (omega arith));
   selected = λ m lt. subst (λ (ts : List ℕ). IsSelectedList (resolved cs) m ts) (sym (ap (λ (j : ℕ). get_or (xs ++ ys) (j + m) []) (sym long) ∙ get_right xs ys m [])) (are.each m (omega arith));
 })
   where

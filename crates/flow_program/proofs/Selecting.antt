@@ -27,9 +27,10 @@ use Rattle.program_tables.specs.Meanings.{HasShape}
 use Rattle.program_tables.specs.Numbers.{methods_by_number, method_number, types_of}
 use Rattle.program_tables.specs.Resolved.{method_in, resolved_method, resolved_methods, resolved}
 use Rattle.program_tables.specs.declared.operand.MethodShape.{MethodShape}
+use Rattle.program_laws.proofs.Objects.{class_type, concrete_within}
 use Rattle.flow_program.specs.Receivers.{IsReceiver}
 use Rattle.flow_program.specs.Targets.{IsVirtual, IsSelectedList}
-use Rattle.flow_program.proofs.Listing.{contains_get, range_get, get_front, filter_map_found, filter_map_in, map_found}
+use Rattle.flow_program.proofs.Listing.{contains_get, filter_map_found, filter_map_in, map_found}
 
 -- ---- methods with code
 
@@ -40,24 +41,9 @@ coded_by P n k at there =
 
 -- ---- classes
 
--- each class is among the types
-class_type : (cs : List ClassFile) (c : ℕ) → c < length cs → slice_get (types_of cs) (8 + c) ≡ Some (OfClass c)
-unfolding types_of
-class_type cs c lt =
-    let classes = map OfClass (range_with_len 0 (length cs)) in
-    let same : 8 + c ≡ suc (suc (suc (suc (suc (suc (suc (suc c))))))) = omega arith in
-    let at = slice_get-map OfClass (range_with_len 0 (length cs)) c ∙ (ap (option_map OfClass) (range_get 0 (length cs) c lt) ∙ (let none : 0 + c ≡ c = omega arith in ap (λ k. Some (OfClass k)) none)) in
-    ap (slice_get (types_of cs)) same ∙ get_front classes _ c (OfClass c) at
-
+-- each class is among the classes
 class_in : (cs : List ClassFile) (c : ℕ) → c < length cs → Contains (classes_of (resolved cs)) c
 class_in cs c lt = filter_map_in class_of (types_of cs) (OfClass c) c (contains_get (types_of cs) (8 + c) (OfClass c) (class_type cs c lt)) refl
-
-concrete_within : (cs : List ClassFile) (c : ℕ) → is_concrete cs c ≡ true → c < length cs
-concrete_within cs c h = by (slice_get cs c) refl h
-  where
-    by : (o : Option ClassFile) → slice_get cs c ≡ o → option_map_or (λ (k : ClassFile). not (is_abstract_class k)) o false ≡ true → c < length cs
-    by None e h = absurd (false≢true h)
-    by (Some k) e h = slice_get_within cs c k e
 
 -- ---- what is selected
 

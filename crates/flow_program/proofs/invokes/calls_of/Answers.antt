@@ -10,15 +10,15 @@ use Rattle.flow_program.proofs.invokes.calls_of.Goals.{in-Some+in_ok-push, in_de
 
 pub call_at-requires-clause-few : goal.call_at-requires-clause-few
 call_at-requires-clause-few c =
-    let xs = c.in_ok-starts.starts.items in
+    let xs = c.deref-place-items.result.now in
     let i = c.loop-place.place-index in
     let x = get_or xs i 0 in
-    c.requires.few x (subst (λ (ys : List ℕ). Contains ys x) c.in_ok-starts.ensures (contains_at xs i x c.loop-place-test.true refl))
+    c.requires.few x (subst (λ (ys : List ℕ). Contains ys x) (c.deref-place-items.ensures.value ∙ c.in_ok-starts.ensures) (contains_at xs i x c.loop-place-test.true refl))
 
 pub loop-place-preserved : goal.loop-place-preserved
 loop-place-preserved c =
     let f = call_at (resolved c.args.program.now) c.args.coded c.args.method in
-    let xs = c.in_ok-starts.starts.items in
+    let xs = c.deref-place-items.result.now in
     let i = c.loop-place.place-index in
     let x = get_or xs i 0 in
     let ys = c.loop-place.calls.items in
@@ -33,5 +33,5 @@ loop-place-preserved c =
 pub returns : goal.returns
 returns c =
     let f = call_at (resolved c.args.program.now) c.args.coded c.args.method in
-    let xs = c.in_ok-starts.starts.items in
-    c.loop-place.invariant ∙ ap (λ (ys : List ℕ). filter_map f ys) (take_all c.loop-place.place-index xs c.loop-place-test.false ∙ c.in_ok-starts.ensures)
+    let xs = c.deref-place-items.result.now in
+    c.loop-place.invariant ∙ ap (λ (ys : List ℕ). filter_map f ys) (take_all c.loop-place.place-index xs c.loop-place-test.false ∙ (c.deref-place-items.ensures.value ∙ c.in_ok-starts.ensures))

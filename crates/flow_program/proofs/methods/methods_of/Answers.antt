@@ -2,12 +2,15 @@ use Rattle.std.proofs.Common.{◌≡◌, ℕ, ◌+◌, List, sym, ap, ◌∙◌,
 use Rattle.std.specs.Option.{option_copied}
 use Rattle.method_flow.specs.Flow.{Coded}
 use Rattle.flow_program.specs.Made.{AreMade}
-use Rattle.flow_program.proofs.Making.{none_made, made_more, has_code}
+use Rattle.flow_program.proofs.Making.{none_made, made_more, has_code, coded_within}
 use Rattle.flow_program.proofs.methods.methods_of.Goals as goal
 
 pub loop-number-init : goal.loop-number-init
 loop-number-init c =
     subst (λ (ks : List Coded). AreMade c.args.program.now c.args.coded 0 ks) (sym c.new-methods.ensures.items) (none_made c.args.program.now c.args.coded)
+
+pub code-requires : goal.code-requires
+code-requires c = coded_within c.methods_stand_by_number.ensures c.args.program.now c.args.coded c.loop-number.number c.requires.coded c.loop-number-test.true
 
 pub method_of-requires-clause-code : goal.method_of-requires-clause-code
 method_of-requires-clause-code c = sym c.code.ensures.code ∙ ap option_copied c.in-Some.is
