@@ -180,8 +180,7 @@ module _ (stand : MethodsStandByNumber) (cs : List ClassFile) (w : WellPlaced (r
         (λ h. subst (λ (xs : List ℕ). Contains xs t) same h, λ h. subst (λ (xs : List ℕ). Contains xs t) (sym same) h)
     target_is m c (Resolved n) ts number runs t =
         let list = targets.selected n (method_within stand cs n runs.0) in
-        let at : targets_of_call f c ≡ get_or f.targets (coded + n) [] = ap (λ (k : ℕ). get_or f.targets k []) number in
-        (
+        let at : targets_of_call f c ≡ get_or f.targets (coded + n) [] = ap (λ (k : ℕ). get_or f.targets k []) number in (
           λ h. subst (λ (xs : List ℕ). Contains xs t) (sym runs.1) ((list.selected runs.0 t).0 (subst (λ (xs : List ℕ). Contains xs t) at h)),
           λ h. subst (λ (xs : List ℕ). Contains xs t) (sym at) ((list.selected runs.0 t).1 (subst (λ (xs : List ℕ). Contains xs t) runs.1 h)),
         )

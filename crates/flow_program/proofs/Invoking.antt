@@ -120,16 +120,16 @@ module _ (law : CallsAreInvokes) (P : Program) (m p : ℕ) where
           let from = is.from in
           let to = is.to in
           absurd (
-            elim (cases_eq i.op 182) [
-              | inl h ↦ other.virtual h
-              | inr n2 ↦ elim (cases_eq i.op 183) [
-                  | inl h ↦ other.special h
-                  | inr n3 ↦ elim (cases_eq i.op 184) [
-                      | inl h ↦ other.static h
-                      | inr n4 ↦ other.interface (omega arith)
-                    ]
-                ]
+          elim (cases_eq i.op 182) [
+            | inl h ↦ other.virtual h
+            | inr n2 ↦ elim (cases_eq i.op 183) [
+              | inl h ↦ other.special h
+              | inr n3 ↦ elim (cases_eq i.op 184) [
+                | inl h ↦ other.static h
+                | inr n4 ↦ other.interface (omega arith)
+              ]
             ]
+          ]
           )
 
   by_opcode : (b : Body) (i : Instr) → body_of P m ≡ Some b → instr_at P m p ≡ Some i → onto (row_of b.code i operand) invoked_by ≡ invoked_as i.op operand
@@ -138,17 +138,17 @@ module _ (law : CallsAreInvokes) (P : Program) (m p : ℕ) where
       elim (cases_eq i.op 182) [
         | inl h ↦ subst K (sym h) (virtual b.code i operand)
         | inr n2 ↦ elim (cases_eq i.op 183) [
-            | inl h ↦ subst K (sym h) (special b.code i operand)
-            | inr n3 ↦ elim (cases_eq i.op 184) [
-                | inl h ↦ subst K (sym h) (static b.code i operand)
-                | inr n4 ↦ elim (cases_eq i.op 185) [
-                    | inl h ↦ subst K (sym h) (interface b.code i operand)
-                    | inr n5 ↦
-                        let other : IsOther i.op = record { virtual = n2; special = n3; static = n4; interface = n5 } in
-                        others b i eb ei other (row_of b.code i operand) refl ∙ sym (other_as i.op operand other)
-                  ]
-              ]
+          | inl h ↦ subst K (sym h) (special b.code i operand)
+          | inr n3 ↦ elim (cases_eq i.op 184) [
+            | inl h ↦ subst K (sym h) (static b.code i operand)
+            | inr n4 ↦ elim (cases_eq i.op 185) [
+              | inl h ↦ subst K (sym h) (interface b.code i operand)
+              | inr n5 ↦
+                  let other : IsOther i.op = record { virtual = n2; special = n3; static = n4; interface = n5 } in
+                  others b i eb ei other (row_of b.code i operand) refl ∙ sym (other_as i.op operand other)
+            ]
           ]
+        ]
       ]
 
   rows_onto : (n : ℕ) (s : Option Row) → onto (onto s (with_place n)) of_pair ≡ onto s invoked_by

@@ -99,7 +99,7 @@ put_within class u us old ls ms h inside is = record {
         | inr new ↦ inr (new.0, Contains-append_left us (u ∷ []) d new.1)
       ],
       λ x. subst (λ (xs : List ℕ). Contains xs c) (sym (at_other d other))
-      ((h.each d c lt).1 (elim x [ inl before ↦ inl before | inr new ↦ inr (new.0, earlier d other (Contains-append_cases us (u ∷ []) d new.1)) ])),
+          ((h.each d c lt).1 (elim x [ inl before ↦ inl before | inr new ↦ inr (new.0, earlier d other (Contains-append_cases us (u ∷ []) d new.1)) ])),
     )
 
 pub put_one : (class u : ℕ) (us : List ℕ) (old : List (List ℕ)) (vs ws : List (Vec ℕ Global)) (v w : Vec ℕ Global) → IsPut class us old (lists_of vs) → u < length vs → w ≡ get_or vs u w

@@ -19,10 +19,7 @@ use std::alloc::Global;
 use well_placed::control_stays_at_instructions;
 
 /// The entries of an exception table, what they catch apart.
-fn ranges_of(
-    alloc: Global,
-    entries: &[(u16, u16, u16, u16)],
-) -> Result<Vec<HandlerRange>, NoMemory>
+fn ranges_of(alloc: Global, entries: &[(u16, u16, u16, u16)]) -> Result<Vec<HandlerRange>, NoMemory>
     ensures { IfOk result (λ ranges. ranges.items ≡ map range_at entries.now) }
 {
     let mut ranges = Vec::new(alloc);

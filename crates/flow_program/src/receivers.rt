@@ -42,10 +42,7 @@ fn put_below(below: &mut Vec<Vec<u32>>, uppers: &[u32], class: u32) -> Result<()
 }
 
 /// For each class the classes of which there are instances that are it or have it as a superclass or a superinterface, rising.
-pub(crate) fn receivers_of(
-    alloc: Global,
-    hierarchy: &Hierarchy,
-) -> Result<Vec<Vec<u32>>, NoMemory>
+pub(crate) fn receivers_of(alloc: Global, hierarchy: &Hierarchy) -> Result<Vec<Vec<u32>>, NoMemory>
     ensures { IfOk result (λ below. AreBelow hierarchy.now (length hierarchy.now) (lists_of below.items)) }
 {
     let classes = hierarchy.classes();

@@ -18,8 +18,7 @@ returns-clause-same c n =
     let sorted = c.sort_unstable.new.self.items in
     let old = c.args.numbers.items in
     let is = dedup_is eqb sorted c.dedup.new.self.items c.dedup.ensures.filtered in
-    let moved = c.sort_unstable.ensures.permutation in
-    (
+    let moved = c.sort_unstable.ensures.permutation in (
       λ h. Contains-permutation sorted old n (IsPermutation-sym old sorted moved) (Contains-from_dedup eqb sorted n (subst (λ (xs : List ℕ). Contains xs n) is h)),
       λ h. subst (λ (xs : List ℕ). Contains xs n) (sym is) (Contains-dedup_nat sorted n (Contains-permutation old sorted n moved h)),
     )
