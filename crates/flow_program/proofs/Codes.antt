@@ -1,10 +1,10 @@
 -- The methods of a well placed program are of the form of the table.
-use Rattle.std.proofs.Common.{◌≡◌, ◌⊎◌, ◌↔◌, ℕ, zero, suc, ◌+◌, ◌<◌, ◌≤◌, Bool, true, false, cond, List, [], ◌∷◌, map, length, get_or, Contains, Option, Some, None, Result, Ok, Err, refl, sym, ap, ◌∙◌, subst, inl, inr, arith}
+use Rattle.std.proofs.Common.{◌≡◌, ◌⊎◌, ◌↔◌, ℕ, zero, suc, ◌+◌, ◌<◌, ◌≤◌, Bool, true, cond, List, [], ◌∷◌, map, length, Contains, Option, Some, None, Result, Ok, Err, refl, sym, ap, ◌∙◌, subst, inl, inr, arith}
 use Rattle.std.specs.Prelude.{All, is_some}
 use Rattle.std.specs.Option.{option_map}
 use Rattle.std.specs.List.{AllByRecursion, filter, filter_map, cons_option}
 use Rattle.std.specs.List.Sorted.{IsStrictlyIncreasing}
-use Rattle.std.proofs.lemmas.Bool.{cases_Bool, false≢true}
+use Rattle.std.proofs.lemmas.Bool.{false≢true}
 use Rattle.std.proofs.lemmas.List.Kept.{IsStrictlyIncreasing-filter}
 use Rattle.jop_opcodes.specs.declared.instruction.Instr.{Instr}
 use Rattle.jop_opcodes.specs.declared.instruction.Case.{Case}
@@ -13,11 +13,10 @@ use Rattle.jop_opcodes.specs.declared.table.Kind.TheVariants.{Invoke}
 use Rattle.jop_opcodes.specs.Instruction.{decoded}
 use Rattle.jop_opcodes.specs.Row as opcodes
 use Rattle.jop_opcodes.specs.Start.{starts_of, IsStart, AreStarts}
-use Rattle.jop_opcodes.specs.Target as operands
 use Rattle.lists.specs.Lists.{onto}
 use Rattle.lists.specs.Lemmas.{none≢some, some_same, holds_at}
 use Rattle.lists.specs.Members.{at_head, in_tail, map_contains}
-use Rattle.bytecode_model.specs.Program.{Program, Body, Handler, as_instr, body_of, instr_at}
+use Rattle.bytecode_model.specs.Program.{Program, Body, Handler, as_instr, body_of}
 use Rattle.bytecode_model.specs.Rows as rows
 use Rattle.bytecode_model.specs.Rows.{Row}
 use Rattle.bytecode_model.specs.Steps.{row_in}
@@ -26,8 +25,8 @@ use Rattle.well_placed.specs.Laws.{MayGoTo, ControlStays}
 use Rattle.well_placed.specs.WellPlaced.{IsWellPlacedAt, IsWellPlacedHandler, WellPlaced}
 use Rattle.method_flow.specs.declared.flow.HandlerRange.{HandlerRange}
 use Rattle.method_flow.specs.declared.flow.Call.{Call}
-use Rattle.method_flow.specs.Flow.{Coded, StaysInCode, IsRangeOf, IsInvokeStart, places_of, IsCoded, range_of}
-use Rattle.method_flow.specs.Kinds.{LeadsByKind, RowsAreOfTheirKinds}
+use Rattle.method_flow.specs.Flow.{StaysInCode, IsRangeOf, IsInvokeStart, places_of, IsCoded, range_of}
+use Rattle.method_flow.specs.Kinds.{RowsAreOfTheirKinds}
 use Rattle.method_flow.specs.Nodes.{LeadsTo}
 use Rattle.flow_program.specs.declared.invokes.Invoked.{Invoked}
 use Rattle.flow_program.specs.Invokes.{invoked_by, invoked_at, call_of, call_at, calls_in}

@@ -6,18 +6,18 @@ use Rattle.std.specs.List.{filter}
 use Rattle.std.proofs.lemmas.Bool.{cases_lt, false≢true}
 use Rattle.std.proofs.lemmas.Option.{slice_get_past}
 use Rattle.lists.specs.Lists.{onto}
-use Rattle.lists.specs.Lemmas.{none≢some, some_same, onto_some, map_some}
+use Rattle.lists.specs.Lemmas.{none≢some, onto_some, map_some}
 use Rattle.class_pool.specs.declared.class.ClassFile.{ClassFile}
 use Rattle.class_pool.specs.declared.class.Code.{Code}
 use Rattle.class_pool.specs.declared.class.Member.{Member}
 use Rattle.class_pool.specs.Found.{code_of}
 use Rattle.class_lookup.specs.Lookup.{Place, method_at}
-use Rattle.bytecode_model.specs.Program.{Method, Body, Handler, body_of}
+use Rattle.bytecode_model.specs.Program.{Method, Body, body_of}
 use Rattle.method_flow.specs.Flow.{range_of}
 use Rattle.program_tables.specs.Laws.{MethodsStandByNumber}
 use Rattle.program_tables.specs.Numbers.{places_of, is_coded, methods_by_number}
 use Rattle.program_tables.specs.Resolved.{body_in, handler_of, method_in, resolved_method, resolved_methods, resolved}
-use Rattle.flow_program.specs.Made.{range_at, HasCode}
+use Rattle.flow_program.specs.Made.{range_at}
 use Rattle.flow_program.proofs.Listing.{contains_get, filter_found}
 
 abbrev pub code_at : List ClassFile → ℕ → Option Code

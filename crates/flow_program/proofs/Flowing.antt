@@ -1,35 +1,32 @@
 -- The methods and the lists are the table of the program.
-use Rattle.std.proofs.Common.{◌≡◌, ◌↔◌, ◌⊎◌, ℕ, zero, suc, ◌+◌, ◌-◌, ◌<◌, ◌≤◌, ◌^◌, Bool, true, false, List, [], ◌∷◌, map, length, get_or, Contains, Option, Some, None, refl, sym, ap, ◌∙◌, subst, inl, inr, arith}
-use Rattle.std.specs.Prelude.{slice_get, is_some, IsSome, IsSomeAnd, All}
-use Rattle.std.specs.Option.{option_map, option_map_or}
-use Rattle.std.specs.List.{filter_map}
+use Rattle.std.proofs.Common.{◌≡◌, ◌↔◌, ◌⊎◌, ℕ, zero, suc, ◌+◌, ◌-◌, ◌<◌, ◌≤◌, ◌^◌, true, false, List, [], ◌∷◌, map, length, get_or, Contains, Option, Some, None, refl, sym, ap, ◌∙◌, subst, inl, inr, arith}
+use Rattle.std.specs.Prelude.{slice_get, is_some, IsSomeAnd, All}
+use Rattle.std.specs.Option.{option_map_or}
 use Rattle.std.specs.List.Sorted.{IsStrictlyIncreasing}
-use Rattle.std.proofs.lemmas.Bool.{cases_lt, false≢true}
+use Rattle.std.proofs.lemmas.Bool.{cases_lt}
 use Rattle.std.proofs.lemmas.Option.{slice_get_within, slice_get-get_or, get_or_from_slice_get}
 use Rattle.jop_opcodes.specs.Start.{starts_of, IsStart}
 use Rattle.lists.specs.Lists.{onto}
-use Rattle.lists.specs.Lemmas.{none≢some, some_same, onto_some, map_some, some_is, some_in, holds_at, if_at}
-use Rattle.lists.specs.Members.{nil_contains}
+use Rattle.lists.specs.Lemmas.{none≢some, some_same, onto_some, map_some, some_is, some_in, if_at}
 use Rattle.class_pool.specs.declared.class.ClassFile.{ClassFile}
 use Rattle.bytecode_model.specs.Program.{Program, Method, Body, body_of}
 use Rattle.bytecode_model.specs.Rows as rows
 use Rattle.bytecode_model.specs.Rows.{Row}
 use Rattle.bytecode_model.specs.Steps.{row_in}
 use Rattle.bytecode_typing.specs.Lawful.{Lawful, IsThere, IsStaticCall, IsSpecialCall, IsVirtualCall, IsInterfaceCall, IsResolvedRow}
-use Rattle.well_placed.specs.WellPlaced.{WellPlaced, IsWellPlacedAt}
+use Rattle.well_placed.specs.WellPlaced.{WellPlaced}
 use Rattle.method_flow.specs.declared.flow.Call.{Call}
-use Rattle.method_flow.specs.Calls.{selected_for, targets_of_row, targets_of, IsTarget}
+use Rattle.method_flow.specs.Calls.{selected_for, targets_of_row, targets_of}
 use Rattle.method_flow.specs.Flow.{Coded, Flow, targets_of_call, range_of, IsFlow, IsCodedOf, IsFlowOf}
 use Rattle.program_tables.specs.Laws.{MethodsStandByNumber}
 use Rattle.program_tables.specs.Numbers.{methods_by_number}
 use Rattle.program_tables.specs.Resolved.{resolved_method, resolved_methods, resolved}
 use Rattle.flow_program.specs.declared.invokes.Invoked.{Invoked}
 use Rattle.flow_program.specs.declared.invokes.Invoked.TheVariants.{Fixed, Resolved}
-use Rattle.flow_program.specs.Invokes.{invoked_by, invoked_at, list_number, call_of, call_at, calls_in}
-use Rattle.flow_program.specs.Made.{AreCoded, IsMade, AreMade}
+use Rattle.flow_program.specs.Invokes.{invoked_by, invoked_at, list_number, call_of, call_at}
+use Rattle.flow_program.specs.Made.{AreCoded, AreMade}
 use Rattle.flow_program.specs.Targets.{IsVirtual, IsSelectedList, AreTargets}
 use Rattle.flow_program.proofs.Listing.{filter_map_found}
-use Rattle.flow_program.proofs.Receiving.{single}
 use Rattle.flow_program.proofs.Selecting.{coded_by}
 
 -- ---- what an invoke may run

@@ -1,20 +1,15 @@
 -- The methods and the lists, one after another.
-use Rattle.std.proofs.Common.{◌≡◌, ◌↔◌, ◌⊎◌, ℕ, zero, suc, ◌+◌, ◌-◌, ◌<◌, ◌≤◌, ◌^◌, List, [], ◌∷◌, ◌++◌, map, length, get_or, Contains, Option, Some, None, Bor, refl, sym, ap, ◌∙◌, subst, inl, inr, arith, ⊎_elim, length-append}
-use Rattle.std.specs.Prelude.{slice_get, is_some, IfSome, IsSome, IsSomeAnd}
-use Rattle.std.specs.Option.{option_copied}
-use Rattle.std.specs.List.{range_with_len, filter_map}
-use Rattle.std.specs.List.Sorted.{IsStrictlyIncreasing}
+use Rattle.std.proofs.Common.{◌≡◌, ◌↔◌, ◌⊎◌, ℕ, zero, suc, ◌+◌, ◌-◌, ◌<◌, ◌≤◌, ◌^◌, List, [], ◌∷◌, ◌++◌, map, length, get_or, Contains, Option, Some, None, refl, sym, ap, ◌∙◌, subst, inl, inr, arith, length-append}
+use Rattle.std.specs.Prelude.{slice_get, IfSome, IsSome}
+use Rattle.std.specs.List.{range_with_len}
 use Rattle.std.proofs.lemmas.Bool.{cases_lt}
 use Rattle.std.proofs.lemmas.List.{length-map}
 use Rattle.std.proofs.lemmas.List.FromFn.{length-map-range_with_len, get_or-map-range_with_len}
 use Rattle.std.proofs.lemmas.Option.{slice_get_within, slice_get-get_or, get_or_from_slice_get}
 use Rattle.jop_opcodes.specs.Start.{IsStart, AreStarts}
-use Rattle.lists.specs.Lists.{onto}
 use Rattle.lists.specs.Lemmas.{none≢some, some_same, onto_some, some_is, some_in, holds_at}
-use Rattle.lists.specs.Members.{at_head}
 use Rattle.class_pool.specs.declared.class.ClassFile.{ClassFile}
 use Rattle.class_pool.specs.declared.class.Code.{Code}
-use Rattle.class_pool.specs.declared.class.Member.{Member}
 use Rattle.class_rules.specs.Found.{MethodsHaveCode}
 use Rattle.class_lookup.specs.Lookup.{Place}
 use Rattle.bytecode_model.specs.Program.{Program, Method, Body, body_of}
@@ -29,14 +24,13 @@ use Rattle.program_tables.specs.Laws.{MethodsStandByNumber, MembersAreThere}
 use Rattle.program_tables.specs.Numbers.{methods_by_number, method_text}
 use Rattle.program_tables.specs.Resolved.{at_method, resolved_method, resolved_methods, resolved}
 use Rattle.program_tables.specs.Resolving.{IsResolved}
-use Rattle.flow_program.specs.declared.invokes.Invoked.{Invoked}
 use Rattle.flow_program.specs.Invokes.{invoked_at, list_number, calls_in}
 use Rattle.flow_program.specs.Made.{range_at, HasCode, AreCoded, IsMade, AreMade}
-use Rattle.flow_program.specs.Receivers.{IsReceiver, lists_of, AreBelow}
+use Rattle.flow_program.specs.Receivers.{IsReceiver, AreBelow}
 use Rattle.flow_program.specs.Targets.{IsSelectedList, AreReceivers, AreSelected, AreTargets}
 use Rattle.flow_program.proofs.Bounds.{code_bounds}
 use Rattle.flow_program.proofs.Codes.{is_coded}
-use Rattle.flow_program.proofs.Coding.{AllCoded, code_at, body_of_code, code_of_body, there_is}
+use Rattle.flow_program.proofs.Coding.{code_at, body_of_code, code_of_body, there_is}
 use Rattle.flow_program.proofs.Flowing.{few_numbers}
 
 -- ---- lists that grow

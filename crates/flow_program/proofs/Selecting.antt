@@ -1,22 +1,19 @@
 -- What is selected for a method, over the classes below its own.
-use Rattle.std.proofs.Common.{◌≡◌, ◌↔◌, ℕ, suc, ◌+◌, ◌<◌, ◌≤◌, Bool, true, false, not, ◌&&◌, ◌||◌, eqb, List, [], map, length, Contains, Option, Some, None, refl, sym, ap, ap₂, ◌∙◌, subst, arith}
+use Rattle.std.proofs.Common.{◌≡◌, ◌↔◌, ℕ, ◌+◌, ◌<◌, Bool, true, false, not, ◌&&◌, ◌||◌, List, [], map, length, Contains, Option, Some, None, refl, sym, ap, ◌∙◌, subst, arith}
 use Rattle.std.specs.Prelude.{slice_get, is_some, IsSomeAnd, if◌then◌else◌}
 use Rattle.std.specs.Option.{option_map, option_map_or}
-use Rattle.std.specs.List.{filter_map, range_with_len}
+use Rattle.std.specs.List.{filter_map}
 use Rattle.std.specs.List.Sorted.{IsStrictlyIncreasing}
 use Rattle.std.proofs.lemmas.Bool.{ne_eqb, false≢true}
-use Rattle.std.proofs.lemmas.Option.{slice_get_within, slice_get-map}
 use Rattle.lists.specs.Lists.{onto}
-use Rattle.lists.specs.Lemmas.{none≢some, some_same, onto_some, map_some, some_is, some_in, holds_at}
+use Rattle.lists.specs.Lemmas.{none≢some, onto_some, map_some, some_is, some_in, holds_at}
 use Rattle.lists.specs.Members.{map_contains, nil_contains}
 use Rattle.lists.specs.Tests.{and_left, and_right, not_true}
 use Rattle.class_pool.specs.declared.class.ClassFile.{ClassFile}
-use Rattle.class_pool.specs.declared.class.Member.{Member}
 use Rattle.class_lookup.specs.Hierarchy.{is_concrete, extends}
 use Rattle.class_lookup.specs.Lookup.{Place, method_at}
-use Rattle.class_lookup.specs.Parts.{is_abstract_class}
 use Rattle.class_lookup.specs.Selection.{select}
-use Rattle.bytecode_model.specs.Types.{Kind, OfClass, OfNumbers}
+use Rattle.bytecode_model.specs.Types.{OfClass}
 use Rattle.bytecode_model.specs.Program.{Program, Method, Body, body_of}
 use Rattle.bytecode_model.specs.Steps.{class_of}
 use Rattle.bytecode_typing.specs.Lawful.{Lawful, IsThere, IsSelected}

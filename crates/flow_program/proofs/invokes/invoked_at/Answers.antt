@@ -1,4 +1,4 @@
-use Rattle.std.proofs.Common.{◌≡◌, Option, ap, ◌∙◌}
+use Rattle.std.proofs.Common.{Option, ap, ◌∙◌}
 use Rattle.jop_opcodes.specs.declared.instruction.Instr.{Instr}
 use Rattle.lists.specs.Lists.{onto}
 use Rattle.bytecode_model.specs.Program.{Operand}

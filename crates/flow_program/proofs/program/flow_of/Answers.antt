@@ -1,6 +1,6 @@
-use Rattle.std.proofs.Common.{◌≡◌, ℕ, List, Some, sym, ap, ◌∙◌, subst}
+use Rattle.std.proofs.Common.{◌≡◌, Some, sym, ap, ◌∙◌, subst}
 use Rattle.std.specs.Prelude.{slice_get}
-use Rattle.method_flow.specs.Flow.{Coded, Flow, IsFlowOf}
+use Rattle.method_flow.specs.Flow.{Flow, IsFlowOf}
 use Rattle.program_tables.specs.Resolved.{resolved}
 use Rattle.flow_program.proofs.Flowing.{is_flow, is_flow_of}
 use Rattle.flow_program.proofs.Making.{are_coded}

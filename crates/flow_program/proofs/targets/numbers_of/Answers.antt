@@ -1,4 +1,4 @@
-use Rattle.std.proofs.Common.{◌≡◌, ℕ, ◌+◌, ◌<◌, ◌≤◌, List, length, take_all, Option, sym, ap, ◌∙◌}
+use Rattle.std.proofs.Common.{ℕ, List, take_all, Option, sym, ap, ◌∙◌}
 use Rattle.std.specs.List.{filter_map}
 use Rattle.bytecode_model.specs.Lists.{onto}
 use Rattle.class_lookup.proofs.Numbering.{none_of}

@@ -1,5 +1,4 @@
-use Rattle.std.proofs.Common.{◌≡◌, ℕ, eqb, List, Contains, sym, subst}
-use Rattle.std.specs.List.{dedup}
+use Rattle.std.proofs.Common.{ℕ, eqb, List, Contains, sym, subst}
 use Rattle.std.specs.List.Sorted.{IsStrictlyIncreasing}
 use Rattle.std.proofs.lemmas.List.Filters.{dedup_is}
 use Rattle.std.proofs.lemmas.List.Kept.{Contains-dedup_nat, Contains-from_dedup}
