@@ -1,0 +1,90 @@
+-- Sections that meet their conditions one behind another, found by their values.
+use Rattle.std.proofs.Common.{◌≡◌, ◌⊎◌, ℕ, ◌+◌, nat_le, Bool, true, false, ◌==◌, List, [], ◌∷◌, ◌++◌, Option, Some, None, refl, sym, ap, ◌∙◌, subst, inl, inr, eqb-true}
+use Rattle.std.specs.Prelude.{if◌then◌else◌, ◌&&◌}
+use Rattle.lists.specs.Tests.{and_left, and_right, not_true}
+use Rattle.bytecode_model.specs.Program.{Program}
+use Rattle.method_flow.specs.Keeping.{BoundOf}
+use Rattle.method_flow.specs.declared.timing.Timing.{Timing}
+use Rattle.method_flow.specs.Regions.{load}
+use Rattle.bound_rules.specs.Fitting.{loads_of}
+use Rattle.bound_rules.specs.Told.{Valued, section_value, is_same, value_in, with_cycles, SaysFull, SaysCalled, most_cycles, within_limit}
+use Rattle.bound_rules.specs.Told.SaysFull.{fits, exceeds}
+use Rattle.bound_rules.specs.Sections.{MeetsSection}
+use Rattle.bound_rules.specs.Met.{AreMet, IsFound}
+use Rattle.bound_rules.specs.Met.AreMet.{nothing, one_more}
+use Rattle.bound_rules.specs.Laws.{AllAreMet, OneMoreMeets, SectionsAreFound}
+
+pub all_are_met : AllAreMet
+all_are_met P t bound_of earlier [] values met all = subst (λ (vs : List Valued). AreMet P t bound_of vs) (sym all) met
+all_are_met P t bound_of earlier (s ∷ ss) values met (value, meets, more) = all_are_met P t bound_of (earlier ++ section_value s value ∷ []) ss values (one_more met s value meets) more
+
+pub one_more_meets : OneMoreMeets
+one_more_meets P t bound_of earlier [] values s value all meets =
+    (value, subst (λ (vs : List Valued). MeetsSection P t bound_of vs s value) all meets, ap (λ (vs : List Valued). vs ++ section_value s value ∷ []) all)
+one_more_meets P t bound_of earlier (x ∷ ss) values s value (first, one, more) meets =
+    (first, one, one_more_meets P t bound_of (earlier ++ section_value x first ∷ []) ss values s value more meets)
+
+-- ---- by a value
+
+same_is : (a b : Bool) → is_same a b ≡ true → b ≡ a
+same_is true b e = e
+same_is false b e = not_true b e
+
+-- the value among entries with one more behind them is that among the entries, or that of the one
+found_behind : (inside : Bool) (m : ℕ) (vs : List Valued) (w : Valued) (x : Option ℕ) → value_in inside m (vs ++ w ∷ []) ≡ Some x
+    → (value_in inside m vs ≡ Some x) ⊎ ((w.method ≡ m) × (w.inside ≡ inside) × (w.value ≡ x))
+found_behind inside m [] w x e = by (is_same inside w.inside && w.method == m) refl e
+  where
+    by : (b : Bool) → (is_same inside w.inside && w.method == m) ≡ b → ◌≡◌ {A = Option (Option ℕ)} (if b then Some w.value else None) (Some x)
+        → (value_in inside m [] ≡ Some x) ⊎ ((w.method ≡ m) × (w.inside ≡ inside) × (w.value ≡ x))
+    by true is e' = inr (eqb-true w.method m (and_right (is_same inside w.inside) (w.method == m) is), same_is inside w.inside (and_left (is_same inside w.inside) (w.method == m) is), cc)
+    by false is e' = absurd (cc)
+found_behind inside m (v ∷ vs) w x e = by (is_same inside v.inside && v.method == m) e (found_behind inside m vs w x)
+  where
+    by : (b : Bool) → ◌≡◌ {A = Option (Option ℕ)} (if b then Some v.value else value_in inside m (vs ++ w ∷ [])) (Some x)
+        → (value_in inside m (vs ++ w ∷ []) ≡ Some x → (value_in inside m vs ≡ Some x) ⊎ ((w.method ≡ m) × (w.inside ≡ inside) × (w.value ≡ x)))
+        → (◌≡◌ {A = Option (Option ℕ)} (if b then Some v.value else value_in inside m vs) (Some x)) ⊎ ((w.method ≡ m) × (w.inside ≡ inside) × (w.value ≡ x))
+    by true e' further = inl e'
+    by false e' further = further e'
+
+pub find : {P : Program} {t : Timing} {bound_of : BoundOf} {earlier : List Valued} → AreMet P t bound_of earlier → (inside : Bool) (m : ℕ) (x : Option ℕ) → value_in inside m earlier ≡ Some x
+    → IsFound P t bound_of inside m x
+find nothing inside m x e = absurd (cc)
+find {P} {t} {bound_of} (one_more {earlier = vs} met s value meets) inside m x e =
+    elim (found_behind inside m vs (section_value s value) x e) [
+      | inl among ↦ find met inside m x among
+      | inr last ↦ record { earlier = vs; met = met; section = s; meets = subst (λ (y : Option ℕ). MeetsSection P t bound_of vs s y) last.2 meets; method = last.0; kind = last.1 }
+    ]
+
+pub sections_are_found : SectionsAreFound
+sections_are_found P t bound_of earlier met inside m value e = find met inside m value e
+
+-- ---- a target that is told to have no value
+
+none_raised : (more : ℕ) (o : Option (Option ℕ)) → with_cycles more o ≡ Some None → o ≡ Some None
+none_raised more None e = absurd (cc)
+none_raised more (Some None) e = refl
+none_raised more (Some (Some n)) e = absurd (cc)
+
+none_within : (own : ℕ) (o : Option (Option ℕ)) → within_limit own o ≡ Some None → o ≡ Some None
+none_within own None e = absurd (cc)
+none_within own (Some None) e = refl
+none_within own (Some (Some n)) e = by (nat_le (own + n) most_cycles) e
+  where
+    by : (b : Bool) → ◌≡◌ {A = Option (Option ℕ)} (if b then Some (Some n) else None) (Some None) → ◌≡◌ {A = Option (Option ℕ)} (Some (Some n)) (Some None)
+    by true e' = absurd (cc)
+    by false e' = absurd (cc)
+
+-- a section of the method has no value
+abbrev pub IsFoundWithout : Program → Timing → BoundOf → ℕ → Type 0
+IsFoundWithout P t bound_of m = (inside : Bool) × IsFound P t bound_of inside m None
+
+module _ (P : Program) (t : Timing) (bound_of : BoundOf) (earlier : List Valued) (met : AreMet P t bound_of earlier) where
+  full_none : (m : ℕ) (said : Option (Option ℕ)) → SaysFull P t earlier m said → said ≡ Some None → IsFoundWithout P t bound_of m
+  full_none m said (fits together is) none = (true, find met true m None (none_raised (loads_of together) (value_in true m earlier) (sym is ∙ none)))
+  full_none m said (exceeds alone is) none = (false, find met false m None (none_raised (load P t.read m) (value_in false m earlier) (sym is ∙ none)))
+
+  -- what is told so is that of a section without a value
+  pub told_none : (without_loads : Bool) (m x own : ℕ) (said : Option (Option ℕ)) → SaysCalled P t earlier without_loads m x said → within_limit own said ≡ Some None → IsFoundWithout P t bound_of x
+  told_none true m x own said says none = (true, find met true x None (sym says ∙ none_within own said none))
+  told_none false m x own said (full, says, is) none = full_none x full says (none_raised (load P t.read m) full (sym is ∙ none_within own said none))

@@ -1,0 +1,11 @@
+pub mod Costs
+pub mod Fitting
+pub mod Numbers
+pub mod Told
+pub mod Sections
+pub mod Conditions
+pub mod Refused
+pub mod Bounding
+pub mod Met
+pub mod Laws
+pub mod Examples
