@@ -1,0 +1,4 @@
+mod Digits
+mod Texts
+mod Reading
+mod Whole
