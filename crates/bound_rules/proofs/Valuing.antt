@@ -1,19 +1,24 @@
 -- The value of a method's live graph is told by the costs of its nodes.
-use Rattle.std.proofs.Common.{◌≡◌, ℕ, ◌≤◌, List, [], ◌∷◌, Contains, Option, Some, None, sum_by, slice_index, refl, sym, ap, ◌∙◌, inl, inr, arith}
+use Rattle.std.proofs.Common.{◌≡◌, ℕ, ◌+◌, ◌*◌, ◌≤◌, List, [], ◌∷◌, Contains, Option, Some, None, sum_by, slice_index, refl, sym, ap, ◌∙◌, inl, inr, arith}
 use Rattle.std.proofs.lemmas.List.Sums.{sum_by-cons}
 use Rattle.lists.specs.Members.{at_head, in_tail, cons_cases, nil_contains}
 use Rattle.loop_nest.specs.Digraph.{Digraph}
 use Rattle.loop_nest.specs.Walks.{Walk}
 use Rattle.loop_nest.specs.Walks.Walk.{stay, along}
-use Rattle.section_check.specs.Bounded.{BoundedLoop, cost_of_nodes, IsGreatest}
+use Rattle.loop_nest.specs.Nest.{NaturalLoop, headers_of, IsLoopOf}
+use Rattle.loop_nest.proofs.Elements.{from_filter}
+use Rattle.std.proofs.lemmas.List.Elements.{All-contains}
+use Rattle.section_check.specs.Bounded.{BoundedLoop, holds, cost_of_nodes, later_entries, cost_of_iteration, IsGreatest}
+use Rattle.path_solver.specs.Longest.{bounded_loops, around}
 use Rattle.bytecode_model.specs.Program.{Program}
 use Rattle.method_flow.specs.Nodes.{Node, At, RaiseAt, number_of, IsReached}
 use Rattle.method_flow.specs.Nodes.IsReached.{first, later}
 use Rattle.method_flow.specs.Live.{IsLiveEdge}
 use Rattle.method_flow.specs.Graphs.{IsLiveGraph}
 use Rattle.bound_rules.specs.Costs.{added_at}
-use Rattle.bound_rules.specs.Numbers.{IsValue}
-use Rattle.bound_rules.specs.Laws.{AgreeOnLive, CostsAreTold, ValuesAreTold}
+use Rattle.bound_rules.specs.Fitting.{header_bounds}
+use Rattle.bound_rules.specs.Numbers.{charged_loops, IsValue}
+use Rattle.bound_rules.specs.Laws.{AgreeOnLive, CostsAreTold, ValuesAreTold, IterationsAreTold}
 use Rattle.bound_rules.proofs.Owning.{same_own}
 
 pub costs_are_told : CostsAreTold
@@ -29,7 +34,7 @@ costs_are_told P t m adds others g costs costs' a b same u reached =
     by (RaiseAt p) here = refl
 
 -- sums of what is equal at each number
-same_sum : (f g : ℕ → ℕ) (xs : List ℕ) → ((x : ℕ) → Contains xs x → f x ≡ g x) → sum_by f xs ≡ sum_by g xs
+same_sum : {X : Type 0} (f g : X → ℕ) (xs : List X) → ((x : X) → Contains xs x → f x ≡ g x) → sum_by f xs ≡ sum_by g xs
 same_sum f g [] each = refl
 same_sum f g (x ∷ xs) each = let rest = same_sum f g xs (λ y has. each y (in_tail x y xs has)) in omega (arith, sum_by-cons f x xs, sum_by-cons g x xs, each x (at_head x xs), rest)
 
@@ -66,3 +71,34 @@ module _ (P : Program) (m : ℕ) (g : Digraph) (live : IsLiveGraph P m g) where
 
 pub values_are_told : ValuesAreTold
 values_are_told P m g costs others loops a b live agree x y = one_value P m g live costs others loops a b agree x y
+
+-- ---- iterations
+
+-- a loop with its bound is one of the nest
+in_nest : (ks : List NaturalLoop) (bounds fees : List ℕ) (l : BoundedLoop) → Contains (bounded_loops ks bounds fees) l → (k : NaturalLoop) × Contains ks k × (k.header ≡ l.header)
+in_nest [] bounds fees l has = absurd (nil_contains l has)
+in_nest (k ∷ ks) [] fees l has = absurd (nil_contains l has)
+in_nest (k ∷ ks) (b ∷ bs) [] l has = absurd (nil_contains l has)
+in_nest (k ∷ ks) (b ∷ bs) (f ∷ fs) l has =
+    elim (cons_cases (record { header = k.header; members = k.members; bound = b; load = f }) l (bounded_loops ks bs fs) has) [
+      | inl here ↦ (k, at_head k ks, ap (λ (x : BoundedLoop). x.header) here)
+      | inr there ↦ let r = in_nest ks bs fs l there in (r.0, in_tail k r.0 ks r.1, r.2)
+    ]
+
+pub iterations_are_told : IterationsAreTold
+iterations_are_told P bound_of m flow costs others fees agree x =
+    record { node = x.node; reaches = x.reaches; iteration = x.iteration; are = x.are; exceeds = (let large = x.exceeds in omega (arith, same, large)) }
+  where
+    same_one : (l : BoundedLoop) → Contains (around (charged_loops flow fees) x.node) l → cost_of_iteration costs (charged_loops flow fees) (x.iteration l) ≡ cost_of_iteration others (charged_loops flow fees) (x.iteration l)
+    same_one l has =
+        let among = (from_filter (λ (k : BoundedLoop). holds k.members x.node) (charged_loops flow fees) l has).0 in
+        let k = in_nest flow.nest (header_bounds bound_of m (headers_of flow.nest)) fees l among in
+        let loop = All-contains (IsLoopOf flow.graph) flow.nest k.0 flow.is_nest.loops k.1 in
+        let r = (flow.is_live.edges loop.header.0 k.0.header).0 loop.header.1.edge in
+        let nodes = same_walk_cost P m flow.graph flow.is_live costs others (charged_loops flow fees) agree (x.are l has).walk r.target (later r.reached r.edge) (sym k.2 ∙ r.numbered.1) in
+        ap (λ (n : ℕ). n + sum_by (λ (h : BoundedLoop). h.load * later_entries h.members (x.iteration l)) (charged_loops flow fees)) nodes
+
+    same : sum_by (λ l. cost_of_iteration costs (charged_loops flow fees) (x.iteration l)) (around (charged_loops flow fees) x.node) ≡ sum_by (λ l. cost_of_iteration others (charged_loops flow fees) (x.iteration l)) (around (charged_loops flow fees) x.node)
+    same =
+        same_sum (λ l. cost_of_iteration costs (charged_loops flow fees) (x.iteration l)) (λ l. cost_of_iteration others (charged_loops flow fees) (x.iteration l)) (around (charged_loops flow fees) x.node)
+        same_one

@@ -9,6 +9,7 @@ use Rattle.section_check.specs.Placing.{IsAt}
 use Rattle.section_check.specs.Laws.{loops_of}
 use Rattle.bound_cert.specs.declared.cert.CertSection.{CertSection}
 use Rattle.bound_cert.specs.Certificate.{Certificate}
+use Rattle.path_solver.specs.Longest.{IterationsExceed}
 use Rattle.bytecode_model.specs.Program.{Program, body_of}
 use Rattle.bytecode_typing.specs.Lawful.{Lawful}
 use Rattle.method_flow.specs.Nodes.{Node, At, number_of, IsEdge, IsReached}
@@ -101,6 +102,12 @@ abbrev pub ValuesAreTold : Type 0
 ValuesAreTold =
     (P : Program) (m : ℕ) (g : Digraph) (costs others : List ℕ) (loops : List BoundedLoop) (a b : Option ℕ) → IsLiveGraph P m g → AgreeOnLive P m costs others → IsValue g costs loops a → IsValue g others loops b
     → a ≡ b
+
+-- and so is whether iterations of its loops exceed 64 bits together
+abbrev pub IterationsAreTold : Type 0
+IterationsAreTold =
+    (P : Program) (bound_of : BoundOf) (m : ℕ) (flow : LiveNest P bound_of m) (costs others fees : List ℕ) → AgreeOnLive P m costs others → IterationsExceed flow.graph costs (charged_loops flow fees)
+    → IterationsExceed flow.graph others (charged_loops flow fees)
 
 -- where all that may run while a method does fits the cache together, it can't be that what runs while one does that it calls doesn't
 abbrev pub CalledFit : Type 0

@@ -1,7 +1,7 @@
 //! Laws of the definitions in `specs/`. The functions do nothing; a caller whose proof needs a law calls its function.
 
 ghost use Rattle.bound_rules.specs.Examples.{WorkedExamples};
-ghost use Rattle.bound_rules.specs.Laws.{AllAreMet, CalledFit, ChargedLoopsAreOne, ChargesAreOne, CostsAreTold, FaultsAreOne, GraphsAreOne, HeadersAreInstructions, HeadersHaveBounds, LiveEdgesStay, LiveGraphsAreOne, MethodsHaveCode, NoValueNoEnd, NumbersAreOne, OneMoreMeets, PrintedIsOne, PrintedIsTold, RefusedIsNotMet, SectionGraphsAreOne, SectionsAreFound, SectionsBoundWalks, ValuesAreTold};
+ghost use Rattle.bound_rules.specs.Laws.{AllAreMet, CalledFit, ChargedLoopsAreOne, ChargesAreOne, CostsAreTold, FaultsAreOne, GraphsAreOne, HeadersAreInstructions, HeadersHaveBounds, IterationsAreTold, LiveEdgesStay, LiveGraphsAreOne, MethodsHaveCode, NoValueNoEnd, NumbersAreOne, OneMoreMeets, PrintedIsOne, PrintedIsTold, RefusedIsNotMet, SectionGraphsAreOne, SectionsAreFound, SectionsBoundWalks, ValuesAreTold};
 
 /// The sections of a certificate that meets its conditions meet them one behind another.
 pub fn all_are_met()
@@ -61,11 +61,12 @@ pub fn charges_are_one()
     loop_nest::laws::dominance_is_antisymmetric();
 }
 
-/// The costs of the nodes that a run can come to are told by what is added at their places, and the value of the live graph by
-/// them.
+/// The costs of the nodes that a run can come to are told by what is added at their places, and by them the value of the live
+/// graph, and whether iterations of its loops exceed 64 bits together.
 pub fn values_are_told()
     ensures costs { CostsAreTold }
     ensures value { ValuesAreTold }
+    ensures iterations { IterationsAreTold }
 {}
 
 /// Where all that may run while a method does fits the cache together, so does what runs while one does that it calls.
