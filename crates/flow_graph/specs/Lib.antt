@@ -1,0 +1,9 @@
+pub mod Growing
+pub mod Where
+pub mod Naming
+pub mod Edges
+pub mod Raising
+pub mod Reach
+pub mod Numbering
+pub mod MethodGraphs
+pub mod Laws
