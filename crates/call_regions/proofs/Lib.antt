@@ -1,0 +1,10 @@
+mod Lists
+mod Joining
+mod Growing
+mod Exploring
+mod Placing
+mod Answering
+mod Sorting
+mod Ordering
+mod Stepping
+mod Visiting
