@@ -1,5 +1,5 @@
 -- The edges of a method's code are its edges in a program.
-use Rattle.std.proofs.Common.{◌≡◌, ℕ, ◌+◌, ◌*◌, ◌<◌, ◌≤◌, ◌⊎◌, Bool, true, false, List, length, map, Contains, Option, Some, None, refl, sym, ap, ◌∙◌, subst, inl, inr}
+use Rattle.std.proofs.Common.{◌≡◌, ℕ, ◌+◌, ◌*◌, ◌<◌, ◌≤◌, Bool, true, false, List, length, map, Contains, Option, Some, None, refl, sym, ap, ◌∙◌, subst}
 use Rattle.std.specs.Prelude.{Ok, IsSome, IsSomeAnd, slice_get}
 use Rattle.std.proofs.lemmas.List.Elements.{All-contains}
 use Rattle.jop_opcodes.specs.declared.instruction.Instr.{Instr}
@@ -22,7 +22,7 @@ use Rattle.method_flow.specs.declared.flow.Call.{Call}
 use Rattle.method_flow.specs.Flow.{Coded, IsCoded, IsCodedOf, IsRangeOf, range_of}
 use Rattle.method_flow.specs.Graphs.{IsGraphBy, IsGraphOf}
 use Rattle.method_flow.specs.Kinds.{LeadsByKind, IsOfKind, RowsAreOfTheirKinds}
-use Rattle.method_flow.specs.Nodes.{Node, At, RaiseAt, number_of, LeadsTo, IsEdge, IsExit, IsReturn, IsReached, IsHandled, OnRow, MayRaise}
+use Rattle.method_flow.specs.Nodes.{Node, At, RaiseAt, LeadsTo, IsEdge, IsExit, IsReturn, IsReached, IsHandled, OnRow, MayRaise}
 use Rattle.method_flow.specs.Nodes.IsReached.{first, later}
 use Rattle.flow_graph.specs.Edges.{Leads, RaisesAt, IsCaught, CodeEdge, CodeExit, IsCodeGraph, is_return, raises_in, returns_in}
 use Rattle.flow_graph.specs.Where.{IsEdgeWhere, GoesWhere}
@@ -37,11 +37,6 @@ same_instr code p a b ea eb = cc
 abbrev pub IsPlaced : Coded → Node → Type 0
 IsPlaced k (At p) = IsStart k.code p
 IsPlaced k (RaiseAt p) = RaisesAt k.code p
-
--- the place of a node is an instruction's
-pub start_of : (k : Coded) (s : Node) → IsPlaced k s → (p : ℕ) × IsStart k.code p × ((number_of s ≡ 2 * p) ⊎ (number_of s ≡ 2 * p + 1))
-start_of k (At p) h = (p, h, inl refl)
-start_of k (RaiseAt p) h = (p, h.start, inr refl)
 
 pub source_placed : (k : Coded) (goes : List Bool) (s t : Node) → CodeEdge k goes s t → IsPlaced k s
 source_placed k goes (At p) (At q) e = e.0.at.start
