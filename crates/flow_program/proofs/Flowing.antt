@@ -25,7 +25,7 @@ use Rattle.flow_program.specs.declared.invokes.Invoked.{Invoked}
 use Rattle.flow_program.specs.declared.invokes.Invoked.TheVariants.{Fixed, Resolved}
 use Rattle.flow_program.specs.Invokes.{invoked_by, invoked_at, list_number, call_of, call_at}
 use Rattle.flow_program.specs.Made.{AreCoded, AreMade}
-use Rattle.flow_program.specs.Targets.{IsVirtual, IsSelectedList, AreTargets}
+use Rattle.flow_program.specs.Targets.{IsNamed, IsVirtual, IsSelectedList, AreTargets}
 use Rattle.flow_program.proofs.Listing.{filter_map_found}
 use Rattle.flow_program.proofs.Selecting.{coded_by}
 
@@ -86,7 +86,7 @@ module _ (stand : MethodsStandByNumber) (cs : List ClassFile) (w : WellPlaced (r
       let few = are.few in
       omega arith
 
-  module _ (f : Flow) (made : AreMade cs coded coded f.methods) (targets : AreTargets cs coded f.targets) (boot : f.boot ≡ P.boot) where
+  module _ (ks : List Coded) (made : AreMade cs coded coded ks) where
     -- what stands behind a call of a method
     record IsCallOf (m : ℕ) (c : Call) : Type 0 where
       body : Body
@@ -96,7 +96,7 @@ module _ (stand : MethodsStandByNumber) (cs : List ClassFile) (w : WellPlaced (r
       is : invoked_at P m c.place ≡ Some invoked
       number : c.targets ≡ list_number coded invoked
 
-    call_is : (m : ℕ) (k : Coded) → slice_get f.methods m ≡ Some k → (c : Call) → Contains k.calls c → IsCallOf m c
+    call_is : (m : ℕ) (k : Coded) → slice_get ks m ≡ Some k → (c : Call) → Contains k.calls c → IsCallOf m c
     call_is m k at c has =
         let is = made.each m k at in
         let b = some_is (body_of P m) (λ (b : Body). (b.code ≡ k.code) × (map range_of b.handlers ≡ k.ranges)) is.body in
@@ -115,9 +115,17 @@ module _ (stand : MethodsStandByNumber) (cs : List ClassFile) (w : WellPlaced (r
     runs : (m : ℕ) (c : Call) (x : IsCallOf m c) → MayRun P x.invoked (targets_of P m c.place)
     runs m c x = runs_at P w lawful m x.body x.is_body c.place x.start x.invoked x.is
 
+    pub calls_fit : (m : ℕ) (k : Coded) (c : Call) → slice_get ks m ≡ Some k → Contains k.calls c → c.targets < coded + length (methods_by_number cs)
+    calls_fit m k c at has =
+        let x = call_is m k at c has in
+        let below = number_within stand cs coded are x.invoked (targets_of P m c.place) (runs m c x) in
+        let number = x.number in
+        omega arith
+
+  module _ (f : Flow) (made : AreMade cs coded coded f.methods) (targets : AreTargets cs coded f.methods f.targets) (boot : f.boot ≡ P.boot) where
     -- ---- the lists
 
-    lists_hold : (Q : List ℕ → Type 0) → ((t : ℕ) → t < coded → Q (t ∷ [])) → ((m : ℕ) (ts : List ℕ) → IsSelectedList P m ts → Q ts) → All Q f.targets
+    lists_hold : (Q : List ℕ → Type 0) → ((t : ℕ) → t < coded → Q (t ∷ [])) → ((m : ℕ) (Wanted : Type 0) (ts : List ℕ) → IsSelectedList P m Wanted ts → Q ts) → All Q f.targets
     lists_hold Q alone selected n d lt =
         let long = targets.long in
         subst Q (sym (get_or_from_slice_get f.targets n (get_or f.targets n []) d (slice_get-get_or f.targets n [] lt)))
@@ -128,7 +136,7 @@ module _ (stand : MethodsStandByNumber) (cs : List ClassFile) (w : WellPlaced (r
         by n ts e (inr ge) lt =
             let long = targets.long in
             let same : coded + (n - coded) ≡ n = omega arith in
-            selected (n - coded) ts (subst (λ (xs : List ℕ). IsSelectedList P (n - coded) xs) (ap (λ (k : ℕ). get_or f.targets k []) same ∙ e) (targets.selected (n - coded) (omega arith)))
+            selected (n - coded) (IsNamed coded f.methods (n - coded)) ts (subst (λ (xs : List ℕ). IsSelectedList P (n - coded) (IsNamed coded f.methods (n - coded)) xs) (ap (λ (k : ℕ). get_or f.targets k []) same ∙ e) (targets.selected (n - coded) (omega arith)))
 
     alone_rises : (t : ℕ) → IsStrictlyIncreasing (t ∷ [])
     alone_rises t k lt = absurd (omega arith)
@@ -137,8 +145,8 @@ module _ (stand : MethodsStandByNumber) (cs : List ClassFile) (w : WellPlaced (r
     alone_within t n lt zero d below = lt
     alone_within t n lt (suc k) d below = absurd (omega arith)
 
-    selected_within : (m : ℕ) (ts : List ℕ) → IsSelectedList P m ts → All (λ u. u < length f.methods) ts
-    selected_within m ts h k d lt =
+    selected_within : (m : ℕ) (Wanted : Type 0) (ts : List ℕ) → IsSelectedList P m Wanted ts → All (λ u. u < length f.methods) ts
+    selected_within m Wanted ts h k d lt =
         let long = made.long in
         let below = are.no_others (get_or ts k d) (h.coded (get_or ts k d) (k, lt, get_or_from_slice_get ts k (get_or ts k d) (get_or ts k d) (slice_get-get_or ts k d lt))) in
         omega arith
@@ -147,9 +155,7 @@ module _ (stand : MethodsStandByNumber) (cs : List ClassFile) (w : WellPlaced (r
     calls_within m d lt j e less =
         let k = get_or f.methods m d in
         let c = get_or k.calls j e in
-        let x = call_is m k (slice_get-get_or f.methods m d lt) c (j, less, get_or_from_slice_get k.calls j c c (slice_get-get_or k.calls j e less)) in
-        let below = number_within stand cs coded are x.invoked (targets_of P m c.place) (runs m c x) in
-        let number = x.number in
+        let below = calls_fit f.methods made m k c (slice_get-get_or f.methods m d lt) (j, less, get_or_from_slice_get k.calls j c c (slice_get-get_or k.calls j e less)) in
         let long = targets.long in
         omega arith
 
@@ -164,22 +170,22 @@ module _ (stand : MethodsStandByNumber) (cs : List ClassFile) (w : WellPlaced (r
     is_flow = record {
       few = let long = made.long in let few = are.few in omega arith;
       boot = boot_within;
-      rising = lists_hold IsStrictlyIncreasing (λ t lt. alone_rises t) (λ m ts h. h.rising);
+      rising = lists_hold IsStrictlyIncreasing (λ t lt. alone_rises t) (λ m Wanted ts h. h.rising);
       within = lists_hold (All (λ t. t < length f.methods)) (λ t lt. let long = made.long in alone_within t (length f.methods) (omega arith)) selected_within;
       lists = calls_within;
     }
 
     -- ---- the program's
 
-    target_is : (m : ℕ) (c : Call) (i : Invoked) (ts : List ℕ) → c.targets ≡ list_number coded i → MayRun P i ts → (t : ℕ) → Contains (targets_of_call f c) t ↔ Contains ts t
-    target_is m c (Fixed n) ts number runs t =
+    target_is : (m : ℕ) (c : Call) (i : Invoked) (ts : List ℕ) → c.targets ≡ list_number coded i → ((n : ℕ) → c.targets ≡ coded + n → IsNamed coded f.methods n) → MayRun P i ts → (t : ℕ) → Contains (targets_of_call f c) t ↔ Contains ts t
+    target_is m c (Fixed n) ts number named runs t =
         let same : targets_of_call f c ≡ ts = ap (λ (k : ℕ). get_or f.targets k []) number ∙ targets.alone n (are.no_others n runs.0) ∙ sym runs.1 in
         (λ h. subst (λ (xs : List ℕ). Contains xs t) same h, λ h. subst (λ (xs : List ℕ). Contains xs t) (sym same) h)
-    target_is m c (Resolved n) ts number runs t =
+    target_is m c (Resolved n) ts number named runs t =
         let list = targets.selected n (method_within stand cs n runs.0) in
         let at : targets_of_call f c ≡ get_or f.targets (coded + n) [] = ap (λ (k : ℕ). get_or f.targets k []) number in (
-          λ h. subst (λ (xs : List ℕ). Contains xs t) (sym runs.1) ((list.selected runs.0 t).0 (subst (λ (xs : List ℕ). Contains xs t) at h)),
-          λ h. subst (λ (xs : List ℕ). Contains xs t) (sym at) ((list.selected runs.0 t).1 (subst (λ (xs : List ℕ). Contains xs t) runs.1 h)),
+          λ h. subst (λ (xs : List ℕ). Contains xs t) (sym runs.1) ((list.selected (named n number) runs.0 t).0 (subst (λ (xs : List ℕ). Contains xs t) at h)),
+          λ h. subst (λ (xs : List ℕ). Contains xs t) (sym at) ((list.selected (named n number) runs.0 t).1 (subst (λ (xs : List ℕ). Contains xs t) runs.1 h)),
         )
 
     coded_of : (m : ℕ) (k : Coded) → slice_get f.methods m ≡ Some k → IsCodedOf P m k
@@ -195,6 +201,8 @@ module _ (stand : MethodsStandByNumber) (cs : List ClassFile) (w : WellPlaced (r
     is_flow_of = record {
       coded = λ m. let long = made.long in (λ h. (let below = are.no_others m h in omega arith), λ lt. are.all m (omega arith));
       methods = coded_of;
-      targets = λ m k c at has t. let x = call_is m k at c has in target_is m c x.invoked (targets_of P m c.place) x.number (runs m c x) t;
+      targets = λ m k c at has t.
+          let x = call_is f.methods made m k at c has in
+          target_is m c x.invoked (targets_of P m c.place) x.number (λ n number. record { caller = m; method = k; at = at; call = c; among = has; number = number }) (runs f.methods made m c x) t;
       boot = boot;
     }

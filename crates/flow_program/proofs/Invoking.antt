@@ -1,10 +1,12 @@
 -- What an instruction invokes, by its opcode and what its pool entry means.
-use Rattle.std.proofs.Common.{◌≡◌, ℕ, ◌+◌, Bool, true, false, ◌||◌, eqb, List, Option, Some, None, refl, sym, ap, ◌∙◌, subst, inl, inr, arith}
+use Rattle.std.proofs.Common.{◌≤◌, ◌≡◌, ℕ, ◌+◌, Bool, true, false, ◌||◌, eqb, List, Option, Some, None, refl, sym, ap, ◌∙◌, subst, inl, inr, arith}
 use Rattle.std.specs.Prelude.{if◌then◌else◌}
 use Rattle.std.proofs.lemmas.Bool.{cases_eq, ne_eqb, false≢true}
 use Rattle.jop_opcodes.specs.declared.instruction.Instr.{Instr}
 use Rattle.jop_opcodes.specs.Instruction.{decoded}
+use Rattle.jop_opcodes.specs.Bytes.{u1}
 use Rattle.lists.specs.Lists.{onto}
+use Rattle.lists.specs.Lemmas.{none≢some, onto_some}
 use Rattle.bytecode_model.specs.Program.{Program, Body, Operand, NoOperand, AnInt, ALong, AString, AStatic, AField, AMethod, AType, as_instr, body_of, instr_at}
 use Rattle.bytecode_model.specs.Rows as rows
 use Rattle.bytecode_model.specs.Rows.{Row}
@@ -92,6 +94,13 @@ not_call (rows.CallVirtual named m) h = absurd (false≢true (sym h))
 not_call (rows.CallInterface named m) h = absurd (false≢true (sym h))
 not_call r h = refl
 
+invoked_call : (r : Row) (i : Invoked) → invoked_by r ≡ Some i → is_call r ≡ true
+invoked_call (rows.CallStatic m) i h = refl
+invoked_call (rows.CallSpecial named m) i h = refl
+invoked_call (rows.CallVirtual named m) i h = refl
+invoked_call (rows.CallInterface named m) i h = refl
+invoked_call r i h = absurd (none≢some i h)
+
 -- ---- at a place of a method
 
 abbrev with_place : ℕ → Row → Option (ℕ × Row)
@@ -172,3 +181,19 @@ module _ (law : CallsAreInvokes) (P : Program) (m p : ℕ) where
 
   pub invoked_same : onto (instr_at P m p) (λ i. invoked_as i.op operand) ≡ invoked_at P m p
   invoked_same = by_body (body_of P m) refl
+
+  -- where the byte is none of the four opcodes
+  pub no_invoke : (b : Body) → body_of P m ≡ Some b → (182 ≤ u1 b.code p → u1 b.code p ≤ 185 → ⊥) → invoked_at P m p ≡ None
+  no_invoke b eb outside = by (invoked_at P m p) refl
+    where
+      by : (o : Option Invoked) → invoked_at P m p ≡ o → o ≡ None
+      by None e = refl
+      by (Some i) e =
+          let x = onto_some (row_in P m p) of_pair i e in
+          let body = onto_some (body_of P m) (λ b. onto (instr_at P m p) (λ i. onto (row_of b.code i operand) (with_place (p + i.length)))) x.0 x.1 in
+          let instr = onto_some (instr_at P m p) (λ i. onto (row_of body.0.code i operand) (with_place (p + i.length))) x.0 body.2 in
+          let is = law P m p x.0.0 b instr.0 x.0.1 eb instr.1 x.1 (invoked_call x.0.1 i x.2) in
+          let op = is.opcode in
+          let from = is.from in
+          let to = is.to in
+          absurd (outside (omega arith) (omega arith))

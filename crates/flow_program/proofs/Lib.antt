@@ -5,5 +5,6 @@ pub mod Coding
 pub mod Bounds
 pub mod Codes
 pub mod Selecting
+pub mod Marking
 pub mod Flowing
 pub mod Making

@@ -1,6 +1,6 @@
 -- The methods and the lists, one after another.
-use Rattle.std.proofs.Common.{◌≡◌, ◌↔◌, ◌⊎◌, ℕ, zero, suc, ◌+◌, ◌-◌, ◌<◌, ◌≤◌, ◌^◌, List, [], ◌∷◌, ◌++◌, map, length, get_or, Contains, Option, Some, None, refl, sym, ap, ◌∙◌, subst, inl, inr, arith, length-append}
-use Rattle.std.specs.Prelude.{slice_get, IfSome, IsSome}
+use Rattle.std.proofs.Common.{◌≡◌, ◌↔◌, ◌⊎◌, ℕ, Bool, true, false, Result, Ok, Err, zero, suc, ◌+◌, ◌-◌, ◌<◌, ◌≤◌, ◌^◌, List, [], ◌∷◌, ◌++◌, map, length, get_or, Contains, Option, Some, None, refl, sym, ap, ◌∙◌, subst, inl, inr, arith, length-append}
+use Rattle.std.specs.Prelude.{slice_get, IfOk, IfSome, IsSome}
 use Rattle.std.specs.List.{range_with_len}
 use Rattle.std.proofs.lemmas.Bool.{cases_lt}
 use Rattle.std.proofs.lemmas.List.{length-map}
@@ -24,25 +24,19 @@ use Rattle.program_tables.specs.Laws.{MethodsStandByNumber, MembersAreThere}
 use Rattle.program_tables.specs.Numbers.{methods_by_number, method_text}
 use Rattle.program_tables.specs.Resolved.{at_method, resolved_method, resolved_methods, resolved}
 use Rattle.program_tables.specs.Resolving.{IsResolved}
-use Rattle.flow_program.specs.Invokes.{invoked_at, list_number, calls_in}
+use Rattle.flow_program.specs.Invokes.{IsCodeOf, invoked_at, list_number, calls_in}
 use Rattle.flow_program.specs.Made.{range_at, HasCode, AreCoded, IsMade, AreMade}
 use Rattle.flow_program.specs.Receivers.{IsReceiver, AreBelow}
-use Rattle.flow_program.specs.Targets.{IsSelectedList, AreReceivers, AreSelected, AreTargets}
+use Rattle.flow_program.specs.Targets.{IsNamed, IsSelectedList, AreReceivers, AreSelected, AreTargets}
+use Rattle.flow_program.specs.Marks.{HasMarks}
+use Rattle.flow_program.proofs.Selecting.{wanted_by}
 use Rattle.flow_program.proofs.Bounds.{code_bounds}
+use Rattle.flow_program.proofs.Listing.{in_front, last}
 use Rattle.flow_program.proofs.Codes.{is_coded}
 use Rattle.flow_program.proofs.Coding.{code_at, body_of_code, code_of_body, there_is}
 use Rattle.flow_program.proofs.Flowing.{few_numbers}
 
 -- ---- lists that grow
-
-pub in_front : {X : Type 0} (xs ys : List X) (k : ℕ) → k < length xs → slice_get (xs ++ ys) k ≡ slice_get xs k
-in_front [] ys k h = absurd (omega (arith, h))
-in_front (x ∷ xs) ys zero h = refl
-in_front (x ∷ xs) ys (suc k) h = in_front xs ys k (omega (arith, h))
-
-pub last : {X : Type 0} (xs : List X) (x : X) → slice_get (xs ++ x ∷ []) (length xs) ≡ Some x
-last [] x = refl
-last (y ∷ xs) x = last xs x
 
 pub get_left : {X : Type 0} (xs ys : List X) (k : ℕ) (d : X) → k < length xs → get_or (xs ++ ys) k d ≡ get_or xs k d
 get_left [] ys k d h = absurd (omega (arith, h))
@@ -62,6 +56,11 @@ each_if (Some x) Q h = h x refl
 module _ (stand : MethodsStandByNumber) (cs : List ClassFile) (coded m : ℕ) (k : Code) (is : HasCode cs m k) where
   abbrev P : Program
   P = resolved cs
+
+  pub code_in : (code : List ℕ) → code ≡ k.code → IsCodeOf P m code
+  code_in code same =
+      let b = body_of_code stand cs m k is in
+      some_in (body_of P m) b.body (λ (x : Body). x.code ≡ code) b.is_body (b.code ∙ sym same)
 
   pub few_in : WellPlaced P → Lawful P → AreCoded cs coded → (code : List ℕ) → code ≡ k.code → (p : ℕ) → IsStart code p → IfSome (invoked_at P m p) (λ i. list_number coded i < 2 ^ 32)
   few_in w lawful are code same p start =
@@ -132,33 +131,41 @@ coded_within stand cs coded m are lt =
 
 -- ---- the lists
 
-pub none_selected_yet : (P : Program) → AreSelected P 0 []
-none_selected_yet P = record { long = refl; each = λ m lt. absurd (omega (arith, lt)) }
+pub none_selected_yet : (P : Program) (marks : List Bool) → AreSelected P marks 0 []
+none_selected_yet P marks = record { long = refl; each = λ m lt. absurd (omega (arith, lt)) }
 
-pub selected_more : (P : Program) (n : ℕ) (ls ms : List (List ℕ)) (ts : List ℕ) → AreSelected P n ls → IsSelectedList P n ts → ms ≡ ls ++ ts ∷ [] → AreSelected P (n + 1) ms
-selected_more P n ls ms ts are is e = subst (λ (xs : List (List ℕ)). AreSelected P (n + 1) xs) (sym e) (record {
+pub selected_more : (P : Program) (marks : List Bool) (n : ℕ) (ls ms : List (List ℕ)) (ts : List ℕ) → AreSelected P marks n ls → IsSelectedList P n (get_or marks n false ≡ true) ts → ms ≡ ls ++ ts ∷ [] → AreSelected P marks (n + 1) ms
+selected_more P marks n ls ms ts are is e = subst (λ (xs : List (List ℕ)). AreSelected P marks (n + 1) xs) (sym e) (record {
   long = length-append ls (ts ∷ []) ∙ ap (λ (j : ℕ). j + 1) are.long;
   each = λ m lt. by m lt (cases_lt m n);
 })
   where
-    by : (m : ℕ) → m < n + 1 → (m < n) ⊎ (n ≤ m) → IsSelectedList P m (get_or (ls ++ ts ∷ []) m [])
-    by m lt (inl less) = let long = are.long in subst (λ (xs : List ℕ). IsSelectedList P m xs) (sym (get_left ls (ts ∷ []) m [] (omega arith))) (are.each m less)
+    by : (m : ℕ) → m < n + 1 → (m < n) ⊎ (n ≤ m) → IsSelectedList P m (get_or marks m false ≡ true) (get_or (ls ++ ts ∷ []) m [])
+    by m lt (inl less) = let long = are.long in subst (λ (xs : List ℕ). IsSelectedList P m (get_or marks m false ≡ true) xs) (sym (get_left ls (ts ∷ []) m [] (omega arith))) (are.each m less)
     by m lt (inr ge) =
         let long = are.long in
         let same : n ≡ m = omega arith in
         let place : m ≡ length ls + 0 = omega arith in
-        subst (λ (xs : List ℕ). IsSelectedList P m xs) (sym (ap (λ (j : ℕ). get_or (ls ++ ts ∷ []) j []) place ∙ get_right ls (ts ∷ []) 0 [])) (subst (λ (j : ℕ). IsSelectedList P j ts) same is)
+        subst (λ (xs : List ℕ). IsSelectedList P m (get_or marks m false ≡ true) xs) (sym (ap (λ (j : ℕ). get_or (ls ++ ts ∷ []) j []) place ∙ get_right ls (ts ∷ []) 0 []))
+        (subst (λ (j : ℕ). IsSelectedList P j (get_or marks j false ≡ true) ts) same is)
 
-pub are_targets : (cs : List ClassFile) (coded count : ℕ) (xs ys zs : List (List ℕ)) → xs ≡ map (λ t. t ∷ []) (range_with_len 0 coded) → count ≡ length (methods_by_number cs) → AreSelected (resolved cs) count ys → zs ≡ xs ++ ys
-    → AreTargets cs coded zs
-are_targets cs coded count xs ys zs alone many are e = subst (λ (ls : List (List ℕ)). AreTargets cs coded ls) (sym e) (record {
+pub are_targets : (cs : List ClassFile) (coded count : ℕ) (ks : List Coded) (marks : List Bool) (xs ys zs : List (List ℕ)) → xs ≡ map (λ t. t ∷ []) (range_with_len 0 coded) → count ≡ length (methods_by_number cs)
+    → HasMarks coded count ks marks → AreSelected (resolved cs) marks count ys → zs ≡ xs ++ ys → AreTargets cs coded ks zs
+are_targets cs coded count ks marks xs ys zs alone many marked are e = subst (λ (ls : List (List ℕ)). AreTargets cs coded ks ls) (sym e) (record {
   long = length-append xs ys ∙ (let size = are.long in let first = long in omega arith);
   alone = λ t lt. get_left xs ys t [] (let first = long in omega arith) ∙ (ap (λ (ls : List (List ℕ)). get_or ls t []) alone ∙ get_or-map-range_with_len (λ (t : ℕ). t ∷ []) 0 coded t t [] lt (omega arith));
-  selected = λ m lt. subst (λ (ts : List ℕ). IsSelectedList (resolved cs) m ts) (sym (ap (λ (j : ℕ). get_or (xs ++ ys) (j + m) []) (sym long) ∙ get_right xs ys m [])) (are.each m (omega arith));
+  selected = λ m lt.
+      let there = are.each m (omega arith) in
+      let wanted = wanted_by (resolved cs) m (get_or marks m false ≡ true) (IsNamed coded ks m) (get_or ys m []) (marked.named m) there in
+      subst (λ (ts : List ℕ). IsSelectedList (resolved cs) m (IsNamed coded ks m) ts) (sym (ap (λ (j : ℕ). get_or (xs ++ ys) (j + m) []) (sym long) ∙ get_right xs ys m [])) wanted;
 })
   where
     long : length xs ≡ coded
     long = ap length alone ∙ length-map-range_with_len (λ (t : ℕ). t ∷ []) 0 coded
+
+pub if_ok : {T E : Type 0} (r : Result T E) (A B : T → Type 0) → ((x : T) → A x → B x) → IfOk r A → IfOk r B
+if_ok (Ok x) A B to h = to x h
+if_ok (Err e) A B to h = tt
 
 -- ---- receivers
 

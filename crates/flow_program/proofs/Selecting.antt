@@ -108,11 +108,11 @@ module _ (cs : List ClassFile) (stand : MethodsStandByNumber) (lawful : Lawful (
         let j = some_is (slice_get P.methods n) (IsSelected P f.0 k) one in
         coded_by P n j.0 j.1 j.2.code
 
-    pub is_selected_list : (ns ts : List ℕ) → ns ≡ filter_map (λ q. onto q (method_number cs)) (map (λ c. select cs c p) rs) → IsStrictlyIncreasing ts → ((n : ℕ) → Contains ts n ↔ Contains ns n) → IsSelectedList P m ts
+    pub is_selected_list : (ns ts : List ℕ) → ns ≡ filter_map (λ q. onto q (method_number cs)) (map (λ c. select cs c p) rs) → IsStrictlyIncreasing ts → ((n : ℕ) → Contains ts n ↔ Contains ns n) → IsSelectedList P m (Unit {0}) ts
     is_selected_list ns ts numbers rising same = record {
       rising = rising;
       coded = λ n h. coded n (subst (λ (xs : List ℕ). Contains xs n) numbers ((same n).0 h));
-      selected = λ virtual n. (
+      selected = λ wanted virtual n. (
         λ h. to n (subst (λ (xs : List ℕ). Contains xs n) numbers ((same n).0 h)),
         λ h. (same n).1 (subst (λ (xs : List ℕ). Contains xs n) (sym numbers) (from n h)),
       );
@@ -120,12 +120,16 @@ module _ (cs : List ClassFile) (stand : MethodsStandByNumber) (lawful : Lawful (
 
 -- ---- none is selected
 
-pub none_selected : (P : Program) (m : ℕ) → (IsVirtual P m → ⊥) → IsSelectedList P m []
-none_selected P m never = record {
+pub none_selected : (P : Program) (m : ℕ) (Wanted : Type 0) → (Wanted → IsVirtual P m → ⊥) → IsSelectedList P m Wanted []
+none_selected P m Wanted never = record {
   rising = λ k lt. absurd (omega arith);
   coded = λ t h. absurd (nil_contains t h);
-  selected = λ virtual. absurd (never virtual);
+  selected = λ wanted virtual. absurd (never wanted virtual);
 }
+
+-- where it is wanted less often
+pub wanted_by : (P : Program) (m : ℕ) (Wanted Fewer : Type 0) (ts : List ℕ) → (Fewer → Wanted) → IsSelectedList P m Wanted ts → IsSelectedList P m Fewer ts
+wanted_by P m Wanted Fewer ts to h = record { rising = h.rising; coded = h.coded; selected = λ fewer. h.selected (to fewer) }
 
 -- whether a method of this shape is such a one
 pub virtual_by : (P : Program) (m : ℕ) (s : MethodShape) → IsSomeAnd (slice_get P.methods m) (HasShape s) → (s.has_this && not s.is_init) ≡ true → IsVirtual P m

@@ -1,17 +1,21 @@
 -- What invokes name (JVM Specification SE 8, 6.5.invokestatic, 6.5.invokespecial, 6.5.invokevirtual, 6.5.invokeinterface), and the numbers of the lists of
 -- what they may run: first, by number, each method with code alone; then, by number, for each method those that are selected for it.
-use Rattle.std.specs.Prelude.{ℕ, ◌+◌, ◌==◌, ◌||◌, List, Option, Some, None, if◌then◌else◌}
-use Rattle.std.specs.Option.{option_map}
+use Rattle.std.specs.Prelude.{◌≡◌, ℕ, ◌+◌, ◌==◌, ◌||◌, List, Option, Some, None, if◌then◌else◌}
+use Rattle.std.specs.Option.{option_map, IsSomeAnd}
 use Rattle.std.specs.List.{filter_map}
 use Rattle.jop_opcodes.specs.Start.{starts_of}
 use Rattle.bytecode_model.specs.Lists.{onto}
-use Rattle.bytecode_model.specs.Program.{Program, Operand, AMethod}
+use Rattle.bytecode_model.specs.Program.{Program, Operand, AMethod, body_of}
 use Rattle.bytecode_model.specs.Rows as rows
 use Rattle.bytecode_model.specs.Rows.{Row}
 use Rattle.bytecode_model.specs.Steps.{row_in}
 use Rattle.method_flow.specs.declared.flow.Call.{Call}
 use Rattle.flow_program.specs.declared.invokes.Invoked.{Invoked}
 use Rattle.flow_program.specs.declared.invokes.Invoked.TheVariants.{Fixed, Resolved}
+
+-- the method has this code
+abbrev pub IsCodeOf : Program → (method : ℕ) → (code : List ℕ) → Type 0
+IsCodeOf P m code = IsSomeAnd (body_of P m) (λ b. b.code ≡ code)
 
 -- what an instruction invokes, by its row: the method that runs, or the one for which methods are selected
 abbrev pub invoked_by : Row → Option Invoked

@@ -1,12 +1,13 @@
 //! The invokes of a method (JVM Specification SE 8, 6.5.invokestatic, 6.5.invokespecial, 6.5.invokevirtual, 6.5.invokeinterface).
-ghost use Rattle.std.specs.Prelude.{◌≡◌, ℕ, ◌<◌, ◌≤◌, ◌^◌, length, IfOk, IfSome};
+ghost use Rattle.std.specs.Prelude.{◌≡◌, ◌↔◌, ℕ, ◌<◌, ◌≤◌, ◌^◌, length, IsTrue, IfOk, IfSome};
 ghost use Rattle.jop_opcodes.specs.Start.{IsStart};
 ghost use Rattle.program_tables.specs.Meanings.{operand_seen};
 ghost use Rattle.program_tables.specs.Numbers.{methods_by_number};
 ghost use Rattle.program_tables.specs.Resolved.{resolved};
-ghost use Rattle.flow_program.specs.Invokes.{invoked_as, invoked_at, list_number, call_of, call_at, calls_in};
+ghost use Rattle.flow_program.specs.Invokes.{IsCodeOf, invoked_as, invoked_at, list_number, call_of, call_at, calls_in};
 
 use jop_base::NoMemory;
+use jop_opcodes::laws::starts_follow_one_another;
 use jop_opcodes::starts;
 use method_flow::Call;
 use method_flow::laws::calls_are_invokes;
@@ -63,12 +64,25 @@ fn call_of(place: u32, invoked: Invoked, coded: u32) -> Call
     Call { place, targets }
 }
 
-/// The invoke at a place of a method, if one stands there.
-fn call_at(program: &Program, method: u32, place: u32, coded: u32) -> Option<Call>
+/// Whether the opcode is one of the invokes that name a method.
+fn is_invoke(op: u8) -> bool
+    ensures { IsTrue result ↔ ((182 ≤ op) × (op ≤ 185)) }
+{
+    182 <= op && op <= 185
+}
+
+/// The invoke at a place of a method of this code, if one stands there.
+fn call_at(program: &Program, method: u32, code: &[u8], place: u32, coded: u32) -> Option<Call>
     requires method { method < length (methods_by_number program.now) }
+    requires code { IsCodeOf (resolved program.now) method code.now }
+    requires inside { place < length code.now }
     requires few { IfSome (invoked_at (resolved program.now) method place) (λ i. list_number coded i < 2 ^ 32) }
     ensures { result ≡ call_at (resolved program.now) coded method place }
 {
+    calls_are_invokes();
+    if !is_invoke(code[place as usize]) {
+        return None;
+    }
     match invoked_at(program, method, place) {
         Some(invoked) => Some(call_of(place, invoked, coded)),
         None => None,
@@ -84,14 +98,16 @@ pub(crate) fn calls_of(
     coded: u32,
 ) -> Result<Vec<Call>, NoMemory>
     requires method { method < length (methods_by_number program.now) }
+    requires code { IsCodeOf (resolved program.now) method code.now }
     requires short { length code.now ≤ 33554432 }
     requires few { (p : ℕ) → IsStart code.now p → IfSome (invoked_at (resolved program.now) method p) (λ i. list_number coded i < 2 ^ 32) }
     ensures { IfOk result (λ calls. calls.items ≡ calls_in (resolved program.now) coded method code.now) }
 {
+    starts_follow_one_another();
     let starts = starts(alloc, code)?;
     let mut calls = Vec::new(alloc);
     for place in &starts {
-        if let Some(call) = call_at(program, method, *place, coded) {
+        if let Some(call) = call_at(program, method, code, *place, coded) {
             calls.push(call)?;
         }
     }

@@ -4,6 +4,7 @@
 
 mod coded;
 mod invokes;
+mod marks;
 mod methods;
 mod program;
 mod receivers;

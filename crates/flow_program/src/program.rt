@@ -28,8 +28,8 @@ fn boot_of(p: &Program) -> u32
     p.method_number(last).unwrap_or(0)
 }
 
-/// The methods with code of a program, by number, and what their invokes may run: for each method one list, however many invokes
-/// name it. Each instruction is decoded once, and each pair of a method and a class below its own is gone through once.
+/// The methods with code of a program, by number, and what their invokes may run: for each method that invokes name one list,
+/// however many they are.
 pub fn flow_of(alloc: Global, p: &Program) -> Result<FlowProgram, NoMemory>
     requires placed { WellPlaced (resolved p.now) }
     requires lawful { Lawful (resolved p.now) }
@@ -43,7 +43,7 @@ pub fn flow_of(alloc: Global, p: &Program) -> Result<FlowProgram, NoMemory>
         return Err(NoMemory);
     }
     let methods = methods_of(alloc, p, coded)?;
-    let targets = target_lists(alloc, p, coded)?;
+    let targets = target_lists(alloc, p, &methods, coded)?;
     Ok(FlowProgram::new(methods, targets, boot_of(p)))
 }
 

@@ -1,18 +1,22 @@
 //! The lists of what invokes may run (JVM Specification SE 8, 6.5.invokevirtual and 6.5.invokeinterface).
-ghost use Rattle.std.specs.Prelude.{◌≡◌, ◌↔◌, ℕ, ◌<◌, ◌&&◌, not, [], ◌∷◌, length, map, Contains, IfOk};
+ghost use Rattle.std.specs.Prelude.{◌≡◌, ◌↔◌, ℕ, ◌<◌, true, ◌&&◌, not, [], ◌∷◌, length, map, Contains, IfOk};
 ghost use Rattle.std.specs.List.{filter_map, range_with_len};
 ghost use Rattle.std.specs.List.Sorted.{IsStrictlyIncreasing};
 ghost use Rattle.bytecode_model.specs.Lists.{onto};
 ghost use Rattle.bytecode_typing.specs.Lawful.{Lawful};
 ghost use Rattle.program_tables.specs.Numbers.{methods_by_number, method_number};
 ghost use Rattle.program_tables.specs.Resolved.{resolved};
+ghost use Rattle.well_placed.specs.WellPlaced.{WellPlaced};
+ghost use Rattle.flow_program.specs.Made.{AreCoded, AreMade};
 ghost use Rattle.flow_program.specs.Receivers.{lists_of, AreBelow};
 ghost use Rattle.flow_program.specs.Targets.{IsVirtual, IsSelectedList, AreReceivers, AreSelected, AreTargets};
 
+use crate::marks::marks_of;
 use crate::receivers::receivers_of;
 use class_hierarchy::Place;
 use items::Items;
 use jop_base::NoMemory;
+use method_flow::FlowMethod;
 use program_tables::MethodShape;
 use program_tables::laws::{members_are_there, methods_stand_by_number};
 use resolved_program::Program;
@@ -78,7 +82,7 @@ fn selected_among(
     requires method { method < length (methods_by_number program.now) }
     requires is_virtual { IsVirtual (resolved program.now) method }
     requires receivers { AreReceivers program.now method receivers.now }
-    ensures { IfOk result (IsSelectedList (resolved program.now) method) }
+    ensures { IfOk result (IsSelectedList (resolved program.now) method (Unit {0})) }
 {
     methods_stand_by_number();
     let places = program
@@ -96,7 +100,7 @@ fn is_virtual(shape: &MethodShape) -> bool
 }
 
 /// The methods that are selected for a method, rising; none where it is no instance method or an instance initialization method.
-fn selected_list(
+fn selected_for(
     alloc: Global,
     program: &Program,
     below: &[Vec<u32>],
@@ -105,7 +109,7 @@ fn selected_list(
     requires lawful { Lawful (resolved program.now) }
     requires method { method < length (methods_by_number program.now) }
     requires below { AreBelow program.now (length program.now) (lists_of below.now) }
-    ensures { IfOk result (IsSelectedList (resolved program.now) method) }
+    ensures { IfOk result (IsSelectedList (resolved program.now) method (Unit {0})) }
 {
     methods_stand_by_number();
     members_are_there();
@@ -117,30 +121,63 @@ fn selected_list(
     }
 }
 
-/// For each method those that are selected for it.
-fn selected_lists(alloc: Global, program: &Program) -> Result<Vec<Items<u32>>, NoMemory>
-    requires { Lawful (resolved program.now) }
-    ensures { IfOk result (λ lists. AreSelected (resolved program.now) (length (methods_by_number program.now)) lists.items) }
+/// The same where the list is wanted, and else none.
+fn selected_list(
+    alloc: Global,
+    program: &Program,
+    below: &[Vec<u32>],
+    method: u32,
+    wanted: bool,
+) -> Result<Items<u32>, NoMemory>
+    requires lawful { Lawful (resolved program.now) }
+    requires method { method < length (methods_by_number program.now) }
+    requires below { AreBelow program.now (length program.now) (lists_of below.now) }
+    ensures { IfOk result (IsSelectedList (resolved program.now) method (wanted ≡ true)) }
+{
+    if wanted {
+        selected_for(alloc, program, below, method)
+    } else {
+        Ok(Items::new(Vec::new(alloc)))
+    }
+}
+
+/// For each marked method those that are selected for it; an empty list for each other.
+fn selected_lists(
+    alloc: Global,
+    program: &Program,
+    marks: &[bool],
+) -> Result<Vec<Items<u32>>, NoMemory>
+    requires lawful { Lawful (resolved program.now) }
+    requires marks { length marks.now ≡ length (methods_by_number program.now) }
+    ensures { IfOk result (λ lists. AreSelected (resolved program.now) marks.now (length (methods_by_number program.now)) lists.items) }
 {
     let below = receivers_of(alloc, program.hierarchy())?;
     let mut lists = Vec::new(alloc);
     for method in 0..program.method_count() {
-        lists.push(selected_list(alloc, program, &below, method)?)?;
+        let wanted = marks[method as usize];
+        lists.push(selected_list(alloc, program, &below, method, wanted)?)?;
     }
     Ok(lists)
 }
 
-/// Each method with code alone, then for each method those that are selected for it. `coded` methods have code.
+/// Each method with code alone, then for each method that an invoke of these methods names those that are selected for it. `coded`
+/// methods have code.
 pub(crate) fn target_lists(
     alloc: Global,
     program: &Program,
+    methods: &[FlowMethod],
     coded: u32,
 ) -> Result<Vec<Items<u32>>, NoMemory>
-    requires { Lawful (resolved program.now) }
-    ensures { IfOk result (λ lists. AreTargets program.now coded lists.items) }
+    requires placed { WellPlaced (resolved program.now) }
+    requires lawful { Lawful (resolved program.now) }
+    requires coded { AreCoded program.now coded }
+    requires methods { AreMade program.now coded coded methods.now }
+    ensures { IfOk result (λ lists. AreTargets program.now coded methods.now lists.items) }
 {
+    methods_stand_by_number();
+    let marks = marks_of(alloc, methods, coded, program.method_count())?;
+    let mut selected = selected_lists(alloc, program, &marks)?;
     let mut lists = alone(alloc, coded)?;
-    let mut selected = selected_lists(alloc, program)?;
     lists.append(&mut selected)?;
     Ok(lists)
 }

@@ -8,6 +8,14 @@ use Rattle.flow_program.proofs.Listing.{next_some, next_none}
 use Rattle.flow_program.proofs.invokes.calls_of.Goals as goal
 use Rattle.flow_program.proofs.invokes.calls_of.Goals.{in-Some+in_ok-push, in_default}
 
+pub call_at-requires-clause-inside : goal.call_at-requires-clause-inside
+call_at-requires-clause-inside c =
+    let xs = c.deref-place-items.result.now in
+    let i = c.loop-place.place-index in
+    let x = get_or xs i 0 in
+    (c.starts_follow_one_another.ensures c.args.code.now).within_code x
+    (subst (λ (ys : List ℕ). Contains ys x) (c.deref-place-items.ensures.value ∙ c.in_ok-starts.ensures) (contains_at xs i x c.loop-place-test.true refl))
+
 pub call_at-requires-clause-few : goal.call_at-requires-clause-few
 call_at-requires-clause-few c =
     let xs = c.deref-place-items.result.now in

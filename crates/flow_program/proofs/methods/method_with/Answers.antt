@@ -1,8 +1,11 @@
 use Rattle.std.proofs.Common.{ℕ, List, sym, ap, ◌∙◌}
 use Rattle.program_tables.specs.Resolved.{resolved}
 use Rattle.flow_program.specs.Invokes.{calls_in}
-use Rattle.flow_program.proofs.Making.{few_bytes, few_in, form, made}
+use Rattle.flow_program.proofs.Making.{code_in, few_bytes, few_in, form, made}
 use Rattle.flow_program.proofs.methods.method_with.Goals as goal
+
+pub calls_of-requires-clause-code : goal.calls_of-requires-clause-code
+calls_of-requires-clause-code c = code_in c.methods_stand_by_number.ensures c.args.program.now c.args.coded c.args.number c.args.code.now c.requires.code c.as_slice.result.now c.as_slice.ensures
 
 pub calls_of-requires-clause-short : goal.calls_of-requires-clause-short
 calls_of-requires-clause-short c =

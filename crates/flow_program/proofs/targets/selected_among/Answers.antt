@@ -30,5 +30,5 @@ returns c =
     let places = ap (λ (ks : List ClassFile). map (λ (d : ℕ). select ks d p) rs) c.hierarchy.ensures in
     let numbers = c.in_ok-numbers.ensures ∙ ap (λ (qs : List (Option Place)). filter_map (λ q. onto q (method_number cs)) qs) (c.deref.ensures.value ∙ (c.in_ok-places.ensures ∙ places)) in
     let receivers = holds_at (slice_get (methods_by_number cs) m) p (λ (p : Place). (c : ℕ) → Contains rs c ↔ ((c < length cs) × IsReceiver cs p.0 c)) c.method.ensures c.requires.receivers in
-    subst (λ (ts : List ℕ). IsSelectedList (resolved cs) m ts) (sym c.new.ensures)
+    subst (λ (ts : List ℕ). IsSelectedList (resolved cs) m (Unit {0}) ts) (sym c.new.ensures)
     (is_selected_list cs c.methods_stand_by_number.ensures c.requires.lawful m p c.method.ensures k.0 k.1 k.2.0 k.2.1 rs receivers c.in_ok-numbers.numbers.items c.rising.result.items numbers c.rising.ensures.rising c.rising.ensures.same)

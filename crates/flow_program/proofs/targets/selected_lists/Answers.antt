@@ -9,7 +9,7 @@ use Rattle.flow_program.proofs.targets.selected_lists.Goals as goal
 
 pub loop-method-init : goal.loop-method-init
 loop-method-init c =
-    subst (λ (ls : List (List ℕ)). AreSelected (resolved c.args.program.now) 0 ls) (sym c.new-lists.ensures.items) (none_selected_yet (resolved c.args.program.now))
+    subst (λ (ls : List (List ℕ)). AreSelected (resolved c.args.program.now) c.args.marks.now 0 ls) (sym c.new-lists.ensures.items) (none_selected_yet (resolved c.args.program.now) c.args.marks.now)
 
 pub selected_list-requires-clause-below : goal.selected_list-requires-clause-below
 selected_list-requires-clause-below c =
@@ -18,7 +18,7 @@ selected_list-requires-clause-below c =
     (subst (λ (ks : List ClassFile). AreBelow ks (length ks) (lists_of c.in_ok-below.below.items)) c.hierarchy.ensures c.in_ok-below.ensures)
 
 pub loop-method-preserved : goal.loop-method-preserved
-loop-method-preserved c = selected_more (resolved c.args.program.now) c.loop-method.method _ _ _ c.loop-method.invariant c.in_ok-selected_list.ensures c.in_ok-push.ensures.items
+loop-method-preserved c = selected_more (resolved c.args.program.now) c.args.marks.now c.loop-method.method _ _ _ c.loop-method.invariant c.in_ok-selected_list.ensures c.in_ok-push.ensures.items
 
 pub returns : goal.returns
 returns c =
@@ -27,4 +27,4 @@ returns c =
     let top = c.loop-method.auto.method-end in
     let many = c.method_count-method-end.ensures in
     let last : c.loop-method.method ≡ length (methods_by_number cs) = omega arith in
-    subst (λ (n : ℕ). AreSelected (resolved cs) n c.loop-method.lists.items) last c.loop-method.invariant
+    subst (λ (n : ℕ). AreSelected (resolved cs) c.args.marks.now n c.loop-method.lists.items) last c.loop-method.invariant

@@ -3,4 +3,4 @@ use Rattle.flow_program.specs.Targets.{AreSelected}
 use Rattle.flow_program.proofs.targets.selected_lists.Given as goal
 
 abbrev pub invariant-loop-method : goal.invariant-loop-method
-invariant-loop-method l = AreSelected (resolved l.program) l.method l.lists.items
+invariant-loop-method l = AreSelected (resolved l.program) l.marks l.method l.lists.items
