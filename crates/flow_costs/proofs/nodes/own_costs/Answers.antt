@@ -1,0 +1,16 @@
+use Rattle.flow_costs.specs.Costs.{AreCodeCosts, AreOwnCosts}
+use Rattle.bytecode_model.specs.Program.{Program}
+use Rattle.method_flow.specs.Flow.{IsCodedOf}
+use Rattle.std.proofs.Common.{ℕ}
+use Rattle.flow_costs.proofs.Filling.{if_ok, own_of}
+use Rattle.flow_costs.proofs.nodes.own_costs.Goals as goal
+
+pub returns-clause-costs : goal.returns-clause-costs
+returns-clause-costs c =
+    let k = c.args.m.now in
+    let t = c.args.t in
+    let raise = c.method_raise_cost-raise.result in
+    let code = c.code.result.now in
+    if_ok (λ v. AreCodeCosts code t raise v.items) (λ v. (P : Program) (n : ℕ) → IsCodedOf P n k → AreOwnCosts P t n k.code v.items) c.code_costs.result
+    (λ v h P n of. own_of k t raise code v.items c.starts_follow_one_another.ensures c.code.ensures.code h c.method_raise_cost-raise.ensures.cost P n of)
+    c.code_costs.ensures.costs
