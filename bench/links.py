@@ -107,4 +107,5 @@ def main():
                 tell(room, 'hostile ' + name, 'A', hostile.files_of(name), 1)
 
 
-main()
+if __name__ == '__main__':
+    main()
