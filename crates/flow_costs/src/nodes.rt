@@ -1,6 +1,6 @@
 //! What the nodes of a method cost by themselves.
 
-ghost use Rattle.std.specs.Prelude.{◌≡◌, ◌≤◌, ◌<◌, ◌^◌, ℕ, All, IfOk, Ok, length};
+ghost use Rattle.std.specs.Prelude.{◌≡◌, ◌≤◌, ◌<◌, ◌*◌, ◌^◌, ℕ, All, IfOk, Ok, length};
 ghost use Rattle.jop_opcodes.specs.Instruction.{decoded};
 ghost use Rattle.jop_opcodes.specs.Start.{IsStart};
 ghost use Rattle.bytecode_model.specs.Program.{Program};
@@ -116,6 +116,7 @@ pub fn own_costs(alloc: Global, m: &FlowMethod, t: Timing) -> Result<Vec<u64>, N
     requires read { t.read ≤ 63 }
     requires write { t.write ≤ 63 }
     ensures costs { IfOk result (λ costs. (P : Program) (n : ℕ) → IsCodedOf P n m.now → AreOwnCosts P t n m.now.code costs.items) }
+    ensures long { IfOk result (λ costs. length costs.items ≡ 2 * length m.now.code) }
     ensures small { IfOk result (λ costs. All (λ c. c < 2 ^ 61) costs.items) }
 {
     starts_follow_one_another();
