@@ -2,7 +2,7 @@
 //! with the edges and exits that node 0 reaches.
 #![tactic(auto)]
 
-ghost use Rattle.std.specs.Prelude.{◌≡◌, ℕ, length, IfOk};
+ghost use Rattle.std.specs.Prelude.{◌≡◌, ◌*◌, ℕ, length, IfOk};
 ghost use Rattle.bytecode_model.specs.Program.{Program};
 ghost use Rattle.method_flow.specs.Flow.{IsCodedOf};
 ghost use Rattle.method_flow.specs.Graphs.{IsGraphBy, IsGraphOf};
@@ -30,7 +30,8 @@ use whole::method_graph;
 /// The graph of a method, on two numbers for each byte of its code: the instruction at place p has the number 2p, and the
 /// raise step at it 2p + 1. What node 0 doesn't reach has no edge and is no exit.
 pub fn whole_graph(alloc: Global, m: &FlowMethod) -> Result<Graph, NoMemory>
-    ensures { IfOk result (λ g. (P : Program) (n : ℕ) → IsCodedOf P n m.now → IsGraphOf P n g) }
+    ensures graph { IfOk result (λ g. (P : Program) (n : ℕ) → IsCodedOf P n m.now → IsGraphOf P n g) }
+    ensures nodes { IfOk result (λ g. g.nodes ≡ 2 * length m.now.code) }
 {
     laws::graphs_where_all_go_on();
     let calls = m.calls();
@@ -41,7 +42,8 @@ pub fn whole_graph(alloc: Global, m: &FlowMethod) -> Result<Graph, NoMemory>
 /// The same where a call whose flag is false doesn't go on to the instruction behind it. It keeps its raise step.
 pub fn graph_where(alloc: Global, m: &FlowMethod, goes: &[bool]) -> Result<Graph, NoMemory>
     requires { length goes.now ≡ length m.now.calls }
-    ensures { IfOk result (λ g. (P : Program) (n : ℕ) → IsCodedOf P n m.now → IsGraphBy (IsEdgeWhere P n m.now.calls goes.now) P n g) }
+    ensures graph { IfOk result (λ g. (P : Program) (n : ℕ) → IsCodedOf P n m.now → IsGraphBy (IsEdgeWhere P n m.now.calls goes.now) P n g) }
+    ensures nodes { IfOk result (λ g. g.nodes ≡ 2 * length m.now.code) }
 {
     method_graph(alloc, m, goes)
 }

@@ -100,7 +100,8 @@ fn cut(
     edges: &[(u32, u32)],
 ) -> Result<Graph, NoMemory>
     requires { AreCodeEdges m.now goes.now edges.now }
-    ensures { IfOk result (IsGraphWhere m.now goes.now) }
+    ensures graph { IfOk result (IsGraphWhere m.now goes.now) }
+    ensures nodes { IfOk result (λ g. g.nodes ≡ 2 * length m.now.code) }
 {
     jop_opcodes::laws::starts_follow_one_another();
     laws::code_graphs_are_graphs();
@@ -115,7 +116,8 @@ fn cut(
 /// The graph of a method where a call whose flag is false doesn't go on.
 pub fn method_graph(alloc: Global, m: &FlowMethod, goes: &[bool]) -> Result<Graph, NoMemory>
     requires { length goes.now ≡ length m.now.calls }
-    ensures { IfOk result (IsGraphWhere m.now goes.now) }
+    ensures graph { IfOk result (IsGraphWhere m.now goes.now) }
+    ensures nodes { IfOk result (λ g. g.nodes ≡ 2 * length m.now.code) }
 {
     let edges = code_edges(alloc, m, goes)?;
     cut(alloc, m, goes, &edges)

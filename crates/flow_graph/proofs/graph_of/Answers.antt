@@ -15,7 +15,7 @@ returns c =
     let both = ok_both c.placed.result (λ (m : MethodGraph). m.graph ≡ d) (λ (m : MethodGraph). m.nodes ≡ map place_of_number nodes) c.placed.ensures.graph c.placed.ensures.nodes in
     IfOk-weaker c.placed.result (λ (m : MethodGraph). (m.graph ≡ d) × (m.nodes ≡ map place_of_number nodes)) _ (λ m made P n of. record {
       whole = g;
-      is = c.in_ok-whole.ensures P n of;
+      is = c.in_ok-whole.ensures.graph P n of;
       compact = by_places g d m.graph nodes m.nodes h.compact made.0 made.1;
       long = ap length made.1 ∙ length-map nodes place_of_number ∙ h.long ∙ sym (ap (λ (x : Digraph). x.nodes) made.0);
     }) both

@@ -55,8 +55,8 @@ graph_from-requires-clause-exits c =
     let P : List ℕ → Type 0 = λ code. All (λ (u : ℕ). u < 2 * length code) us in
     subst P (sym c.code-code.ensures.code) (exits_within c.starts_follow_one_another.ensures k c.args.goes.now c.code-code.ensures.whole es c.requires flags r us leaves)
 
-pub returns : goal.returns
-returns c =
+pub returns-clause-graph : goal.returns-clause-graph
+returns-clause-graph c =
     let k = c.args.m.now in
     let es = c.args.edges.now in
     let flags = c.in_ok-flags.flags.items in
@@ -68,3 +68,6 @@ returns c =
     let size = made.nodes ∙ ap (λ (code : List ℕ). 2 * length code) c.code-code.ensures.code in
     let is = is_code_graph c.starts_follow_one_another.ensures k c.args.goes.now c.code-code.ensures.whole es c.requires flags r c.graph_from.result c.in_ok-kept.kept.items us made.digraph size kept made.edges leaves made.exits in
     λ P n of. c.code_graphs_are_graphs.ensures P n k c.args.goes.now c.graph_from.result c.code-code.ensures.whole of is
+
+pub returns-clause-nodes : goal.returns-clause-nodes
+returns-clause-nodes c = c.graph_from.ensures.nodes ∙ ap (λ (code : List ℕ). 2 * length code) c.code-code.ensures.code
