@@ -1,12 +1,14 @@
 -- What a search found is what may run in the program, and whether it fits the cache.
-use Rattle.std.proofs.Common.{◌≡◌, ◌⊎◌, ℕ, ◌*◌, ◌<◌, ◌≤◌, List, [], length, Contains, Option, Some, None, refl, sym, ap, ◌∙◌, subst, inl, inr, arith, is_some}
+use Rattle.std.proofs.Common.{◌≡◌, ◌⊎◌, ℕ, ◌*◌, ◌<◌, ◌≤◌, List, [], length, get_or, Contains, Option, Some, None, refl, sym, ap, ◌∙◌, subst, inl, inr, arith, is_some}
 use Rattle.std.specs.Prelude.{slice_get}
-use Rattle.std.proofs.lemmas.Option.{slice_get_cases}
+use Rattle.std.specs.List.Sorted.{IsStrictlyIncreasing}
+use Rattle.std.proofs.lemmas.Option.{slice_get_cases, slice_get_within}
 use Rattle.std.proofs.lemmas.List.Kept.{AllPairs-from_increasing}
-use Rattle.std.proofs.lemmas.List.Sorted.{sum_by-IsPermutation, Contains-permutation, IsPermutation-sym}
+use Rattle.std.proofs.lemmas.List.Sorted.{All-permutation, sum_by-IsPermutation, Contains-permutation, IsPermutation-sym}
 use Rattle.std.proofs.lemmas.List.Elements.{All-contains}
 use Rattle.word32.specs.Packed.{words_for}
 use Rattle.method_cache.specs.Contents.{blocks_for}
+use Rattle.cache_regions.specs.Region.{AreDistinct}
 use Rattle.lists.specs.Lemmas.{some_is, some_same, none≢some}
 use Rattle.lists.specs.Members.{at_head, cons_cases, nil_contains}
 use Rattle.bytecode_model.specs.Program.{Program, Body, body_of}
@@ -16,7 +18,7 @@ use Rattle.method_flow.specs.Regions.IsWithin.{itself as within_itself, calls as
 use Rattle.method_flow.specs.Regions.IsWithinNodes.{itself as nodes_itself, calls as nodes_calls}
 use Rattle.method_flow.specs.Recursion.{MayCall}
 use Rattle.call_regions.specs.Laws.{RunsAreCalls, WordsAreOfTheTable}
-use Rattle.call_regions.specs.Regions.{IsRegionAnswer}
+use Rattle.call_regions.specs.Regions.{AreOfTable, IsRegionAnswer}
 use Rattle.call_regions.specs.Searching.{IsSearch, Finds, IsFirst, IsWhole, IsAnswer}
 use Rattle.call_regions.specs.Tables.{HasCode, IsTargetAt, Runs, RunsAt, IsReached, words_of, blocks_in}
 use Rattle.call_regions.specs.Tables.IsReached.{given, later}
@@ -77,6 +79,20 @@ module _ (f : Flow) (block_words most : ℕ) where
             let fits_before : b.blocks ≤ most = omega arith in
             second.search.within x (second.all fits x (reached_more (first.all fits_before) r));
       }
+
+has_number : (f : Flow) (m : ℕ) → HasCode f m → m < length f.methods
+has_number f m code = slice_get_within f.methods m code.method code.is
+
+-- numbers that rise differ
+rising_differ : (xs : List ℕ) → IsStrictlyIncreasing xs → AreDistinct xs
+rising_differ xs rising i j d less below same = let up = AllPairs-from_increasing xs rising i j d less below in omega arith
+
+-- the answer of a search is of the table
+pub of_table : (f : Flow) (block_words most : ℕ) (s : Search) (r : Region) → IsSearch f block_words s → IsAnswer most s r → AreOfTable f r
+of_table f block_words most s (Fits xs) is a =
+    let coded = All-permutation (HasCode f) s.methods xs a.1 is.coded in
+    (λ k d lt. has_number f (get_or xs k d) (coded k d lt), rising_differ xs a.2)
+of_table f block_words most s Exceeds is past = tt
 
 -- ---- in the program
 
@@ -163,7 +179,7 @@ module _ (P : Program) (f : Flow) (flow : IsFlowOf P f) (calls : RunsAreCalls) w
         let total = is.search.blocks in
         record {
           methods = record {
-            distinct = λ i j d less below same'. let up = AllPairs-from_increasing xs rising i j d less below in omega arith;
+            distinct = rising_differ xs rising;
             each = λ x. (
               λ has. no_other x (Contains-permutation xs s.methods x (IsPermutation-sym s.methods xs moved) has),
               λ w. Contains-permutation s.methods xs x moved (all fits x w),

@@ -1,7 +1,9 @@
 -- Whether methods fit the method cache together (JOP Reference Handbook, "Method Cache").
-use Rattle.std.specs.Prelude.{ℕ, List}
+use Rattle.std.specs.Prelude.{ℕ, ◌<◌, List, length, All}
 use Rattle.std.specs.List.Sorted.{IsStrictlyIncreasing}
 use Rattle.bytecode_model.specs.Program.{Program}
+use Rattle.cache_regions.specs.Region.{AreDistinct}
+use Rattle.method_flow.specs.Flow.{Flow}
 use Rattle.method_flow.specs.Regions.{AreMethodsOf, Fit}
 use Rattle.call_regions.specs.declared.answers.Region.{Region}
 use Rattle.call_regions.specs.declared.answers.Region.TheVariants.{Fits, Exceeds}
@@ -16,3 +18,8 @@ pub record FitTogether (P : Program) (blocks block_words : ℕ) (K : ℕ → Typ
 abbrev pub IsRegionAnswer : Program → (blocks block_words : ℕ) → (K : ℕ → Type 0) → Region → Type 0
 IsRegionAnswer P blocks block_words K (Fits xs) = FitTogether P blocks block_words K xs
 IsRegionAnswer P blocks block_words K Exceeds = (xs : List ℕ) → AreMethodsOf K xs → Fit P blocks block_words xs → ⊥
+
+-- the methods of the answer are of the table, each once
+abbrev pub AreOfTable : Flow → Region → Type 0
+AreOfTable f (Fits xs) = All (λ m. m < length f.methods) xs × AreDistinct xs
+AreOfTable f Exceeds = Unit {0}

@@ -5,7 +5,7 @@ ghost use Rattle.bytecode_model.specs.Program.{Program};
 ghost use Rattle.cache_regions.specs.Region.{AreDistinct};
 ghost use Rattle.method_flow.specs.Flow.{IsFlowOf};
 ghost use Rattle.method_flow.specs.Regions.{IsWithin, IsWithinNodes};
-ghost use Rattle.call_regions.specs.Regions.{IsRegionAnswer};
+ghost use Rattle.call_regions.specs.Regions.{AreOfTable, IsRegionAnswer};
 ghost use Rattle.call_regions.specs.Tables.{RunsAt};
 ghost use Rattle.call_regions.specs.Searching.{IsFirst, IsWhole, IsAnswer};
 
@@ -108,7 +108,8 @@ pub fn region(
 ) -> Result<Region, NoMemory>
     requires m { m < length f.now.methods }
     requires block_words { 0 < block_words }
-    ensures { IfOk result (λ r. (P : Program) → IsFlowOf P f.now → IsRegionAnswer P blocks block_words (IsWithin P m) r) }
+    ensures region { IfOk result (λ r. (P : Program) → IsFlowOf P f.now → IsRegionAnswer P blocks block_words (IsWithin P m) r) }
+    ensures known { IfOk result (AreOfTable f.now) }
 {
     runs_are_calls();
     let cache = Cache {
@@ -131,7 +132,8 @@ pub fn loop_region(
 ) -> Result<Region, NoMemory>
     requires m { m < length f.now.methods }
     requires block_words { 0 < block_words }
-    ensures { IfOk result (λ r. (P : Program) → IsFlowOf P f.now → IsRegionAnswer P blocks block_words (IsWithinNodes P m members.now) r) }
+    ensures region { IfOk result (λ r. (P : Program) → IsFlowOf P f.now → IsRegionAnswer P blocks block_words (IsWithinNodes P m members.now) r) }
+    ensures known { IfOk result (AreOfTable f.now) }
 {
     runs_are_calls();
     let cache = Cache {
