@@ -20,9 +20,10 @@ use Rattle.method_flow.specs.Regions.IsWithin.{itself, calls}
 use Rattle.method_flow.specs.Regions.IsWithinNodes.{calls as nodes_calls}
 use Rattle.method_flow.specs.Recursion.{MayCall}
 use Rattle.method_flow.specs.declared.timing.Timing.{Timing}
+use Rattle.method_flow.specs.Costs.{IsPrintedOf}
 use Rattle.bound_rules.specs.Costs.{AreCosts, added}
 use Rattle.bound_rules.specs.Fitting.{RegionFits, LoopFits, loads_of}
-use Rattle.bound_rules.specs.Numbers.{Numbers, charged_loops, no_fees, IsValue, AreCharged, AreLoads, is_in_charged, full_and_back, loops_adds, IsInside, IsLoops, IsFull, AreNumbers, IsPrintedOf}
+use Rattle.bound_rules.specs.Numbers.{Numbers, charged_loops, no_fees, IsValue, AreCharged, AreLoads, is_in_charged, full_and_back, loops_adds, IsInside, IsLoops, IsFull, AreNumbers}
 use Rattle.bound_rules.specs.Numbers.IsFull.{fits, exceeds}
 use Rattle.bound_rules.specs.Laws.{ReachesStarts, CallsEnd, AreSameOf, ChargesAreOne, NumbersAreOne, PrintedIsOne}
 use Rattle.bound_rules.specs.Laws.CallsEnd.{ends}

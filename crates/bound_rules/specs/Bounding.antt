@@ -12,10 +12,11 @@ use Rattle.method_flow.specs.Keeping.{BoundOf}
 use Rattle.method_flow.specs.Regions.{IsWithin}
 use Rattle.method_flow.specs.Recursion.{IsRecursion}
 use Rattle.method_flow.specs.declared.timing.Timing.{Timing}
+use Rattle.method_flow.specs.Costs.{IsPrintedOf}
 use Rattle.bound_rules.specs.declared.faults.BoundRefusal.{BoundRefusal}
 use Rattle.bound_rules.specs.declared.faults.BoundRefusal.TheVariants.{NoMethod, Recursion, Irreducible, MissingBound, TooLarge, NoMemory}
 use Rattle.bound_rules.specs.Fitting.{RegionFits}
-use Rattle.bound_rules.specs.Numbers.{Numbers, charged_loops, no_fees, IsInside, IsLoops, AreNumbers, IsPrintedOf}
+use Rattle.bound_rules.specs.Numbers.{Numbers, charged_loops, no_fees, IsInside, IsLoops, AreNumbers}
 
 -- the method is asked for, which has code and isn't the one that starts the program
 pub record IsAsked (P : Program) (named : ℕ → Type 0) (root : ℕ) : Type 0 where

@@ -5,7 +5,7 @@ use Rattle.bound_cert.specs.Certificate.{Certificate}
 use Rattle.bytecode_model.specs.Program.{Program, body_of}
 use Rattle.method_flow.specs.Keeping.{BoundOf}
 use Rattle.method_flow.specs.declared.timing.Timing.{Timing}
-use Rattle.bound_rules.specs.Numbers.{IsPrintedOf}
+use Rattle.method_flow.specs.Costs.{IsPrintedOf}
 use Rattle.bound_rules.specs.Told.{Valued, section_value, SaysFull, most_cycles}
 use Rattle.bound_rules.specs.Sections.{MeetsSection}
 

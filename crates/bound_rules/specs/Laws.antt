@@ -20,10 +20,11 @@ use Rattle.method_flow.specs.Keeping.{BoundOf, WalkKeeps}
 use Rattle.method_flow.specs.Regions.{IsWithin}
 use Rattle.method_flow.specs.Recursion.{MayCall}
 use Rattle.method_flow.specs.declared.timing.Timing.{Timing}
+use Rattle.method_flow.specs.Costs.{IsPrintedOf}
 use Rattle.bound_rules.specs.declared.faults.CheckFault.{CheckFault}
 use Rattle.bound_rules.specs.Costs.{AreCosts}
 use Rattle.bound_rules.specs.Fitting.{RegionFits}
-use Rattle.bound_rules.specs.Numbers.{Numbers, LiveNest, charged_loops, AreCharged, IsValue, AreNumbers, IsPrintedOf, IsPrinted}
+use Rattle.bound_rules.specs.Numbers.{Numbers, LiveNest, charged_loops, AreCharged, IsValue, AreNumbers, IsPrinted}
 use Rattle.bound_rules.specs.Told.{Valued, section_value, value_in, TargetValues}
 use Rattle.bound_rules.specs.Sections.{IsSectionEdge, IsSectionNode, MeetsSection, section_bounds}
 use Rattle.bound_rules.specs.Conditions.{MeetAll, MeetsConditions}

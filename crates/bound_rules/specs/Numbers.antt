@@ -6,15 +6,13 @@ use Rattle.section_check.specs.Bounded.{BoundedLoop, holds, IsGreatest}
 use Rattle.section_check.specs.Placing.{IsAt}
 use Rattle.path_solver.specs.Reaching.{ReachesExit, IsFlagged}
 use Rattle.path_solver.specs.Longest.{bounded_loops}
-use Rattle.micro_flow.specs.Costs.{IsGreatestInvoke}
 use Rattle.bytecode_model.specs.Program.{Program}
 use Rattle.method_flow.specs.Calls.{IsCall, IsStartOf}
 use Rattle.method_flow.specs.Live.{IsLiveEdge}
 use Rattle.method_flow.specs.Graphs.{IsLiveGraph}
 use Rattle.method_flow.specs.Keeping.{BoundOf}
-use Rattle.method_flow.specs.Regions.{IsWithin, load, IsGreatestLoad}
+use Rattle.method_flow.specs.Regions.{IsWithin, load}
 use Rattle.method_flow.specs.declared.timing.Timing.{Timing}
-use Rattle.method_flow.specs.Costs.{params}
 use Rattle.bound_rules.specs.Costs.{added, AreCosts}
 use Rattle.bound_rules.specs.Fitting.{RegionFits, LoopFits, loads_of, header_bound, header_bounds}
 
@@ -119,15 +117,6 @@ pub record AreNumbers (P : Program) (t : Timing) (bound_of : BoundOf) (root : �
   pub full : (m : ℕ) → IsWithin P root m → IsFull P t N m
 
 -- ---- what is printed
-
--- What is printed of a method, by its number with all loads: before it the dearest invoke, and after it the greatest load of a method, of whichever control comes
--- back to.
-pub record IsPrintedOf (P : Program) (t : Timing) (full printed : Option ℕ) : Type 0 where
-  pub invoke : ℕ
-  pub is_invoke : IsGreatestInvoke (params t 0 0) invoke
-  pub greatest_load : ℕ
-  pub is_load : IsGreatestLoad P t.read greatest_load
-  pub is : printed ≡ option_map (λ n. invoke + n + greatest_load) full
 
 -- what is printed of a method, by the numbers
 pub record IsPrinted (P : Program) (t : Timing) (bound_of : BoundOf) (root : ℕ) (printed : Option ℕ) : Type 0 where

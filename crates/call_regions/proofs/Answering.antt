@@ -20,7 +20,7 @@ use Rattle.method_flow.specs.Recursion.{MayCall}
 use Rattle.call_regions.specs.Laws.{RunsAreCalls, WordsAreOfTheTable}
 use Rattle.call_regions.specs.Regions.{AreOfTable, IsRegionAnswer}
 use Rattle.call_regions.specs.Searching.{IsSearch, Finds, IsFirst, IsWhole, IsAnswer}
-use Rattle.call_regions.specs.Tables.{HasCode, IsTargetAt, Runs, RunsAt, IsReached, words_of, blocks_in}
+use Rattle.call_regions.specs.Tables.{IsOfTable, IsTargetAt, Runs, RunsAt, IsReached, words_of, blocks_in}
 use Rattle.call_regions.specs.Tables.IsReached.{given, later}
 use Rattle.call_regions.specs.declared.search.Search.{Search}
 use Rattle.call_regions.specs.declared.answers.Region.{Region}
@@ -80,7 +80,7 @@ module _ (f : Flow) (block_words most : ℕ) where
             second.search.within x (second.all fits x (reached_more (first.all fits_before) r));
       }
 
-has_number : (f : Flow) (m : ℕ) → HasCode f m → m < length f.methods
+has_number : (f : Flow) (m : ℕ) → IsOfTable f m → m < length f.methods
 has_number f m code = slice_get_within f.methods m code.method code.is
 
 -- numbers that rise differ
@@ -90,7 +90,7 @@ rising_differ xs rising i j d less below same = let up = AllPairs-from_increasin
 -- the answer of a search is of the table
 pub of_table : (f : Flow) (block_words most : ℕ) (s : Search) (r : Region) → IsSearch f block_words s → IsAnswer most s r → AreOfTable f r
 of_table f block_words most s (Fits xs) is a =
-    let coded = All-permutation (HasCode f) s.methods xs a.1 is.coded in
+    let coded = All-permutation (IsOfTable f) s.methods xs a.1 is.coded in
     (λ k d lt. has_number f (get_or xs k d) (coded k d lt), rising_differ xs a.2)
 of_table f block_words most s Exceeds is past = tt
 
@@ -156,14 +156,14 @@ module _ (P : Program) (f : Flow) (flow : IsFlowOf P f) (calls : RunsAreCalls) w
     found : s.blocks ≤ most → {y x : ℕ} → IsReached f K y → IsWithin P y x → Contains s.methods x
     found fits {y} r within_itself = is.all fits y r
     found fits {y} r (within_calls {m} {t} {x} p start call target rest) =
-        let code = All-contains (HasCode f) s.methods y is.search.coded (is.all fits y r) in
+        let code = All-contains (IsOfTable f) s.methods y is.search.coded (is.all fits y r) in
         let from = (calls P f y p t flow code).1 (record { start = start; call = call; is_target = target }) in
         found fits (later r (record { place = p; from = from })) rest
 
     found_at : s.blocks ≤ most → {members : List ℕ} → ((x : ℕ) → RunsAt f m members x → K x) → {x : ℕ} → IsWithinNodes P m members x → Contains s.methods x
     found_at fits {members} seeds (nodes_itself same) = let Q : ℕ → Type 0 = λ z. Contains s.methods z in subst Q (sym same) is.itself
     found_at fits {members} seeds (nodes_calls p t node start call target rest) =
-        let code = All-contains (HasCode f) s.methods m is.search.coded is.itself in
+        let code = All-contains (IsOfTable f) s.methods m is.search.coded is.itself in
         let from = (calls P f m p t flow code).1 (record { start = start; call = call; is_target = target }) in
         found fits (given (seeds t (record { place = p; node = node; from = from }))) rest
 
@@ -210,7 +210,7 @@ module _ (P : Program) (f : Flow) (flow : IsFlowOf P f) (calls : RunsAreCalls) w
 
 -- ---- calls of a method at nodes
 
-pub runs_at : (f : Flow) (m t : ℕ) (nodes : List ℕ) (code : HasCode f m) → IsTargetAt f code.method.calls nodes t → RunsAt f m nodes t
+pub runs_at : (f : Flow) (m t : ℕ) (nodes : List ℕ) (code : IsOfTable f m) → IsTargetAt f code.method.calls nodes t → RunsAt f m nodes t
 runs_at f m t nodes code at = record { place = at.call.place; node = at.node; from = record { code = code; call = at.call; among = at.among; at = refl; lists = at.lists } }
 
 pub at_runs : (f : Flow) (m t : ℕ) (nodes : List ℕ) (k : Coded) → slice_get f.methods m ≡ Some k → RunsAt f m nodes t → IsTargetAt f k.calls nodes t

@@ -11,7 +11,7 @@ use Rattle.std.proofs.lemmas.List.Elements.{All-contains, Contains-append_left}
 use Rattle.std.proofs.lemmas.Option.{slice_get-get_or, slice_get_within, get_or_from_slice_get}
 use Rattle.lists.specs.Lemmas.{some_same}
 use Rattle.method_flow.specs.Flow.{Flow, Coded}
-use Rattle.call_regions.specs.Tables.{HasCode, IsTargetOf, Runs, IsReached, words_of, blocks_in}
+use Rattle.call_regions.specs.Tables.{IsOfTable, IsTargetOf, Runs, IsReached, words_of, blocks_in}
 use Rattle.call_regions.specs.Tables.IsReached.{given, later}
 use Rattle.call_regions.specs.Searching.{IsSearch, Finds}
 use Rattle.call_regions.specs.declared.search.Search.{Search}
@@ -30,7 +30,7 @@ div_ceil-some a b some size =
     ]
 
 -- a method takes a block at least
-pub block_of : (f : Flow) (block_words z : ℕ) → 0 < block_words → HasCode f z → 0 < blocks_in f block_words z
+pub block_of : (f : Flow) (block_words z : ℕ) → 0 < block_words → IsOfTable f z → 0 < blocks_in f block_words z
 block_of f block_words z size code =
     let P : Option Coded → Type 0 = λ o. 0 < blocks_for block_words (words_of o) in
     subst P (sym code.is) (div_ceil-some (words_for (length code.method.code)) block_words (div_ceil-some (length code.method.code) 4 code.coded.not_empty (omega arith)) size)
@@ -52,7 +52,7 @@ runs_one f y t k is r =
     let P : Coded → Type 0 = λ j. Contains j.calls r.from.call in
     record { call = r.from.call; among = subst P same r.from.among; lists = r.from.lists }
 
-pub target_runs : (f : Flow) (y t : ℕ) (code : HasCode f y) → IsTargetOf f code.method.calls t → Runs f y t
+pub target_runs : (f : Flow) (y t : ℕ) (code : IsOfTable f y) → IsTargetOf f code.method.calls t → Runs f y t
 target_runs f y t code target = record { place = target.call.place; from = record { code = code; call = target.call; among = target.among; at = refl; lists = target.lists } }
 
 module _ (f : Flow) (block_words most : ℕ) where
@@ -73,7 +73,7 @@ module _ (f : Flow) (block_words most : ℕ) where
       let e : get_or c.queue i y ≡ get_or b.queue i y = ap (λ (q : List ℕ). get_or q i y) finds.queue ∙ get_or_append_left b.queue finds.more y i lt in
       slice_get-get_or b.queue i y lt ∙ ap Some (sym e ∙ get_or_from_slice_get c.queue i y y at)
 
-  pub explores_more : (a b c : Search) (at y : ℕ) (code : HasCode f y) → Explores f block_words most a b at → b.blocks ≤ most → slice_get b.queue at ≡ Some y → Finds f block_words most (IsTargetOf f code.method.calls) b c
+  pub explores_more : (a b c : Search) (at y : ℕ) (code : IsOfTable f y) → Explores f block_words most a b at → b.blocks ≤ most → slice_get b.queue at ≡ Some y → Finds f block_words most (IsTargetOf f code.method.calls) b c
       → Explores f block_words most a c (at + 1)
   explores_more a b c at y code was fits here finds = record {
     search = finds.search;
@@ -127,7 +127,7 @@ module _ (f : Flow) (block_words most : ℕ) where
   -- the queue is no longer than there are blocks
   pub queue_is_short : 0 < block_words → (s : Search) → IsSearch f block_words s → length s.queue ≤ s.blocks
   queue_is_short size s search =
-      let each : (z : ℕ) → Contains s.queue z → 0 < blocks_in f block_words z = λ z c. block_of f block_words z size (All-contains (HasCode f) s.methods z search.coded (search.within z c)) in
+      let each : (z : ℕ) → Contains s.queue z → 0 < blocks_in f block_words z = λ z c. block_of f block_words z size (All-contains (IsOfTable f) s.methods z search.coded (search.within z c)) in
       let count = length-le-sum_by (blocks_in f block_words) s.queue each in
       let part = sum_of_part (blocks_in f block_words) s.queue s.methods search.queued_once search.within in
       let total = search.blocks in

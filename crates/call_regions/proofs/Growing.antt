@@ -6,7 +6,7 @@ use Rattle.std.proofs.lemmas.List.Elements.{All-push, Contains-push, Contains-pu
 use Rattle.cache_regions.specs.Region.{AreDistinct}
 use Rattle.upward_order.specs.Numbers.{with_number}
 use Rattle.method_flow.specs.Flow.{Flow}
-use Rattle.call_regions.specs.Tables.{HasCode, blocks_in}
+use Rattle.call_regions.specs.Tables.{IsOfTable, blocks_in}
 use Rattle.call_regions.specs.Searching.{IsSearch, Adds, Finds}
 use Rattle.call_regions.specs.declared.search.Search.{Search}
 use Rattle.call_regions.proofs.Lists.{is_with, distinct_push}
@@ -25,13 +25,13 @@ module _ (f : Flow) (block_words : ℕ) where
   adds_known s t search has = record { search = search; queue = refl; kept = λ x c. c; has = has; only = λ x c. inl c }
 
   -- and one that wasn't
-  pub adds_new : (old : Search) (new : Search) (t : ℕ) → IsSearch f block_words old → (Contains old.methods t → ⊥) → HasCode f t → new.queue ≡ old.queue → new.methods ≡ with_number old.methods t → new.blocks ≡ old.blocks + blocks_in f block_words t
+  pub adds_new : (old : Search) (new : Search) (t : ℕ) → IsSearch f block_words old → (Contains old.methods t → ⊥) → IsOfTable f t → new.queue ≡ old.queue → new.methods ≡ with_number old.methods t → new.blocks ≡ old.blocks + blocks_in f block_words t
       → Adds f block_words t old new
   adds_new old new t search apart code queue methods blocks =
       let are : new.methods ≡ old.methods ++ t ∷ [] =
       elim (is_with old.methods t) [ had c e ↦ absurd (apart c) | added never e ↦ methods ∙ e ] in
       let D : List ℕ → Type 0 = λ ms. AreDistinct ms in
-      let C : List ℕ → Type 0 = λ ms. All (HasCode f) ms in
+      let C : List ℕ → Type 0 = λ ms. All (IsOfTable f) ms in
       let H : ℕ → List ℕ → Type 0 = λ x ms. Contains ms x in
       let kept : (x : ℕ) → Contains old.methods x → Contains new.methods x = λ x c. subst (H x) (sym are) (Contains-append_left old.methods (t ∷ []) x c) in
       record {
@@ -39,7 +39,7 @@ module _ (f : Flow) (block_words : ℕ) where
           within = λ x c. kept x (search.within x (let Q : List ℕ → Type 0 = λ q. Contains q x in subst Q queue c));
           distinct = subst D (sym are) (distinct_push old.methods t search.distinct apart);
           queued_once = subst D (sym queue) search.queued_once;
-          coded = subst C (sym are) (All-push (HasCode f) old.methods t search.coded code);
+          coded = subst C (sym are) (All-push (IsOfTable f) old.methods t search.coded code);
           blocks =
               blocks ∙ ap (λ n. n + blocks_in f block_words t) search.blocks ∙ sym (sum_by_push (blocks_in f block_words) old.methods t) ∙ ap (sum_by (blocks_in f block_words)) (sym are);
         };
@@ -69,7 +69,7 @@ module _ (f : Flow) (block_words : ℕ) where
         let are : new.queue ≡ old.queue ++ t ∷ [] =
         queue ∙ ap (λ q. with_number q t) adds.queue ∙ elim (is_with old.queue t) [ had c e ↦ absurd (apart c) | added never e ↦ e ] in
         let D : List ℕ → Type 0 = λ ms. AreDistinct ms in
-        let C : List ℕ → Type 0 = λ ms. All (HasCode f) ms in
+        let C : List ℕ → Type 0 = λ ms. All (IsOfTable f) ms in
         let H : ℕ → List ℕ → Type 0 = λ x ms. Contains ms x in
         let known : (x : ℕ) → Contains mid.methods x → Contains new.methods x = λ x c. subst (H x) (sym methods) c in
         record {

@@ -18,7 +18,7 @@ use Rattle.method_flow.specs.Flow.{Flow, IsFlowOf, IsInvokeStart, range_of, targ
 use Rattle.method_flow.specs.Kinds.{RowsAreOfTheirKinds}
 use Rattle.call_regions.specs.Calling.{MayCallAt}
 use Rattle.call_regions.specs.Laws.{RunsAreCalls}
-use Rattle.call_regions.specs.Tables.{HasCode, RunsFrom}
+use Rattle.call_regions.specs.Tables.{IsOfTable, RunsFrom}
 
 map_found : {X Y : Type 0} (f : X → Y) (xs : List X) (y : Y) → Contains (map f xs) y → (x : X) × Contains xs x × (f x ≡ y)
 map_found f [] y c = absurd (nil_contains y c)
@@ -44,14 +44,14 @@ decoded_as : (r : Result Instr DecodeFault) (i : Instr) → as_instr r ≡ Some 
 decoded_as (Ok j) i e = ap Ok (some_same j i e)
 decoded_as r i e = absurd (cc)
 
-module _ (P : Program) (f : Flow) (m : ℕ) (flow : IsFlowOf P f) (code : HasCode f m) where
+module _ (P : Program) (f : Flow) (m : ℕ) (flow : IsFlowOf P f) (code : IsOfTable f m) where
   is_body : (b : Body) × (body_of P m ≡ Some b) × (b.code ≡ code.method.code)
   is_body =
       let of = flow.methods m code.method code.is in
       let found = some_is (body_of P m) (λ (b : Body). (b.code ≡ code.method.code) × (map range_of b.handlers ≡ code.method.ranges)) of.body in
       (found.0, found.1, found.2.0)
 
-  may_run : (place t : ℕ) (k : HasCode f m) (c : Call) → Contains k.method.calls c → c.place ≡ place → Contains (targets_of_call f c) t → MayCallAt P m place t
+  may_run : (place t : ℕ) (k : IsOfTable f m) (c : Call) → Contains k.method.calls c → c.place ≡ place → Contains (targets_of_call f c) t → MayCallAt P m place t
   may_run place t k c among at lists =
       let invoke = (k.coded.calls c.place).0 (map_contains (λ (d : Call). d.place) k.method.calls c among) in
       let of = flow.methods m k.method k.is in

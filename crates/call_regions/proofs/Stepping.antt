@@ -9,7 +9,7 @@ use Rattle.std.proofs.lemmas.Option.{slice_get-get_or, slice_get_within, get_or_
 use Rattle.lists.specs.Members.{nil_contains}
 use Rattle.cache_regions.specs.Region.{AreDistinct}
 use Rattle.method_flow.specs.Flow.{Flow, targets_of_call}
-use Rattle.call_regions.specs.Tables.{HasCode, Runs, IsReached}
+use Rattle.call_regions.specs.Tables.{IsOfTable, Runs, IsReached}
 use Rattle.call_regions.specs.Tables.IsReached.{later}
 use Rattle.call_regions.specs.Walking.{state_of, IsDone, steps_of, steps_left, AreWalked, IsVisit, AreMethodsDone, AreMethods, IsRing, IsTableOrder}
 use Rattle.call_regions.specs.declared.walk.State.{State}
@@ -225,7 +225,7 @@ module _ (f : Flow) (root : ℕ) where
               | inr past ↦
                   let last : length done ≡ i = omega arith in
                   let is_m : m ≡ x = sym (get_or_push done m x i last) ∙ get_or_from_slice_get (done ++ m ∷ []) i x x at in
-                  let H : ℕ → Type 0 = λ z. HasCode f z × ((t : ℕ) → Runs f z t → Contains (take i (done ++ m ∷ [])) t) in
+                  let H : ℕ → Type 0 = λ z. IsOfTable f z × ((t : ℕ) → Runs f z t → Contains (take i (done ++ m ∷ [])) t) in
                   let here : H m = (
                     finished.code,
                     λ t runs.

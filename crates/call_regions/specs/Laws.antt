@@ -5,12 +5,12 @@ use Rattle.bytecode_model.specs.Program.{Program}
 use Rattle.method_flow.specs.Flow.{Flow, Coded, IsFlowOf}
 use Rattle.method_flow.specs.Regions.{code_words}
 use Rattle.call_regions.specs.Calling.{MayCallAt, IsTargetsFirst, IsCallCause}
-use Rattle.call_regions.specs.Tables.{HasCode, RunsFrom}
+use Rattle.call_regions.specs.Tables.{IsOfTable, RunsFrom}
 use Rattle.call_regions.specs.declared.answers.CallFault.TheVariants.{Recursion}
 
 -- the calls in the table of a program are those of the program
 abbrev pub RunsAreCalls : Type 0
-RunsAreCalls = (P : Program) (f : Flow) (m place t : ℕ) → IsFlowOf P f → HasCode f m → RunsFrom f m place t ↔ MayCallAt P m place t
+RunsAreCalls = (P : Program) (f : Flow) (m place t : ℕ) → IsFlowOf P f → IsOfTable f m → RunsFrom f m place t ↔ MayCallAt P m place t
 
 -- a method's code takes the words in the table that it takes in the program
 abbrev pub WordsAreOfTheTable : Type 0

@@ -9,14 +9,14 @@ use Rattle.call_regions.specs.declared.answers.Region.{Region}
 use Rattle.call_regions.specs.declared.answers.Region.TheVariants.{Fits, Exceeds}
 
 -- these are exactly the methods of a set, rising, and a cache of so many blocks of so many words holds them all at once
-pub record FitTogether (P : Program) (blocks block_words : ℕ) (K : ℕ → Type 0) (xs : List ℕ) : Type 0 where
+pub record IsFittingRegion (P : Program) (blocks block_words : ℕ) (K : ℕ → Type 0) (xs : List ℕ) : Type 0 where
   pub methods : AreMethodsOf K xs
   pub fit : Fit P blocks block_words xs
   pub rising : IsStrictlyIncreasing xs
 
 -- the methods of a set, where the cache holds them all at once; that it doesn't, where no list of exactly these fits
 abbrev pub IsRegionAnswer : Program → (blocks block_words : ℕ) → (K : ℕ → Type 0) → Region → Type 0
-IsRegionAnswer P blocks block_words K (Fits xs) = FitTogether P blocks block_words K xs
+IsRegionAnswer P blocks block_words K (Fits xs) = IsFittingRegion P blocks block_words K xs
 IsRegionAnswer P blocks block_words K Exceeds = (xs : List ℕ) → AreMethodsOf K xs → Fit P blocks block_words xs → ⊥
 
 -- the methods of the answer are of the table, each once

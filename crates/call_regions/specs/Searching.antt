@@ -3,7 +3,7 @@ use Rattle.std.specs.Prelude.{◌≡◌, ◌⊎◌, ℕ, ◌^◌, ◌<◌, ◌�
 use Rattle.std.specs.List.Sorted.{IsStrictlyIncreasing, IsPermutation}
 use Rattle.cache_regions.specs.Region.{AreDistinct}
 use Rattle.method_flow.specs.Flow.{Flow}
-use Rattle.call_regions.specs.Tables.{HasCode, IsReached, blocks_in}
+use Rattle.call_regions.specs.Tables.{IsOfTable, IsReached, blocks_in}
 use Rattle.call_regions.specs.declared.search.Search.{Search}
 use Rattle.call_regions.specs.declared.answers.Region.{Region}
 use Rattle.call_regions.specs.declared.answers.Region.TheVariants.{Fits, Exceeds}
@@ -13,7 +13,7 @@ pub record IsSearch (f : Flow) (block_words : ℕ) (s : Search) : Type 0 where
   pub within : (x : ℕ) → Contains s.queue x → Contains s.methods x
   pub distinct : AreDistinct s.methods
   pub queued_once : AreDistinct s.queue
-  pub coded : All (HasCode f) s.methods
+  pub coded : All (IsOfTable f) s.methods
   pub blocks : s.blocks ≡ sum_by (blocks_in f block_words) s.methods
 
 -- the method is among those that were found, beside the old ones

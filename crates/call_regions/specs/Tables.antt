@@ -6,14 +6,14 @@ use Rattle.method_flow.specs.Flow.{Flow, Coded, IsCoded, targets_of_call}
 use Rattle.method_flow.specs.declared.flow.Call.{Call}
 
 -- the method is in the table
-pub record HasCode (f : Flow) (m : ℕ) : Type 0 where
+pub record IsOfTable (f : Flow) (m : ℕ) : Type 0 where
   pub method : Coded
   pub is : slice_get f.methods m ≡ Some method
   pub coded : IsCoded method
 
 -- these are the method's calls
 pub record HasCalls (f : Flow) (m : ℕ) (calls : List Call) : Type 0 where
-  pub code : HasCode f m
+  pub code : IsOfTable f m
   pub are : calls ≡ code.method.calls
 
 -- one of these calls may run the target
@@ -31,7 +31,7 @@ pub record IsTargetAt (f : Flow) (calls : List Call) (nodes : List ℕ) (target 
 
 -- the method's call at the place may run the target
 pub record RunsFrom (f : Flow) (m place target : ℕ) : Type 0 where
-  pub code : HasCode f m
+  pub code : IsOfTable f m
   pub call : Call
   pub among : Contains code.method.calls call
   pub at : call.place ≡ place

@@ -3,7 +3,7 @@ use Rattle.std.specs.Prelude.{◌≡◌, ◌≢◌, ◌↔◌, ℕ, ◌+◌, ◌
 use Rattle.cache_regions.specs.Region.{AreDistinct}
 use Rattle.method_flow.specs.Flow.{Flow, Coded, targets_of_call}
 use Rattle.method_flow.specs.declared.flow.Call.{Call}
-use Rattle.call_regions.specs.Tables.{HasCode, Runs, IsReached}
+use Rattle.call_regions.specs.Tables.{IsOfTable, Runs, IsReached}
 use Rattle.call_regions.specs.declared.walk.State.{State}
 use Rattle.call_regions.specs.declared.walk.State.TheVariants.{New, Open, Done}
 use Rattle.call_regions.specs.declared.walk.Visit.{Visit}
@@ -57,12 +57,12 @@ pub record IsVisit (f : Flow) (states : List State) (v : Visit) : Type 0 where
 
 -- the target at the visit's place isn't done
 pub record IsLeftAt (f : Flow) (states : List State) (v : Visit) (t : ℕ) : Type 0 where
-  pub code : HasCode f v.method
+  pub code : IsOfTable f v.method
   pub target : IsLeft f states code.method.calls v.call v.target t
 
 -- all targets of the method are done
 pub record AreMethodsDone (f : Flow) (states : List State) (m : ℕ) : Type 0 where
-  pub code : HasCode f m
+  pub code : IsOfTable f m
   pub targets : AreAllDone f states code.method.calls
 
 abbrev pub methods_of : List Visit → List ℕ
@@ -74,7 +74,7 @@ EachRunsNext f ms = (i : ℕ) → i + 1 < length ms → Runs f (slice_index ms i
 
 -- each method is behind its targets
 abbrev pub AreBehindTargets : Flow → List ℕ → Type 0
-AreBehindTargets f order = (i m : ℕ) → slice_get order i ≡ Some m → HasCode f m × ((t : ℕ) → Runs f m t → Contains (take i order) t)
+AreBehindTargets f order = (i m : ℕ) → slice_get order i ≡ Some m → IsOfTable f m × ((t : ℕ) → Runs f m t → Contains (take i order) t)
 
 -- the methods of a walk from a root: those that are open, each of which runs the next, and those that are done
 pub record AreMethods (f : Flow) (root : ℕ) (states : List State) (path done : List ℕ) : Type 0 where

@@ -1,13 +1,11 @@
--- What the nodes of a method cost by themselves, by their numbers, and what is printed beside the number of a method.
+-- What the nodes of a method cost by themselves, by their numbers, and what it takes to load methods.
 use Rattle.std.specs.Prelude.{◌≡◌, ℕ, ◌+◌, ◌*◌, ◌<◌, ◌%◌, ◌/◌, ◌==◌, if◌then◌else◌, List, length, slice_index, slice_get, Option, Some, None, Ok}
-use Rattle.std.specs.Option.{option_map}
 use Rattle.word32.specs.Packed.{words_for}
 use Rattle.cache_regions.specs.Region.{load_stall}
 use Rattle.jop_opcodes.specs.declared.instruction.Instr.{Instr}
 use Rattle.jop_opcodes.specs.Bytes.{u1}
 use Rattle.jop_opcodes.specs.Instruction.{decoded}
 use Rattle.jop_opcodes.specs.Start.{IsStart}
-use Rattle.micro_flow.specs.Costs.{IsGreatestInvoke}
 use Rattle.micro_flow.specs.Walk.{IsCost}
 use Rattle.loop_bounds.specs.Bounds.{LoopBound, bound_in}
 use Rattle.bytecode_model.specs.Lists.{onto}
@@ -17,7 +15,6 @@ use Rattle.method_flow.specs.Nodes.{At, RaiseAt}
 use Rattle.method_flow.specs.Costs.{params, IsOwnCost}
 use Rattle.method_flow.specs.Flow.{Coded, Flow}
 use Rattle.method_flow.specs.Keeping.{BoundOf}
-use Rattle.method_flow.specs.Regions.{IsGreatestLoad}
 
 -- ---- own costs
 
@@ -58,11 +55,3 @@ code_load read code = load_stall read (words_for (length code))
 -- and that of a method of the table
 abbrev pub method_load : (read : ℕ) → List Coded → (method : ℕ) → ℕ
 method_load read methods m = elim (slice_get methods m) [ None ↦ 0 | Some k ↦ code_load read k.code ]
-
--- What is printed of a method, by its number with all loads: before it the dearest invoke, and after it the greatest load of a method.
-pub record IsPrintedWith (P : Program) (t : Timing) (full printed : Option ℕ) : Type 0 where
-  pub invoke : ℕ
-  pub is_invoke : IsGreatestInvoke (params t 0 0) invoke
-  pub greatest_load : ℕ
-  pub is_load : IsGreatestLoad P t.read greatest_load
-  pub is : printed ≡ option_map (λ n. invoke + n + greatest_load) full

@@ -16,7 +16,7 @@ pub fn bound_at(f: &FlowProgram, b: &Bounds, m: u32, pc: u32) -> Option<u32>
 }
 
 /// The bounds of the loops of a method with these headers, which are numbers of nodes: a raise step has none.
-pub fn header_bounds(
+pub fn bounds_of_headers(
     alloc: Global,
     f: &FlowProgram,
     b: &Bounds,

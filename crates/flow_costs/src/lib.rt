@@ -5,6 +5,6 @@ mod bounds;
 mod nodes;
 mod stalls;
 
-pub use bounds::{bound_at, header_bounds};
+pub use bounds::{bound_at, bounds_of_headers};
 pub use nodes::own_costs;
 pub use stalls::{greatest_load, load, loads, printed};

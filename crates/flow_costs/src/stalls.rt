@@ -4,9 +4,9 @@ ghost use Rattle.cache_regions.specs.Region.{AreDistinct};
 ghost use Rattle.bytecode_model.specs.Program.{Program};
 ghost use Rattle.method_flow.specs.Flow.{IsCodedOf, IsFlowOf};
 ghost use Rattle.method_flow.specs.Regions.{load, loads, IsGreatestLoad};
-ghost use Rattle.method_flow.specs.Costs.{params};
+ghost use Rattle.method_flow.specs.Costs.{params, IsPrintedOf};
 ghost use Rattle.micro_flow.specs.Costs.{IsGreatestInvoke};
-ghost use Rattle.flow_costs.specs.Costs.{code_load, method_load, IsPrintedWith};
+ghost use Rattle.flow_costs.specs.Costs.{code_load, method_load};
 
 use method_flow::{FlowMethod, FlowProgram, Timing};
 use micro_flow::{CostParams, greatest_invoke_cost};
@@ -81,7 +81,7 @@ fn greatest_invoke(t: Timing) -> u64
 pub fn printed(f: &FlowProgram, t: Timing, full: Option<u64>) -> Option<u128>
     requires read { t.read ≤ 63 }
     requires write { t.write ≤ 63 }
-    ensures { (P : Program) → IsFlowOf P f.now → IsPrintedWith P t full result }
+    ensures { (P : Program) → IsFlowOf P f.now → IsPrintedOf P t full result }
 {
     let around = u128::from(greatest_invoke(t)) + u128::from(greatest_load(f, t.read));
     match full {

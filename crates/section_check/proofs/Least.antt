@@ -1,40 +1,12 @@
--- Least numbers, step by step.
-use Rattle.std.proofs.Common.{◌≡◌, ℕ, ◌+◌, ◌<◌, ◌≤◌, ◌⊎◌, List, length, get_or, min, Contains, Option, Some, None, sym, ap, ◌∙◌, subst, inl, inr, arith}
+-- The least misplaced node, step by step.
+use Rattle.std.proofs.Common.{◌≡◌, ℕ, ◌+◌, ◌<◌, ◌≤◌, ◌⊎◌, List, length, get_or, Contains, Option, sym, ap, ◌∙◌, subst, inl, inr, arith}
 use Rattle.std.proofs.lemmas.Bool.{cases_lt}
-use Rattle.std.proofs.lemmas.List.{get_or_default}
 use Rattle.loop_nest.specs.Digraph.{Digraph}
 use Rattle.section_check.specs.Section.{Certified, CertifiedLoop, listed}
 use Rattle.section_check.specs.Placing.{IsAt, HeadsFaulty, IsMisplaced}
 use Rattle.section_check.specs.Placing.IsMisplaced.{lists_no_node, holds_no_node, heads_faulty, enters_aside, holds_entry, exceeds_limit}
-use Rattle.section_check.specs.Least.{IsLeast, lesser_of, IsBeyond, IsMemberBeyond, LeadsAside, IsWrongEntry, IsWithin}
-
--- what stands at a place
-pub same_at : {X : Type 0} (xs : List X) (i : ℕ) (x r : X) → IsAt xs i x → r ≡ get_or xs i r → r ≡ x
-same_at xs i x r at is = is ∙ get_or_default xs i r x at.0 ∙ at.1
-
-pub one_more : (k m : ℕ) (P : ℕ → Type 0) → ((n : ℕ) → n < k → P n) → P k → m < k + 1 → P m
-one_more k m P before here lt =
-    elim (cases_lt m k) [
-      | inl less ↦ before m less
-      | inr not_less ↦ let same : k ≡ m = omega arith in subst P same here
-    ]
-
-pub least_same : (P Q : ℕ → Type 0) (o : Option ℕ) → ((u : ℕ) → P u → Q u) → ((u : ℕ) → Q u → P u) → IsLeast P o → IsLeast Q o
-least_same P Q None to from h = λ u q. h u (from u q)
-least_same P Q (Some n) to from h = (to n h.0, λ u less q. h.1 u less (from u q))
-
--- the least number with one property or the other is the lesser of the least with each
-pub least_either : (P Q R : ℕ → Type 0) (a b : Option ℕ) → ((u : ℕ) → P u → R u) → ((u : ℕ) → Q u → R u) → ((u : ℕ) → R u → P u ⊎ Q u) → IsLeast P a → IsLeast Q b → IsLeast R (lesser_of a b)
-least_either P Q R None None p q cases ha hb = λ u r. elim (cases u r) [ inl x ↦ ha u x | inr y ↦ hb u y ]
-least_either P Q R None (Some n) p q cases ha hb = (q n hb.0, λ u less r. elim (cases u r) [ inl x ↦ ha u x | inr y ↦ hb.1 u less y ])
-least_either P Q R (Some m) None p q cases ha hb = (p m ha.0, λ u less r. elim (cases u r) [ inl x ↦ ha.1 u less x | inr y ↦ hb u y ])
-least_either P Q R (Some m) (Some n) p q cases ha hb = (
-  elim (cases_lt m n) [
-    | inl less ↦ let e : m ≡ min m n = omega arith in subst R e (p m ha.0)
-    | inr ge ↦ let e : n ≡ min m n = omega arith in subst R e (q n hb.0)
-  ],
-  λ u less r. elim (cases u r) [ inl x ↦ ha.1 u (omega arith) x | inr y ↦ hb.1 u (omega arith) y ],
-)
+use Rattle.section_check.specs.LeastLemmas.{same_at, least_same, least_either}
+use Rattle.section_check.specs.Least.{IsLeast, lesser_of, IsBeyond, IsMemberBeyond, LeadsAside, IsWrongEntry}
 
 -- u is a member of one of the first i loops, and not below n
 pub record IsHeldBelow (n : ℕ) (ls : List CertifiedLoop) (i u : ℕ) : Type 0 where
@@ -68,12 +40,6 @@ pub held_all : (n : ℕ) (ls : List CertifiedLoop) (i : ℕ) (o : Option ℕ) �
 held_all n ls i o all h =
     least_same (IsHeldBelow n ls i) (IsMemberBeyond n ls) o (λ u x. (record { holder = x.holder; among = (x.place, x.at.0, x.at.1); inside = x.inside }, x.high))
     (λ u y. let below = y.0.among.1 in record { place = y.0.among.0; holder = y.0.holder; early = omega arith; at = (y.0.among.1, y.0.among.2); inside = y.0.inside; high = y.1 }) h
-
-pub within_as : (us vs ms ns : List ℕ) → us ≡ ms → vs ≡ ns → IsWithin us vs → IsWithin ms ns
-within_as us vs ms ns a b h =
-    let P : List ℕ → Type 0 = λ zs. IsWithin us zs in
-    let Q : List ℕ → Type 0 = λ zs. IsWithin zs ns in
-    subst Q a (subst P b h)
 
 -- the least number with one property or the other
 least_or : (P Q : ℕ → Type 0) (a b : Option ℕ) → IsLeast P a → IsLeast Q b → IsLeast (λ u. P u ⊎ Q u) (lesser_of a b)

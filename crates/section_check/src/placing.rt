@@ -11,7 +11,7 @@ use super::section::{CertLoop, Section};
 use loop_nest::Graph;
 
 /// The lesser of two nodes, or the one that there is.
-fn lesser(a: Option<u32>, b: Option<u32>) -> Option<u32>
+pub fn lesser(a: Option<u32>, b: Option<u32>) -> Option<u32>
     ensures { result ≡ lesser_of a b }
 {
     match (a, b) {

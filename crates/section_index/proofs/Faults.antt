@@ -8,7 +8,7 @@ use Rattle.section_check.specs.Section.{CertifiedLoop}
 use Rattle.section_check.specs.Placing.{IsAt, SharesHeader, LiesInRegion, CrossesAnother, IsFaulty, LiesIn, EntersAside}
 use Rattle.section_check.specs.Placing.IsFaulty.{shares_header, leaves_header_out, crosses_another, does_not_fit, lies_in_region}
 use Rattle.section_check.specs.Least.{IsLeast}
-use Rattle.section_check.proofs.Least.{same_at, one_more}
+use Rattle.section_check.specs.LeastLemmas.{same_at, one_more}
 use Rattle.section_index.specs.Numbering.{Crosses, AreNumbers, AreHolders, IsPlaced}
 
 one_at : (ls : List CertifiedLoop) (i : ℕ) (l m : CertifiedLoop) → IsAt ls i l → IsAt ls i m → m ≡ l

@@ -15,7 +15,7 @@ use Rattle.crossing_sets.specs.Family.{AreSets, set_at}
 use Rattle.section_check.specs.Section.{CertifiedLoop, MembersRise}
 use Rattle.section_check.specs.Placing.{IsAt}
 use Rattle.section_check.specs.Least.{IsLeast, IsMemberBeyond}
-use Rattle.section_check.proofs.Least.{same_at}
+use Rattle.section_check.specs.LeastLemmas.{same_at}
 use Rattle.section_check.proofs.Headed.{itself_at}
 use Rattle.section_index.specs.Numbering.{AreNodes, AreNumbers, ArePlaces, ArePlaced}
 use Rattle.section_index.proofs.Elements.{lower_place}

@@ -3,7 +3,7 @@ use Rattle.std.proofs.lemmas.Option.{slice_get_within}
 use Rattle.std.proofs.lemmas.List.Elements.{All-contains}
 use Rattle.method_flow.specs.declared.flow.Call.{Call}
 use Rattle.call_regions.specs.Searching.{Finds}
-use Rattle.call_regions.specs.Tables.{HasCode, IsTargetOf}
+use Rattle.call_regions.specs.Tables.{IsOfTable, IsTargetOf}
 use Rattle.call_regions.proofs.Lists.{from_get}
 use Rattle.call_regions.proofs.Exploring.{explores_none, explores_more, explored, queue_is_short}
 use Rattle.call_regions.proofs.search.add_reached.Goals as goal
@@ -16,7 +16,7 @@ calls_of-requires c =
     let s = c.loop-at.s in
     let search = c.loop-at.invariant.search in
     let y = c.in-Some.method in
-    let code = All-contains (HasCode c.args.f.now) s.methods y search.coded (search.within y (from_get s.queue c.loop-at.at y c.in-Some.ensures.some.1)) in
+    let code = All-contains (IsOfTable c.args.f.now) s.methods y search.coded (search.within y (from_get s.queue c.loop-at.at y c.in-Some.ensures.some.1)) in
     slice_get_within c.args.f.now.methods y code.method code.is
 
 pub loop-at-preserved : goal.loop-at-preserved

@@ -1,7 +1,7 @@
 use Rattle.std.proofs.Common.{sym, ◌∙◌}
 use Rattle.std.proofs.lemmas.List.{get_or_default}
 use Rattle.section_check.specs.Placing.{IsAt}
-use Rattle.section_check.proofs.Least.{one_more}
+use Rattle.section_check.specs.LeastLemmas.{one_more}
 use Rattle.section_check.proofs.Sharing.{crossed_back, itself_uncrossed}
 use Rattle.section_check.proofs.faulty.crosses_another.Goals as goal
 

@@ -4,7 +4,7 @@ use Rattle.std.proofs.lemmas.List.{get_or_default}
 use Rattle.std.proofs.lemmas.List.Sorted.{IsNonDecreasingBy-from_all_adjacent}
 use Rattle.section_check.specs.Section.{CertifiedLoop}
 use Rattle.section_check.specs.Placing.{IsAt, IsFaulty}
-use Rattle.section_check.proofs.Least.{one_more}
+use Rattle.section_check.specs.LeastLemmas.{one_more}
 use Rattle.section_check.proofs.faulty.faulty_header.Goals as goal
 
 pub returns-then-is_faulty : goal.returns-then-is_faulty

@@ -3,7 +3,7 @@ use Rattle.std.proofs.lemmas.Bool.{false≢true}
 use Rattle.section_check.specs.Section.{CertifiedLoop}
 use Rattle.section_check.specs.Placing.{IsAt}
 use Rattle.section_check.proofs.Headed.{itself_at}
-use Rattle.section_check.proofs.Least.{same_at}
+use Rattle.section_check.specs.LeastLemmas.{same_at}
 use Rattle.section_index.proofs.Faults.{holder_among, no_region_more, no_region, no_number}
 use Rattle.section_index.proofs.faulty.lies_in_region.Goals as goal
 
