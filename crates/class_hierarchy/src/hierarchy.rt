@@ -23,6 +23,9 @@ use jop_base::NoMemory;
 use std::alloc::Global;
 use std::marker::Model;
 
+/// The flag of a class whose `invokespecial` instructions look superclasses up (JVM Specification SE 8, table 4.1-B).
+const ACC_SUPER: u16 = 0x0020;
+
 /// Classes of which none is its own superclass or superinterface, with tables of what stands above each. Contracts see it as the
 /// list of the classes.
 #[derive(Drop)]
@@ -240,7 +243,7 @@ impl Hierarchy {
         ensures { (s : Signature) → symbol self.now s.name ≡ Some name → result ≡ is_of_superclass self.now current named s }
     {
         !self.is_initializer(name)
-            && has_flags(self.classes.class(current).flags, 0x0020)
+            && has_flags(self.classes.class(current).flags, ACC_SUPER)
             && self.is_subclass(current, named)
     }
 

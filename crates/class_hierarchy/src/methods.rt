@@ -8,6 +8,10 @@ ghost use Rattle.class_hierarchy.specs.Selecting.{is_open, is_near, is_joining};
 use class_lookup::parts::has_flags;
 use class_lookup::{Classes, Place};
 use class_pool::Member;
+use class_rules::flags::{ACC_PRIVATE, ACC_PROTECTED, ACC_PUBLIC, ACC_STATIC};
+
+/// The flags of which a package-private method has none.
+const ACCESS: u16 = 0x0007;
 
 /// The method of this place.
 pub(crate) fn method_at(classes: &Classes, place: Place) -> Option<&Member>
@@ -29,7 +33,7 @@ pub(crate) fn is_public_instance(classes: &Classes, place: Place) -> bool
     ensures { result ≡ is_public_instance classes.now place }
 {
     match method_at(classes, place) {
-        Some(method) => has_flags(method.flags, 0x0001) && !has_flags(method.flags, 0x0008),
+        Some(method) => has_flags(method.flags, ACC_PUBLIC) && !has_flags(method.flags, ACC_STATIC),
         None => false,
     }
 }
@@ -39,7 +43,7 @@ pub(crate) fn is_instance(classes: &Classes, place: Place) -> bool
     ensures { result ≡ is_instance classes.now place }
 {
     match method_at(classes, place) {
-        Some(method) => !has_flags(method.flags, 0x0008),
+        Some(method) => !has_flags(method.flags, ACC_STATIC),
         None => false,
     }
 }
@@ -49,7 +53,7 @@ pub(crate) fn is_virtual(classes: &Classes, place: Place) -> bool
     ensures { result ≡ is_virtual classes.now place }
 {
     match method_at(classes, place) {
-        Some(method) => !(has_flags(method.flags, 0x0008) || has_flags(method.flags, 0x0002)),
+        Some(method) => !(has_flags(method.flags, ACC_STATIC) || has_flags(method.flags, ACC_PRIVATE)),
         None => false,
     }
 }
@@ -61,7 +65,7 @@ pub(crate) fn is_open(classes: &Classes, place: Place) -> bool
     match method_at(classes, place) {
         Some(method) => {
             is_virtual(classes, place)
-                && (has_flags(method.flags, 0x0001) || has_flags(method.flags, 0x0004))
+                && (has_flags(method.flags, ACC_PUBLIC) || has_flags(method.flags, ACC_PROTECTED))
         }
         None => false,
     }
@@ -73,7 +77,7 @@ fn is_near(classes: &Classes, place: Place, resolved: Place) -> bool
 {
     match method_at(classes, resolved) {
         Some(method) => {
-            !has_flags(method.flags, 0x0007)
+            !has_flags(method.flags, ACCESS)
                 && classes.are_in_one_package(place.class, resolved.class)
         }
         None => false,

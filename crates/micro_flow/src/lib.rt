@@ -10,6 +10,7 @@ pub mod laws;
 mod price;
 mod table;
 
+use jop_opcodes::mnemonics::{INVOKEINTERFACE, INVOKESPECIAL, INVOKESTATIC, INVOKEVIRTUAL};
 use price::RowCost;
 use table::{RAISE, cost_of};
 
@@ -50,10 +51,10 @@ pub fn greatest_invoke_cost(p: CostParams) -> u64
     requires w { p.w ≤ 63 }
     ensures { IsGreatestInvoke p result }
 {
-    cost(182, p)
-        .max(cost(183, p))
-        .max(cost(184, p))
-        .max(cost(185, p))
+    cost(INVOKEVIRTUAL, p)
+        .max(cost(INVOKESPECIAL, p))
+        .max(cost(INVOKESTATIC, p))
+        .max(cost(INVOKEINTERFACE, p))
 }
 
 #[cfg(test)]
