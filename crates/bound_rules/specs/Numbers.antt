@@ -11,6 +11,7 @@ use Rattle.method_flow.specs.Calls.{IsCall, IsStartOf}
 use Rattle.method_flow.specs.Live.{IsLiveEdge}
 use Rattle.method_flow.specs.Graphs.{IsLiveGraph}
 use Rattle.method_flow.specs.Keeping.{BoundOf}
+use Rattle.method_flow.specs.Costs.{IsPrintedOf}
 use Rattle.method_flow.specs.Regions.{IsWithin, load}
 use Rattle.method_flow.specs.declared.timing.Timing.{Timing}
 use Rattle.bound_rules.specs.Costs.{added, AreCosts}

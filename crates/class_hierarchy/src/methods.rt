@@ -53,7 +53,8 @@ pub(crate) fn is_virtual(classes: &Classes, place: Place) -> bool
     ensures { result ≡ is_virtual classes.now place }
 {
     match method_at(classes, place) {
-        Some(method) => !(has_flags(method.flags, ACC_STATIC) || has_flags(method.flags, ACC_PRIVATE)),
+        Some(method) => !(has_flags(method.flags, ACC_STATIC)
+            || has_flags(method.flags, ACC_PRIVATE)),
         None => false,
     }
 }
