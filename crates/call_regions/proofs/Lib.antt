@@ -4,7 +4,7 @@ mod Growing
 mod Exploring
 mod Placing
 mod Answering
-mod Sorting
+pub mod Sorting
 mod Ordering
 mod Stepping
 mod Visiting

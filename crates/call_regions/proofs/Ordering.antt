@@ -9,15 +9,27 @@ use Rattle.method_flow.specs.Flow.{Flow, IsFlowOf}
 use Rattle.method_flow.specs.Regions.{IsWithin}
 use Rattle.method_flow.specs.Regions.IsWithin.{itself as within_itself, calls as within_calls}
 use Rattle.method_flow.specs.Recursion.{MayCall, IsCallChain, IsCallCycle}
+use Rattle.call_regions.specs.Regions.{AreKnown}
 use Rattle.call_regions.specs.Calling.{IsTargetsFirst, IsCallCause}
 use Rattle.call_regions.specs.Laws.{RunsAreCalls, OrderExcludesCycles}
 use Rattle.call_regions.specs.Tables.{Runs, IsReached}
 use Rattle.call_regions.specs.Walking.{EachRunsNext, IsRing, IsRingCause, IsTableOrder}
 use Rattle.call_regions.specs.declared.answers.CallFault.{CallFault}
 use Rattle.call_regions.specs.declared.answers.CallFault.TheVariants.{NoMemory, Recursion}
-use Rattle.std.proofs.lemmas.List.Elements.{All-weaker, All-head}
+use Rattle.std.proofs.lemmas.Option.{slice_get_within}
+use Rattle.std.proofs.lemmas.List.Elements.{All-weaker, All-head, All-contains_itself}
 use Rattle.call_regions.proofs.Lists.{distinct_single, from_take, from_get, from_taken, get_contained}
 use Rattle.call_regions.proofs.Answering.{run_may, reached_within}
+
+-- the methods of an order are of the table
+pub known_order : (f : Flow) (root : ℕ) (order : List ℕ) → IsTableOrder f root order → AreKnown f order
+known_order f root order is =
+    let K : ℕ → Type 0 = λ m. m < length f.methods in
+    let known : (m : ℕ) → Contains order m → K m = λ m has.
+    let at = get_contained order m has in
+    let here = (is.behind at.0 m at.1).0 in
+    slice_get_within f.methods m here.method here.is in
+    (All-weaker (Contains order) K known order (All-contains_itself order), is.once)
 
 module _ (P : Program) (f : Flow) (flow : IsFlowOf P f) (calls : RunsAreCalls) where
   first_is : (root x : ℕ) → x ≡ root → IsWithin P root x

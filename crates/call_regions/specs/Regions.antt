@@ -19,7 +19,11 @@ abbrev pub IsRegionAnswer : Program → (blocks block_words : ℕ) → (K : ℕ 
 IsRegionAnswer P blocks block_words K (Fits xs) = IsFittingRegion P blocks block_words K xs
 IsRegionAnswer P blocks block_words K Exceeds = (xs : List ℕ) → AreMethodsOf K xs → Fit P blocks block_words xs → ⊥
 
--- the methods of the answer are of the table, each once
+-- these are methods of the table, each once
+abbrev pub AreKnown : Flow → List ℕ → Type 0
+AreKnown f xs = All (λ m. m < length f.methods) xs × AreDistinct xs
+
+-- and so are the methods of the answer
 abbrev pub AreOfTable : Flow → Region → Type 0
-AreOfTable f (Fits xs) = All (λ m. m < length f.methods) xs × AreDistinct xs
+AreOfTable f (Fits xs) = AreKnown f xs
 AreOfTable f Exceeds = Unit {0}

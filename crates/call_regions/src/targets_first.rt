@@ -3,6 +3,7 @@ ghost use Rattle.std.specs.Prelude.{◌≡◌, ◌<◌, [], ◌∷◌, length, I
 ghost use Rattle.bytecode_model.specs.Program.{Program};
 ghost use Rattle.method_flow.specs.Flow.{IsFlowOf};
 ghost use Rattle.call_regions.specs.Walking.{IsTableOrder, IsRingCause};
+ghost use Rattle.call_regions.specs.Regions.{AreKnown};
 ghost use Rattle.call_regions.specs.Calling.{IsTargetsFirst, IsCallCause};
 
 use super::answers::{CallFault, Order};
@@ -38,6 +39,7 @@ fn methods_from(alloc: Global, f: &FlowProgram, root: u32) -> Result<Vec<u32>, C
 /// there is one. A method without code runs none.
 pub fn order(alloc: Global, f: &FlowProgram, root: u32) -> Result<Order, CallFault>
     ensures order { IfOk result (λ o. (P : Program) → IsFlowOf P f.now → IsTargetsFirst P root o.methods) }
+    ensures known { IfOk result (λ o. root < length f.now.methods → AreKnown f.now o.methods) }
     ensures cause { IfErr result (λ e. (P : Program) → IsFlowOf P f.now → IsCallCause P root e) }
 {
     runs_are_calls();

@@ -1,9 +1,10 @@
 use Rattle.std.proofs.Common.{ℕ, ◌<◌, List, length, sym, subst, inl, inr, arith, rules, IfErr}
 use Rattle.std.proofs.lemmas.Bool.{cases_lt}
+use Rattle.call_regions.specs.Regions.{AreKnown}
 use Rattle.call_regions.specs.Calling.{IsTargetsFirst}
 use Rattle.call_regions.specs.Walking.{IsRingCause}
 use Rattle.call_regions.proofs.Sorting.{if_err}
-use Rattle.call_regions.proofs.Ordering.{table_order, lone_order, call_cause}
+use Rattle.call_regions.proofs.Ordering.{table_order, lone_order, known_order, call_cause}
 use Rattle.call_regions.proofs.targets_first.order.Goals as goal
 
 pub returns-clause-order : goal.returns-clause-order
@@ -19,6 +20,12 @@ returns-clause-order c = λ P flow.
           let none : root < length f.methods → ⊥ = λ lt. omega arith in
           subst T (sym (c.in_ok-methods.ensures.outside none)) (lone_order P f flow calls root none)
     ])
+
+pub returns-clause-known : goal.returns-clause-known
+returns-clause-known c = λ lt.
+    let f = c.args.f.now in
+    let K : List ℕ → Type 0 = λ xs. AreKnown f xs in
+    subst K (sym c.new.ensures) (known_order f c.args.root c.in_ok-methods.methods.items (c.in_ok-methods.ensures.inside lt))
 
 pub returns-in_err-methods-clause-cause : goal.returns-in_err-methods-clause-cause
 returns-in_err-methods-clause-cause c =
