@@ -1,0 +1,31 @@
+use Rattle.activations.specs.Setting.{Setting, IsSetting}
+use Rattle.bound_sound.proofs.Known.{Known}
+use Rattle.bound_sound.proofs.Sound.{certificates_are_sound}
+use Rattle.bound_sound.proofs.certificates_are_sound.Goals as goal
+
+pub returns : goal.returns
+returns c = certificates_are_sound c.activations_are_trees.ensures c.activations_are_walks.ensures c.stays_keep.ensures c.all_are_met.ensures c.invokes_keep_the_greatest.ensures known
+  where
+    known : (g : Setting) → IsSetting g → Known g
+    known g setting =
+        let words = c.places_tell_words.ensures g setting in
+        record {
+          setting = setting;
+          words = words.0;
+          are_words = words.1;
+          live_graphs = λ m b is. c.live_graphs_exist.ensures g.program g.types setting.typed m b is;
+          packed = c.packed_has_words.ensures;
+          sums = c.loads_keep_the_sum.ensures;
+          follow = c.look_ups_follow.ensures;
+          stalls = c.stalls_follow.ensures;
+          steps = c.steps_are_told.ensures;
+          paid = c.stays_are_paid.ensures;
+          walks = c.stays_are_walks.ensures;
+          ending = c.ending_is_a_walk.ensures;
+          found = c.sections_are_found.ensures;
+          headers = c.headers_have_bounds.ensures;
+          no_end = c.no_value_no_end.ensures;
+          edges = c.live_edges_stay.ensures;
+          bounded = c.sections_bound_walks.ensures;
+          coded = c.methods_have_code.ensures;
+        }

@@ -1,0 +1,38 @@
+//! Certificates of methods bound what activations of the methods take on the machine. Definitions and a law alone: what the law
+//! says stands in `specs/Laws`.
+#![tactic(auto)]
+
+ghost use Rattle.bound_sound.specs.Laws.{CertificatesAreSound};
+
+/// Where a certificate meets its conditions, each activation of its root that keeps the bounds of loops takes at most as many
+/// cycles as its last line says; where that line says never, no such activation ends. The function does nothing; a caller whose
+/// proof needs the law calls it.
+pub fn certificates_are_sound()
+    ensures { CertificatesAreSound }
+{
+    // The laws are for the proof. Of activations and their steps:
+    activations::laws::places_tell_words();
+    activations::laws::steps_are_told();
+    activations::laws::activations_are_trees();
+    activations::laws::activations_are_walks();
+    activations::laws::stays_are_walks();
+    activations::laws::stays_keep();
+    // of graphs of methods:
+    live_graphs::laws::live_graphs_exist();
+    method_flow::laws::ending_is_a_walk();
+    method_flow::laws::invokes_keep_the_greatest();
+    // of sections:
+    bound_rules::laws::all_are_met();
+    bound_rules::laws::sections_are_found();
+    bound_rules::laws::headers_have_bounds();
+    bound_rules::laws::no_value_no_end();
+    bound_rules::laws::live_edges_stay();
+    bound_rules::laws::sections_bound_walks();
+    bound_rules::laws::methods_have_code();
+    // of what stays cost, and of look-ups:
+    stay_costs::laws::stays_are_paid();
+    cache_regions::laws::loads_keep_the_sum();
+    cache_regions::laws::look_ups_follow();
+    cache_regions::laws::stalls_follow();
+    word32::laws::packed_has_words();
+}
