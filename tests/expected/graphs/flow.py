@@ -48,9 +48,9 @@ def successors(code, place, behind):
 
 
 class Graph:
-    """the nodes that are reached from the first instruction, their edges and the exits, rising"""
+    """the nodes that are reached from the first instruction, their edges and the exits, rising; control goes on behind no invoke at a place of `stopped`"""
 
-    def __init__(self, body):
+    def __init__(self, body, stopped=()):
         code, handlers = body['code'], body['handlers']
         starts = [at for at, _, _ in instructions(code)]
         behind = dict(zip(starts, starts[1:] + [len(code)]))
@@ -59,7 +59,7 @@ class Graph:
             place, raised = node
             if raised:
                 return {(entry[2], False) for entry in handlers if entry[0] <= place < entry[1]}
-            found = {(each, False) for each in successors(code, place, behind[place])}
+            found = {(each, False) for each in successors(code, place, behind[place]) if place not in stopped}
             return found | {(place, True)} if code[place] in RAISING else found
         self.after, todo = {}, [(0, False)]
         while todo:
