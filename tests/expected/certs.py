@@ -35,7 +35,8 @@ def line(t):
         if w[1] == 'never': return ('b', None)
         if num(w[1], P64) is not None: return ('b', int(w[1]))
     return None
-def read(text):
+def parse(text):
+    """version, root, sections and bound of a text, or what is said of the first line that is refused"""
     ls = text.split('\n')
     if ls[-1] == '': ls.pop()
     v = r = None; ss = []; end = False; b = None
@@ -60,7 +61,11 @@ def read(text):
             ss[-1][3].append(e[1:])
         elif e[0] == 'b': b = e[1]; end = True
         else: return bad
-    if not end: return f'bad line={len(ls) + 1}'
+    return (v, r, ss, b) if end else f'bad line={len(ls) + 1}'
+def read(text):
+    found = parse(text)
+    if isinstance(found, str): return found
+    v, r, ss, b = found
     o = f'version={v} root={r}'
     for k, m, ns, lo in ss:
         o += f' {k} {m}' + ''.join(f' {u}:{z}' for u, z in ns)
