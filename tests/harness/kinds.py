@@ -1,4 +1,5 @@
 """The kinds of tables, by the ending of the file of their rows. README.md, one folder up, has their formats."""
+import analysis
 import asm_text
 import calls
 import class_files
@@ -14,4 +15,6 @@ KINDS = {
     'images': images.Words(),
     'opcodes': opcodes.Opcodes(),
     'asm': asm_text.Assembled(),
+    'checked': analysis.Checked(),
+    'bounded': analysis.Bounded(),
 }

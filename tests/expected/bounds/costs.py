@@ -25,6 +25,12 @@ class Timing:
         return [word for name, value, usual in given if value != usual for word in (name, str(value))]
 
 
+def with_options(words):
+    """the timing for which the words of a command ask"""
+    names = {'--blocks': 'blocks', '--block-words': 'block_words', '--read': 'read', '--write': 'write'}
+    return Timing(**{names[name]: int(value) for name, value in zip(words[::2], words[1::2])})
+
+
 def sum_of(text):
     """a sum as a dictionary: the number that stands with each of '', 'r', 'w' and ' per pair'"""
     found = {}

@@ -1,0 +1,85 @@
+"""Programs by hand whose numbers are worked out by hand too."""
+import os
+import struct
+import sys
+
+sys.path.append(os.path.join(os.path.dirname(os.path.abspath(__file__)), '../graphs'))
+import made  # noqa: E402
+
+PUBLIC_STATIC = 9
+GOTO, STATIC, RETURN = b'\xa7', b'\xb8', b'\xb1'
+
+
+class Hand(made.ClassFile):
+    """class A, whose methods are static"""
+
+    def __init__(self, name='A'):
+        super().__init__(name)
+
+    def static(self, name, descriptor, code, stack=2, local=2, table=(), frames=()):
+        self.method(PUBLIC_STATIC, name, descriptor, (stack, local, code, list(table), list(frames)))
+        return self
+
+    def call(self, name, descriptor='()V', owner=None):
+        return STATIC + struct.pack('>H', self.member(10, owner or self.own_name, name, descriptor))
+
+    @property
+    def own_name(self):
+        return self.name
+
+    def main(self, code=RETURN):
+        return self.static('main', made.MAIN, code)
+
+
+
+def counting(front, body, first=5):
+    """code that runs `front`, then a loop with `body` while local 0 counts down, and returns; its header is the place that is answered with the frames"""
+    header = len(front) + 2
+    behind = header + 4 + len(body) + 6
+    code = front + bytes([3 + first, 0x3b, 0x1a, 0x9e]) + struct.pack('>h', behind - header - 1) + body
+    code += b'\x84\x00\xff' + GOTO + struct.pack('>h', header - len(code) - 3) + RETURN
+    frames = [b'\xfc' + struct.pack('>HB', header, 1), bytes([behind - header - 1])]
+    return code, header, frames
+
+
+def dead(front, words, frames):
+    """code of so many words: behind what runs, which ends at its last return, stands code that isn't reached, with a frame"""
+    size = 4 * words
+    last = max([-1, *(place for place, _ in frames)])
+    delta = len(front) - last - 1
+    code = front + bytes(size - len(front) - 1) + RETURN
+    return code, [each for _, each in frames] + [struct.pack('>BH', 251, delta)]
+
+
+def worked():
+    """methods that return, that never end, that call, that loop, that divide under a handler"""
+    k = Hand()
+    k.static('e', '()V', RETURN)
+    k.static('g', '()V', GOTO + b'\0\0', frames=[b'\0'])
+    k.static('c', '()V', k.call('e') + RETURN)
+    k.static('h', '()V', k.call('g') + RETURN)
+    code, _, frames = counting(b'', b'')
+    k.static('n', '()V', code, frames=frames)
+    # 0 iload_0, 1 ifle 10, 4 iinc, 7 goto 0, 10 return: its first instruction heads a loop
+    k.static('l', '(I)V', bytes.fromhex('1a9e00098400ffa7fff9b1'), frames=[b'\0', b'\x09'])
+    # 0 iload_0, 1 iload_1, 2 idiv, 3 ireturn, and from 4 on, where the division raises, pop, iload_0, ireturn
+    k.static('d', '(II)I', bytes.fromhex('1a1b6cac571aac'), table=[(0, 3, 4, 0)], frames=[b'\x44\x07' + struct.pack('>H', k.cls('java/lang/Throwable'))])
+    code, _, frames = counting(b'', k.call('e'))
+    k.static('k', '()V', code, frames=frames)
+    k.static('b', '()V', k.call('k') + k.call('c') + RETURN)
+    k.main()
+    return k.data()
+
+
+def regions(words=384):
+    """a method of 256 words whose loop calls one of so many words and one of 384, and that calls one of 256 before the loop"""
+    k = Hand()
+    code, header, frames = counting(k.call('c'), k.call('a') + k.call('b'))
+    behind = header + 1 + frames[1][0]
+    code, frames = dead(code, 256, [(header, frames[0]), (behind, frames[1])])
+    k.static('m', '()V', code, frames=frames)
+    for name, size in (('a', words), ('b', 384), ('c', 256)):
+        code, frames = dead(RETURN, size, [])
+        k.static(name, '()V', code, frames=frames)
+    k.main(k.call('m') + RETURN)
+    return k.data()

@@ -1,0 +1,107 @@
+"""Kinds of tables whose cases are an image and what is asked of its methods: whether certificates hold, and bounds.
+
+The first row of a case is `program`, a title, the name of the class whose main is run, and class files: in hexadecimal digits, or `of`, a table and words with which a row
+of it begins that has them. The parts of the other rows stand between tabs; in a text `|` stands for a line feed.
+"""
+import os
+import sys
+
+from class_files import told
+from kind import Kind, files_of
+from table import rows_of
+
+HERE = os.path.dirname(os.path.abspath(__file__))
+TABLES = os.path.join(HERE, '../tables')
+MARK = 'cafebabe'
+
+
+def program_of(row):
+    """the title, the name of the main class and the class files of a row"""
+    _, title, main, *words = row.split(' ')
+    if words[0] == 'of':
+        front = ' '.join(words[2:]) + ' '
+        found = next(line for _, line in rows_of(os.path.join(TABLES, words[1])) if line.startswith(front))
+        words = [each.split('=')[-1] for each in found.split(' ')]
+    return title, main, files_of([each for each in words if each.startswith(MARK)])
+
+
+def text_of(part):
+    """the bytes of a text, each line with its end"""
+    return ''.join(line + '\n' for line in part.split('|')).encode() if part else b''
+
+
+class Asked(Kind):
+    """the line that each row's command prints"""
+
+    def begins(self, row):
+        return row.startswith('program ')
+
+    def title(self, row):
+        return row.split(' ')[1]
+
+    def answer(self, caller, rows):
+        title, main, files = program_of(rows[0])
+        linked = caller.link(main, files)
+        yield '%s: %s' % (title, 'linked' if linked.status == 0 else told(linked))
+        caller.put('image', linked.out)
+        for number, row in enumerate(rows[1:]):
+            word, *parts = row.split('\t')
+            yield '%s: %s' % (parts[0], self.asked(caller, word, *parts[1:]))
+
+
+class Checked(Asked):
+    """what `check` says: rows are `check`, a title, options, bounds and a certificate; or `change`, a title, and changes of the lines of the last whole one"""
+
+    def asked(self, caller, word, *parts):
+        if word == 'check':
+            self_options, bounds, text = parts
+            caller.asked = self_options.split(), text_of(bounds), text.split('|')
+        options, bounds, lines = caller.asked
+        return checked(caller, options, bounds, lines if word == 'check' else changed(lines, parts))
+
+
+def changed(lines, changes):
+    """lines with changes, from the last line to the first: `N=LINE` in place of line N, `N+LINE` in front of it, or `N-`, without it"""
+    lines = list(lines)
+    for change in changes:
+        digits = len(change) - len(change.lstrip('0123456789'))
+        place, way, line = int(change[:digits]) - 1, change[digits], change[digits + 1:]
+        lines[place:place + (way != '+')] = [] if way == '-' else [line]
+    return lines
+
+
+def checked(caller, options, bounds, lines):
+    """the line of `check`"""
+    caller.put('bounds', bounds)
+    caller.put('certificate', text_of('|'.join(lines)))
+    return held(caller.call(['check', *options, 'image', 'bounds', 'certificate']))
+
+
+def held(answer):
+    """the line of a certificate that holds, or why it doesn't"""
+    line = answer.line()
+    return line if answer.status == 0 and line.startswith('holds ') and not answer.out else told(answer)
+
+
+class Bounded(Asked):
+    """what `bound` says: rows are `bound`, a title, options, a method and bounds; its certificate has to hold, also for another checker"""
+
+    def answer(self, caller, rows):
+        sys.path.append(os.path.join(HERE, '../expected/bounds'))
+        from check import answer, flow
+        from costs import with_options
+        _, main, files = program_of(rows[0])
+        program = flow.Program(main, files)
+        caller.other = lambda options, bounds, text: answer(program, with_options(options), bounds, text)
+        return super().answer(caller, rows)
+
+    def asked(self, caller, word, options, method, bounds):
+        options, bounds = options.split(), text_of(bounds)
+        caller.put('bounds', bounds)
+        answer = caller.call(['bound', *options, '--method', method, 'image', 'bounds'])
+        if answer.status != 0 or answer.err:
+            return told(answer)
+        caller.put('certificate', answer.out)
+        lines = answer.out.decode('utf-8', 'replace').split('\n')
+        found = [held(caller.call(['check', *options, 'image', 'bounds', 'certificate'])), caller.other(options, bounds, answer.out.decode('latin-1'))]
+        return ', '.join([lines[0], lines[-2] if len(lines) > 1 else '', *sorted(set(found))])
