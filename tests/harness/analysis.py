@@ -44,7 +44,7 @@ class Asked(Kind):
         linked = caller.link(main, files)
         yield '%s: %s' % (title, 'linked' if linked.status == 0 else told(linked))
         caller.put('image', linked.out)
-        for number, row in enumerate(rows[1:]):
+        for row in rows[1:]:
             word, *parts = row.split('\t')
             yield '%s: %s' % (parts[0], self.asked(caller, word, *parts[1:]))
 
@@ -53,15 +53,16 @@ class Checked(Asked):
     """what `check` says: rows are `check`, a title, options, bounds and a certificate; or `change`, a title, and changes of the lines of the last whole one"""
 
     def asked(self, caller, word, *parts):
-        if word == 'check':
-            self_options, bounds, text = parts
-            caller.asked = self_options.split(), text_of(bounds), text.split('|')
-        options, bounds, lines = caller.asked
-        return checked(caller, options, bounds, lines if word == 'check' else changed(lines, parts))
+        if word == 'change':
+            return checked(caller, changed(caller.lines, parts))
+        options, bounds, text = parts
+        caller.put('bounds', text_of(bounds))
+        caller.options, caller.lines = options.split(), text.split('|')
+        return checked(caller, caller.lines)
 
 
 def changed(lines, changes):
-    """lines with changes, from the last line to the first: `N=LINE` in place of line N, `N+LINE` in front of it, or `N-`, without it"""
+    """lines with changes, one after another: `N=LINE` in place of line N, `N+LINE` in front of it, or `N-`, without it"""
     lines = list(lines)
     for change in changes:
         digits = len(change) - len(change.lstrip('0123456789'))
@@ -70,11 +71,10 @@ def changed(lines, changes):
     return lines
 
 
-def checked(caller, options, bounds, lines):
+def checked(caller, lines):
     """the line of `check`"""
-    caller.put('bounds', bounds)
     caller.put('certificate', text_of('|'.join(lines)))
-    return held(caller.call(['check', *options, 'image', 'bounds', 'certificate']))
+    return held(caller.call(['check', *caller.options, 'image', 'bounds', 'certificate']))
 
 
 def held(answer):
