@@ -83,3 +83,19 @@ def regions(words=384):
         k.static(name, '()V', code, frames=frames)
     k.main(k.call('m') + RETURN)
     return k.data()
+
+
+def two_regions():
+    """a method of 256 words that calls one of 512, then in a loop runs two loops, one with calls of that one, the other with calls of another of 512"""
+    k = Hand()
+    a, b = k.call('a'), k.call('b')
+    # 5 and 6 the outer header, 11 and 12 the first inner one, 26 and 27 the second, 45 return
+    code = a + bytes.fromhex('063b 1a9e0027 053c 1b9e000c') + a + bytes.fromhex('8401ff a7fff6 053c 1b9e000c') + b + bytes.fromhex('8401ff a7fff6 8400ff a7ffdb b1')
+    frames = [(5, b'\xfc\0\x05\x01'), (11, b'\xfc\0\x05\x01'), (24, b'\x0c'), (26, b'\x01'), (39, b'\x0c'), (45, b'\xfa\0\x05')]
+    code, frames = dead(code, 256, frames)
+    k.static('p', '()V', code, frames=frames)
+    for name in 'ab':
+        code, frames = dead(RETURN, 512, [])
+        k.static(name, '()V', code, frames=frames)
+    k.main(k.call('p') + RETURN)
+    return k.data()

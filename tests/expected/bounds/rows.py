@@ -242,6 +242,8 @@ def checks():
     calling(table)
     dividing(table)
     with_regions(table)
+    with_two_regions(table)
+    beside(table)
     refused_bounds(table)
     of_made(table)
     of_javac(table)
@@ -481,6 +483,63 @@ def with_regions(table):
     table.change('as a loop', ['23=loop 5 309 5 6 9 12 15 18'], None)
     study = Study(table.known, Timing(), {('A.m()V', 5): 10})
     table.check('without a region', Timing(), line, Maker(study, 2).made(m).text())
+
+
+# Loops of 3 turns around two of 2 turns each, in programs.two_regions. A turn of an inner loop takes 1 + 4 + 93 + 53 + 8 + 4 = 163, its last one 5, its entry the loads 772 + 1540;
+# the greatest last turn of the outer one raises at the second call.
+TWO_LINES = ['A.p()V 5 loop<=3', 'A.p()V 11 loop<=2', 'A.p()V 26 loop<=2']
+ENTRY = 772 + 1540 + 2 * 163
+TWO_REGIONS = 128 + (93 + 53 + 1540 + 772) + 2 + 3 * (5 + 2 + ENTRY + 5 + 2 + ENTRY + 5 + 12) + (5 + 2 + ENTRY + 5 + 2 + ENTRY + 5 + 93 + 53 + 103) + 772 + 1540
+assert TWO_REGIONS == 26365
+
+
+def with_two_regions(table):
+    """two regions in a loop whose methods don't fit together; one of them calls what is also called outside"""
+    table.program('two_regions', 'A', [programs.two_regions()])
+    p = number(table, 'A.p()V')
+    study = Study(table.known, Timing(), read_bounds('\n'.join(TWO_LINES).encode()))
+    text = Maker(study, 2).made(p).text()
+    table.check('two regions', Timing(), TWO_LINES, text, 'holds A.p()V %d' % TWO_REGIONS)
+    first, second = 'region 11 163 11 12 15 18 21', 'region 26 163 26 27 30 33 36'
+    around = next(line for line in table.base[2] if line.startswith('loop 5 '))
+    table.put('the first as a loop', first, first.replace('region', 'loop'), 'check: edge A.p()V 15 18')
+    table.put('the second as a loop', second, second.replace('region', 'loop'), None)
+    table.put('all in one region', around, around.replace('loop', 'region'), 'check: member A.p()V 5')
+    table.put('the second with the first', second, first.replace('region 11', 'region 26'), None)
+    table.change('both in the other order', ['%d=%s' % (table.place(first), second), '%d=%s' % (table.place(second), first)], 'bad cert line=%d' % table.place(second))
+    table.without('without an inner loop', [second], None)
+    table.check('with fewer turns', Timing(), [line.replace('<=2', '<=1') for line in TWO_LINES], text, 'holds A.p()V %d' % TWO_REGIONS)
+    table.check('with more turns', Timing(), [line.replace('<=2', '<=3') for line in TWO_LINES], text, None)
+    table.check('in fewer blocks', Timing(blocks=11), TWO_LINES, text, 'check: member A.p()V 11')
+    table.check('in more blocks', Timing(blocks=19), TWO_LINES, text, 'holds A.p()V %d' % TWO_REGIONS)
+    table.check('in so many blocks that all fit', Timing(blocks=20), TWO_LINES, text, 'check: missing A.p()V')
+
+
+def beside(table):
+    """sections that aren't needed, nodes far off, and kinds that aren't asked for"""
+    table.program('beside', 'A', [programs.worked()])
+    e, n, c, k = (number(table, 'A.%s()V' % name) for name in 'enck')
+    bound = 128 + 53 + 7 + greatest_load(table)
+    text = 'JOPC 2\nroot %d\nsection inside %d\nnode 0 53\nbound %d\n' % (e, e, bound)
+    table.check('a return', Timing(), ['A.n()V 2 loop<=1', 'A.k()V 2 loop<=1'], text, 'holds A.e()V %d' % bound)
+    table.change('a section of another method', ['5+section inside %d' % n, '6+node 0 76', '7+node 1 75', '8+node 2 58', '9+node 3 57', '10+node 6 53', '11+node 9 45', '12+node 12 53', '13+loop 2 17 2 3 6 9'],
+                 'check: edge A.n()V 1 2')
+    table.change('one that is right', ['5+section inside %d' % n, '6+node 0 77', '7+node 1 76', '8+node 2 58', '9+node 3 57', '10+node 6 53', '11+node 9 45', '12+node 12 53', '13+loop 2 17 2 3 6 9'],
+                 'holds A.e()V %d' % bound)
+    table.change('one that lists nothing', ['5+section inside %d' % n], 'check: exit A.n()V 12')
+    table.change('one before it', ['3+section loops %d' % c], 'check: missing A.e()V')
+    table.change('one behind it', ['5+section loops %d' % c], 'check: exit A.c()V 0r')
+    table.change('its loops beside', ['5+section loops %d' % e, '6+node 0 53'], 'holds A.e()V %d' % bound)
+    table.change('a node far off', ['5+node 2147483647 9'], 'check: member A.e()V 2147483647')
+    table.change('a raise step far off', ['5+raise 2147483647 -9'], 'check: member A.e()V 2147483647r')
+    table.change('a loop far off', ['5+loop 2147483647 0 2147483647r'], 'check: member A.e()V 2147483647')
+    table.change('members far off', ['5+loop 0 0 0 2147483647 2147483647r'], 'check: member A.e()V 0')
+    table.change('a header behind the code', ['5+loop 1 0 1'], 'check: member A.e()V 1')
+    table.change('a section of the greatest number', ['5+section alone 4294967295'], 'check: missing #4294967295')
+    study = Study(table.known, Timing(), {('A.k()V', 2): 4})
+    for version in (1, 2):
+        table.check('a loop with a call, version %d' % version, Timing(), ['A.k()V 2 loop<=4'], Maker(study, version).made(k).text())
+        table.change('as another kind', ['%d=section %s %d' % (table.place('section inside %d' % k), 'alone' if version == 1 else 'loops', k)], None)
 
 
 def refused_bounds(table):
@@ -799,6 +858,10 @@ def regions(table):
     table.bound('a seldom turned region', Timing(), 'A.m()V', ['A.m()V 5 loop<=0'])
     table.program('regions_too_large', 'A', [programs.regions(385)])
     table.bound('one block too large', Timing(), 'A.m()V', lines)
+    table.program('two_regions', 'A', [programs.two_regions()])
+    table.bound('two regions', Timing(), 'A.p()V', TWO_LINES, 'JOPC 2, bound %d, holds A.p()V %d' % (TWO_REGIONS, TWO_REGIONS))
+    for blocks in (8, 11, 12, 19, 20):
+        table.bound('in %d blocks' % blocks, Timing(blocks=blocks), 'A.p()V', TWO_LINES)
 
 
 def nested(depth):
