@@ -14,7 +14,7 @@ use Rattle.jop_words.specs.declared.command.Command.{Command}
 use Rattle.jop_words.specs.Table.{name_word, usual, Value, Nothing, AWord, ANumber, OneOf, value_of_name, operands_of}
 use Rattle.jop_words.specs.Command.{texts, given, with_value, none_given, value, settings_of, made, command_of}
 use Rattle.jop_words.specs.Grammar.{Chosen, words_chosen, Means, AreChosen, values_from, AreOperands, IsCommand}
-use Rattle.jop_words.specs.Range.{AreSettings, AreInRange, AreThere}
+use Rattle.jop_words.specs.Range.{AreSettings, AreInRange, AreThere, OperandsFollow}
 use Rattle.jop_words.proofs.Stored.{IsFull, full_with, given-same, given-other, same_or_other}
 use Rattle.jop_words.proofs.Telling.{commands_told}
 
@@ -133,6 +133,15 @@ made_there Check values k m n operands all kept are =
 made_there Asm values k m n operands all kept are = let many = are.0 in omega (arith, all, many)
 made_there Work values k m n operands all kept are = tt
 
+made_follow : (verb : Verb) (values : List (Option ℕ)) (k m : ℕ) → OperandsFollow (made verb values k m)
+made_follow Link values k m = tt
+made_follow Run values k m = tt
+made_follow Trace values k m = tt
+made_follow Bound values k m = refl
+made_follow Check values k m = (refl, refl)
+made_follow Asm values k m = tt
+made_follow Work values k m = tt
+
 commands_in_range : (words : List (List ℕ)) (command : Command) → IsCommand words command → AreInRange command × AreThere (length words) command
 commands_in_range words command is =
     let k = 1 + length (flat_map words_chosen is.options) in
@@ -158,3 +167,10 @@ ranges ws (Err k) is = tt
 pub there : (ws : List (Bor (List ℕ))) (r : Result Command ℕ) → r ≡ command_of (texts ws) → IfOk r (AreThere (length ws))
 there ws (Ok command) is = (read_in_range ws command is).1
 there ws (Err k) is = tt
+
+commands_follow : (words : List (List ℕ)) (command : Command) → IsCommand words command → OperandsFollow command
+commands_follow words command is = subst OperandsFollow (sym is.command_is) (made_follow is.verb (values_from none_given is.options) (1 + length (flat_map words_chosen is.options)) is.number)
+
+pub follow : (ws : List (Bor (List ℕ))) (r : Result Command ℕ) → r ≡ command_of (texts ws) → IfOk r OperandsFollow
+follow ws (Ok command) is = commands_follow (texts ws) command (commands_told (texts ws) command (sym is))
+follow ws (Err k) is = tt

@@ -1,5 +1,5 @@
 -- What the numbers of a command can be.
-use Rattle.std.specs.Prelude.{◌≡◌, ℕ, ◌^◌, ◌<◌, ◌≤◌, ◌⊎◌}
+use Rattle.std.specs.Prelude.{◌≡◌, ℕ, ◌+◌, ◌^◌, ◌<◌, ◌≤◌, ◌⊎◌}
 use Rattle.jop_words.specs.declared.command.Settings.{Settings}
 use Rattle.jop_words.specs.declared.command.Command.{Command}
 use Rattle.jop_words.specs.declared.command.Command.TheVariants.{Link, Run, Trace, Bound, Check, Asm, Work}
@@ -34,3 +34,9 @@ AreThere n (Bound settings method image bounds) = (method < n) × (image < n) ×
 AreThere n (Check settings image bounds certificate) = (image < n) × (bounds < n) × (certificate < n)
 AreThere n (Asm text) = text < n
 AreThere n (Work count) = Unit {0}
+
+-- the operands of a command that has several are words one behind another
+abbrev pub OperandsFollow : Command → Type 0
+OperandsFollow (Bound settings method image bounds) = bounds ≡ image + 1
+OperandsFollow (Check settings image bounds certificate) = (bounds ≡ image + 1) × (certificate ≡ image + 2)
+OperandsFollow command = Unit {0}

@@ -2,7 +2,7 @@
 ghost use Rattle.std.specs.Prelude.{◌≡◌, ◌+◌, ◌<◌, ◌≤◌, ◌^◌, ◌∷◌, length, IfOk};
 ghost use Rattle.jop_words.specs.Command.{texts, is_option, none_given, exactly_at, empty_at, made, operands_at, operands_stop, operand_number, least_operands, words_at, command_of};
 ghost use Rattle.jop_words.specs.Given.{values_of};
-ghost use Rattle.jop_words.specs.Range.{AreInRange, AreThere};
+ghost use Rattle.jop_words.specs.Range.{AreInRange, AreThere, OperandsFollow};
 ghost use Rattle.jop_words.specs.Table.{operands_of};
 
 use crate::command::Command;
@@ -23,6 +23,7 @@ pub fn read_words(words: &[&str]) -> Result<Command, u32>
     ensures exact { result ≡ command_of (texts words.now) }
     ensures ranges { IfOk result AreInRange }
     ensures there { IfOk result (AreThere (length words.now)) }
+    ensures order { IfOk result OperandsFollow }
 {
     let [word, rest @ ..] = words else {
         return Err(0);

@@ -1,3 +1,4 @@
 pub mod SplitLemmas
 pub mod NameLemmas
 pub mod ReadLemmas
+mod OneReading

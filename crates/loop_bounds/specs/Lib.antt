@@ -1,3 +1,4 @@
 pub mod Bounds
 pub mod Grammar
 pub mod Meaning
+pub mod Laws

@@ -5,6 +5,7 @@
 //! without leading zeros, and at most 4,294,967,295.
 #![tactic(auto)]
 
+pub mod laws;
 mod line;
 mod site;
 

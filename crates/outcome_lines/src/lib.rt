@@ -7,4 +7,5 @@ mod pieces;
 mod put;
 
 pub use line::{AsmLine, Counts, Line, LinkLine, Named, Place, Sizes};
-pub use put::{put_line, say};
+pub use pieces::Piece;
+pub use put::{put_line, say, say_pieces};

@@ -9,7 +9,8 @@ use jop_outside::{Failed, Sink, put_all};
 
 /// A piece of a line.
 #[derive(Clone, Copy)]
-pub(crate) enum Piece<'a> {
+pub enum Piece<'a> {
+    /// Bytes.
     Text(&'a [u8]),
     /// A number, in decimal.
     Number(u128),

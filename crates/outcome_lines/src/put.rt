@@ -1,9 +1,9 @@
 //! Lines, put whole.
-ghost use Rattle.std.specs.Prelude.{◌≡◌, [], ◌∷◌, codes, decimal};
+ghost use Rattle.std.specs.Prelude.{◌≡◌, [], ◌∷◌, codes, decimal, false};
 ghost use Rattle.std.specs.List.{concat};
 ghost use Rattle.jop_outside.specs.Outside.{HasCause};
 ghost use Rattle.outcome_lines.specs.Line.{line_of, counts_parts, is_fault};
-ghost use Rattle.outcome_lines.specs.Put.{PutLine};
+ghost use Rattle.outcome_lines.specs.Put.{PutLine, joined};
 ghost use Rattle.outcome_lines.specs.Said.{Said};
 
 use crate::line::{AsmLine, Counts, Line, Sizes};
@@ -58,6 +58,19 @@ pub fn say<O: Sink>(sink: &mut O, line: &Line<'_>) -> Result<(), Failed>
         if !is_fault(line) {
             let _ = put_text(sink, b"write fault\n");
         }
+        return Err(failed);
+    }
+    Ok(())
+}
+
+/// Puts the line of an answer, whose pieces these are, and, where the sink fails at it, the line of a write fault behind the front that
+/// was put.
+pub fn say_pieces<O: Sink>(sink: &mut O, pieces: &[Piece<'_>]) -> Result<(), Failed>
+    ensures said { Said false (joined pieces.now) (O.held sink.old) (O.held sink.new) (O.faults sink.old) (O.faults sink.new) result }
+    ensures cause { HasCause (O.faults sink.old) (O.faults sink.new) result }
+{
+    if let Err(failed) = put_pieces(sink, pieces) {
+        let _ = put_text(sink, b"write fault\n");
         return Err(failed);
     }
     Ok(())

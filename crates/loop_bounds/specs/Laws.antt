@@ -1,0 +1,14 @@
+-- What follows of texts of bounds.
+use Rattle.std.specs.Prelude.{◌≡◌, ℕ, List}
+use Rattle.loop_bounds.specs.declared.BoundsFault.{BoundsFault}
+use Rattle.loop_bounds.specs.declared.BoundsFault.TheVariants.{NoMemory}
+use Rattle.loop_bounds.specs.Bounds.{LoopBound}
+use Rattle.loop_bounds.specs.Grammar.{IsRead, IsRefused}
+
+-- A text gives one list of bounds.
+abbrev pub GivesOne : Type 0
+GivesOne = (text : List ℕ) (a b : List LoopBound) → IsRead text a → IsRead text b → a ≡ b
+
+-- No line of a text that gives bounds is refused.
+abbrev pub ReadIsNotRefused : Type 0
+ReadIsNotRefused = (text : List ℕ) (bs : List LoopBound) (fault : BoundsFault) → IsRead text bs → IsRefused text fault → fault ≡ NoMemory

@@ -1,0 +1,12 @@
+//! What follows of texts of bounds. Each function does nothing: its contract is the law.
+ghost use Rattle.loop_bounds.specs.Laws.{GivesOne, ReadIsNotRefused};
+
+/// A text gives one list of bounds.
+pub fn gives_one()
+    ensures { GivesOne }
+{}
+
+/// No line of a text that gives bounds is refused.
+pub fn read_is_not_refused()
+    ensures { ReadIsNotRefused }
+{}
