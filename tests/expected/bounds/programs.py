@@ -99,3 +99,18 @@ def two_regions():
         k.static(name, '()V', code, frames=frames)
     k.main(k.call('p') + RETURN)
     return k.data()
+
+
+def refused():
+    """graphs that aren't reducible, methods that call themselves or never end, and calls to which control doesn't come"""
+    k = Hand()
+    k.static('m', '(I)V', bytes.fromhex('1a9900060000001a9afffcb1'), frames=[b'\x04', b'\x02'])
+    k.static('r', '()V', k.call('r') + RETURN)
+    k.static('g', '()V', GOTO + b'\0\0', frames=[b'\0'])
+    k.static('both', '()V', b'\x03' + k.call('m', '(I)V') + k.call('g') + RETURN)
+    k.static('all', '()V', b'\x03' + k.call('m', '(I)V') + k.call('g') + k.call('r') + RETURN)
+    # control doesn't come to the calls, but they count
+    k.static('dead', '()V', RETURN + k.call('r') + RETURN, frames=[b'\x01'])
+    k.static('deadloop', '()V', RETURN + k.call('g') + RETURN, frames=[b'\x01'])
+    k.main()
+    return k.data()
