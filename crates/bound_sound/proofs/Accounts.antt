@@ -53,7 +53,7 @@ pub all_of : {K L : ℕ → Type 0} → ((x : ℕ) → K x → L x) → (xs : Li
 all_of {K} {L} h [] all = All-nil L
 all_of {K} {L} h (x ∷ xs) all = All-cons L x xs (h x (All-head K x xs all)) (all_of h xs (All-tail K x xs all))
 
--- the place of the caller is looked up where a frame returns to it, and not where the frame is dropped
+-- The place of the caller is looked up where a frame returns to it, and not where the frame is dropped: the caller's own raise step follows, outside of the stay.
 pub data Left (g : Setting) (callers : List Frame) (b : Stage) (back : List ℕ) : Type 0 where
   returned : (c : Frame) (others : List Frame) → callers ≡ c ∷ others → b.state.mode ≡ Running → back ≡ g.places.method c.method ∷ [] → Left g callers b back
   dropped : (p : ℕ) → b.state.mode ≡ Raising p → back ≡ [] → Left g callers b back

@@ -7,7 +7,7 @@ use Rattle.method_cache.specs.Contents.{Cache, is_cached}
 use Rattle.cache_regions.specs.Region.{load_stall}
 use Rattle.cache_regions.specs.LookUps.{after, blocks_taken}
 use Rattle.loop_nest.specs.Digraph.{Digraph}
-use Rattle.section_check.specs.Bounded.{holds, cost_of}
+use Rattle.section_check.specs.Bounded.{cost_of}
 use Rattle.section_check.specs.Laws.{loops_of}
 use Rattle.stay_costs.specs.Stays.{IsCoveredIn}
 use Rattle.bytecode_model.specs.State.{Frame}
@@ -32,7 +32,7 @@ use Rattle.activations.specs.Setting.{Setting}
 use Rattle.activations.specs.Activations.{Stage}
 use Rattle.activations.specs.Steps.{HasTiming}
 use Rattle.bound_sound.proofs.Known.{Known, keyed, nodes_coded, within_coded, with_graph}
-use Rattle.bound_sound.proofs.Regions.{is_held, region_from, no_region, in_a_region}
+use Rattle.bound_sound.proofs.Regions.{region_from, no_region, in_a_region}
 use Rattle.bound_sound.proofs.Charged.{same_blocks, same_loads, region_at, region_methods}
 use Rattle.bound_sound.proofs.Inside.{number_without}
 use Rattle.bound_sound.proofs.Sections.{SectionOf, as_section, find, NodeIn, told_inside, told_full, charges_of, charged, charged_at_most}
@@ -149,7 +149,7 @@ module _ (g : Setting) (k : Known g) (t : Timing) (bound_of : BoundOf) where
     pub ended : CanEnd P x
 
   -- Of a section of another kind than inside, the cost of the invoke covers in a region the call without its look-ups, which are among the region's, and elsewhere the call
-  -- with them and the load of the caller.
+  -- with them and the load of the caller. What a region's invokes may run fits the cache with all that runs meanwhile, since it is part of what runs in the region.
   pub covers_call : {callers : List Frame} {m x : ℕ} {z b c : Stage} {nodes : List ℕ} {value : Option ℕ} (y : Called callers x z b c nodes) (s : SectionOf g k t bound_of false m value) (p u n micro : ℕ)
       → Invoked m p x → NodeIn g k t bound_of s (At p) → s.meets.view.told p x ≡ Some (Some n) → u ≡ 2 * p → micro + n ≤ slice_index s.meets.view.costs u
       → (o : Option ℕ) → (charges_of g k t bound_of s).region_of u ≡ o → IsCoveredIn (charges_of g k t bound_of s) o u (micro + y.account.taken) (key x ∷ y.account.looks) z.machine.cache
@@ -170,8 +170,8 @@ module _ (g : Setting) (k : Known g) (t : Timing) (bound_of : BoundOf) where
       looks_within : All (Contains ((charges_of g k t bound_of s).methods i)) (key x ∷ y.account.looks)
       looks_within =
           let coded : (w : ℕ) (ns : List ℕ) → IsWithinNodes P m ns w → IsSome (body_of P w) = λ w ns within. nodes_coded g k m w ns s.meets.view.coded within in
-          let r = region_at P t k.words key (keyed g k) bound_of s.earlier (as_section g k t bound_of s) value s.meets coded i u at in
-          let ms = region_methods P t k.words key (keyed g k) bound_of s.earlier (as_section g k t bound_of s) value s.meets coded i r.loop r.at r.region in
-          let held : Contains r.loop.members (2 * p) = is_held r.loop.members (2 * p) (ap (λ (w : ℕ). holds r.loop.members w) (sym u_is) ∙ r.inside) in
+          let r = region_at k.section_laws P t k.words key (keyed g k) bound_of s.earlier (as_section g k t bound_of s) value s.meets coded i u at in
+          let ms = region_methods k.section_laws P t k.words key (keyed g k) bound_of s.earlier (as_section g k t bound_of s) value s.meets coded i r.loop r.at r.region in
+          let held : Contains r.loop.members (2 * p) = subst (λ (w : ℕ). Contains r.loop.members w) u_is r.inside in
           let Q : List ℕ → Type 0 = λ xs. All (Contains (map key xs)) (key x ∷ y.account.looks) in
           subst Q (sym ms.methods) (among y ms.together.methods (λ w run. (ms.together.are.each w).1 (is_called p x held inv.start inv.call inv.target run)))

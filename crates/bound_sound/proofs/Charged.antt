@@ -1,19 +1,20 @@
 -- A section with loads, as charges of nodes, edges and regions.
-use Rattle.std.proofs.Common.{◌≡◌, ℕ, ◌+◌, ◌%◌, ◌≤◌, true, false, ◌==◌, List, [], ◌∷◌, length, map, Contains, Option, Some, None, sum_by, slice_index, refl, sym, ap, ◌∙◌, subst, inl, inr, IsSome, arith}
+use Rattle.std.proofs.Common.{◌≡◌, ℕ, ◌+◌, ◌%◌, ◌≤◌, true, false, ◌==◌, List, [], ◌∷◌, length, map, Contains, Option, Some, None, sum_by, slice_index, refl, sym, ap, ◌∙◌, subst, IsSome, arith}
 use Rattle.std.specs.Prelude.{unwrap_or, slice_index_or}
-use Rattle.std.proofs.lemmas.Bool.{cases_Bool}
 use Rattle.std.proofs.lemmas.List.Sums.{sum_by-cons}
 use Rattle.std.proofs.lemmas.List.{length-map}
 use Rattle.lists.specs.Members.{at_head, in_tail, map_contains}
 use Rattle.method_cache.specs.Contents.{blocks_for}
 use Rattle.cache_regions.specs.Region.{load_stall}
 use Rattle.cache_regions.specs.LookUps.{blocks_taken}
-use Rattle.section_check.specs.Bounded.{holds, cost_of}
+use Rattle.section_check.specs.Bounded.{cost_of}
 use Rattle.section_check.specs.Section.{CertifiedLoop}
 use Rattle.section_check.specs.Placing.{IsAt}
 use Rattle.section_check.specs.Placing.IsFaulty.{does_not_fit}
 use Rattle.section_check.specs.Placing.IsMisplaced.{heads_faulty}
 use Rattle.section_check.specs.Laws.{loops_of}
+use Rattle.section_check.specs.Charges.{start_charge, edge_charge, walk_charge, CostsAreCharged, StartsPayLoads, EdgesPayLoads}
+use Rattle.section_check.specs.Entering.{RegionsAreApart, LoopsAreEnteredAtHeaders}
 use Rattle.stay_costs.specs.Charges.{Charges, AreCharged, charge_of, start_fee}
 use Rattle.bound_cert.specs.declared.cert.CertSection.{CertSection}
 use Rattle.bytecode_model.specs.Program.{Program, body_of}
@@ -25,9 +26,7 @@ use Rattle.bound_rules.specs.Fitting.{LoopFits, loads_of}
 use Rattle.bound_rules.specs.Told.{Valued}
 use Rattle.bound_rules.specs.Sections.{IsFee, section_bounds, MeetsSection}
 use Rattle.bound_rules.specs.Sections.IsFee.{no_region, fits, exceeds}
-use Rattle.bound_sound.proofs.Charging.{edge_charge, start_charge, walk_charge, costs_by_edges, edge_covers, start_covers}
-use Rattle.bound_sound.proofs.Apart.{regions_apart}
-use Rattle.bound_sound.proofs.Regions.{is_held, region_from, IsRegionAt, found_region, some_region, priced_loop, lists_by, list_at}
+use Rattle.bound_sound.proofs.Regions.{region_from, IsRegionAt, found_region, some_region, priced_loop, lists_by, list_at}
 
 -- ---- methods by their places
 
@@ -56,7 +55,15 @@ paid_methods (exceeds region not is) = []
 
 -- ---- a section
 
-module _ (P : Program) (t : Timing) (words : ℕ → List ℕ) (key : ℕ → ℕ) (keyed : (m : ℕ) → IsSome (body_of P m) → length (words (key m)) ≡ code_words P m)
+-- what is known of the loops of sections, and of the costs of walks
+pub record SectionLaws : Type 0 where
+  pub apart : RegionsAreApart
+  pub entered : LoopsAreEnteredAtHeaders
+  pub costs : CostsAreCharged
+  pub starts : StartsPayLoads
+  pub edges : EdgesPayLoads
+
+module _ (laws : SectionLaws) (P : Program) (t : Timing) (words : ℕ → List ℕ) (key : ℕ → ℕ) (keyed : (m : ℕ) → IsSome (body_of P m) → length (words (key m)) ≡ code_words P m)
     (bound_of : BoundOf) (earlier : List Valued) (s : CertSection) (value : Option ℕ) (h : MeetsSection P t bound_of earlier s value) (coded : (x : ℕ) (nodes : List ℕ) → IsWithinNodes P s.method nodes x → IsSome (body_of P x)) where
   -- loop i's fee
   abbrev FeeAt : ℕ → CertifiedLoop → Type 0
@@ -107,7 +114,7 @@ module _ (P : Program) (t : Timing) (words : ℕ → List ℕ) (key : ℕ → �
   region_of_is i u here =
       let some = some_region s.section.loops 0 u i here in
       let other = region_at some.0 u some.1 in
-      let same = regions_apart h.view.graph s.section (section_bounds bound_of s) h.view.fees h.accepted.placed i some.0 here.loop other.loop here.at other.at here.region other.region u (is_held here.loop.members u here.inside) (is_held other.loop.members u other.inside) in
+      let same = laws.apart h.view.graph s.section (section_bounds bound_of s) h.view.fees h.accepted.placed i some.0 here.loop other.loop here.at other.at here.region other.region u here.inside other.inside in
       some.1 ∙ ap (λ (x : ℕ). Some x) (sym same)
 
   bounds_long : length (section_bounds bound_of s) ≡ length s.section.loops
@@ -118,12 +125,11 @@ module _ (P : Program) (t : Timing) (words : ℕ → List ℕ) (key : ℕ → �
   enters i u v at outside =
       let r = region_at i v at in
       let b = priced_loop s.section.loops (section_bounds bound_of s) h.view.fees i r.loop bounds_long h.view.are_fees.long r.at in
-      let held : holds b.0.members v ≡ true = ap (λ (ms : List ℕ). holds ms v) b.3 ∙ r.inside in
+      let held : Contains b.0.members v = subst (λ (ms : List ℕ). Contains ms v) (sym b.3) r.inside in
+      let not_held : Contains b.0.members u → ⊥ = λ c. outside (region_of_is i u (record { loop = r.loop; at = r.at; region = r.region; inside = subst (λ (ms : List ℕ). Contains ms u) b.3 c })) in
+      let pays = laws.edges (loops_of s.section (section_bounds bound_of s) h.view.fees) b.0 u v (i, b.1, b.2) held not_held in
       let e = b.4 in
-      elim (cases_Bool (holds b.0.members u)) [
-        | inl in' ↦ absurd (outside (region_of_is i u (record { loop = r.loop; at = r.at; region = r.region; inside = ap (λ (ms : List ℕ). holds ms u) (sym b.3) ∙ in' })))
-        | inr out ↦ let covers = edge_covers (loops_of s.section (section_bounds bound_of s) h.view.fees) i b.0 u v b.1 b.2 held out in omega arith
-      ]
+      omega arith
 
   pub are_charged : AreCharged charges
   are_charged = record {
@@ -161,8 +167,8 @@ module _ (P : Program) (t : Timing) (words : ℕ → List ℕ) (key : ℕ → �
   start_is u (Some i) e =
       let r = region_at i u e in
       let b = priced_loop s.section.loops (section_bounds bound_of s) h.view.fees i r.loop bounds_long h.view.are_fees.long r.at in
-      let held : holds b.0.members u ≡ true = ap (λ (ms : List ℕ). holds ms u) b.3 ∙ r.inside in
-      let covers = start_covers (loops_of s.section (section_bounds bound_of s) h.view.fees) i b.0 u b.1 b.2 held in
+      let held : Contains b.0.members u = subst (λ (ms : List ℕ). Contains ms u) (sym b.3) r.inside in
+      let pays = laws.starts (loops_of s.section (section_bounds bound_of s) h.view.fees) b.0 u (i, b.1, b.2) held in
       let fee = b.4 in
       omega arith
 
@@ -170,5 +176,5 @@ module _ (P : Program) (t : Timing) (words : ℕ → List ℕ) (key : ℕ → �
   all_charged u vs =
       let a = charges_are u vs in
       let b = start_is u (charges.region_of u) refl in
-      let c = costs_by_edges h.view.costs (loops_of s.section (section_bounds bound_of s) h.view.fees) u vs in
+      let c = laws.costs h.view.costs (loops_of s.section (section_bounds bound_of s) h.view.fees) u vs in
       omega arith

@@ -16,6 +16,7 @@ use Rattle.bound_rules.specs.Laws.{SectionsAreFound, HeadersHaveBounds, NoValueN
 use Rattle.activations.specs.Setting.{Setting, IsSetting}
 use Rattle.activations.specs.Steps.{AreWords, StepsAreTold}
 use Rattle.activations.specs.Trees.{StaysAreWalks}
+use Rattle.bound_sound.proofs.Charged.{SectionLaws}
 
 -- methods with code have live graphs, but that one can be given isn't said
 abbrev pub HaveLiveGraphs : Program → Type 0
@@ -38,6 +39,7 @@ pub record Known (g : Setting) : Type 0 where
   pub walks : StaysAreWalks
   pub ending : EndingIsAWalk
   -- sections
+  pub section_laws : SectionLaws
   pub found : SectionsAreFound
   pub headers : HeadersHaveBounds
   pub no_end : NoValueNoEnd

@@ -1,5 +1,3 @@
-mod Apart
-mod Charging
 mod Regions
 mod Charged
 mod Inside

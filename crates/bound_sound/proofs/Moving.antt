@@ -96,7 +96,8 @@ module _ (g : Setting) (k : Known g) (t : Timing) (bound_of : BoundOf) where
       without_look : (n : ℕ) → n + (x.taken + stall g k t x.looks a.machine.cache) ≡ n + stall g k t [] a.machine.cache + (x.taken + stall g k t x.looks a.machine.cache)
       without_look n = omega arith
 
-      -- An instruction that goes on, one that raises by itself while its method is in the cache, or a raise step that comes to a handler, which may be the header of a region, also
+      -- An instruction that goes on; one that raises by itself while its method is in the cache, as an invoke may that is told that none of its targets ends;
+      -- or a raise step that comes to a handler, which may be the header of a region, also
       -- of the region that the raise step has just left: the edge to it pays the fee anew.
       stays_on : MoveKind g a b top.frame callers top.frames → Stays (charges_of g k t bound_of s) a.machine.cache u us (facts.micro + x.taken + stall g k t (looked_up g a b ++ x.looks) a.machine.cache)
       stays_on (plain was is e) =

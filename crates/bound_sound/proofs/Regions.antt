@@ -38,7 +38,7 @@ pub record IsRegionAt (ls : List CertifiedLoop) (u i : ℕ) : Type 0 where
   pub loop : CertifiedLoop
   pub at : IsAt ls i loop
   pub region : loop.region ≡ true
-  pub inside : holds loop.members u ≡ true
+  pub inside : Contains loop.members u
 
 further : (ls : List CertifiedLoop) (l : CertifiedLoop) (u j : ℕ) → IsRegionAt ls u j → IsRegionAt (l ∷ ls) u (suc j)
 further ls l u j r = let b = r.at.0 in record { loop = r.loop; at = (omega arith, r.at.1); region = r.region; inside = r.inside }
@@ -50,7 +50,7 @@ found_region (l ∷ ls) i u k e = by l.region refl (holds l.members u) refl e (f
   where
     by : (r : Bool) → l.region ≡ r → (h : Bool) → holds l.members u ≡ h → (if r then (if h then Some i else region_from (suc i) ls u) else region_from (suc i) ls u) ≡ Some k
         → (region_from (suc i) ls u ≡ Some k → (j : ℕ) × (k ≡ suc i + j) × IsRegionAt ls u j) → (j : ℕ) × (k ≡ i + j) × IsRegionAt (l ∷ ls) u j
-    by true is true is' e' more = let same : i ≡ k = cc in (0, omega arith, record { loop = l; at = (omega arith, refl); region = is; inside = is' })
+    by true is true is' e' more = let same : i ≡ k = cc in (0, omega arith, record { loop = l; at = (omega arith, refl); region = is; inside = is_held l.members u is' })
     by true is false is' e' more = let x = more e' in let same = x.1 in (suc x.0, omega arith, further ls l u x.0 x.2)
     by false is h is' e' more = let x = more e' in let same = x.1 in (suc x.0, omega arith, further ls l u x.0 x.2)
 
@@ -60,7 +60,7 @@ some_region [] i u j r = let b = r.at.0 in absurd (omega arith)
 some_region (l ∷ ls) i u zero r =
     let e : region_from i (l ∷ ls) u ≡ Some i =
     ap (λ (x : CertifiedLoop). if x.region then (if holds x.members u then Some i else region_from (suc i) ls u) else region_from (suc i) ls u) r.at.1
-    ∙ (ap (λ (b : Bool). if b then (if holds r.loop.members u then Some i else region_from (suc i) ls u) else region_from (suc i) ls u) r.region ∙ ap (λ (b : Bool). if b then Some i else region_from (suc i) ls u) r.inside)
+    ∙ (ap (λ (b : Bool). if b then (if holds r.loop.members u then Some i else region_from (suc i) ls u) else region_from (suc i) ls u) r.region ∙ ap (λ (b : Bool). if b then Some i else region_from (suc i) ls u) (is_holding r.loop.members u r.inside))
     in
     (i, e)
 some_region (l ∷ ls) i u (suc j) r = by l.region (holds l.members u) (some_region ls (suc i) u j (let b = r.at.0 in record { loop = r.loop; at = (omega arith, r.at.1); region = r.region; inside = r.inside }))

@@ -24,8 +24,6 @@ use Rattle.bound_rules.specs.Sections.{IsSectionEdge, IsSectionNode, section_bou
 use Rattle.bound_rules.specs.Met.{AreMet}
 use Rattle.activations.specs.Setting.{Setting}
 use Rattle.bound_sound.proofs.Known.{Known, keyed, nodes_coded}
-use Rattle.bound_sound.proofs.Apart.{enters_at_header}
-use Rattle.bound_sound.proofs.Regions.{is_held, is_holding}
 use Rattle.bound_sound.proofs.Charged.{charges, region_at, region_of_is, are_charged, all_charged}
 use Rattle.bound_sound.proofs.Inside.{never_said, never_without, number_said, number_without}
 
@@ -113,24 +111,24 @@ module _ (g : Setting) (k : Known g) (t : Timing) (bound_of : BoundOf) where
 
   abbrev pub charges_of : {inside : Bool} {m : ℕ} {value : Option ℕ} → SectionOf inside m value → Charges
   charges_of {inside} {m} {value} s =
-      charges P t k.words (λ x. g.places.method x) (keyed g k) bound_of s.earlier (as_section s) value s.meets (λ x nodes within. nodes_coded g k m x nodes s.meets.view.coded within)
+      charges k.section_laws P t k.words (λ x. g.places.method x) (keyed g k) bound_of s.earlier (as_section s) value s.meets (λ x nodes within. nodes_coded g k m x nodes s.meets.view.coded within)
 
   -- An edge to a raise step enters no region: it would come to the region's header, and that is an instruction.
   pub enters_none : {inside : Bool} {m : ℕ} {value : Option ℕ} (s : SectionOf inside m value) (u v : Node) (q : ℕ) → number_of v ≡ 2 * q + 1 → NodeIn s u → IsLiveEdge P m u v
       → EntersNone (charges_of s) (number_of u) (number_of v)
   enters_none {inside} {m} {value} s u v q odd reached e l at =
       let coded : (x : ℕ) (nodes : List ℕ) → IsWithinNodes P m nodes x → IsSome (body_of P x) = λ x nodes within. nodes_coded g k m x nodes s.meets.view.coded within in
-      let r = region_at P t k.words (λ x. g.places.method x) (keyed g k) bound_of s.earlier (as_section s) value s.meets coded l (number_of v) at in
+      let r = region_at k.section_laws P t k.words (λ x. g.places.method x) (keyed g k) bound_of s.earlier (as_section s) value s.meets coded l (number_of v) at in
       let edge = (s.meets.view.is_graph.edges (number_of u) (number_of v)).1 (record { source = u; target = v; reached = reached; edge = section_edge s u v reached e; numbered = (refl, refl) }) in
       elim (has_or_not r.loop.members (number_of u)) [
         | inl held ↦
-            region_of_is P t k.words (λ x. g.places.method x) (keyed g k) bound_of s.earlier (as_section s) value s.meets coded l (number_of u)
-            (record { loop = r.loop; at = r.at; region = r.region; inside = is_holding r.loop.members (number_of u) held })
+            region_of_is k.section_laws P t k.words (λ x. g.places.method x) (keyed g k) bound_of s.earlier (as_section s) value s.meets coded l (number_of u)
+            (record { loop = r.loop; at = r.at; region = r.region; inside = held })
         | inr not_held ↦
             let even = (k.headers P t bound_of s.earlier (as_section s) value s.meets l r.loop r.at).1 in
             let at_header =
-            enters_at_header s.meets.view.graph s.certified (section_bounds bound_of (as_section s)) s.meets.view.fees s.meets.accepted.placed r.loop (number_of u) (number_of v)
-            (l, r.at.0, r.at.1) edge (is_held r.loop.members (number_of v) r.inside) not_held
+            k.section_laws.entered s.meets.view.graph s.certified (section_bounds bound_of (as_section s)) s.meets.view.fees s.meets.accepted.placed r.loop (number_of u) (number_of v)
+            (l, r.at.0, r.at.1) edge r.inside not_held
             in
             absurd (omega arith)
       ]
@@ -146,9 +144,9 @@ module _ (g : Setting) (k : Known g) (t : Timing) (bound_of : BoundOf) where
 
   pub charged : {inside : Bool} {m : ℕ} {value : Option ℕ} (s : SectionOf inside m value) → AreCharged (charges_of s)
   charged {inside} {m} {value} s =
-      are_charged P t k.words (λ x. g.places.method x) (keyed g k) bound_of s.earlier (as_section s) value s.meets (λ x nodes within. nodes_coded g k m x nodes s.meets.view.coded within)
+      are_charged k.section_laws P t k.words (λ x. g.places.method x) (keyed g k) bound_of s.earlier (as_section s) value s.meets (λ x nodes within. nodes_coded g k m x nodes s.meets.view.coded within)
 
   pub charged_at_most : {inside : Bool} {m : ℕ} {value : Option ℕ} (s : SectionOf inside m value) (u : ℕ) (vs : List ℕ)
       → start_fee (charges_of s) ((charges_of s).region_of u) + charge_of (charges_of s) u vs ≤ cost_of s.meets.view.costs (loops_of s.certified (section_bounds bound_of (as_section s)) s.meets.view.fees) (u ∷ vs)
   charged_at_most {inside} {m} {value} s u vs =
-      all_charged P t k.words (λ x. g.places.method x) (keyed g k) bound_of s.earlier (as_section s) value s.meets (λ x nodes within. nodes_coded g k m x nodes s.meets.view.coded within) u vs
+      all_charged k.section_laws P t k.words (λ x. g.places.method x) (keyed g k) bound_of s.earlier (as_section s) value s.meets (λ x nodes within. nodes_coded g k m x nodes s.meets.view.coded within) u vs

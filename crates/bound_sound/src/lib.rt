@@ -29,6 +29,10 @@ pub fn certificates_are_sound()
     bound_rules::laws::live_edges_stay();
     bound_rules::laws::sections_bound_walks();
     bound_rules::laws::methods_have_code();
+    section_check::laws::regions_are_apart();
+    section_check::laws::loops_are_entered_at_headers();
+    section_check::laws::costs_are_charged();
+    section_check::laws::entries_pay_loads();
     // of what stays cost, and of look-ups:
     stay_costs::laws::stays_are_paid();
     cache_regions::laws::loads_keep_the_sum();

@@ -22,6 +22,13 @@ returns c = certificates_are_sound c.activations_are_trees.ensures c.activations
           paid = c.stays_are_paid.ensures;
           walks = c.stays_are_walks.ensures;
           ending = c.ending_is_a_walk.ensures;
+          section_laws = record {
+            apart = c.regions_are_apart.ensures;
+            entered = c.loops_are_entered_at_headers.ensures;
+            costs = c.costs_are_charged.ensures;
+            starts = c.entries_pay_loads.ensures.starts;
+            edges = c.entries_pay_loads.ensures.edges;
+          };
           found = c.sections_are_found.ensures;
           headers = c.headers_have_bounds.ensures;
           no_end = c.no_value_no_end.ensures;
