@@ -1,0 +1,5 @@
+pub mod Setting
+pub mod Telling
+pub mod Prepared
+pub mod Answer
+pub mod Section
