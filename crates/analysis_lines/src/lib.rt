@@ -1,0 +1,9 @@
+//! The lines that say how the analysis of an image ended: that a certificate holds, or why it, or the texts with which it comes, is refused.
+//! No memory is taken.
+#![tactic(auto)]
+
+mod check;
+mod texts;
+
+pub use check::{say_fault, say_held};
+pub use texts::{say_bad_bounds, say_bad_cert, say_twice_bound};
