@@ -177,13 +177,15 @@ module _ (cs : List ClassFile) (s : Settings) (bounds_text : List ℕ) (a : Anal
   fails cert_text (check.BadCert line) h = absurd h.refused
   fails cert_text (check.Fails fault name) h =
       let c = h.certificate in
-      let m = h.refused.0 in
-      (record {
-        bounds = a.bounds;
-        certificate = c;
-        reads = reads cert_text c h.read;
-        refused = moved (λ t b. IsRefused (resolved cs) t b c fault) (not_memory (resolved cs) a.timing (table.bounds_of a.flow a.bounds) c fault m h.refused.1 (h.refused.2 (resolved cs) is.flow));
-      }, h.refused.3 ∙ (named cs a.flow is.flow is.names m ∙ ap (λ (o : Option ℕ). option_map_or (named_or_number cs) o []) (sym h.refused.1)))
+      let m = h.refused.0 in (
+        record {
+          bounds = a.bounds;
+          certificate = c;
+          reads = reads cert_text c h.read;
+          refused = moved (λ t b. IsRefused (resolved cs) t b c fault) (not_memory (resolved cs) a.timing (table.bounds_of a.flow a.bounds) c fault m h.refused.1 (h.refused.2 (resolved cs) is.flow));
+        },
+        h.refused.3 ∙ (named cs a.flow is.flow is.names m ∙ ap (λ (o : Option ℕ). option_map_or (named_or_number cs) o []) (sym h.refused.1)),
+      )
   fails cert_text check.NoMemory h = tt
 
   refused : (cert_text : List ℕ) (r : CheckRefusal) → IsRefusedInText a cert_text r → IsRefusal cs s bounds_text cert_text r

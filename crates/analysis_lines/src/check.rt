@@ -66,7 +66,12 @@ fn mark(node: u32) -> &'static [u8]
 }
 
 // Puts a label, the name of a method and a node of it.
-fn say_node<'a, O: Sink>(sink: &mut O, label: &'a [u8], name: &'a [u8], node: u32) -> Result<(), Failed>
+fn say_node<'a, O: Sink>(
+    sink: &mut O,
+    label: &'a [u8],
+    name: &'a [u8],
+    node: u32,
+) -> Result<(), Failed>
     ensures said { Said false (concat (label.now ∷ name.now ∷ codes " " ∷ node_text node ∷ codes "\n" ∷ [])) (O.held sink.old) (O.held sink.new) (O.faults sink.old) (O.faults sink.new) result }
     ensures cause { HasCause (O.faults sink.old) (O.faults sink.new) result }
 {

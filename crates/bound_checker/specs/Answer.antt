@@ -1,5 +1,5 @@
 -- How the answer of a section's check follows from those of its parts.
-use Rattle.std.specs.Prelude.{◌≡◌, ℕ, List, [], ◌∷◌, ◌++◌, Option, Some, None, Result, Ok, Err}
+use Rattle.std.specs.Prelude.{◌≡◌, ℕ, ◌≤◌, List, [], ◌∷◌, ◌++◌, Option, Some, None, Result, Ok, Err}
 use Rattle.loop_bounds.specs.Bounds.{LoopBound}
 use Rattle.section_check.specs.Least.{lesser_of}
 use Rattle.section_check.specs.declared.section.SectionFault.{SectionFault}
@@ -54,6 +54,10 @@ pub record Accepted : Type 0 where
   pub bounds : List LoopBound
   pub timing : Timing
   pub certificate : Certificate
+
+-- the waits are those that a machine can have
+abbrev pub HasWaits : Timing → Type 0
+HasWaits t = (t.read ≤ 63) × (t.write ≤ 63)
 
 -- for each program of the table the certificate meets the conditions
 abbrev pub Meets : Flow → BoundOf → Timing → Certificate → Type 0

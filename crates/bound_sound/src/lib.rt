@@ -1,8 +1,15 @@
-//! Certificates of methods bound what activations of the methods take on the machine. Definitions and a law alone: what the law
-//! says stands in `specs/Laws`.
+//! Certificates of methods bound what activations of the methods take on the machine: a law, which `specs/Laws` has, and the bound
+//! of a certificate that was checked.
 #![tactic(auto)]
 
+ghost use Rattle.std.specs.Prelude.{◌≡◌};
+ghost use Rattle.activations.specs.Warrant.{BoundsActivations};
 ghost use Rattle.bound_sound.specs.Laws.{CertificatesAreSound};
+ghost use Rattle.bytecode_model.specs.Program.{Program};
+ghost use Rattle.flow_costs.specs.Costs.{bounds_of};
+ghost use Rattle.method_flow.specs.Flow.{IsFlowOf};
+
+use bound_checker::Checked;
 
 /// Where a certificate meets its conditions, each activation of its root that keeps the bounds of loops takes at most as many
 /// cycles as its last line says; where that line says never, no such activation ends. The function does nothing; a caller whose
@@ -39,4 +46,15 @@ pub fn certificates_are_sound()
     cache_regions::laws::look_ups_follow();
     cache_regions::laws::stalls_follow();
     word32::laws::packed_has_words();
+}
+
+/// The bound that a checked certificate shows, in cycles: each activation of its root that keeps the bounds of loops takes at most
+/// so many. `None`: no such activation ends.
+pub fn warrant(c: &Checked<'_>) -> Option<u64>
+    ensures value { result ≡ c.now.certificate.bound }
+    ensures holds { (P : Program) → IsFlowOf P c.now.flow → BoundsActivations P c.now.timing (bounds_of c.now.flow c.now.bounds) c.now.certificate.root result }
+{
+    // The law is for the proof.
+    certificates_are_sound();
+    c.bound()
 }

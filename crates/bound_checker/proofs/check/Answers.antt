@@ -27,6 +27,6 @@ returns-in_err-check_last-clause-fault c =
     IfErr-weaker c.from_residual-in_err-check_last.result _ _
     (λ fault h. last_refuses set c.args.f.now c.args.b.now c.args.t c.args.c.now c.in-Ok.ensures c.sections.result.now c.sections.ensures valued c.in_ok-values.ensures.met fault h) cause
 
-pub new-requires-2 : goal.new-requires-2
-new-requires-2 c =
+pub new-requires-2-clause-meets : goal.new-requires-2-clause-meets
+new-requires-2-clause-meets c =
     all_meet c.in-Ok.task c.args.f.now c.args.b.now c.args.t c.args.c.now c.in-Ok.ensures c.sections.result.now c.sections.ensures c.in_ok-values.values.valued c.in_ok-values.ensures.met c.in_ok-check_last.ensures.met
