@@ -1,0 +1,4 @@
+mod Compacting
+mod Shaping
+mod Gathering
+mod Telling
