@@ -1,0 +1,9 @@
+mod Renumbering
+mod Walks
+mod Loops
+mod Kept
+mod Greatest
+mod Parts
+mod Charged
+mod Marks
+mod Solutions

@@ -1,0 +1,5 @@
+pub mod Moving
+pub mod Charging
+pub mod Solving
+pub mod Limited
+pub mod Laws
