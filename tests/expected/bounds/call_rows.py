@@ -134,7 +134,7 @@ def linked(table, check):
     table.add(check, 2, 'bad bounds line=1', i='=@', b='x', c='x')
     table.add(check, 2, 'twice bound line=2', i='=@', b='A 1 loop<=1\nA 1 loop<=1\n', c='x')
     table.add(check, 2, 'bad cert line=1', i='=@', b='', c=good.replace('JOPC 1', 'JOPC 3'))
-    table.add(check, 4, 'read fault', i='=@', b='')
+    table.add('check i b d', 4, 'read fault', i='=@', b='')
     changed = image_file.ImageFile(b'A', [*words[:7], words[7] ^ 1, *words[8:]], [data]).data()
     table.add(check, 2, 'differs word=7 kept=%08x linked=%08x' % (words[7] ^ 1, words[7]), i=changed, b='x', c='x')
     table.add(check, 2, 'bad image', i=image[:-1], b='', c=good)
