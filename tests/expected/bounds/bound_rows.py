@@ -7,13 +7,13 @@ import sys
 HERE = os.path.dirname(os.path.abspath(__file__))
 sys.path[:0] = [HERE, os.path.join(HERE, '../graphs'), os.path.join(HERE, '../../harness')]
 import analysis  # noqa: E402
-import flow  # noqa: E402
 import made  # noqa: E402
 import programs  # noqa: E402
 from costs import Timing  # noqa: E402
 from hand_rows import TWO_LINES, TWO_REGIONS  # noqa: E402
 from study import Study  # noqa: E402
 from tables import FIRST, MADE, MAIN, SMALL, bounds_of, javac_programs, region_bounds  # noqa: E402
+
 
 def by_hand(table):
     """each answer, with numbers that were worked out from docs/costs.md"""

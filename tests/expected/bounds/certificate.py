@@ -61,6 +61,7 @@ def read(text):
 
 # ---- made
 
+
 def potentials(walks):
     """the greatest cost from each node on, where each iteration of a loop is paid at the loop's entry: the least numbers that suffice"""
     found = {}

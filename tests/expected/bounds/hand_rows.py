@@ -295,7 +295,7 @@ def beside(table):
 def refused_bounds(table):
     """methods of which no bound is given, since of code that isn't reached more is asked there"""
     table.program('refused', 'A', [programs.refused()])
-    dead, loop, r, m, g = (number(table, 'A.' + name) for name in ('dead()V', 'deadloop()V', 'r()V', 'm(I)V', 'g()V'))
+    dead, loop, r, m = (number(table, 'A.' + name) for name in ('dead()V', 'deadloop()V', 'r()V', 'm(I)V'))
     load, text = greatest_load(table), 'JOPC 1\nroot %d\nsection inside %d\nnode 0 53\nbound %d\n'
     # two methods of two words each, and one of two and one of one
     table.check('a call of itself that is not reached', Timing(), [], text % (dead, dead, 128 + 53 + 10 + 7 + load), 'holds A.dead()V %d' % (128 + 53 + 10 + 7 + load))
@@ -308,7 +308,6 @@ def refused_bounds(table):
     table.check('two ways into a loop', Timing(), lines, text % 4, 'check: member A.m(I)V 1')
     table.check('two ways into it by the other', Timing(), lines, text % 7, 'check: member A.m(I)V 1')
     table.without('without a loop', ['loop 7 50 4 7 8'], None)
-    del g
 
 
 def by_hand(table):

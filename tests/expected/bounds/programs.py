@@ -31,7 +31,6 @@ class Hand(made.ClassFile):
         return self.static('main', made.MAIN, code)
 
 
-
 def counting(front, body, first=5):
     """code that runs `front`, then a loop with `body` while local 0 counts down, and returns; its header is the place that is answered with the frames"""
     header = len(front) + 2

@@ -123,6 +123,7 @@ def greatest_load(table, timing=Timing()):
 
 # ---- programs, and bounds of their loops
 
+
 def javac_programs():
     """titles, main classes, files and where these stand in another table"""
     seen = set()
