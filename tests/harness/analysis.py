@@ -88,8 +88,9 @@ class Bounded(Asked):
 
     def answer(self, caller, rows):
         sys.path.append(os.path.join(HERE, '../expected/bounds'))
-        from check import answer, flow
+        from check import answer
         from costs import with_options
+        from study import flow
         _, main, files = program_of(rows[0])
         program = flow.Program(main, files)
         caller.other = lambda options, bounds, text: answer(program, with_options(options), bounds, text)
