@@ -1,0 +1,3 @@
+pub mod Work
+pub mod Laws
+pub mod Rows

@@ -1,0 +1,27 @@
+//! Laws of the class. The functions do nothing; a caller whose proof needs a law calls its function.
+ghost use Rattle.work_gen.specs.Laws.{WorkIsRight, WorkIsAClass};
+ghost use Rattle.work_gen.specs.Rows.{WorkRows};
+
+use class_making::laws::{classes_say_plans, items_are_few, plans_are_classes, plans_have_bytes};
+
+/// The plan says what a class file may say.
+pub fn work_is_right()
+    ensures { WorkIsRight }
+{
+    items_are_few();
+}
+
+/// The class is a class file that says what its plan says, and its code is bytes.
+pub fn work_is_a_class()
+    ensures { WorkIsAClass }
+{
+    items_are_few();
+    plans_are_classes();
+    plans_have_bytes();
+    classes_say_plans();
+}
+
+/// The class at small sizes, worked out by hand.
+pub fn rows_of_work()
+    ensures { WorkRows }
+{}
