@@ -12,6 +12,13 @@ use Rattle.jop_cli.specs.declared.outcome.Ending.TheVariants as endings
 use Rattle.jop_cli.specs.Leaving.{FailsRisen}
 use Rattle.jop_cli.specs.Assembling.{Assembles}
 use Rattle.jop_cli.specs.Linking.{LinksFiles}
+use Rattle.analysis_commands.specs.declared.analysis.AnalysisFault.{AnalysisFault}
+use Rattle.analysis_commands.specs.declared.analysis.AnalysisFault.TheVariants as analysis
+use Rattle.analysis_commands.specs.declared.check.CheckRefusal.{CheckRefusal}
+use Rattle.analysis_commands.specs.declared.check.CheckRefusal.TheVariants as check
+use Rattle.operand_files.specs.Files.{FilesTold}
+use Rattle.class_pool.specs.declared.class.ClassFile.{ClassFile}
+use Rattle.jop_cli.specs.Checking.{fault_ending, refusal_ending, Checks, ChecksLinked, ChecksBare, ChecksFiles}
 use Rattle.jop_core.specs.Reset.{bare_reset}
 use Rattle.boundary.specs.Setting.{bare_setting}
 use Rattle.stream_devices.specs.Lent.{Lent}
@@ -50,10 +57,12 @@ risen_but : (e : Ending) (before now : ℕ) → (e ≡ endings.InputFault → �
 risen_but (endings.Ended counts) before now other = tt
 risen_but endings.Written before now other = tt
 risen_but (endings.Linked sizes) before now other = tt
+risen_but (endings.Holds held) before now other = tt
 risen_but (endings.Uncaught class name counts) before now other = tt
 risen_but (endings.Refused refusal) before now other = tt
 risen_but (endings.TooLong method name blocks limit) before now other = tt
 risen_but (endings.NotLinked refusal name) before now other = tt
+risen_but (endings.NotHeld fault name) before now other = tt
 risen_but (endings.Spent counts) before now other = tt
 risen_but endings.ReadFault before now other = tt
 risen_but endings.InputFault before now other = absurd (other refl)
@@ -68,3 +77,37 @@ no_input main first old new links = ⊎_elim (λ f. f.0) (λ r. r.put.0) links
 
 pub links_risen : (main : List ℕ) (first : ℕ) (old new : World) (e : Ending) (before now : ℕ) → LinksFiles main first old new e → FailsRisen e before now
 links_risen main first old new e before now links = risen_but e before now (λ is. no_input main first old new (subst (LinksFiles main first old new) is links))
+
+no_fault_input : (s : Settings) (fault : AnalysisFault) → endings.InputFault ≡ fault_ending s fault → ⊥
+no_fault_input s (analysis.MethodTooLong m name blocks) e = absurd (cc)
+no_fault_input s (analysis.BadBounds line) e = absurd (cc)
+no_fault_input s (analysis.TwiceBound line) e = absurd (cc)
+no_fault_input s analysis.NoMemory e = absurd (cc)
+
+no_refusal_input : (s : Settings) (refusal : CheckRefusal) → endings.InputFault ≡ refusal_ending s refusal → ⊥
+no_refusal_input s (check.NoAnalysis fault) e = no_fault_input s fault e
+no_refusal_input s (check.BadCert line) e = absurd (cc)
+no_refusal_input s (check.Fails fault name) e = absurd (cc)
+no_refusal_input s check.NoMemory e = absurd (cc)
+
+checked_no_input : (cs : List ClassFile) (s : Settings) (bounds_text cert_text : List ℕ) → Checks cs s bounds_text cert_text endings.InputFault → ⊥
+checked_no_input cs s bounds_text cert_text checks = ⊎_elim (λ h. let says = h.says in absurd (cc)) (λ r. no_refusal_input s r.refusal r.says) checks
+
+linked_no_input : (s : Settings) (bytes bounds_text cert_text : List ℕ) → ChecksLinked s bytes bounds_text cert_text endings.InputFault → ⊥
+linked_no_input s bytes bounds_text cert_text checks = checked_no_input checks.linked.classes s bounds_text cert_text checks.checks
+
+bare_no_input : (s : Settings) (bytes bounds_text cert_text : List ℕ) → ChecksBare s bytes bounds_text cert_text endings.InputFault → ⊥
+bare_no_input s bytes bounds_text cert_text checks = ⊎_elim (λ h. let says = h.says in absurd (cc)) (λ r. no_refusal_input s r.refusal r.says) checks.ends
+
+no_check_input : (s : Settings) (image : ℕ) (old new : FilesTold) → ChecksFiles s image old new endings.InputFault → ⊥
+no_check_input s image old new checks =
+    ⊎_elim
+    (λ fault. fault)
+    (λ r. ⊎_elim
+    (λ linked. ⊎_elim (λ fault. fault) (linked_no_input s r.bytes r.bounds_text r.cert_text) linked.1)
+    (λ bare. ⊎_elim (λ fault. fault) (bare_no_input s r.bytes r.bounds_text r.cert_text) bare.1)
+    r.checks)
+    checks
+
+pub checks_risen : (s : Settings) (image : ℕ) (old new : FilesTold) (e : Ending) (before now : ℕ) → ChecksFiles s image old new e → FailsRisen e before now
+checks_risen s image old new e before now checks = risen_but e before now (λ is. no_check_input s image old new (subst (ChecksFiles s image old new) is checks))

@@ -14,4 +14,8 @@ mod Coming
 mod LinkingLaw
 mod AssemblingLaw
 mod RunningLaw
+mod CheckingLaw
+mod Shown
+mod Leaving
+mod Texts
 mod OneBare

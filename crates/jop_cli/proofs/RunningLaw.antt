@@ -41,7 +41,7 @@ use Rattle.jop_cli.proofs.Coming.{ended, uncaught, spent}
 
 -- ---- the bytes of a linked image
 
-begins_linked : (bytes : List ℕ) (image : file.Image) → file.IsLinked bytes image → is_linked bytes ≡ true
+pub begins_linked : (bytes : List ℕ) (image : file.Image) → file.IsLinked bytes image → is_linked bytes ≡ true
 begins_linked bytes image is = ap is_linked is.spelling
 
 begins_bare : (bytes : List ℕ) (image : Image) → IsBare bytes image → is_linked bytes ≡ false
@@ -54,7 +54,7 @@ wrong_in image (links.TooLarge what count limit) h = h
 wrong_in image (links.FileTooLarge count limit) h = h
 wrong_in image links.NoMemory h = absurd h
 
-is_read : LinkedImagesAreRead → (bytes : List ℕ) (l : Parts) → IsLinked l → file.IsLinked bytes (image_of l) → (ending : Ending) → BytesFault bytes ending → ending ≡ endings.NoMemory
+pub is_read : LinkedImagesAreRead → (bytes : List ℕ) (l : Parts) → IsLinked l → file.IsLinked bytes (image_of l) → (ending : Ending) → BytesFault bytes ending → ending ≡ endings.NoMemory
 is_read law bytes l linked is (endings.Refused refusals.BadImage) h = absurd (h (image_of l) is)
 is_read law bytes l linked is (endings.Refused (refusals.Differs word kept other)) h =
     let e : faults.Differs word kept other ≡ faults.NoMemory = law bytes l (faults.Differs word kept other) linked is h in
@@ -67,7 +67,7 @@ is_read law bytes l linked is ending h = absurd h
 
 -- ---- the run of what was linked
 
-not_more : (o : Option Body) (blocks block_words count : ℕ) → IsSomeAnd o (λ b. count ≡ code_blocks block_words b) → IfSome o (λ b. code_blocks block_words b ≤ blocks) → blocks < count → ⊥
+pub not_more : (o : Option Body) (blocks block_words count : ℕ) → IsSomeAnd o (λ b. count ≡ code_blocks block_words b) → IfSome o (λ b. code_blocks block_words b ≤ blocks) → blocks < count → ⊥
 not_more None blocks block_words count is fits more = absurd is
 not_more (Some b) blocks block_words count is fits more = omega (arith, is, fits, more)
 

@@ -5,12 +5,12 @@ use Rattle.std.specs.declared.result.Result.{Result}
 use Rattle.jop_outside.specs.Outside.{Grew, Rose}
 use Rattle.jop_words.specs.declared.command.Settings.{Settings}
 use Rattle.jop_words.specs.declared.command.Command.{Command}
-use Rattle.jop_words.specs.declared.command.Command.TheVariants.{Run, Trace, Asm as Assemble, Link as LinkTo}
+use Rattle.jop_words.specs.declared.command.Command.TheVariants.{Run, Trace, Check, Asm as Assemble, Link as LinkTo}
 use Rattle.jop_words.specs.Command.{command_of}
 use Rattle.outcome_lines.specs.Said.{SaidLess}
-use Rattle.jop_cli.specs.declared.outcome.Refusal.TheVariants.{Usage, TooBig, NotBuilt, MethodTooLong, Link}
+use Rattle.jop_cli.specs.declared.outcome.Refusal.TheVariants.{Usage, TooBig, NotBuilt, MethodTooLong, Link, Check as NotChecked}
 use Rattle.jop_cli.specs.declared.outcome.Ending.{Ending}
-use Rattle.jop_cli.specs.declared.outcome.Ending.TheVariants.{Ended, Written, Linked, Uncaught, Refused, TooLong, NotLinked, Spent, ReadFault, InputFault, WriteFault, NoMemory}
+use Rattle.jop_cli.specs.declared.outcome.Ending.TheVariants.{Ended, Written, Linked, Holds, Uncaught, Refused, TooLong, NotLinked, NotHeld, Spent, ReadFault, InputFault, WriteFault, NoMemory}
 use Rattle.jop_cli.specs.declared.outcome.Outcome.{Outcome}
 use Rattle.jop_cli.specs.declared.outcome.Outcome.TheVariants as outcomes
 use Rattle.jop_cli.specs.declared.show.Show.{Show}
@@ -22,7 +22,8 @@ use Rattle.stream_devices.specs.Lent.{Lent, lent}
 use Rattle.jop_cli.specs.LinkedFile.{RunsLinkedBytes}
 use Rattle.jop_cli.specs.World.{World, IsQuiet, IsUntaken, FilesStayBut, IsUnchanged, Reads, IsTooBig}
 use Rattle.jop_cli.specs.Assembling.{Assembles}
-use Rattle.jop_cli.specs.Linking.{LinksFiles}
+use Rattle.jop_cli.specs.Linking.{files_of, LinksFiles}
+use Rattle.jop_cli.specs.Checking.{ChecksFiles}
 
 -- what a run is lent
 abbrev pub lent_of : World → Lent
@@ -73,6 +74,7 @@ Does words (Ok (Run settings image)) old new ending = RunsFile settings shows.Ou
 Does words (Ok (Trace settings micro image)) old new ending = RunsFile settings (shows.Trace micro) image old new ending
 Does words (Ok (Assemble text)) old new ending = Assembles text old new ending
 Does words (Ok (LinkTo main first)) old new ending = LinksFiles (text_at words main) first old new ending
+Does words (Ok (Check settings image bounds certificate)) old new ending = ChecksFiles settings image (files_of old) (files_of new) ending × IsQuiet old new
 Does words (Ok command) old new ending = (ending ≡ Refused NotBuilt) × IsUnchanged old new
 
 abbrev pub Executed : List (List ℕ) → World → World → Ending → Type 0
@@ -82,10 +84,12 @@ abbrev pub outcome_of : Ending → Outcome
 outcome_of (Ended counts) = outcomes.Ended
 outcome_of Written = outcomes.Written
 outcome_of (Linked sizes) = outcomes.Written
+outcome_of (Holds held) = outcomes.Holds
 outcome_of (Uncaught class name counts) = outcomes.Uncaught class
 outcome_of (Refused refusal) = outcomes.Refused refusal
 outcome_of (TooLong method name blocks limit) = outcomes.Refused (MethodTooLong method blocks limit)
 outcome_of (NotLinked refusal name) = outcomes.Refused (Link refusal)
+outcome_of (NotHeld fault name) = outcomes.Refused (NotChecked fault)
 outcome_of (Spent counts) = outcomes.Spent
 outcome_of ReadFault = outcomes.ReadFault
 outcome_of InputFault = outcomes.ReadFault
@@ -97,10 +101,12 @@ abbrev pub outcome_unsaid : Ending → Outcome
 outcome_unsaid (Ended counts) = outcomes.WriteFault
 outcome_unsaid Written = outcomes.WriteFault
 outcome_unsaid (Linked sizes) = outcomes.WriteFault
+outcome_unsaid (Holds held) = outcomes.WriteFault
 outcome_unsaid (Uncaught class name counts) = outcomes.WriteFault
 outcome_unsaid (Refused refusal) = outcomes.WriteFault
 outcome_unsaid (TooLong method name blocks limit) = outcomes.WriteFault
 outcome_unsaid (NotLinked refusal name) = outcomes.WriteFault
+outcome_unsaid (NotHeld fault name) = outcomes.WriteFault
 outcome_unsaid (Spent counts) = outcomes.WriteFault
 outcome_unsaid ReadFault = outcomes.ReadFault
 outcome_unsaid InputFault = outcomes.ReadFault

@@ -5,25 +5,43 @@
 --   jop_core State, Cycle and Reset (what a cycle of the machine is), machine_stands StandsFor (which state the machine stands for),
 --   boundary Runs (the run of both), image_words Regions and linked_image Linked (what an image and its file are), bare_image Bare and microcode_asm Roms
 --   (the same of a bare image and of a microprogram), jop_words Command (what words say), and of this crate World, Linking, LinkedSettings, Calls and Courses.
-use Rattle.std.specs.Prelude.{◌≡◌, ℕ, ◌≤◌, ◌⊎◌, Bool, List, [], length, Ok}
+use Rattle.std.specs.Prelude.{◌≡◌, ℕ, ◌≤◌, ◌⊎◌, Bool, List, [], ◌∷◌, length, Ok}
+use Rattle.std.specs.List.{concat}
 use Rattle.bare_image.specs.Bare.{Image, IsBare}
 use Rattle.linked_image.specs.Linked as file
 use Rattle.microcode_asm.specs.declared.Rom.{Rom}
 use Rattle.microcode_asm.specs.Roms.{IsAssembled}
 use Rattle.microcode_asm.specs.Listing.{listing_of}
 use Rattle.jop_words.specs.declared.command.Settings.{Settings}
-use Rattle.jop_words.specs.declared.command.Command.TheVariants.{Run, Trace, Asm as Assemble, Link as LinkTo}
+use Rattle.jop_words.specs.declared.command.Command.TheVariants.{Run, Trace, Check, Asm as Assemble, Link as LinkTo}
 use Rattle.jop_words.specs.Command.{command_of}
 use Rattle.jopizer.specs.declared.refusal.LinkRefusal.{LinkRefusal}
 use Rattle.jopizer.specs.Linked.{Parts, IsLinked, image_of}
 use Rattle.outcome_lines.specs.declared.line.Sizes.{Sizes}
+use Rattle.activations.specs.Warrant.{BoundsActivations}
 use Rattle.jop_cli.specs.declared.outcome.Ending.TheVariants as endings
-use Rattle.jop_cli.specs.declared.outcome.Outcome.TheVariants.{Written}
+use Rattle.program_tables.specs.Resolved.{resolved}
+use Rattle.jop_text.specs.Line.{lines_of as text_lines}
+use Rattle.loop_bounds.specs.Bounds.{LoopBound}
+use Rattle.loop_bounds.specs.Grammar.{IsRead}
+use Rattle.bound_cert.specs.Certificate.{Certificate}
+use Rattle.bound_cert.specs.Texts.{AreLinesOf}
+use Rattle.bound_rules.specs.declared.faults.CheckFault.{CheckFault}
+use Rattle.bound_rules.specs.Conditions.{MeetsConditions}
+use Rattle.bound_rules.specs.Refused.{IsRefused}
+use Rattle.analysis_lines.specs.Lines.{held_parts, fault_parts}
+use Rattle.analysis_commands.specs.Analysis.{timing_of, bounds_of, name_of}
+use Rattle.analysis_commands.specs.Checking.{fault_name}
+use Rattle.jop_cli.specs.declared.outcome.Refusal.TheVariants.{Check as NotChecked}
+use Rattle.jop_cli.specs.declared.outcome.Outcome.{Outcome}
+use Rattle.jop_cli.specs.declared.outcome.Outcome.TheVariants.{Written, Holds, Refused}
 use Rattle.jop_cli.specs.declared.show.Show.TheVariants as shows
 use Rattle.jop_cli.specs.Line.{text_at, line_of}
 use Rattle.jop_cli.specs.Linking.{class_name, Refuses, AreLinkedTo}
 use Rattle.jop_cli.specs.LinkedSettings.{CodesFit}
 use Rattle.jop_cli.specs.BareFile.{blocks_of_code}
+use Rattle.jop_outside.specs.Outside.{Grew}
+use Rattle.jop_cli.specs.World.{IsQuiet}
 use Rattle.jop_cli.specs.Calls.{Call, NothingFailed, LacksMemory, Puts, IsTold, AreTold}
 use Rattle.jop_cli.specs.Courses.{RanLinked, RanBare}
 
@@ -98,3 +116,49 @@ pub record IsListed (c : Call) (listing : List ℕ) : Type 0 where
 abbrev pub AssemblingIsComplete : Type 0
 AssemblingIsComplete =
     (c : Call) (word : ℕ) (text : List ℕ) (rom : Rom) → command_of c.words ≡ Ok (Assemble word) → IsTold c word text → NothingFailed c → IsAssembled text rom → IsListed c (listing_of rom.words) ⊎ LacksMemory c
+
+-- ---- `check`
+
+-- The words say `check` of three files: the image of what is linked, each code of which fits the method cache, a text of bounds and one of a certificate.
+pub record ChecksTexts (c : Call) (settings : Settings) (image : ℕ) (l : Parts) (lines : List LoopBound) (certificate : Certificate) : Type 0 where
+  pub bounds : ℕ
+  pub last : ℕ
+  pub command : command_of c.words ≡ Ok (Check settings image bounds last)
+  pub bytes : List ℕ
+  pub bounds_text : List ℕ
+  pub cert_text : List ℕ
+  pub told : AreTold c image (bytes ∷ bounds_text ∷ cert_text ∷ [])
+  pub is_linked : IsLinked l
+  pub is_file : file.IsLinked bytes (image_of l)
+  pub codes : CodesFit settings l
+  pub read : IsRead bounds_text lines
+  pub text : AreLinesOf (text_lines cert_text) certificate
+
+-- err was given this line, and nothing else was done
+pub record AnswersLine (c : Call) (outcome : Outcome) (parts : List (List ℕ)) : Type 0 where
+  pub outcome_is : c.outcome ≡ outcome
+  pub line : Grew c.err_old c.err_new (concat parts)
+  pub quiet : IsQuiet c.old c.new
+
+-- A certificate that meets the conditions holds, and the line says its method and its bound; or there is no memory.
+abbrev pub CheckingIsComplete : Type 0
+CheckingIsComplete =
+    (c : Call) (settings : Settings) (image : ℕ) (l : Parts) (lines : List LoopBound) (certificate : Certificate) → ChecksTexts c settings image l lines certificate → NothingFailed c
+    → MeetsConditions (resolved l.classes) (timing_of settings) (bounds_of l.classes lines) certificate
+    → AnswersLine c Holds (held_parts (name_of l.classes certificate.root) certificate.bound) ⊎ LacksMemory c
+
+-- Where the answer is that it holds, the line says its method and its bound, and each ended activation of the method takes at most so many cycles, where its loops keep
+-- the bounds: in every run of the program, on each machine with these waits and a method cache of these sizes, whatever the cache holds and whatever is read. Where the
+-- bound is never, no such activation ends.
+abbrev pub BoundsAreKept : Type 0
+BoundsAreKept =
+    (c : Call) (settings : Settings) (image : ℕ) (l : Parts) (lines : List LoopBound) (certificate : Certificate) → ChecksTexts c settings image l lines certificate → NothingFailed c → c.outcome ≡ Holds
+    → AnswersLine c Holds (held_parts (name_of l.classes certificate.root) certificate.bound)
+    × BoundsActivations (resolved l.classes) (timing_of settings) (bounds_of l.classes lines) certificate.root certificate.bound
+
+-- One that doesn't is refused by the first condition that fails; or there is no memory.
+abbrev pub FaultsAreAnswered : Type 0
+FaultsAreAnswered =
+    (c : Call) (settings : Settings) (image : ℕ) (l : Parts) (lines : List LoopBound) (certificate : Certificate) (fault : CheckFault) → ChecksTexts c settings image l lines certificate → NothingFailed c
+    → IsRefused (resolved l.classes) (timing_of settings) (bounds_of l.classes lines) certificate fault
+    → AnswersLine c (Refused (NotChecked fault)) (fault_parts fault (fault_name l.classes fault)) ⊎ LacksMemory c

@@ -2,7 +2,7 @@
 use Rattle.std.specs.Prelude.{ℕ}
 use Rattle.jop_outside.specs.Outside.{Rose}
 use Rattle.jop_cli.specs.declared.outcome.Ending.{Ending}
-use Rattle.jop_cli.specs.declared.outcome.Ending.TheVariants.{Ended, Written, Linked, Uncaught, Refused, TooLong, NotLinked, Spent, ReadFault, InputFault, WriteFault, NoMemory}
+use Rattle.jop_cli.specs.declared.outcome.Ending.TheVariants.{Ended, Written, Linked, Holds, Uncaught, Refused, TooLong, NotLinked, NotHeld, Spent, ReadFault, InputFault, WriteFault, NoMemory}
 use Rattle.jop_cli.specs.declared.outcome.Outcome.{Outcome}
 use Rattle.jop_cli.specs.declared.outcome.Outcome.TheVariants as outcomes
 
@@ -11,10 +11,12 @@ abbrev pub Leaves : Ending → Type 0
 Leaves (Ended counts) = ⊥
 Leaves Written = ⊥
 Leaves (Linked sizes) = ⊥
+Leaves (Holds held) = Unit {0}
 Leaves (Uncaught class name counts) = ⊥
 Leaves (Refused refusal) = Unit {0}
 Leaves (TooLong method name blocks limit) = Unit {0}
 Leaves (NotLinked refusal name) = Unit {0}
+Leaves (NotHeld fault name) = Unit {0}
 Leaves (Spent counts) = ⊥
 Leaves ReadFault = Unit {0}
 Leaves InputFault = ⊥
@@ -30,6 +32,7 @@ FailsRisen ending before now = Unit {0}
 abbrev pub LeavesAll : Outcome → (before now : ℕ) → Type 0
 LeavesAll outcomes.Ended before now = ⊥
 LeavesAll outcomes.Written before now = ⊥
+LeavesAll outcomes.Holds before now = Unit {0}
 LeavesAll (outcomes.Uncaught class) before now = ⊥
 LeavesAll (outcomes.Refused refusal) before now = Unit {0}
 LeavesAll outcomes.Spent before now = ⊥

@@ -10,6 +10,7 @@ pub mod Linking
 pub mod LinkedRun
 pub mod LinkedSettings
 pub mod LinkedFile
+pub mod Checking
 pub mod Answer
 pub mod Status
 pub mod Process

@@ -2,15 +2,16 @@
 use Rattle.std.specs.Prelude.{ℕ, Bool, true, false, List, [], ◌∷◌, get_or, codes, decimal}
 use Rattle.std.specs.List.{concat}
 use Rattle.jop_cli.specs.declared.outcome.Refusal.{Refusal}
-use Rattle.jop_cli.specs.declared.outcome.Refusal.TheVariants.{Usage, TooBig, BadImage, NotBuilt, Differs, MethodTooLong, MemoryTooSmall, Asm, Link}
+use Rattle.jop_cli.specs.declared.outcome.Refusal.TheVariants.{Usage, TooBig, BadImage, NotBuilt, Differs, MethodTooLong, MemoryTooSmall, BadBounds, TwiceBound, BadCert, Check, Asm, Link}
 use Rattle.jop_cli.specs.declared.outcome.AsmRefusal.TheVariants as asm
 use Rattle.jop_cli.specs.declared.outcome.Ending.{Ending}
-use Rattle.jop_cli.specs.declared.outcome.Ending.TheVariants.{Ended, Written, Linked, Uncaught, Refused, TooLong, NotLinked, Spent, ReadFault, InputFault, WriteFault, NoMemory}
+use Rattle.jop_cli.specs.declared.outcome.Ending.TheVariants.{Ended, Written, Linked, Holds, Uncaught, Refused, TooLong, NotLinked, NotHeld, Spent, ReadFault, InputFault, WriteFault, NoMemory}
 use Rattle.microcode_asm.specs.declared.AsmKind.{AsmKind}
 use Rattle.microcode_asm.specs.declared.AsmKind.TheVariants.{Form, NoLabel, LabelTwice, EntryTwice, ConstTwice, NoTurns}
 use Rattle.outcome_lines.specs.Line.{counts_parts, word_text}
 use Rattle.jopizer.specs.declared.refusal.LinkRefusal.{LinkRefusal}
 use Rattle.jopizer.specs.declared.refusal.LinkRefusal.TheVariants as links
+use Rattle.analysis_lines.specs.Lines as analysis
 use Rattle.refusal_lines.specs.Lines as named
 use Rattle.refusal_lines.specs.Lines.{failure_parts, limit_parts}
 
@@ -44,7 +45,7 @@ is_memory refusal = false
 abbrev pub too_long_parts : (name : List ℕ) → (blocks limit : ℕ) → List (List ℕ)
 too_long_parts name blocks limit = codes "method too long " ∷ name ∷ codes " blocks=" ∷ decimal blocks ∷ codes " limit=" ∷ decimal limit ∷ codes "\n" ∷ []
 
--- what files refuse has an ending of its own
+-- what refuses files, and a condition that fails, have endings of their own
 abbrev pub refusal_parts : List (List ℕ) → Refusal → List (List ℕ)
 refusal_parts words (Usage k) = codes "usage: word " ∷ decimal k ∷ codes "\n" ∷ []
 refusal_parts words (TooBig operand sum) = codes "too big " ∷ text_at words operand ∷ codes " sum=" ∷ decimal sum ∷ codes "\n" ∷ []
@@ -53,6 +54,10 @@ refusal_parts words NotBuilt = codes "not built\n" ∷ []
 refusal_parts words (Differs word kept linked) = codes "differs word=" ∷ decimal word ∷ codes " kept=" ∷ word_text kept ∷ codes " linked=" ∷ word_text linked ∷ codes "\n" ∷ []
 refusal_parts words (MethodTooLong method blocks limit) = too_long_parts (codes "boot") blocks limit
 refusal_parts words (MemoryTooSmall count given) = codes "memory too small words=" ∷ decimal count ∷ codes " given=" ∷ decimal given ∷ codes "\n" ∷ []
+refusal_parts words (BadBounds line) = analysis.bad_bounds_parts line
+refusal_parts words (TwiceBound line) = analysis.twice_bound_parts line
+refusal_parts words (BadCert line) = analysis.bad_cert_parts line
+refusal_parts words (Check fault) = []
 refusal_parts words (Asm (asm.Line number kind)) = codes "asm: line=" ∷ decimal number ∷ codes " " ∷ kind_name kind ∷ codes "\n" ∷ []
 refusal_parts words (Asm (asm.TooLong count)) = codes "asm: too long words=" ∷ decimal count ∷ codes "\n" ∷ []
 refusal_parts words (Link refusal) = []
@@ -62,10 +67,12 @@ parts_of words (Ended counts) = codes "ended" ∷ counts_parts counts
 parts_of words Written = []
 parts_of words (Linked sizes) =
     codes "linked classes=" ∷ decimal sizes.classes ∷ codes " methods=" ∷ decimal sizes.methods ∷ codes " words=" ∷ decimal sizes.words ∷ codes " bytes=" ∷ decimal sizes.bytes ∷ codes "\n" ∷ []
+parts_of words (Holds held) = analysis.held_parts held.name.items held.bound
 parts_of words (Uncaught class name counts) = codes "uncaught " ∷ name.items ∷ counts_parts counts
 parts_of words (TooLong method name blocks limit) = too_long_parts name.items blocks limit
 parts_of words (Refused refusal) = refusal_parts words refusal
 parts_of words (NotLinked refusal name) = link_parts refusal name.items
+parts_of words (NotHeld fault name) = analysis.fault_parts fault name.items
 parts_of words (Spent counts) = codes "spent" ∷ counts_parts counts
 parts_of words ReadFault = codes "read fault\n" ∷ []
 parts_of words InputFault = codes "read fault\n" ∷ []
@@ -81,10 +88,12 @@ abbrev pub is_fault : Ending → Bool
 is_fault (Ended counts) = false
 is_fault Written = false
 is_fault (Linked sizes) = false
+is_fault (Holds held) = false
 is_fault (Uncaught class name counts) = false
 is_fault (Refused refusal) = false
 is_fault (TooLong method name blocks limit) = false
 is_fault (NotLinked refusal name) = is_memory refusal
+is_fault (NotHeld fault name) = false
 is_fault (Spent counts) = false
 is_fault ReadFault = true
 is_fault InputFault = true

@@ -25,8 +25,8 @@ use jop_words::Settings;
 use std::alloc::Global;
 use stream_devices::NoSource;
 
-// The image that the bytes are.
-fn image_of(alloc: Global, bytes: &[u8]) -> Result<Bare, Ending>
+/// The image that the bytes are.
+pub(crate) fn image_of(alloc: Global, bytes: &[u8]) -> Result<Bare, Ending>
     ensures bare { IfOk result (IsBare bytes.now) }
     ensures fault { IfErr result (ImageFault bytes.now) }
 {

@@ -1,9 +1,12 @@
 //! What the program promises. The functions do nothing; a caller whose proof needs a law calls its function.
 //!
 //! The laws speak of calls of `jop`: what its contract says of its arguments and of its outcome makes one (`call_of`).
-ghost use Rattle.jop_cli.specs.Correct.{LinkingIsComplete, RunsAreTheBytecodes, TracesAreTheRuns, OneBareImage, BareRunsAreTheBytecodes, BareTracesAreTheRuns, AssemblingIsComplete};
+ghost use Rattle.jop_cli.specs.Correct.{LinkingIsComplete, RunsAreTheBytecodes, TracesAreTheRuns, OneBareImage, BareRunsAreTheBytecodes, BareTracesAreTheRuns, AssemblingIsComplete, BoundsAreKept, CheckingIsComplete, FaultsAreAnswered};
 
+use bound_cert::has_one_certificate;
+use bound_rules::laws::{faults_are_one, refused_is_not_met};
 use jopizer::laws::{linked_images_are_read, one_linked};
+use loop_bounds::laws::{gives_one, read_is_not_refused};
 
 /// Class files that nothing refuses are linked.
 pub fn linking_is_complete()
@@ -49,3 +52,39 @@ pub fn bare_traces_are_the_runs()
 pub fn assembling_is_complete()
     ensures { AssemblingIsComplete }
 {}
+
+/// A certificate that meets the conditions holds.
+pub fn checking_is_complete()
+    ensures { CheckingIsComplete }
+{
+    one_linked();
+    linked_images_are_read();
+    gives_one();
+    read_is_not_refused();
+    has_one_certificate();
+    refused_is_not_met();
+}
+
+/// Where the answer is that a certificate holds, the activations of its method take at most as many cycles as its bound says.
+pub fn bounds_are_kept()
+    ensures { BoundsAreKept }
+{
+    one_linked();
+    linked_images_are_read();
+    gives_one();
+    read_is_not_refused();
+    has_one_certificate();
+}
+
+/// One that doesn't is refused by the first condition that fails.
+pub fn faults_are_answered()
+    ensures { FaultsAreAnswered }
+{
+    one_linked();
+    linked_images_are_read();
+    gives_one();
+    read_is_not_refused();
+    has_one_certificate();
+    refused_is_not_met();
+    faults_are_one();
+}

@@ -3,6 +3,7 @@
 
 mod assembling;
 mod bare_file;
+mod checking;
 pub mod host;
 pub mod laws;
 mod lines;

@@ -7,6 +7,7 @@ ghost use Rattle.jop_words.specs.Command.{texts};
 ghost use Rattle.jop_cli.specs.Line.{text_at, kind_name, link_parts, too_long_parts, is_memory, line_of, is_fault};
 
 use crate::outcome::{AsmRefusal, Ending, Refusal};
+use analysis_lines::{say_bad_bounds, say_bad_cert, say_fault, say_held, say_twice_bound};
 use jop_outside::{Failed, Sink};
 use jopizer::LinkRefusal;
 use microcode_asm::AsmKind;
@@ -36,11 +37,13 @@ pub(crate) fn say_ending<O: Sink>(
         Ending::Ended(counts) => say(sink, &Line::Ended(*counts)),
         Ending::Written => Ok(()),
         Ending::Linked(sizes) => say(sink, &Line::Linked(*sizes)),
+        Ending::Holds(held) => say_held(sink, &held.name, held.bound),
         Ending::Spent(counts) => say(sink, &Line::Spent(*counts)),
         Ending::Uncaught(_, name, counts) => say(sink, &Line::Uncaught(name, *counts)),
         Ending::Refused(refusal) => say_refusal(sink, words, *refusal),
         Ending::TooLong(_, name, blocks, limit) => say_too_long(sink, name, *blocks, *limit),
         Ending::NotLinked(refusal, name) => say_link_refusal(sink, *refusal, name),
+        Ending::NotHeld(fault, name) => say_fault(sink, *fault, name),
         Ending::ReadFault | Ending::InputFault => say(sink, &Line::ReadFault),
         Ending::WriteFault => say(sink, &Line::WriteFault),
         Ending::NoMemory => say(sink, &Line::NoMemory),
@@ -67,7 +70,10 @@ fn say_refusal<O: Sink>(sink: &mut O, words: &[&str], refusal: Refusal) -> Resul
         Refusal::Asm(AsmRefusal::TooLong(words)) => {
             say(sink, &Line::Asm(AsmLine::TooLong(words)))
         }
-        Refusal::Link(_) => Ok(()),
+        Refusal::BadBounds(line) => say_bad_bounds(sink, line),
+        Refusal::TwiceBound(line) => say_twice_bound(sink, line),
+        Refusal::BadCert(line) => say_bad_cert(sink, line),
+        Refusal::Check(_) | Refusal::Link(_) => Ok(()),
     }
 }
 

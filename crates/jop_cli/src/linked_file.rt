@@ -60,8 +60,8 @@ fn not_read(alloc: Global, bytes: &[u8], fault: ImageFault) -> Ending
     }
 }
 
-// What the bytes are linked to.
-fn linked_of(alloc: Global, bytes: &[u8]) -> Result<Linked, Ending>
+/// What the bytes are linked to.
+pub(crate) fn linked_of(alloc: Global, bytes: &[u8]) -> Result<Linked, Ending>
     ensures image { IfOk result (λ linked. file.IsLinked bytes.now (image_of linked)) }
     ensures linked { IfOk result IsLinked }
     ensures fault { IfErr result (BytesFault bytes.now) }

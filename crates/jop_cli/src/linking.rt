@@ -36,8 +36,8 @@ fn class_name(alloc: Global, word: &[u8]) -> Result<Vec<u8>, NoMemory>
     Ok(word.iter().map(|byte| slashed(*byte)).collect(alloc)?)
 }
 
-// The files of the words from one up to another.
-fn read_operands<F: Files>(
+/// The files of the words from one up to another.
+pub(crate) fn read_operands<F: Files>(
     alloc: Global,
     files: &mut F,
     first: u32,

@@ -1,5 +1,7 @@
 //! How a call of the program ends.
 
+use analysis_commands::Held;
+use bound_rules::CheckFault;
 use jopizer::LinkRefusal;
 use microcode_asm::AsmKind;
 use outcome_lines::{Counts, Sizes};
@@ -24,6 +26,14 @@ pub enum Refusal {
     MethodTooLong(u32, u32, u32),
     /// The image has so many words, and the memory, of so many, has fewer.
     MemoryTooSmall(u32, u32),
+    /// The line of this number, counted from 1, is the first of the bounds that is none of their grammar.
+    BadBounds(u32),
+    /// The line of this number is the first of the bounds that bounds a loop once more.
+    TwiceBound(u32),
+    /// With the line of this number no certificate begins.
+    BadCert(u64),
+    /// This is the first condition of the certificate that fails.
+    Check(CheckFault),
     /// The text isn't assembled.
     Asm(AsmRefusal),
     /// The files aren't linked.
@@ -46,6 +56,8 @@ pub enum Outcome {
     Ended,
     /// The whole answer was put.
     Written,
+    /// The certificate meets its conditions.
+    Holds,
     /// An object of the class of this number wasn't caught.
     Uncaught(u32),
     /// The command was refused.
@@ -69,7 +81,7 @@ impl Outcome {
         ensures { result ≡ status_of self }
     {
         match self {
-            Outcome::Ended | Outcome::Written => 0,
+            Outcome::Ended | Outcome::Written | Outcome::Holds => 0,
             Outcome::Uncaught(_) => 1,
             Outcome::Refused(_) => 2,
             Outcome::Spent => 3,
@@ -86,6 +98,8 @@ pub(crate) enum Ending {
     Written,
     /// What was linked was written, and has these sizes.
     Linked(Sizes),
+    /// The certificate holds: its method, the method's name, and its bound.
+    Holds(Held),
     /// An object of the class of this number wasn't caught, whose name has these bytes.
     Uncaught(u32, Vec<u8>, Counts),
     Refused(Refusal),
@@ -93,6 +107,8 @@ pub(crate) enum Ending {
     TooLong(u32, Vec<u8>, u32, u32),
     /// The files aren't linked, and what the line names in them has these bytes.
     NotLinked(LinkRefusal, Vec<u8>),
+    /// The first condition of the certificate that fails, and the name of the method of which it speaks.
+    NotHeld(CheckFault, Vec<u8>),
     Spent(Counts),
     /// A file failed.
     ReadFault,

@@ -13,6 +13,7 @@ ghost use Rattle.jop_cli.specs.Answer.{ReadsLinked, RunsFile, RunsLinkedFile, Ru
 
 use crate::assembling::assemble_file;
 use crate::bare_file::run_bare_bytes;
+use crate::checking::check_files;
 use crate::lines::say_ending;
 use crate::linked_file::run_linked_bytes;
 use crate::linking::link_files;
@@ -130,9 +131,12 @@ fn execute<F: Files, S: Source, O: Sink, V: Watch>(
         }
         Command::Asm { text } => assemble_file(alloc, text, files, out),
         Command::Link { main, first } => link_files(alloc, words, main, first, files, out),
-        Command::Bound { .. } | Command::Check { .. } | Command::Work { .. } => {
-            Ending::Refused(Refusal::NotBuilt)
-        }
+        Command::Check {
+            settings,
+            image,
+            ..
+        } => check_files(alloc, &settings, image, files),
+        Command::Bound { .. } | Command::Work { .. } => Ending::Refused(Refusal::NotBuilt),
     }
 }
 
@@ -156,10 +160,12 @@ fn outcome_unsaid(ending: &Ending) -> Outcome
         Ending::Ended(_)
         | Ending::Written
         | Ending::Linked(_)
+        | Ending::Holds(_)
         | Ending::Uncaught(_, _, _)
         | Ending::Refused(_)
         | Ending::TooLong(_, _, _, _)
         | Ending::NotLinked(_, _)
+        | Ending::NotHeld(_, _)
         | Ending::Spent(_)
         | Ending::WriteFault => Outcome::WriteFault,
     }
@@ -171,12 +177,14 @@ fn outcome_for(ending: &Ending) -> Outcome
     match ending {
         Ending::Ended(_) => Outcome::Ended,
         Ending::Written | Ending::Linked(_) => Outcome::Written,
+        Ending::Holds(_) => Outcome::Holds,
         Ending::Uncaught(class, _, _) => Outcome::Uncaught(*class),
         Ending::Refused(refusal) => Outcome::Refused(*refusal),
         Ending::TooLong(method, _, blocks, limit) => {
             Outcome::Refused(Refusal::MethodTooLong(*method, *blocks, *limit))
         }
         Ending::NotLinked(refusal, _) => Outcome::Refused(Refusal::Link(*refusal)),
+        Ending::NotHeld(fault, _) => Outcome::Refused(Refusal::Check(*fault)),
         Ending::Spent(_) => Outcome::Spent,
         Ending::ReadFault | Ending::InputFault => Outcome::ReadFault,
         Ending::WriteFault => Outcome::WriteFault,
@@ -190,7 +198,7 @@ fn outcome_for(ending: &Ending) -> Outcome
 /// registers of each state of the machine, from reset on, from which a cycle was done or tried to `watch`. `trace` is the same
 /// run, and puts its lines into `out`, and hands `watch` nothing: one before each step, one for each byte of the output and, if asked to, one before each
 /// cycle. `asm` puts the words of the text's microprogram into `out`, a line for each, and `link` the file of the image of the
-/// class files.
+/// class files. `check` puts nothing there: it says whether a certificate meets its conditions.
 pub fn jop<F: Files, S: Source, O: Sink, E: Sink, V: Watch>(
     alloc: Global,
     words: &[&str],

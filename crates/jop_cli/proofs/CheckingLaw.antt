@@ -1,0 +1,201 @@
+-- A certificate that meets the conditions holds, and one that doesn't is refused by the first that fails.
+use Rattle.std.proofs.Common.{◌≡◌, ℕ, ◌+◌, true, false, List, [], ◌∷◌, Option, refl, sym, ◌∙◌, ap, ap₂, subst, arith, ◌⊎◌, inl, inr, ⊎_elim}
+use Rattle.std.specs.Prelude.{Ok, Vec}
+use Rattle.std.specs.declared.alloc.Global.{Global}
+use Rattle.std.specs.List.{concat}
+use Rattle.jop_outside.specs.Outside.{Grew}
+use Rattle.operand_files.specs.Files.{AreFiles}
+use Rattle.class_pool.specs.declared.class.ClassFile.{ClassFile}
+use Rattle.program_tables.specs.Resolved.{resolved}
+use Rattle.bytecode_model.specs.Program.{Program, body_of}
+use Rattle.linked_image.specs.Linked as file
+use Rattle.method_flow.specs.declared.timing.Timing.{Timing}
+use Rattle.method_flow.specs.Keeping.{BoundOf}
+use Rattle.loop_bounds.specs.declared.BoundsFault.TheVariants as texts
+use Rattle.loop_bounds.specs.Bounds.{LoopBound}
+use Rattle.loop_bounds.specs.Laws.{GivesOne, ReadIsNotRefused}
+use Rattle.bound_cert.specs.Certificate.{Certificate}
+use Rattle.bound_cert.specs.Laws.{HasOneCertificate}
+use Rattle.jop_text.specs.Line.{lines_of as text_lines}
+use Rattle.bound_rules.specs.declared.faults.CheckFault.{CheckFault}
+use Rattle.bound_rules.specs.Conditions.{MeetsConditions}
+use Rattle.bound_rules.specs.Refused.{IsRefused}
+use Rattle.bound_rules.specs.Laws.{FaultsAreOne, RefusedIsNotMet}
+use Rattle.analysis_lines.specs.Lines.{held_parts, fault_parts}
+use Rattle.analysis_commands.specs.declared.analysis.AnalysisFault.{AnalysisFault}
+use Rattle.analysis_commands.specs.declared.analysis.AnalysisFault.TheVariants as analysis
+use Rattle.analysis_commands.specs.declared.check.Held.{Held}
+use Rattle.analysis_commands.specs.declared.check.CheckRefusal.{CheckRefusal}
+use Rattle.analysis_commands.specs.declared.check.CheckRefusal.TheVariants as check
+use Rattle.analysis_commands.specs.Analysis.{timing_of, bounds_of, name_of, IsAnalysisFault}
+use Rattle.analysis_commands.specs.Checking.{IsHeld, FailsBy, IsRefusal, fault_name}
+use Rattle.activations.specs.Warrant.{BoundsActivations}
+use Rattle.jop_words.specs.declared.command.Settings.{Settings}
+use Rattle.jop_words.specs.declared.command.Command.TheVariants.{Check}
+use Rattle.jopizer.specs.Linked.{Parts, IsLinked, image_of}
+use Rattle.jopizer.specs.Laws.{OneLinked, LinkedImagesAreRead}
+use Rattle.jop_cli.specs.declared.outcome.Refusal.TheVariants.{Check as NotChecked}
+use Rattle.jop_cli.specs.declared.outcome.Ending.{Ending}
+use Rattle.jop_cli.specs.declared.outcome.Ending.TheVariants as endings
+use Rattle.jop_cli.specs.declared.outcome.Outcome.{Outcome}
+use Rattle.jop_cli.specs.declared.outcome.Outcome.TheVariants as outcomes
+use Rattle.jop_cli.specs.Line.{line_of}
+use Rattle.jop_cli.specs.Phase.{is_linked}
+use Rattle.jop_cli.specs.World.{IsQuiet}
+use Rattle.jop_cli.specs.Linking.{files_of, OperandsFault}
+use Rattle.jop_cli.specs.LinkedFile.{BytesFault}
+use Rattle.jop_cli.specs.Checking.{fault_ending, refusal_ending, Checks, EndsHeld, EndsRefused, ChecksLinked, ChecksLinkedBytes, ChecksBytes, ChecksRead, ChecksFiles}
+use Rattle.jop_cli.specs.Answer.{outcome_of}
+use Rattle.jop_cli.specs.Calls.{Call, NothingFailed, LacksMemory, AreTold}
+use Rattle.jop_cli.specs.Correct.{ChecksTexts, AnswersLine, BoundsAreKept, CheckingIsComplete, FaultsAreAnswered}
+use Rattle.jop_cli.proofs.Wholly.{IsWholly, wholly, executed, lacks, same_files, files_read}
+use Rattle.jop_cli.proofs.RunningLaw.{begins_linked, is_read, not_more}
+
+-- what this certificate comes to, with these bounds: it meets the conditions, or is refused by the first that fails; or there was no memory
+data Settled (cs : List ClassFile) (s : Settings) (lines : List LoopBound) (c : Certificate) (ending : Ending) : Type 0 where
+  holds : (held : Held) → ending ≡ endings.Holds held → MeetsConditions (resolved cs) (timing_of s) (bounds_of cs lines) c → BoundsActivations (resolved cs) (timing_of s) (bounds_of cs lines) c.root c.bound → held.name.items ≡ name_of cs c.root → held.bound ≡ c.bound → Settled cs s lines c ending
+  fails : (fault : CheckFault) (name : Vec ℕ Global) → ending ≡ endings.NotHeld fault name → IsRefused (resolved cs) (timing_of s) (bounds_of cs lines) c fault → name.items ≡ fault_name cs fault → Settled cs s lines c ending
+  lacking : ending ≡ endings.NoMemory → Settled cs s lines c ending
+
+module _ (one : GivesOne) (not_refused : ReadIsNotRefused) (certified : HasOneCertificate) (c : Call) (s : Settings) (image : ℕ) (l : Parts) (lines : List LoopBound) (certificate : Certificate) (h : ChecksTexts c s image l lines certificate) where
+  held_settled : (ending : Ending) → EndsHeld l.classes s h.bounds_text h.cert_text ending → Settled l.classes s lines certificate ending
+  held_settled ending e =
+      let k = e.shows.meets in
+      let same_lines : k.bounds ≡ lines = one h.bounds_text k.bounds lines k.reads.bounds_read h.read in
+      let same : k.certificate ≡ certificate = certified (text_lines h.cert_text) k.certificate certificate k.reads.cert_read h.text in
+      let meets = subst (λ (b : List LoopBound). MeetsConditions (resolved l.classes) (timing_of s) (bounds_of l.classes b) k.certificate) same_lines k.meets in
+      let of_lines = subst (λ (b : List LoopBound). BoundsActivations (resolved l.classes) (timing_of s) (bounds_of l.classes b) e.held.root e.held.bound) same_lines e.shows.holds in
+      let of_root = subst (λ (m : ℕ). BoundsActivations (resolved l.classes) (timing_of s) (bounds_of l.classes lines) m e.held.bound) (k.root ∙ ap (λ (x : Certificate). x.root) same) of_lines in
+      holds e.held e.says
+      (subst (λ (x : Certificate). MeetsConditions (resolved l.classes) (timing_of s) (bounds_of l.classes lines) x) same meets)
+      (subst (λ (o : Option ℕ). BoundsActivations (resolved l.classes) (timing_of s) (bounds_of l.classes lines) certificate.root o) (k.bound ∙ ap (λ (x : Certificate). x.bound) same) of_root)
+      (k.name ∙ ap (λ (x : Certificate). name_of l.classes x.root) same)
+      (k.bound ∙ ap (λ (x : Certificate). x.bound) same)
+
+  fails_settled : (ending : Ending) (fault : CheckFault) (name : Vec ℕ Global) → ending ≡ endings.NotHeld fault name → FailsBy l.classes s h.bounds_text h.cert_text fault → name.items ≡ fault_name l.classes fault → Settled l.classes s lines certificate ending
+  fails_settled ending fault name says k is =
+      let same_lines : k.bounds ≡ lines = one h.bounds_text k.bounds lines k.reads.bounds_read h.read in
+      let same : k.certificate ≡ certificate = certified (text_lines h.cert_text) k.certificate certificate k.reads.cert_read h.text in
+      let refused = subst (λ (b : List LoopBound). IsRefused (resolved l.classes) (timing_of s) (bounds_of l.classes b) k.certificate fault) same_lines k.refused in
+      fails fault name says (subst (λ (x : Certificate). IsRefused (resolved l.classes) (timing_of s) (bounds_of l.classes lines) x fault) same refused) is
+
+  analysed : (ending : Ending) (fault : AnalysisFault) → IsAnalysisFault l.classes s h.bounds_text fault → ending ≡ fault_ending s fault → Settled l.classes s lines certificate ending
+  analysed ending (analysis.MethodTooLong m name blocks) cause says =
+      absurd (not_more (body_of (resolved l.classes) m) s.blocks s.block_words blocks cause.0.code (h.codes m) cause.0.more)
+  analysed ending (analysis.BadBounds line) cause says =
+      let e : texts.Line line ≡ texts.NoMemory = not_refused h.bounds_text lines (texts.Line line) h.read cause.1 in
+      absurd (cc)
+  analysed ending (analysis.TwiceBound line) cause says =
+      let e : texts.Twice line ≡ texts.NoMemory = not_refused h.bounds_text lines (texts.Twice line) h.read cause.1 in
+      absurd (cc)
+  analysed ending analysis.NoMemory cause says = lacking says
+
+  refused_settled : (ending : Ending) (r : EndsRefused l.classes s h.bounds_text h.cert_text ending) → Settled l.classes s lines certificate ending
+  refused_settled ending r = by_refusal r.refusal r.cause r.says
+    where
+      by_refusal : (refusal : CheckRefusal) → IsRefusal l.classes s h.bounds_text h.cert_text refusal → ending ≡ refusal_ending s refusal → Settled l.classes s lines certificate ending
+      by_refusal (check.NoAnalysis fault) cause says = analysed ending fault cause says
+      by_refusal (check.BadCert line) cause says = absurd (cause.1.first.none certificate h.text)
+      by_refusal (check.Fails fault name) cause says = fails_settled ending fault name says cause.0 cause.1
+      by_refusal check.NoMemory cause says = lacking says
+
+  program_settled : (ending : Ending) → Checks l.classes s h.bounds_text h.cert_text ending → Settled l.classes s lines certificate ending
+  program_settled ending checks = ⊎_elim (held_settled ending) (refused_settled ending) checks
+
+  -- ---- the files
+
+  module _ (linked_one : OneLinked) (images : LinkedImagesAreRead) (n : NothingFailed c) where
+    linked_settled : (ending : Ending) → ChecksLinkedBytes s h.bytes h.bounds_text h.cert_text ending → Settled l.classes s lines certificate ending
+    linked_settled ending checks =
+        ⊎_elim
+        (λ fault. lacking (is_read images h.bytes l h.is_linked h.is_file ending fault))
+        (λ r.
+        let same : r.linked ≡ l = linked_one h.bytes r.linked l r.is_linked h.is_linked r.is_file h.is_file in
+        program_settled ending (subst (λ (p : Parts). Checks p.classes s h.bounds_text h.cert_text ending) same r.checks))
+        checks
+
+    bytes_settled : (ending : Ending) → ChecksBytes s h.bytes h.bounds_text h.cert_text ending → Settled l.classes s lines certificate ending
+    bytes_settled ending checks =
+        ⊎_elim
+        (λ linked. linked_settled ending linked.1)
+        (λ bare.
+        let clash : false ≡ true = sym bare.0 ∙ begins_linked h.bytes (image_of l) h.is_file in
+        absurd (cc))
+        checks
+
+    end_is : image + 3 ≡ c.old.words
+    end_is = h.told.many
+
+    read_settled : (ending : Ending) → ChecksRead s image (files_of c.old) (files_of c.new) ending → Settled l.classes s lines certificate ending
+    read_settled ending r =
+        let are : AreFiles c.old.files image c.old.words (r.bytes ∷ r.bounds_text ∷ r.cert_text ∷ []) = subst (λ (e : ℕ). AreFiles c.old.files image e (r.bytes ∷ r.bounds_text ∷ r.cert_text ∷ [])) end_is r.are in
+        let same = same_files c image (h.bytes ∷ h.bounds_text ∷ h.cert_text ∷ []) (r.bytes ∷ r.bounds_text ∷ r.cert_text ∷ []) h.told are in
+        let bytes : r.bytes ≡ h.bytes = cc same in
+        let bounds_text : r.bounds_text ≡ h.bounds_text = cc same in
+        let cert_text : r.cert_text ≡ h.cert_text = cc same in
+        let first = subst (λ (x : List ℕ). ChecksBytes s x r.bounds_text r.cert_text ending) bytes r.checks in
+        let second = subst (λ (x : List ℕ). ChecksBytes s h.bytes x r.cert_text ending) bounds_text first in
+        bytes_settled ending (subst (λ (x : List ℕ). ChecksBytes s h.bytes h.bounds_text x ending) cert_text second)
+
+    files_settled : (ending : Ending) → ChecksFiles s image (files_of c.old) (files_of c.new) ending → Settled l.classes s lines certificate ending
+    files_settled ending checks =
+        ⊎_elim
+        (λ fault. lacking (files_read c image (h.bytes ∷ h.bounds_text ∷ h.cert_text ∷ []) h.told n ending (subst (λ (e : ℕ). OperandsFault image e (files_of c.old) (files_of c.new) ending) end_is fault)))
+        (read_settled ending)
+        checks
+
+-- ---- what is answered
+
+module _ (c : Call) (ending : Ending) (w : IsWholly c ending) (quiet : IsQuiet c.old c.new) where
+  answers : (e : Ending) (outcome : Outcome) (parts : List (List ℕ)) → ending ≡ e → outcome_of e ≡ outcome → line_of c.words e ≡ concat parts → AnswersLine c outcome parts
+  answers e outcome parts is of line = record {
+    outcome_is = w.outcome ∙ (ap outcome_of is ∙ of);
+    line = subst (λ (x : List ℕ). Grew c.err_old c.err_new x) (ap (line_of c.words) is ∙ line) w.line;
+    quiet = quiet;
+  }
+
+  holds_answered : (cs : List ClassFile) (s : Settings) (lines : List LoopBound) (d : Certificate) → RefusedIsNotMet → MeetsConditions (resolved cs) (timing_of s) (bounds_of cs lines) d → Settled cs s lines d ending
+      → AnswersLine c outcomes.Holds (held_parts (name_of cs d.root) d.bound) ⊎ LacksMemory c
+  holds_answered cs s lines d law meets (holds held is meets' kept name bound) =
+      inl (answers (endings.Holds held) outcomes.Holds (held_parts (name_of cs d.root) d.bound) is refl (ap₂ (λ (n : List ℕ) (b : Option ℕ). concat (held_parts n b)) name bound))
+  holds_answered cs s lines d law meets (fails fault name is refused name_is) = absurd (law (resolved cs) (timing_of s) (bounds_of cs lines) d fault refused meets)
+  holds_answered cs s lines d law meets (lacking is) = inr (lacks c ending w is quiet)
+
+  kept_answered : (cs : List ClassFile) (s : Settings) (lines : List LoopBound) (d : Certificate) → c.outcome ≡ outcomes.Holds → Settled cs s lines d ending
+      → AnswersLine c outcomes.Holds (held_parts (name_of cs d.root) d.bound) × BoundsActivations (resolved cs) (timing_of s) (bounds_of cs lines) d.root d.bound
+  kept_answered cs s lines d answer (holds held is meets kept name bound) =
+      (answers (endings.Holds held) outcomes.Holds (held_parts (name_of cs d.root) d.bound) is refl (ap₂ (λ (n : List ℕ) (b : Option ℕ). concat (held_parts n b)) name bound), kept)
+  kept_answered cs s lines d answer (fails fault name is refused name_is) =
+      let clash : outcomes.Holds ≡ outcomes.Refused (NotChecked fault) = sym answer ∙ (w.outcome ∙ ap outcome_of is) in
+      absurd (cc)
+  kept_answered cs s lines d answer (lacking is) =
+      let clash : outcomes.Holds ≡ outcomes.NoMemory = sym answer ∙ (w.outcome ∙ ap outcome_of is) in
+      absurd (cc)
+
+  fault_answered : (cs : List ClassFile) (s : Settings) (lines : List LoopBound) (d : Certificate) (fault : CheckFault) → RefusedIsNotMet → FaultsAreOne → IsRefused (resolved cs) (timing_of s) (bounds_of cs lines) d fault → Settled cs s lines d ending
+      → AnswersLine c (outcomes.Refused (NotChecked fault)) (fault_parts fault (fault_name cs fault)) ⊎ LacksMemory c
+  fault_answered cs s lines d fault law faults refused (holds held is meets kept name bound) = absurd (law (resolved cs) (timing_of s) (bounds_of cs lines) d fault refused meets)
+  fault_answered cs s lines d fault law faults refused (fails other name is refused' name_is) =
+      let same : other ≡ fault = faults (resolved cs) (timing_of s) (bounds_of cs lines) d other fault refused' refused in
+      inl (answers (endings.NotHeld other name) (outcomes.Refused (NotChecked fault)) (fault_parts fault (fault_name cs fault)) is
+      (ap (λ (f : CheckFault). outcomes.Refused (NotChecked f)) same)
+      (ap (λ (n : List ℕ). concat (fault_parts other n)) name_is ∙ ap (λ (f : CheckFault). concat (fault_parts f (fault_name cs f))) same))
+  fault_answered cs s lines d fault law faults refused (lacking is) = inr (lacks c ending w is quiet)
+
+pub checking_is_complete : GivesOne → ReadIsNotRefused → HasOneCertificate → OneLinked → LinkedImagesAreRead → RefusedIsNotMet → CheckingIsComplete
+checking_is_complete one not_refused certified linked_one images law c s image l lines d h n meets =
+    let did = executed c (Check s image h.bounds h.last) h.command in
+    holds_answered c c.answered.ending (wholly c n) did.1 l.classes s lines d law meets
+    (files_settled one not_refused certified c s image l lines d h linked_one images n c.answered.ending did.0)
+
+pub bounds_are_kept : GivesOne → ReadIsNotRefused → HasOneCertificate → OneLinked → LinkedImagesAreRead → BoundsAreKept
+bounds_are_kept one not_refused certified linked_one images c s image l lines d h n answer =
+    let did = executed c (Check s image h.bounds h.last) h.command in
+    kept_answered c c.answered.ending (wholly c n) did.1 l.classes s lines d answer
+    (files_settled one not_refused certified c s image l lines d h linked_one images n c.answered.ending did.0)
+
+pub faults_are_answered : GivesOne → ReadIsNotRefused → HasOneCertificate → OneLinked → LinkedImagesAreRead → RefusedIsNotMet → FaultsAreOne → FaultsAreAnswered
+faults_are_answered one not_refused certified linked_one images law faults c s image l lines d fault h n refused =
+    let did = executed c (Check s image h.bounds h.last) h.command in
+    fault_answered c c.answered.ending (wholly c n) did.1 l.classes s lines d fault law faults refused
+    (files_settled one not_refused certified c s image l lines d h linked_one images n c.answered.ending did.0)

@@ -1,0 +1,17 @@
+use Rattle.std.proofs.Common.{List, refl, subst, inl}
+use Rattle.class_pool.specs.declared.class.ClassFile.{ClassFile}
+use Rattle.analysis_commands.specs.Checking.{IsHeld}
+use Rattle.jop_cli.proofs.Shown.{shown}
+use Rattle.jop_cli.proofs.checking.check_linked.Goals as goal
+
+pub returns-in-Ok : goal.returns-in-Ok
+returns-in-Ok c =
+    let s = c.args.settings.now in
+    let h = c.in-Ok.held in
+    let H : List ClassFile → Type 0 = λ cs. IsHeld cs s c.args.bounds.now c.args.certificate.now h in
+    let held = subst H c.program.ensures.program c.in-Ok.ensures.held in
+    inl (record {
+      held = h;
+      shows = shown c.args.linked.now.classes s c.args.bounds.now c.args.certificate.now h c.certificates_are_sound.ensures c.requires.settings.read_most c.requires.settings.write_most held;
+      says = refl;
+    })

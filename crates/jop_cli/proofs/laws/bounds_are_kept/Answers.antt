@@ -1,0 +1,5 @@
+use Rattle.jop_cli.proofs.CheckingLaw as law
+use Rattle.jop_cli.proofs.laws.bounds_are_kept.Goals as goal
+
+pub returns : goal.returns
+returns c = law.bounds_are_kept c.gives_one.ensures c.read_is_not_refused.ensures c.has_one_certificate.ensures c.one_linked.ensures c.linked_images_are_read.ensures
