@@ -2,8 +2,6 @@ pub mod Least
 pub mod Firsts
 pub mod Answering
 pub mod Fulls
-pub mod Greatest
-pub mod Starting
 pub mod Turning
 pub mod Preparing
 pub mod Usual

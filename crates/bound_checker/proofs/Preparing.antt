@@ -23,8 +23,8 @@ use Rattle.bound_checker.specs.Prepared.{IsPreparedWith, IsPrepared, FitsLimit, 
 use Rattle.bound_checker.specs.declared.prepared.Prepared.{Prepared}
 use Rattle.bound_checker.specs.declared.summaries.Summary.{Summary}
 use Rattle.bound_checker.proofs.Fulls.{called_is_said}
-use Rattle.bound_checker.proofs.Greatest.{IsGreatestOf, greatest_is}
-use Rattle.bound_checker.proofs.Starting.{call_at, among_at, call_listed}
+use Rattle.bound_rules.proofs.Greatest.{IsGreatestOf, greatest_is}
+use Rattle.flow_graph.proofs.Starting.{call_at, among_at, call_listed}
 use Rattle.bound_checker.proofs.Turning.{reached_back, told_graph, nodes_told, lacking_told, costs_told}
 
 -- ---- targets

@@ -31,8 +31,8 @@ use Rattle.bound_checker.specs.Telling.{IsSummary, AreSummaries}
 use Rattle.bound_checker.specs.Prepared.{AreComeTo, AreAdded, IsAbsentAt}
 use Rattle.bound_checker.specs.declared.summaries.Summary.{Summary}
 use Rattle.bound_checker.proofs.Fulls.{entry_at}
-use Rattle.bound_checker.proofs.Greatest.{same_members, none_greatest}
-use Rattle.bound_checker.proofs.Starting.{call_at, among_at, place_among, target_calls, IsPlaced, body, first_placed, next_placed, call_listed, listed_calls}
+use Rattle.bound_rules.proofs.Greatest.{same_members, none_greatest}
+use Rattle.flow_graph.proofs.Starting.{call_at, among_at, place_among, target_calls, IsPlaced, body, first_placed, next_placed, call_listed, listed_calls}
 
 -- the least number with a property is the least with one that it implies and that has one of the first kind below each
 least_below : (A L : ℕ → Type 0) (o : Option ℕ) → ((x : ℕ) → A x → L x) → ((x : ℕ) → L x → (y : ℕ) × A y × (y ≤ x)) → IsLeast A o → IsLeast L o

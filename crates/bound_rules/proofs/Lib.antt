@@ -18,3 +18,4 @@ mod Valuing
 mod Parting
 mod Charging
 mod Numbering
+pub mod Greatest

@@ -8,10 +8,7 @@ ghost use Rattle.class_hierarchy.specs.Selecting.{is_open, is_near, is_joining};
 use class_lookup::parts::has_flags;
 use class_lookup::{Classes, Place};
 use class_pool::Member;
-use class_rules::flags::{ACC_PRIVATE, ACC_PROTECTED, ACC_PUBLIC, ACC_STATIC};
-
-/// The flags of which a package-private method has none.
-const ACCESS: u16 = 0x0007;
+use class_rules::flags::{ACC_ACCESS, ACC_PRIVATE, ACC_PROTECTED, ACC_PUBLIC, ACC_STATIC};
 
 /// The method of this place.
 pub(crate) fn method_at(classes: &Classes, place: Place) -> Option<&Member>
@@ -78,7 +75,7 @@ fn is_near(classes: &Classes, place: Place, resolved: Place) -> bool
 {
     match method_at(classes, resolved) {
         Some(method) => {
-            !has_flags(method.flags, ACCESS)
+            !has_flags(method.flags, ACC_ACCESS)
                 && classes.are_in_one_package(place.class, resolved.class)
         }
         None => false,

@@ -18,6 +18,9 @@ use jop_base::NoMemory;
 use std::alloc::Global;
 use std::marker::Model;
 
+/// The flag of an interface.
+const ACC_INTERFACE: u16 = 0x0200;
+
 /// A list of classes, with tables of their texts, of what they name, and of their members. Contracts see it as the list.
 ///
 /// Each text that the pools of the classes have, and the empty one, has a number, its symbol: what is asked by symbols reads
@@ -126,7 +129,7 @@ impl Classes {
         requires { number < length self.now }
         ensures { result ≡ is_interface self.now number }
     {
-        has_flags(self.classes[number as usize].flags, 0x0200)
+        has_flags(self.classes[number as usize].flags, ACC_INTERFACE)
     }
 
     /// The symbol of the text of this index in the class's pool; that of the empty text where it is that of no text.

@@ -13,7 +13,7 @@ use class_lookup::parts::has_flags;
 use class_lookup::{Classes, Place};
 use class_pool::{ClassFile, Member};
 use class_rules::flags::{
-    ACC_FINAL, ACC_INTERFACE, ACC_PRIVATE, ACC_PROTECTED, ACC_PUBLIC, ACC_STATIC,
+    ACC_ACCESS, ACC_FINAL, ACC_INTERFACE, ACC_PRIVATE, ACC_PROTECTED, ACC_PUBLIC, ACC_STATIC,
 };
 use jop_base::NoMemory;
 use std::alloc::Global;
@@ -135,7 +135,7 @@ fn is_open_to(classes: &Classes, place: Place, other: Place) -> bool
         Some(method) => {
             has_flags(method.flags, ACC_PUBLIC)
                 || has_flags(method.flags, ACC_PROTECTED)
-                || (!has_flags(method.flags, 0x0007)
+                || (!has_flags(method.flags, ACC_ACCESS)
                     && classes.are_in_one_package(other.class, place.class))
         }
         None => false,

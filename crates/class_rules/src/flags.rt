@@ -22,6 +22,9 @@ pub const ACC_ABSTRACT: u16 = 0x0400;
 
 pub const ACC_STRICT: u16 = 0x0800;
 
+/// The flags of access together: a member with none of them is package-private.
+pub const ACC_ACCESS: u16 = 0x0007;
+
 /// Whether a flag is set.
 pub fn has(flags: u16, flag: u16) -> bool
     ensures { result ≡ has flags flag }

@@ -9,3 +9,4 @@ pub mod Catching
 pub mod Noting
 pub mod Leaving
 pub mod Placing
+pub mod Starting
