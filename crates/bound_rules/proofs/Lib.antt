@@ -3,9 +3,9 @@ mod Ending
 mod Headers
 mod Walking
 mod Coding
-mod Sums
-mod Owning
-mod Views
+pub mod Sums
+pub mod Owning
+pub mod Views
 mod Refusing
 mod Examples
 mod Graphing
@@ -14,8 +14,8 @@ mod Printing
 mod Certifying
 mod Rising
 mod Heading
-mod Valuing
-mod Parting
+pub mod Valuing
+pub mod Parting
 mod Charging
-mod Numbering
+pub mod Numbering
 pub mod Greatest

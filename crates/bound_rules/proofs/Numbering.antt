@@ -68,14 +68,14 @@ same_charged (l ∷ ls) (k ∷ ks) (header, members, rest) (flag ∷ flags) u =
     ap₂ (λ (us : List ℕ) (b : Bool). if flag && holds us u then true else b) members (same_charged ls ks rest flags u)
 
 -- a charged loop that has the node
-record IsInCharged (ks : List NaturalLoop) (flags : List Bool) (u : ℕ) : Type 0 where
-  place : ℕ
-  loop : NaturalLoop
-  at : IsAt ks place loop
-  flagged : IsFlagged flags place
-  has : Contains loop.members u
+pub record IsInCharged (ks : List NaturalLoop) (flags : List Bool) (u : ℕ) : Type 0 where
+  pub place : ℕ
+  pub loop : NaturalLoop
+  pub at : IsAt ks place loop
+  pub flagged : IsFlagged flags place
+  pub has : Contains loop.members u
 
-in_charged : (ks : List NaturalLoop) (flags : List Bool) (u : ℕ) → is_in_charged ks flags u ≡ true → IsInCharged ks flags u
+pub in_charged : (ks : List NaturalLoop) (flags : List Bool) (u : ℕ) → is_in_charged ks flags u ≡ true → IsInCharged ks flags u
 in_charged [] flags u e = absurd (cc)
 in_charged (k ∷ ks) [] u e = absurd (cc)
 in_charged (k ∷ ks) (flag ∷ flags) u e = by (flag && holds k.members u) refl e (λ e'. in_charged ks flags u e')
@@ -87,7 +87,7 @@ in_charged (k ∷ ks) (flag ∷ flags) u e = by (flag && holds k.members u) refl
         let below = r.at.0 in
         record { place = suc r.place; loop = r.loop; at = (omega arith, r.at.1); flagged = r.flagged; has = r.has }
 
-same_loads_by : (P : Program) (t : Timing) (m : ℕ) (us vs : List ℕ) → us ≡ vs → (f : LoopFits P t m us) (h : LoopFits P t m vs) → loads_of f ≡ loads_of h
+pub same_loads_by : (P : Program) (t : Timing) (m : ℕ) (us vs : List ℕ) → us ≡ vs → (f : LoopFits P t m us) (h : LoopFits P t m vs) → loads_of f ≡ loads_of h
 same_loads_by P t m us vs e f h = (subst (λ (ws : List ℕ). (k : LoopFits P t m ws) → loads_of f ≡ loads_of k) e (λ k. same_loads f k)) h
 
 some_loop : NaturalLoop

@@ -75,7 +75,7 @@ values_are_told P m g costs others loops a b live agree x y = one_value P m g li
 -- ---- iterations
 
 -- a loop with its bound is one of the nest
-in_nest : (ks : List NaturalLoop) (bounds fees : List ℕ) (l : BoundedLoop) → Contains (bounded_loops ks bounds fees) l → (k : NaturalLoop) × Contains ks k × (k.header ≡ l.header)
+pub in_nest : (ks : List NaturalLoop) (bounds fees : List ℕ) (l : BoundedLoop) → Contains (bounded_loops ks bounds fees) l → (k : NaturalLoop) × Contains ks k × (k.header ≡ l.header)
 in_nest [] bounds fees l has = absurd (nil_contains l has)
 in_nest (k ∷ ks) [] fees l has = absurd (nil_contains l has)
 in_nest (k ∷ ks) (b ∷ bs) [] l has = absurd (nil_contains l has)

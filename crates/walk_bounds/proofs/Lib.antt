@@ -1,9 +1,9 @@
-mod Renumbering
-mod Walks
-mod Loops
-mod Kept
+pub mod Renumbering
+pub mod Walks
+pub mod Loops
+pub mod Kept
 mod Greatest
 mod Parts
-mod Charged
-mod Marks
+pub mod Charged
+pub mod Marks
 mod Solutions

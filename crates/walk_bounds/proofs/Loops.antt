@@ -50,14 +50,14 @@ outcome None A B P Q f g h = f h
 outcome (Some x) A B P Q f g h = g x h
 
 -- the members of a loop are nodes
-member_within : {g : Digraph} (h x : ℕ) → IsDigraph g → IsMember g h x → x < g.nodes
+pub member_within : {g : Digraph} (h x : ℕ) → IsDigraph g → IsMember g h x → x < g.nodes
 member_within {g} h x wf m =
     elim m.1 [
       | inl same ↦ let b = m.0.1 in subst (λ (z : ℕ). z < g.nodes) (sym same) (ends_within wf m.0.0 h b.edge).1
       | inr r ↦ visited_within wf r.leads.1 (ends_within wf r.source h r.back_edge.edge).0 x (start_visited r.leads.1)
     ]
 
-no_loop : NaturalLoop
+pub no_loop : NaturalLoop
 no_loop = record { header = 0; members = []; outer = None }
 
 module _ (g d : Digraph) (node : ℕ → ℕ) (h : IsMoved g d node) where

@@ -1,5 +1,5 @@
 //! Sections with other numbers of nodes.
-ghost use Rattle.std.specs.Prelude.{◌≡◌, ◌<◌, length, map, slice_index, All, IfOk};
+ghost use Rattle.std.specs.Prelude.{◌≡◌, ◌^◌, ◌<◌, length, map, slice_index, All, IfOk};
 ghost use Rattle.section_check.specs.Renumbering.{moved, moved_loop};
 
 use jop_base::NoMemory;
@@ -38,7 +38,8 @@ fn moved_nodes(
 fn moved_loop(alloc: Global, nodes: &[u32], l: &CertLoop) -> Result<CertLoop, NoMemory>
     requires header { l.now.header < length nodes.now }
     requires members { All (λ u. u < length nodes.now) l.now.members }
-    ensures { IfOk result (λ k. k ≡ moved_loop (slice_index nodes.now) l.now) }
+    ensures moved { IfOk result (λ k. k ≡ moved_loop (slice_index nodes.now) l.now) }
+    ensures cost { IfOk result (λ k. k.iteration_cost < 2 ^ 64) }
 {
     let members = numbers(alloc, nodes, l.members())?;
     Ok(CertLoop::new(
@@ -53,7 +54,8 @@ fn moved_loop(alloc: Global, nodes: &[u32], l: &CertLoop) -> Result<CertLoop, No
 fn moved_loops(alloc: Global, nodes: &[u32], loops: &[CertLoop]) -> Result<Vec<CertLoop>, NoMemory>
     requires headers { All (λ l. l.header < length nodes.now) loops.now }
     requires members { All (λ l. All (λ u. u < length nodes.now) l.members) loops.now }
-    ensures { IfOk result (λ v. v.items ≡ map (moved_loop (slice_index nodes.now)) loops.now) }
+    ensures moved { IfOk result (λ v. v.items ≡ map (moved_loop (slice_index nodes.now)) loops.now) }
+    ensures costs { IfOk result (λ v. All (λ l. l.iteration_cost < 2 ^ 64) v.items) }
 {
     let mut moved = Vec::new(alloc);
     for l in loops {
@@ -67,7 +69,8 @@ pub fn moved(alloc: Global, nodes: &[u32], s: &Section) -> Result<Section, NoMem
     requires listed { All (λ p. p.0 < length nodes.now) s.now.nodes }
     requires headers { All (λ l. l.header < length nodes.now) s.now.loops }
     requires members { All (λ l. All (λ u. u < length nodes.now) l.members) s.now.loops }
-    ensures { IfOk result (λ r. r ≡ moved (slice_index nodes.now) s.now) }
+    ensures moved { IfOk result (λ r. r ≡ moved (slice_index nodes.now) s.now) }
+    ensures costs { IfOk result (λ r. All (λ l. l.iteration_cost < 2 ^ 64) r.loops) }
 {
     let listed = moved_nodes(alloc, nodes, s.nodes())?;
     let loops = moved_loops(alloc, nodes, s.loops())?;

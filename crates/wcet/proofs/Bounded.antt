@@ -1,0 +1,61 @@
+-- What is answered of all methods of an order, one behind the other.
+use Rattle.std.proofs.Common.{◌≡◌, ◌⊎◌, ℕ, ◌+◌, List, [], ◌∷◌, ◌++◌, length, get_or, Contains, Option, Some, None, sym, ap, ◌∙◌, subst, inl, inr, arith}
+use Rattle.std.specs.Prelude.{slice_get}
+use Rattle.std.proofs.lemmas.Bool.{cases_lt}
+use Rattle.std.proofs.lemmas.List.{length_push, get_or_append_left, get_or_push}
+use Rattle.std.proofs.lemmas.Option.{slice_get-get_or, slice_get_within, get_or_from_slice_get}
+use Rattle.wcet.specs.declared.ending.MethodBound.{MethodBound}
+use Rattle.wcet.specs.declared.methods.Methods.{Methods}
+use Rattle.wcet.specs.Known.{Setting, bounds_in, ForEach, known_at, IsKnownOf}
+use Rattle.wcet.specs.Methods.{AreBehindCalls}
+use Rattle.wcet.specs.Ending.{AreKnownWithin, IsMethodBound}
+use Rattle.wcet.specs.Sharing.{AreLeastWithin, AreMethodBounds, AreFoundFor}
+use Rattle.wcet.proofs.KnownWithin.{agree_within, exceed_within, numbers_within}
+
+-- what stands at a place of a list with one item more stood there before, or is that item
+pushed : {X : Type 0} (xs : List X) (x y : X) (i : ℕ) → slice_get (xs ++ x ∷ []) i ≡ Some y → (slice_get xs i ≡ Some y) ⊎ ((i ≡ length xs) × (x ≡ y))
+pushed xs x y i is =
+    let below = slice_get_within (xs ++ x ∷ []) i y is in
+    let long = length_push xs x in
+    let at = get_or_from_slice_get (xs ++ x ∷ []) i y y is in
+    elim (cases_lt i (length xs)) [
+      | inl lt ↦ inl (slice_get-get_or xs i y lt ∙ ap Some (sym (get_or_append_left xs (x ∷ []) y i lt) ∙ at))
+      | inr ge ↦ let same : length xs ≡ i = omega arith in inr (sym same, sym (get_or_push xs x y i same) ∙ at)
+    ]
+
+pub bounds_more : (set : Setting) (done : List ℕ) (bounds : List MethodBound) (m : ℕ) (x : MethodBound) → AreMethodBounds set done bounds → ForEach set (λ P. IsMethodBound P set.timing (bounds_in set) m x)
+    → AreMethodBounds set (done ++ m ∷ []) (bounds ++ x ∷ [])
+bounds_more set done bounds m x h here = record {
+  long = length_push bounds x ∙ (ap (λ (n : ℕ). n + 1) h.long ∙ sym (length_push done m));
+  each = λ P of i n y ni yi.
+      let long = h.long in
+      elim (pushed done m n i ni) [
+        | inl old ↦
+            elim (pushed bounds x y i yi) [
+              | inl before ↦ h.each P of i n y old before
+              | inr new ↦ let below = slice_get_within done i n old in let at = new.0 in absurd (omega arith)
+            ]
+        | inr last ↦
+            elim (pushed bounds x y i yi) [
+              | inl before ↦ let below = slice_get_within bounds i y before in let at = last.0 in absurd (omega arith)
+              | inr new ↦
+                  let N : ℕ → Type 0 = λ k. IsMethodBound P set.timing (bounds_in set) k y in
+                  let Y : MethodBound → Type 0 = λ z. IsMethodBound P set.timing (bounds_in set) m z in
+                  subst N last.1 (subst Y new.1 (here P of))
+            ]
+      ];
+}
+
+-- what is known of all that may run while one of them does
+pub each_known : (set : Setting) (order : List ℕ) (a : Methods) (least : List (Option ℕ)) → AreFoundFor set order a → AreLeastWithin set order a.table.items least → (m : ℕ) → Contains order m
+    → ForEach set (λ P. AreKnownWithin P set.timing (bounds_in set) a.table.items (get_or least m None) m)
+each_known set order a least h within m has = λ P of.
+    let table = a.table.items in
+    let ready = (h.ready P of).1 in
+    let behind : AreBehindCalls P order = ready.order.first in
+    let known : (x : ℕ) → Contains order x → IsKnownOf P set.timing (bounds_in set) table x (known_at table x) = h.found.known P of behind in
+    record {
+      agree = λ N are x inside. (agree_within P set.timing (bounds_in set) order table behind known m has N are x inside, exceed_within P set.timing (bounds_in set) order table behind known m has N are x inside);
+      known = λ small. numbers_within P set.timing (bounds_in set) order table behind known m has small;
+      is_least = within.each P of behind m has;
+    }

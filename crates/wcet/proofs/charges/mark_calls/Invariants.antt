@@ -1,0 +1,6 @@
+use Rattle.std.proofs.Common.{◌*◌, map, take}
+use Rattle.walk_bounds.specs.Charging.{AreMarked}
+use Rattle.wcet.proofs.charges.mark_calls.Given as goal
+
+abbrev pub invariant-loop-call : goal.invariant-loop-call
+invariant-loop-call l = AreMarked (map (λ c. 2 * c.place) (take l.call-index l.calls)) l.fn.flags l.flags

@@ -1,0 +1,11 @@
+pub mod Known
+pub mod Telling
+pub mod Prepared
+pub mod Found
+pub mod Methods
+pub mod Laws
+pub mod Ready
+pub mod ShowLaws
+pub mod FoundLaws
+pub mod Ending
+pub mod Sharing
