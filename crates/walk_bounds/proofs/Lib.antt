@@ -1,5 +1,5 @@
 pub mod Renumbering
-pub mod Walks
+mod Walks
 pub mod Loops
 pub mod Kept
 mod Greatest

@@ -14,7 +14,7 @@ use Rattle.walk_bounds.specs.Charging.{AreMarked, AreMarkedBut, IsInFlagged, IsI
 
 -- ---- one mark more
 
-pub set_flags : (marks : List Bool) (v u : ℕ) → v < length marks → (IsFlagged (set marks v true) u → IsFlagged marks u ⊎ (v ≡ u)) × (IsFlagged marks u ⊎ (v ≡ u) → IsFlagged (set marks v true) u)
+set_flags : (marks : List Bool) (v u : ℕ) → v < length marks → (IsFlagged (set marks v true) u → IsFlagged marks u ⊎ (v ≡ u)) × (IsFlagged marks u ⊎ (v ≡ u) → IsFlagged (set marks v true) u)
 set_flags marks v u lt =
     elim (cases_eq u v) [
       | inl same ↦ (

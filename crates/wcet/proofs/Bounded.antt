@@ -1,9 +1,7 @@
 -- What is answered of all methods of an order, one behind the other.
-use Rattle.std.proofs.Common.{◌≡◌, ◌⊎◌, ℕ, ◌+◌, List, [], ◌∷◌, ◌++◌, length, get_or, Contains, Option, Some, None, sym, ap, ◌∙◌, subst, inl, inr, arith}
-use Rattle.std.specs.Prelude.{slice_get}
-use Rattle.std.proofs.lemmas.Bool.{cases_lt}
-use Rattle.std.proofs.lemmas.List.{length_push, get_or_append_left, get_or_push}
-use Rattle.std.proofs.lemmas.Option.{slice_get-get_or, slice_get_within, get_or_from_slice_get}
+use Rattle.std.proofs.Common.{ℕ, ◌+◌, List, [], ◌∷◌, ◌++◌, get_or, Contains, Option, None, sym, ap, ◌∙◌, subst, inl, inr, arith}
+use Rattle.std.proofs.lemmas.List.{length_push}
+use Rattle.std.proofs.lemmas.Option.{slice_get_within}
 use Rattle.wcet.specs.declared.ending.MethodBound.{MethodBound}
 use Rattle.wcet.specs.declared.methods.Methods.{Methods}
 use Rattle.wcet.specs.Known.{Setting, bounds_in, ForEach, known_at, IsKnownOf}
@@ -11,17 +9,7 @@ use Rattle.wcet.specs.Methods.{AreBehindCalls}
 use Rattle.wcet.specs.Ending.{AreKnownWithin, IsMethodBound}
 use Rattle.wcet.specs.Sharing.{AreLeastWithin, AreMethodBounds, AreFoundFor}
 use Rattle.wcet.proofs.KnownWithin.{agree_within, exceed_within, numbers_within}
-
--- what stands at a place of a list with one item more stood there before, or is that item
-pushed : {X : Type 0} (xs : List X) (x y : X) (i : ℕ) → slice_get (xs ++ x ∷ []) i ≡ Some y → (slice_get xs i ≡ Some y) ⊎ ((i ≡ length xs) × (x ≡ y))
-pushed xs x y i is =
-    let below = slice_get_within (xs ++ x ∷ []) i y is in
-    let long = length_push xs x in
-    let at = get_or_from_slice_get (xs ++ x ∷ []) i y y is in
-    elim (cases_lt i (length xs)) [
-      | inl lt ↦ inl (slice_get-get_or xs i y lt ∙ ap Some (sym (get_or_append_left xs (x ∷ []) y i lt) ∙ at))
-      | inr ge ↦ let same : length xs ≡ i = omega arith in inr (sym same, sym (get_or_push xs x y i same) ∙ at)
-    ]
+use Rattle.wcet.proofs.Pushed.{push_cases}
 
 pub bounds_more : (set : Setting) (done : List ℕ) (bounds : List MethodBound) (m : ℕ) (x : MethodBound) → AreMethodBounds set done bounds → ForEach set (λ P. IsMethodBound P set.timing (bounds_in set) m x)
     → AreMethodBounds set (done ++ m ∷ []) (bounds ++ x ∷ [])
@@ -29,14 +17,14 @@ bounds_more set done bounds m x h here = record {
   long = length_push bounds x ∙ (ap (λ (n : ℕ). n + 1) h.long ∙ sym (length_push done m));
   each = λ P of i n y ni yi.
       let long = h.long in
-      elim (pushed done m n i ni) [
+      elim (push_cases done m n i ni) [
         | inl old ↦
-            elim (pushed bounds x y i yi) [
+            elim (push_cases bounds x y i yi) [
               | inl before ↦ h.each P of i n y old before
               | inr new ↦ let below = slice_get_within done i n old in let at = new.0 in absurd (omega arith)
             ]
         | inr last ↦
-            elim (pushed bounds x y i yi) [
+            elim (push_cases bounds x y i yi) [
               | inl before ↦ let below = slice_get_within bounds i y before in let at = last.0 in absurd (omega arith)
               | inr new ↦
                   let N : ℕ → Type 0 = λ k. IsMethodBound P set.timing (bounds_in set) k y in

@@ -1,5 +1,5 @@
 //! What is answered of a method, once all that may run while it does is found.
-ghost use Rattle.std.specs.Prelude.{◌≡◌, ◌<◌, ◌≤◌, ℕ, length, Some, IfNone, IfOk, IfErr, IfSome};
+ghost use Rattle.std.specs.Prelude.{◌≡◌, ◌<◌, ◌≤◌, length, Some, IfNone, IfOk, IfErr, IfSome};
 ghost use Rattle.bound_cert.specs.Certificate.{IsInGrammar};
 ghost use Rattle.bound_rules.specs.Bounding.{KeepSize};
 ghost use Rattle.bound_rules.specs.Conditions.{MeetsConditions};
