@@ -39,7 +39,7 @@ use Rattle.analysis_commands.specs.Answers.{table_name, IsTooLong, IsHeldInText,
 -- ---- a method of the table and the program's
 
 -- both there, or both not
-data AreAlike (name : List ℕ) (o : Option Coded) (q : Option Body) : Type 0 where
+pub data AreAlike (name : List ℕ) (o : Option Coded) (q : Option Body) : Type 0 where
   none : o ≡ None → q ≡ None → AreAlike name o q
   some : (k : Coded) (b : Body) → o ≡ Some k → q ≡ Some b → k.name ≡ name → AreAlike name o q
 
@@ -80,7 +80,7 @@ some_body (Some b) Q h = refl
 -- ---- the table
 
 module _ (cs : List ClassFile) (f : Flow) (flow : IsFlowOf (resolved cs) f) (names : (m : ℕ) (k : Coded) → slice_get f.methods m ≡ Some k → k.name ≡ name_of cs m) where
-  are_alike : (m : ℕ) → AreAlike (name_of cs m) (slice_get f.methods m) (body_of (resolved cs) m)
+  pub are_alike : (m : ℕ) → AreAlike (name_of cs m) (slice_get f.methods m) (body_of (resolved cs) m)
   are_alike m = alike f.methods m (name_of cs m) (slice_get f.methods m) (body_of (resolved cs) m) refl (flow.coded m) (names m)
 
   pub bounds_same : (lines : List LoopBound) → table.bounds_of f lines ≡ bounds_of cs lines
@@ -149,7 +149,7 @@ module _ (cs : List ClassFile) (s : Settings) (bounds_text : List ℕ) (a : Anal
   same_bounds = bounds_same cs a.flow is.flow is.names a.bounds
 
   -- what is said with the table's bounds and timing is said with the settings'
-  moved : (Q : Timing → BoundOf → Type 0) → Q a.timing (table.bounds_of a.flow a.bounds) → Q (timing_of s) (bounds_of cs a.bounds)
+  pub moved : (Q : Timing → BoundOf → Type 0) → Q a.timing (table.bounds_of a.flow a.bounds) → Q (timing_of s) (bounds_of cs a.bounds)
   moved Q h = subst (λ (t : Timing). Q t (bounds_of cs a.bounds)) is.timing (subst (λ (b : BoundOf). Q a.timing b) same_bounds h)
 
   held : (cert_text : List ℕ) (h : Held) → IsHeldInText a cert_text h → IsHeld cs s bounds_text cert_text h

@@ -1,3 +1,5 @@
 pub mod Analysis
 pub mod Checking
 pub mod Answers
+pub mod Bounding
+pub mod BoundAnswers

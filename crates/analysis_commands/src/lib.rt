@@ -1,11 +1,15 @@
 //! What the commands that analyse a program do with what was read: the table of the program, the bounds of its loops and the timing of the
-//! machine, and a certificate that is checked with them.
+//! machine, a certificate that is checked with them, and one that is made.
 #![tactic(auto)]
 
 mod analysis;
+mod bound;
+mod certificates;
 mod check;
 mod conditions;
 mod names;
+mod subjects;
 
 pub use analysis::{Analysis, AnalysisFault, analysis_of};
+pub use bound::{NotBounded, bound_bare, bound_number, bound_program};
 pub use check::{CheckRefusal, Held, check_bare, check_program};

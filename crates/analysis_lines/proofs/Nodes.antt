@@ -1,5 +1,5 @@
 -- The text of a node is its place and its mark.
-use Rattle.std.proofs.Common.{◌≡◌, ℕ, List, [], ◌∷◌, ◌++◌, sym, ◌∙◌, ap, append_assoc}
+use Rattle.std.proofs.Common.{◌≡◌, ℕ, List, ◌∷◌, ◌++◌, sym, ◌∙◌, ap, append_assoc}
 use Rattle.std.specs.Prelude.{◌/◌, decimal}
 use Rattle.cert_lines.specs.Lines.{node_text}
 

@@ -14,13 +14,16 @@ usage:
   jop run [OPTION VALUE].. IMAGE           runs an image; its input and output are the standard ones
   jop trace [--micro] [OPTION VALUE].. IMAGE
                                            runs it, and puts a line for each step; --micro: for each cycle, too
+  jop bound --method NAME [OPTION VALUE].. IMAGE BOUNDS
+                                           puts a certificate of what a method takes at most on standard output
   jop check [OPTION VALUE].. IMAGE BOUNDS CERTIFICATE
                                            says whether a certificate shows what a method takes at most
+  jop work N                               makes a program of N methods, links, runs and bounds it, and puts a line
   jop asm TEXT                             puts the words of a text of microcode
   jop --help
   jop --version
 
-options of run and trace; check takes the last four:
+options of run and trace; bound and check take the last four:
   --cycles N        stops at the first boundary whose clock is at least N (1000000000)
   --stack N         words on chip: 256, 512 or 1024 (1024)
   --memory N        words of memory, 16 to 16777216 (262144)

@@ -47,7 +47,7 @@ use Rattle.jop_cli.specs.LinkedFile.{BytesFault}
 use Rattle.jop_cli.specs.Checking.{fault_ending, refusal_ending, Checks, EndsHeld, EndsRefused, ChecksLinked, ChecksLinkedBytes, ChecksBytes, ChecksRead, ChecksFiles}
 use Rattle.jop_cli.specs.Answer.{outcome_of}
 use Rattle.jop_cli.specs.Calls.{Call, NothingFailed, LacksMemory, AreTold}
-use Rattle.jop_cli.specs.Correct.{ChecksTexts, AnswersLine, BoundsAreKept, CheckingIsComplete, FaultsAreAnswered}
+use Rattle.jop_cli.specs.Correct.{ChecksTexts, AnswersLine, CheckedBoundsAreKept, CheckingIsComplete, FaultsAreAnswered}
 use Rattle.jop_cli.proofs.Wholly.{IsWholly, wholly, executed, lacks, same_files, files_read}
 use Rattle.jop_cli.proofs.RunningLaw.{begins_linked, is_read, not_more}
 
@@ -147,7 +147,7 @@ module _ (one : GivesOne) (not_refused : ReadIsNotRefused) (certified : HasOneCe
 -- ---- what is answered
 
 module _ (c : Call) (ending : Ending) (w : IsWholly c ending) (quiet : IsQuiet c.old c.new) where
-  answers : (e : Ending) (outcome : Outcome) (parts : List (List ℕ)) → ending ≡ e → outcome_of e ≡ outcome → line_of c.words e ≡ concat parts → AnswersLine c outcome parts
+  pub answers : (e : Ending) (outcome : Outcome) (parts : List (List ℕ)) → ending ≡ e → outcome_of e ≡ outcome → line_of c.words e ≡ concat parts → AnswersLine c outcome parts
   answers e outcome parts is of line = record {
     outcome_is = w.outcome ∙ (ap outcome_of is ∙ of);
     line = subst (λ (x : List ℕ). Grew c.err_old c.err_new x) (ap (line_of c.words) is ∙ line) w.line;
@@ -188,8 +188,8 @@ checking_is_complete one not_refused certified linked_one images law c s image l
     holds_answered c c.answered.ending (wholly c n) did.1 l.classes s lines d law meets
     (files_settled one not_refused certified c s image l lines d h linked_one images n c.answered.ending did.0)
 
-pub bounds_are_kept : GivesOne → ReadIsNotRefused → HasOneCertificate → OneLinked → LinkedImagesAreRead → BoundsAreKept
-bounds_are_kept one not_refused certified linked_one images c s image l lines d h n answer =
+pub checked_bounds_are_kept : GivesOne → ReadIsNotRefused → HasOneCertificate → OneLinked → LinkedImagesAreRead → CheckedBoundsAreKept
+checked_bounds_are_kept one not_refused certified linked_one images c s image l lines d h n answer =
     let did = executed c (Check s image h.bounds h.last) h.command in
     kept_answered c c.answered.ending (wholly c n) did.1 l.classes s lines d answer
     (files_settled one not_refused certified c s image l lines d h linked_one images n c.answered.ending did.0)

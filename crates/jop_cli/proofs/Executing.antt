@@ -1,5 +1,6 @@
 -- The run of an image, as an answer of the call.
 use Rattle.std.proofs.Common.{◌≡◌, ℕ, ◌≤◌, Bool, true, false, List, refl, sym, subst, inl, inr, ⊎_elim}
+use Rattle.std.specs.declared.option.Option.{Option}
 use Rattle.std.specs.declared.result.Result.{Result}
 use Rattle.bare_image.specs.Bare.{Image}
 use Rattle.jop_cli.specs.declared.settings.Plan.{Plan}
@@ -16,9 +17,12 @@ use Rattle.analysis_commands.specs.declared.analysis.AnalysisFault.{AnalysisFaul
 use Rattle.analysis_commands.specs.declared.analysis.AnalysisFault.TheVariants as analysis
 use Rattle.analysis_commands.specs.declared.check.CheckRefusal.{CheckRefusal}
 use Rattle.analysis_commands.specs.declared.check.CheckRefusal.TheVariants as check
+use Rattle.analysis_commands.specs.declared.bound.NotBounded.{NotBounded}
+use Rattle.analysis_commands.specs.declared.bound.NotBounded.TheVariants as bound
 use Rattle.operand_files.specs.Files.{FilesTold}
 use Rattle.class_pool.specs.declared.class.ClassFile.{ClassFile}
 use Rattle.jop_cli.specs.Checking.{fault_ending, refusal_ending, Checks, ChecksLinked, ChecksBare, ChecksFiles}
+use Rattle.jop_cli.specs.Bounding.{cause_ending, NotBoundedBare, BoundFault, PutsBound, BoundsFiles}
 use Rattle.jop_core.specs.Reset.{bare_reset}
 use Rattle.boundary.specs.Setting.{bare_setting}
 use Rattle.stream_devices.specs.Lent.{Lent}
@@ -63,6 +67,7 @@ risen_but (endings.Refused refusal) before now other = tt
 risen_but (endings.TooLong method name blocks limit) before now other = tt
 risen_but (endings.NotLinked refusal name) before now other = tt
 risen_but (endings.NotHeld fault name) before now other = tt
+risen_but (endings.NotBounded cause subject) before now other = tt
 risen_but (endings.Spent counts) before now other = tt
 risen_but endings.ReadFault before now other = tt
 risen_but endings.InputFault before now other = absurd (other refl)
@@ -111,3 +116,32 @@ no_check_input s image old new checks =
 
 pub checks_risen : (s : Settings) (image : ℕ) (old new : FilesTold) (e : Ending) (before now : ℕ) → ChecksFiles s image old new e → FailsRisen e before now
 checks_risen s image old new e before now checks = risen_but e before now (λ is. no_check_input s image old new (subst (ChecksFiles s image old new) is checks))
+
+no_cause_input : (s : Settings) (cause : NotBounded) → endings.InputFault ≡ cause_ending s cause → ⊥
+no_cause_input s (bound.NoAnalysis fault) e = no_fault_input s fault e
+no_cause_input s (bound.Forbidden cause subject) e = absurd (cc)
+no_cause_input s bound.NoMemory e = absurd (cc)
+
+not_bounded_no_input : (s : Settings) (bytes bounds_text : List ℕ) → NotBoundedBare s bytes bounds_text endings.InputFault → ⊥
+not_bounded_no_input s bytes bounds_text bare = ⊎_elim (λ h. let says = h.says in absurd (cc)) (λ u. no_cause_input s u.cause u.says) bare.ends
+
+bound_fault_no_input : (s : Settings) (bytes bounds_text name : List ℕ) → BoundFault s bytes bounds_text name endings.InputFault → ⊥
+bound_fault_no_input s bytes bounds_text name fault =
+    ⊎_elim
+    (λ linked. ⊎_elim (λ none. none) (λ r. no_cause_input s r.ends.cause r.ends.says) linked.1)
+    (λ bare. ⊎_elim (λ none. none) (not_bounded_no_input s bytes bounds_text) bare.1)
+    fault
+
+puts_no_input : (s : Settings) (bytes bounds_text name : List ℕ) (old new : Option (List ℕ)) (before now : ℕ) → PutsBound s bytes bounds_text name old new before now endings.InputFault → ⊥
+puts_no_input s bytes bounds_text name old new before now puts =
+    ⊎_elim
+    (λ whole. let says = whole.0 in absurd (cc))
+    (λ other. ⊎_elim (λ front. let says = front.0 in absurd (cc)) (λ none. bound_fault_no_input s bytes bounds_text name none.0) other)
+    puts
+
+no_bound_input : (s : Settings) (name : List ℕ) (image : ℕ) (old new : World) → BoundsFiles s name image old new endings.InputFault → ⊥
+no_bound_input s name image old new bounds =
+    ⊎_elim (λ fault. fault.0) (λ r. puts_no_input s r.bytes r.bounds_text name old.out new.out old.out_faults new.out_faults r.puts) bounds
+
+pub bounds_risen : (s : Settings) (name : List ℕ) (image : ℕ) (old new : World) (e : Ending) (before now : ℕ) → BoundsFiles s name image old new e → FailsRisen e before now
+bounds_risen s name image old new e before now bounds = risen_but e before now (λ is. no_bound_input s name image old new (subst (BoundsFiles s name image old new) is bounds))

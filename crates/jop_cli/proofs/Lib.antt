@@ -15,7 +15,11 @@ mod LinkingLaw
 mod AssemblingLaw
 mod RunningLaw
 mod CheckingLaw
+mod BoundingLaw
+mod ShownBounds
 mod Shown
 mod Leaving
 mod Texts
 mod OneBare
+mod Worked
+mod WorkingLaw

@@ -5,12 +5,12 @@ use Rattle.std.specs.declared.result.Result.{Result}
 use Rattle.jop_outside.specs.Outside.{Grew, Rose}
 use Rattle.jop_words.specs.declared.command.Settings.{Settings}
 use Rattle.jop_words.specs.declared.command.Command.{Command}
-use Rattle.jop_words.specs.declared.command.Command.TheVariants.{Run, Trace, Check, Asm as Assemble, Link as LinkTo}
+use Rattle.jop_words.specs.declared.command.Command.TheVariants.{Run, Trace, Bound, Check, Asm as Assemble, Link as LinkTo, Work}
 use Rattle.jop_words.specs.Command.{command_of}
 use Rattle.outcome_lines.specs.Said.{SaidLess}
-use Rattle.jop_cli.specs.declared.outcome.Refusal.TheVariants.{Usage, TooBig, NotBuilt, MethodTooLong, Link, Check as NotChecked}
+use Rattle.jop_cli.specs.declared.outcome.Refusal.TheVariants.{Usage, TooBig, MethodTooLong, Link, Check as NotChecked, Bound as Forbidden}
 use Rattle.jop_cli.specs.declared.outcome.Ending.{Ending}
-use Rattle.jop_cli.specs.declared.outcome.Ending.TheVariants.{Ended, Written, Linked, Holds, Uncaught, Refused, TooLong, NotLinked, NotHeld, Spent, ReadFault, InputFault, WriteFault, NoMemory}
+use Rattle.jop_cli.specs.declared.outcome.Ending.TheVariants.{Ended, Written, Linked, Holds, Uncaught, Refused, TooLong, NotLinked, NotHeld, NotBounded, Spent, ReadFault, InputFault, WriteFault, NoMemory}
 use Rattle.jop_cli.specs.declared.outcome.Outcome.{Outcome}
 use Rattle.jop_cli.specs.declared.outcome.Outcome.TheVariants as outcomes
 use Rattle.jop_cli.specs.declared.show.Show.{Show}
@@ -24,6 +24,8 @@ use Rattle.jop_cli.specs.World.{World, IsQuiet, IsUntaken, FilesStayBut, IsUncha
 use Rattle.jop_cli.specs.Assembling.{Assembles}
 use Rattle.jop_cli.specs.Linking.{files_of, LinksFiles}
 use Rattle.jop_cli.specs.Checking.{ChecksFiles}
+use Rattle.jop_cli.specs.Bounding.{BoundsFiles}
+use Rattle.jop_cli.specs.Working.{Works}
 
 -- what a run is lent
 abbrev pub lent_of : World → Lent
@@ -75,7 +77,8 @@ Does words (Ok (Trace settings micro image)) old new ending = RunsFile settings 
 Does words (Ok (Assemble text)) old new ending = Assembles text old new ending
 Does words (Ok (LinkTo main first)) old new ending = LinksFiles (text_at words main) first old new ending
 Does words (Ok (Check settings image bounds certificate)) old new ending = ChecksFiles settings image (files_of old) (files_of new) ending × IsQuiet old new
-Does words (Ok command) old new ending = (ending ≡ Refused NotBuilt) × IsUnchanged old new
+Does words (Ok (Bound settings method image bounds)) old new ending = BoundsFiles settings (text_at words method) image old new ending
+Does words (Ok (Work n)) old new ending = Works n old new ending
 
 abbrev pub Executed : List (List ℕ) → World → World → Ending → Type 0
 Executed words old new ending = Does words (command_of words) old new ending
@@ -90,6 +93,7 @@ outcome_of (Refused refusal) = outcomes.Refused refusal
 outcome_of (TooLong method name blocks limit) = outcomes.Refused (MethodTooLong method blocks limit)
 outcome_of (NotLinked refusal name) = outcomes.Refused (Link refusal)
 outcome_of (NotHeld fault name) = outcomes.Refused (NotChecked fault)
+outcome_of (NotBounded cause subject) = outcomes.Refused (Forbidden cause)
 outcome_of (Spent counts) = outcomes.Spent
 outcome_of ReadFault = outcomes.ReadFault
 outcome_of InputFault = outcomes.ReadFault
@@ -107,6 +111,7 @@ outcome_unsaid (Refused refusal) = outcomes.WriteFault
 outcome_unsaid (TooLong method name blocks limit) = outcomes.WriteFault
 outcome_unsaid (NotLinked refusal name) = outcomes.WriteFault
 outcome_unsaid (NotHeld fault name) = outcomes.WriteFault
+outcome_unsaid (NotBounded cause subject) = outcomes.WriteFault
 outcome_unsaid (Spent counts) = outcomes.WriteFault
 outcome_unsaid ReadFault = outcomes.ReadFault
 outcome_unsaid InputFault = outcomes.ReadFault

@@ -5,7 +5,7 @@
 --   jop_core State, Cycle and Reset (what a cycle of the machine is), machine_stands StandsFor (which state the machine stands for),
 --   boundary Runs (the run of both), image_words Regions and linked_image Linked (what an image and its file are), bare_image Bare and microcode_asm Roms
 --   (the same of a bare image and of a microprogram), jop_words Command (what words say), and of this crate World, Linking, LinkedSettings, Calls and Courses.
-use Rattle.std.specs.Prelude.{◌≡◌, ℕ, ◌≤◌, ◌⊎◌, Bool, List, [], ◌∷◌, length, Ok}
+use Rattle.std.specs.Prelude.{◌≡◌, ℕ, ◌≤◌, ◌⊎◌, Bool, List, [], ◌∷◌, length, Some, Ok}
 use Rattle.std.specs.List.{concat}
 use Rattle.bare_image.specs.Bare.{Image, IsBare}
 use Rattle.linked_image.specs.Linked as file
@@ -13,26 +13,32 @@ use Rattle.microcode_asm.specs.declared.Rom.{Rom}
 use Rattle.microcode_asm.specs.Roms.{IsAssembled}
 use Rattle.microcode_asm.specs.Listing.{listing_of}
 use Rattle.jop_words.specs.declared.command.Settings.{Settings}
-use Rattle.jop_words.specs.declared.command.Command.TheVariants.{Run, Trace, Check, Asm as Assemble, Link as LinkTo}
+use Rattle.jop_words.specs.declared.command.Command.TheVariants.{Run, Trace, Bound, Check, Asm as Assemble, Link as LinkTo, Work}
 use Rattle.jop_words.specs.Command.{command_of}
 use Rattle.jopizer.specs.declared.refusal.LinkRefusal.{LinkRefusal}
 use Rattle.jopizer.specs.Linked.{Parts, IsLinked, image_of}
 use Rattle.outcome_lines.specs.declared.line.Sizes.{Sizes}
 use Rattle.activations.specs.Warrant.{BoundsActivations}
+use Rattle.jop_cli.specs.declared.outcome.Ending.{Ending}
 use Rattle.jop_cli.specs.declared.outcome.Ending.TheVariants as endings
 use Rattle.program_tables.specs.Resolved.{resolved}
 use Rattle.jop_text.specs.Line.{lines_of as text_lines}
 use Rattle.loop_bounds.specs.Bounds.{LoopBound}
 use Rattle.loop_bounds.specs.Grammar.{IsRead}
-use Rattle.bound_cert.specs.Certificate.{Certificate}
-use Rattle.bound_cert.specs.Texts.{AreLinesOf}
+use Rattle.bound_cert.specs.Certificate.{Certificate, IsInGrammar}
+use Rattle.bound_cert.specs.Texts.{AreLinesOf, text_of}
 use Rattle.bound_rules.specs.declared.faults.CheckFault.{CheckFault}
 use Rattle.bound_rules.specs.Conditions.{MeetsConditions}
 use Rattle.bound_rules.specs.Refused.{IsRefused}
-use Rattle.analysis_lines.specs.Lines.{held_parts, fault_parts}
-use Rattle.analysis_commands.specs.Analysis.{timing_of, bounds_of, name_of}
+use Rattle.bound_rules.specs.declared.faults.BoundRefusal.{BoundRefusal}
+use Rattle.bound_rules.specs.declared.faults.BoundRefusal.TheVariants.{NoMemory as Spent}
+use Rattle.bound_rules.specs.Bounding.{IsCause}
+use Rattle.analysis_lines.specs.declared.bound.BoundCause.{BoundCause}
+use Rattle.analysis_lines.specs.Lines.{held_parts, fault_parts, cause_parts}
+use Rattle.analysis_commands.specs.Analysis.{timing_of, bounds_of, name_of, named_or_number}
 use Rattle.analysis_commands.specs.Checking.{fault_name}
-use Rattle.jop_cli.specs.declared.outcome.Refusal.TheVariants.{Check as NotChecked}
+use Rattle.analysis_commands.specs.Bounding.{IsNamed, IsBoundBy, cause_of, subject_of}
+use Rattle.jop_cli.specs.declared.outcome.Refusal.TheVariants.{Check as NotChecked, Bound as Forbidden}
 use Rattle.jop_cli.specs.declared.outcome.Outcome.{Outcome}
 use Rattle.jop_cli.specs.declared.outcome.Outcome.TheVariants.{Written, Holds, Refused}
 use Rattle.jop_cli.specs.declared.show.Show.TheVariants as shows
@@ -43,6 +49,7 @@ use Rattle.jop_cli.specs.BareFile.{blocks_of_code}
 use Rattle.jop_outside.specs.Outside.{Grew}
 use Rattle.jop_cli.specs.World.{IsQuiet}
 use Rattle.jop_cli.specs.Calls.{Call, NothingFailed, LacksMemory, Puts, IsTold, AreTold}
+use Rattle.jop_cli.specs.Working.{IsWorkLine, NotWorked}
 use Rattle.jop_cli.specs.Courses.{RanLinked, RanBare}
 
 -- ---- `link`
@@ -150,8 +157,8 @@ CheckingIsComplete =
 -- Where the answer is that it holds, the line says its method and its bound, and each ended activation of the method takes at most so many cycles, where its loops keep
 -- the bounds: in every run of the program, on each machine with these waits and a method cache of these sizes, whatever the cache holds and whatever is read. Where the
 -- bound is never, no such activation ends.
-abbrev pub BoundsAreKept : Type 0
-BoundsAreKept =
+abbrev pub CheckedBoundsAreKept : Type 0
+CheckedBoundsAreKept =
     (c : Call) (settings : Settings) (image : ℕ) (l : Parts) (lines : List LoopBound) (certificate : Certificate) → ChecksTexts c settings image l lines certificate → NothingFailed c → c.outcome ≡ Holds
     → AnswersLine c Holds (held_parts (name_of l.classes certificate.root) certificate.bound)
     × BoundsActivations (resolved l.classes) (timing_of settings) (bounds_of l.classes lines) certificate.root certificate.bound
@@ -162,3 +169,84 @@ FaultsAreAnswered =
     (c : Call) (settings : Settings) (image : ℕ) (l : Parts) (lines : List LoopBound) (certificate : Certificate) (fault : CheckFault) → ChecksTexts c settings image l lines certificate → NothingFailed c
     → IsRefused (resolved l.classes) (timing_of settings) (bounds_of l.classes lines) certificate fault
     → AnswersLine c (Refused (NotChecked fault)) (fault_parts fault (fault_name l.classes fault)) ⊎ LacksMemory c
+
+-- ---- `bound`
+
+-- The words say `bound` of a method of this name and of two files: the image of what is linked, each code of which fits the method cache, and a text of bounds.
+pub record BoundsTexts (c : Call) (settings : Settings) (image : ℕ) (l : Parts) (lines : List LoopBound) (name : List ℕ) : Type 0 where
+  pub method : ℕ
+  pub bounds : ℕ
+  pub command : command_of c.words ≡ Ok (Bound settings method image bounds)
+  pub named : text_at c.words method ≡ name
+  pub bytes : List ℕ
+  pub bounds_text : List ℕ
+  pub told : AreTold c image (bytes ∷ bounds_text ∷ [])
+  pub is_linked : IsLinked l
+  pub is_file : file.IsLinked bytes (image_of l)
+  pub codes : CodesFit settings l
+  pub read : IsRead bounds_text lines
+
+-- The text of a certificate of a method of this name was put, and no line.
+pub record IsBounded (c : Call) (settings : Settings) (l : Parts) (lines : List LoopBound) (name : List ℕ) : Type 0 where
+  pub outcome : c.outcome ≡ Written
+  pub certificate : Certificate
+  pub is : IsBoundBy (resolved l.classes) (timing_of settings) (bounds_of l.classes lines) (IsNamed l.classes name) certificate
+  pub grammar : IsInGrammar certificate
+  pub puts : Puts c (text_of certificate) []
+
+-- this forbids a bound of the method
+abbrev pub Forbids : Settings → Parts → List LoopBound → (name : List ℕ) → BoundRefusal → Type 0
+Forbids settings l lines name Spent = ⊥
+Forbids settings l lines name refusal = IsCause (resolved l.classes) (timing_of settings) (bounds_of l.classes lines) (IsNamed l.classes name) refusal
+
+-- Where nothing forbids it, a certificate of the method is put; or there is no memory.
+abbrev pub BoundingIsComplete : Type 0
+BoundingIsComplete =
+    (c : Call) (settings : Settings) (image : ℕ) (l : Parts) (lines : List LoopBound) (name : List ℕ) → BoundsTexts c settings image l lines name → NothingFailed c
+    → ((refusal : BoundRefusal) → ¬ Forbids settings l lines name refusal)
+    → IsBounded c settings l lines name ⊎ LacksMemory c
+
+-- this forbids a bound, and the line says the cause
+pub record AnswersForbidden (c : Call) (settings : Settings) (l : Parts) (lines : List LoopBound) (name : List ℕ) (cause : BoundCause) : Type 0 where
+  pub refusal : BoundRefusal
+  pub forbids : Forbids settings l lines name refusal
+  pub cause_is : cause_of refusal ≡ Some cause
+  pub answers : AnswersLine c (Refused (Forbidden cause)) (cause_parts cause (subject_of (named_or_number l.classes) refusal))
+
+-- Where none is given, this cause forbids it.
+abbrev pub BoundRefusalsAreCaused : Type 0
+BoundRefusalsAreCaused =
+    (c : Call) (settings : Settings) (image : ℕ) (l : Parts) (lines : List LoopBound) (name : List ℕ) (cause : BoundCause) → BoundsTexts c settings image l lines name → NothingFailed c
+    → c.outcome ≡ Refused (Forbidden cause) → AnswersForbidden c settings l lines name cause
+
+-- Where the answer is that a certificate is written, its bound is kept in the same way.
+abbrev pub WrittenBoundsAreKept : Type 0
+WrittenBoundsAreKept =
+    (c : Call) (settings : Settings) (image : ℕ) (l : Parts) (lines : List LoopBound) (name : List ℕ) → BoundsTexts c settings image l lines name → NothingFailed c → c.outcome ≡ Written
+    → (b : IsBounded c settings l lines name) × BoundsActivations (resolved l.classes) (timing_of settings) (bounds_of l.classes lines) b.certificate.root b.certificate.bound
+
+-- So it is of `check` and of `bound`.
+abbrev pub BoundsAreKept : Type 0
+BoundsAreKept = CheckedBoundsAreKept × WrittenBoundsAreKept
+
+-- ---- `work`
+
+-- The line was put that says what came of the class W with so many methods, and no other.
+pub record IsWorkedBy (c : Call) (n : ℕ) : Type 0 where
+  pub outcome : c.outcome ≡ Written
+  pub line : List ℕ
+  pub is : IsWorkLine n line
+  pub puts : Puts c line []
+
+-- this stands in its way
+abbrev pub Hinders : (n : ℕ) → Ending → Type 0
+Hinders n endings.NoMemory = ⊥
+Hinders n ending = NotWorked n ending
+
+-- Where nothing does, it is put; or there is no memory.
+abbrev pub WorkingIsComplete : Type 0
+WorkingIsComplete = (c : Call) (n : ℕ) → command_of c.words ≡ Ok (Work n) → NothingFailed c → ((ending : Ending) → ¬ Hinders n ending) → IsWorkedBy c n ⊎ LacksMemory c
+
+-- Where the answer is that it is written, it is true: of the run, and of the bound of main, which is kept.
+abbrev pub WorkLinesAreTrue : Type 0
+WorkLinesAreTrue = (c : Call) (n : ℕ) → command_of c.words ≡ Ok (Work n) → NothingFailed c → c.outcome ≡ Written → IsWorkedBy c n

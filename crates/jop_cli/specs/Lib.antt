@@ -11,6 +11,8 @@ pub mod LinkedRun
 pub mod LinkedSettings
 pub mod LinkedFile
 pub mod Checking
+pub mod Bounding
+pub mod Working
 pub mod Answer
 pub mod Status
 pub mod Process

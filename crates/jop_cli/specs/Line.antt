@@ -2,10 +2,10 @@
 use Rattle.std.specs.Prelude.{ℕ, Bool, true, false, List, [], ◌∷◌, get_or, codes, decimal}
 use Rattle.std.specs.List.{concat}
 use Rattle.jop_cli.specs.declared.outcome.Refusal.{Refusal}
-use Rattle.jop_cli.specs.declared.outcome.Refusal.TheVariants.{Usage, TooBig, BadImage, NotBuilt, Differs, MethodTooLong, MemoryTooSmall, BadBounds, TwiceBound, BadCert, Check, Asm, Link}
+use Rattle.jop_cli.specs.declared.outcome.Refusal.TheVariants.{Usage, TooBig, BadImage, Differs, MethodTooLong, MemoryTooSmall, BadBounds, TwiceBound, BadCert, Check, Bound, Asm, Link}
 use Rattle.jop_cli.specs.declared.outcome.AsmRefusal.TheVariants as asm
 use Rattle.jop_cli.specs.declared.outcome.Ending.{Ending}
-use Rattle.jop_cli.specs.declared.outcome.Ending.TheVariants.{Ended, Written, Linked, Holds, Uncaught, Refused, TooLong, NotLinked, NotHeld, Spent, ReadFault, InputFault, WriteFault, NoMemory}
+use Rattle.jop_cli.specs.declared.outcome.Ending.TheVariants.{Ended, Written, Linked, Holds, Uncaught, Refused, TooLong, NotLinked, NotHeld, NotBounded, Spent, ReadFault, InputFault, WriteFault, NoMemory}
 use Rattle.microcode_asm.specs.declared.AsmKind.{AsmKind}
 use Rattle.microcode_asm.specs.declared.AsmKind.TheVariants.{Form, NoLabel, LabelTwice, EntryTwice, ConstTwice, NoTurns}
 use Rattle.outcome_lines.specs.Line.{counts_parts, word_text}
@@ -45,12 +45,11 @@ is_memory refusal = false
 abbrev pub too_long_parts : (name : List ℕ) → (blocks limit : ℕ) → List (List ℕ)
 too_long_parts name blocks limit = codes "method too long " ∷ name ∷ codes " blocks=" ∷ decimal blocks ∷ codes " limit=" ∷ decimal limit ∷ codes "\n" ∷ []
 
--- what refuses files, and a condition that fails, have endings of their own
+-- what refuses files, a condition that fails, and what forbids a bound, have endings of their own
 abbrev pub refusal_parts : List (List ℕ) → Refusal → List (List ℕ)
 refusal_parts words (Usage k) = codes "usage: word " ∷ decimal k ∷ codes "\n" ∷ []
 refusal_parts words (TooBig operand sum) = codes "too big " ∷ text_at words operand ∷ codes " sum=" ∷ decimal sum ∷ codes "\n" ∷ []
 refusal_parts words BadImage = codes "bad image\n" ∷ []
-refusal_parts words NotBuilt = codes "not built\n" ∷ []
 refusal_parts words (Differs word kept linked) = codes "differs word=" ∷ decimal word ∷ codes " kept=" ∷ word_text kept ∷ codes " linked=" ∷ word_text linked ∷ codes "\n" ∷ []
 refusal_parts words (MethodTooLong method blocks limit) = too_long_parts (codes "boot") blocks limit
 refusal_parts words (MemoryTooSmall count given) = codes "memory too small words=" ∷ decimal count ∷ codes " given=" ∷ decimal given ∷ codes "\n" ∷ []
@@ -58,6 +57,7 @@ refusal_parts words (BadBounds line) = analysis.bad_bounds_parts line
 refusal_parts words (TwiceBound line) = analysis.twice_bound_parts line
 refusal_parts words (BadCert line) = analysis.bad_cert_parts line
 refusal_parts words (Check fault) = []
+refusal_parts words (Bound cause) = []
 refusal_parts words (Asm (asm.Line number kind)) = codes "asm: line=" ∷ decimal number ∷ codes " " ∷ kind_name kind ∷ codes "\n" ∷ []
 refusal_parts words (Asm (asm.TooLong count)) = codes "asm: too long words=" ∷ decimal count ∷ codes "\n" ∷ []
 refusal_parts words (Link refusal) = []
@@ -73,6 +73,7 @@ parts_of words (TooLong method name blocks limit) = too_long_parts name.items bl
 parts_of words (Refused refusal) = refusal_parts words refusal
 parts_of words (NotLinked refusal name) = link_parts refusal name.items
 parts_of words (NotHeld fault name) = analysis.fault_parts fault name.items
+parts_of words (NotBounded cause subject) = analysis.cause_parts cause subject.items
 parts_of words (Spent counts) = codes "spent" ∷ counts_parts counts
 parts_of words ReadFault = codes "read fault\n" ∷ []
 parts_of words InputFault = codes "read fault\n" ∷ []
@@ -94,6 +95,7 @@ is_fault (Refused refusal) = false
 is_fault (TooLong method name blocks limit) = false
 is_fault (NotLinked refusal name) = is_memory refusal
 is_fault (NotHeld fault name) = false
+is_fault (NotBounded cause subject) = false
 is_fault (Spent counts) = false
 is_fault ReadFault = true
 is_fault InputFault = true

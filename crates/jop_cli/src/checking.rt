@@ -19,8 +19,8 @@ use jop_words::Settings;
 use jopizer::Linked;
 use std::alloc::Global;
 
-// The ending that says why there is no analysis.
-fn fault_ending(settings: &Settings, fault: AnalysisFault) -> Ending
+/// The ending that says why there is no analysis.
+pub(crate) fn fault_ending(settings: &Settings, fault: AnalysisFault) -> Ending
     ensures { result ≡ fault_ending settings.now fault }
 {
     match fault {

@@ -1,7 +1,7 @@
 //! What the program promises. The functions do nothing; a caller whose proof needs a law calls its function.
 //!
 //! The laws speak of calls of `jop`: what its contract says of its arguments and of its outcome makes one (`call_of`).
-ghost use Rattle.jop_cli.specs.Correct.{LinkingIsComplete, RunsAreTheBytecodes, TracesAreTheRuns, OneBareImage, BareRunsAreTheBytecodes, BareTracesAreTheRuns, AssemblingIsComplete, BoundsAreKept, CheckingIsComplete, FaultsAreAnswered};
+ghost use Rattle.jop_cli.specs.Correct.{LinkingIsComplete, RunsAreTheBytecodes, TracesAreTheRuns, OneBareImage, BareRunsAreTheBytecodes, BareTracesAreTheRuns, AssemblingIsComplete, BoundsAreKept, CheckingIsComplete, FaultsAreAnswered, BoundingIsComplete, BoundRefusalsAreCaused, WorkingIsComplete, WorkLinesAreTrue};
 
 use bound_cert::has_one_certificate;
 use bound_rules::laws::{faults_are_one, refused_is_not_met};
@@ -65,7 +65,8 @@ pub fn checking_is_complete()
     refused_is_not_met();
 }
 
-/// Where the answer is that a certificate holds, the activations of its method take at most as many cycles as its bound says.
+/// Where the answer is that a certificate holds, or that one is written, the activations of its method take at most as many cycles as its
+/// bound says.
 pub fn bounds_are_kept()
     ensures { BoundsAreKept }
 {
@@ -88,3 +89,33 @@ pub fn faults_are_answered()
     refused_is_not_met();
     faults_are_one();
 }
+
+/// A certificate of a method is written where nothing forbids a bound.
+pub fn bounding_is_complete()
+    ensures { BoundingIsComplete }
+{
+    one_linked();
+    linked_images_are_read();
+    gives_one();
+    read_is_not_refused();
+}
+
+/// Where no bound is given, the cause that is answered forbids it.
+pub fn bound_refusals_are_caused()
+    ensures { BoundRefusalsAreCaused }
+{
+    one_linked();
+    linked_images_are_read();
+    gives_one();
+    read_is_not_refused();
+}
+
+/// The line of `work` is put where nothing stands in its way.
+pub fn working_is_complete()
+    ensures { WorkingIsComplete }
+{}
+
+/// Where the answer is that the line of `work` is written, it is true.
+pub fn work_lines_are_true()
+    ensures { WorkLinesAreTrue }
+{}

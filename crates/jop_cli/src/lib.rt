@@ -3,6 +3,7 @@
 
 mod assembling;
 mod bare_file;
+mod bounding;
 mod checking;
 pub mod host;
 pub mod laws;
@@ -18,6 +19,7 @@ mod run;
 mod settings;
 mod show;
 mod top;
+mod working;
 
 pub use outcome::{AsmRefusal, Outcome, Refusal};
 pub use top::jop;

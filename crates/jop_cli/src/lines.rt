@@ -7,7 +7,9 @@ ghost use Rattle.jop_words.specs.Command.{texts};
 ghost use Rattle.jop_cli.specs.Line.{text_at, kind_name, link_parts, too_long_parts, is_memory, line_of, is_fault};
 
 use crate::outcome::{AsmRefusal, Ending, Refusal};
-use analysis_lines::{say_bad_bounds, say_bad_cert, say_fault, say_held, say_twice_bound};
+use analysis_lines::{
+    say_bad_bounds, say_bad_cert, say_cause, say_fault, say_held, say_twice_bound,
+};
 use jop_outside::{Failed, Sink};
 use jopizer::LinkRefusal;
 use microcode_asm::AsmKind;
@@ -44,6 +46,7 @@ pub(crate) fn say_ending<O: Sink>(
         Ending::TooLong(_, name, blocks, limit) => say_too_long(sink, name, *blocks, *limit),
         Ending::NotLinked(refusal, name) => say_link_refusal(sink, *refusal, name),
         Ending::NotHeld(fault, name) => say_fault(sink, *fault, name),
+        Ending::NotBounded(cause, subject) => say_cause(sink, *cause, subject),
         Ending::ReadFault | Ending::InputFault => say(sink, &Line::ReadFault),
         Ending::WriteFault => say(sink, &Line::WriteFault),
         Ending::NoMemory => say(sink, &Line::NoMemory),
@@ -58,7 +61,6 @@ fn say_refusal<O: Sink>(sink: &mut O, words: &[&str], refusal: Refusal) -> Resul
         Refusal::Usage(k) => say(sink, &Line::Usage(k)),
         Refusal::TooBig(k, sum) => say(sink, &Line::TooBig(text_of(words, k), sum)),
         Refusal::BadImage => say(sink, &Line::BadImage),
-        Refusal::NotBuilt => say(sink, &Line::NotBuilt),
         Refusal::Differs(word, kept, linked) => say(sink, &Line::Differs { word, kept, linked }),
         Refusal::MethodTooLong(_, blocks, limit) => say_too_long(sink, b"boot", blocks, limit),
         Refusal::MemoryTooSmall(words, given) => {
@@ -73,7 +75,7 @@ fn say_refusal<O: Sink>(sink: &mut O, words: &[&str], refusal: Refusal) -> Resul
         Refusal::BadBounds(line) => say_bad_bounds(sink, line),
         Refusal::TwiceBound(line) => say_twice_bound(sink, line),
         Refusal::BadCert(line) => say_bad_cert(sink, line),
-        Refusal::Check(_) | Refusal::Link(_) => Ok(()),
+        Refusal::Check(_) | Refusal::Bound(_) | Refusal::Link(_) => Ok(()),
     }
 }
 

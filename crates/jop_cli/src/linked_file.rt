@@ -104,8 +104,8 @@ fn said(program: &Program, room: Vec<u8>, end: ProgramEnd) -> Ending
     }
 }
 
-// Runs what was linked with settings.
-fn run_program<S: Source, O: Sink, V: Watch>(
+/// Runs what was linked with settings.
+pub(crate) fn run_program<S: Source, O: Sink, V: Watch>(
     alloc: Global,
     linked: &Linked,
     settings: &Settings,

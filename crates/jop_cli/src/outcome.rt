@@ -1,6 +1,7 @@
 //! How a call of the program ends.
 
 use analysis_commands::Held;
+use analysis_lines::BoundCause;
 use bound_rules::CheckFault;
 use jopizer::LinkRefusal;
 use microcode_asm::AsmKind;
@@ -17,8 +18,6 @@ pub enum Refusal {
     TooBig(u32, u128),
     /// The file is in no image grammar.
     BadImage,
-    /// The command can't be done yet.
-    NotBuilt,
     /// The word at this place is the first that the image has otherwise than its class files are linked to: the image's
     /// and the linked one, none past an end.
     Differs(u32, Option<u32>, Option<u32>),
@@ -34,6 +33,8 @@ pub enum Refusal {
     BadCert(u64),
     /// This is the first condition of the certificate that fails.
     Check(CheckFault),
+    /// This is why no bound of the method is given.
+    Bound(BoundCause),
     /// The text isn't assembled.
     Asm(AsmRefusal),
     /// The files aren't linked.
@@ -109,6 +110,8 @@ pub(crate) enum Ending {
     NotLinked(LinkRefusal, Vec<u8>),
     /// The first condition of the certificate that fails, and the name of the method of which it speaks.
     NotHeld(CheckFault, Vec<u8>),
+    /// Why no bound of the method is given, and what the line names.
+    NotBounded(BoundCause, Vec<u8>),
     Spent(Counts),
     /// A file failed.
     ReadFault,

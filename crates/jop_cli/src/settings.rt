@@ -4,6 +4,7 @@ ghost use Rattle.method_cache.specs.Contents.{blocks_for};
 ghost use Rattle.jop_core.specs.Reset.{words_for};
 ghost use Rattle.jop_words.specs.Range.{AreSettings};
 ghost use Rattle.jop_cli.specs.Phase.{HasSettings};
+ghost use Rattle.jop_cli.specs.Working.{usual_settings};
 
 use crate::show::Show;
 use jop_core::{Bare, Config};
@@ -28,6 +29,22 @@ fn config_of(settings: &Settings) -> Config
         write: settings.write,
         blocks: settings.blocks,
         block_words: settings.block_words,
+    }
+}
+
+/// The settings where no option is given.
+pub(crate) fn usual_settings() -> Settings
+    ensures is { result ≡ usual_settings }
+    ensures range { AreSettings result }
+{
+    Settings {
+        cycles: 1_000_000_000,
+        stack: 1024,
+        memory: 262_144,
+        blocks: 16,
+        block_words: 64,
+        read: 1,
+        write: 2,
     }
 }
 

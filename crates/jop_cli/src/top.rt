@@ -13,6 +13,7 @@ ghost use Rattle.jop_cli.specs.Answer.{ReadsLinked, RunsFile, RunsLinkedFile, Ru
 
 use crate::assembling::assemble_file;
 use crate::bare_file::run_bare_bytes;
+use crate::bounding::bound_files;
 use crate::checking::check_files;
 use crate::lines::say_ending;
 use crate::linked_file::run_linked_bytes;
@@ -20,6 +21,7 @@ use crate::linking::link_files;
 use crate::load::load;
 use crate::outcome::{Ending, Outcome, Refusal};
 use crate::show::Show;
+use crate::working::work;
 use jop_core::Watch;
 use jop_outside::{Files, Sink, Source};
 use jop_words::{Command, Settings, read_words};
@@ -136,7 +138,13 @@ fn execute<F: Files, S: Source, O: Sink, V: Watch>(
             image,
             ..
         } => check_files(alloc, &settings, image, files),
-        Command::Bound { .. } | Command::Work { .. } => Ending::Refused(Refusal::NotBuilt),
+        Command::Bound {
+            settings,
+            method,
+            image,
+            ..
+        } => bound_files(alloc, words, &settings, method, image, files, out),
+        Command::Work { count } => work(alloc, count, out),
     }
 }
 
@@ -166,6 +174,7 @@ fn outcome_unsaid(ending: &Ending) -> Outcome
         | Ending::TooLong(_, _, _, _)
         | Ending::NotLinked(_, _)
         | Ending::NotHeld(_, _)
+        | Ending::NotBounded(_, _)
         | Ending::Spent(_)
         | Ending::WriteFault => Outcome::WriteFault,
     }
@@ -185,6 +194,7 @@ fn outcome_for(ending: &Ending) -> Outcome
         }
         Ending::NotLinked(refusal, _) => Outcome::Refused(Refusal::Link(*refusal)),
         Ending::NotHeld(fault, _) => Outcome::Refused(Refusal::Check(*fault)),
+        Ending::NotBounded(cause, _) => Outcome::Refused(Refusal::Bound(*cause)),
         Ending::Spent(_) => Outcome::Spent,
         Ending::ReadFault | Ending::InputFault => Outcome::ReadFault,
         Ending::WriteFault => Outcome::WriteFault,
@@ -198,7 +208,8 @@ fn outcome_for(ending: &Ending) -> Outcome
 /// registers of each state of the machine, from reset on, from which a cycle was done or tried to `watch`. `trace` is the same
 /// run, and puts its lines into `out`, and hands `watch` nothing: one before each step, one for each byte of the output and, if asked to, one before each
 /// cycle. `asm` puts the words of the text's microprogram into `out`, a line for each, and `link` the file of the image of the
-/// class files. `check` puts nothing there: it says whether a certificate meets its conditions.
+/// class files. `bound` puts the text of a certificate of the method that is asked for. `check` puts nothing there: it says whether a
+/// certificate meets its conditions.
 pub fn jop<F: Files, S: Source, O: Sink, E: Sink, V: Watch>(
     alloc: Global,
     words: &[&str],

@@ -4,7 +4,7 @@ use Rattle.std.specs.List.{concat}
 use Rattle.std.specs.declared.option.Option.{Option}
 use Rattle.outcome_lines.specs.declared.line.Counts.{Counts}
 use Rattle.outcome_lines.specs.declared.line.Line.{Line}
-use Rattle.outcome_lines.specs.declared.line.Line.TheVariants.{Ended, Uncaught, Spent, Linked, Usage, TooBig, BadImage, NotBuilt, Differs, MethodTooLong, MemoryTooSmall, Link, Asm, ReadFault, WriteFault, NoMemory}
+use Rattle.outcome_lines.specs.declared.line.Line.TheVariants.{Ended, Uncaught, Spent, Linked, Usage, TooBig, BadImage, Differs, MethodTooLong, MemoryTooSmall, Link, Asm, ReadFault, WriteFault, NoMemory}
 use Rattle.outcome_lines.specs.declared.line.LinkLine.{LinkLine}
 use Rattle.outcome_lines.specs.declared.line.LinkLine.TheVariants.{BadClass, UnsupportedVersion, Duplicate, Unsupported, Unresolved, BadHierarchy, NoMain, NotVerified, TooLarge}
 use Rattle.outcome_lines.specs.declared.line.AsmLine.{AsmLine}
@@ -83,7 +83,6 @@ parts_of (Linked sizes) =
 parts_of (Usage k) = codes "usage: word " ∷ decimal k ∷ codes "\n" ∷ []
 parts_of (TooBig name sum) = codes "too big " ∷ name.now ∷ codes " sum=" ∷ decimal sum ∷ codes "\n" ∷ []
 parts_of BadImage = codes "bad image\n" ∷ []
-parts_of NotBuilt = codes "not built\n" ∷ []
 parts_of (Differs word kept linked) = codes "differs word=" ∷ decimal word ∷ codes " kept=" ∷ word_text kept ∷ codes " linked=" ∷ word_text linked ∷ codes "\n" ∷ []
 parts_of (MethodTooLong name blocks limit) = codes "method too long " ∷ name.now ∷ codes " blocks=" ∷ decimal blocks ∷ codes " limit=" ∷ decimal limit ∷ codes "\n" ∷ []
 parts_of (MemoryTooSmall words given) = codes "memory too small words=" ∷ decimal words ∷ codes " given=" ∷ decimal given ∷ codes "\n" ∷ []

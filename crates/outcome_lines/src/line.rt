@@ -37,7 +37,6 @@ pub enum Line<'a> {
     /// The files of the operands up to this one have this sum of lengths in bytes.
     TooBig(&'a [u8], u128),
     BadImage,
-    NotBuilt,
     /// The first word at which an image has others than its class files link to, of which one may be missing.
     Differs {
         word: u32,

@@ -4,3 +4,6 @@ pub mod Pieces
 pub mod WorkLaws
 pub mod Texts
 pub mod RowLaws
+pub mod Decimals
+pub mod BoundLines
+pub mod BoundLaws

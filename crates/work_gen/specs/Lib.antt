@@ -1,3 +1,4 @@
 pub mod Work
+pub mod Bounds
 pub mod Laws
 pub mod Rows

@@ -3,8 +3,10 @@
 
 mod bounds;
 mod class;
+mod file;
 pub mod laws;
 mod main_method;
 
 pub use bounds::work_bounds;
 pub use class::make;
+pub use file::work_file;

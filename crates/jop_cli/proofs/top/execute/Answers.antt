@@ -1,10 +1,11 @@
 use Rattle.std.proofs.Common.{◌≡◌, ℕ, Ok, inr}
 use Rattle.std.specs.declared.result.Result.{Result}
 use Rattle.jop_words.specs.declared.command.Command.{Command}
-use Rattle.jop_words.specs.declared.command.Command.TheVariants.{Run, Trace, Asm, Link}
+use Rattle.jop_words.specs.declared.command.Command.TheVariants.{Run, Trace, Asm, Link, Work}
 use Rattle.jop_words.specs.Command.{texts, command_of}
 use Rattle.jop_cli.specs.World.{world}
-use Rattle.jop_cli.proofs.Executing.{does_by, assembles_risen, links_risen}
+use Rattle.jop_cli.proofs.Executing.{does_by, assembles_risen, links_risen, bounds_risen}
+use Rattle.jop_cli.proofs.Worked.{works_risen}
 use Rattle.jop_cli.proofs.top.execute.Goals as goal
 
 pub returns-in-Asm-clause-executed : goal.returns-in-Asm-clause-executed
@@ -23,6 +24,19 @@ returns-in-Link-clause-executed g c =
     (world (g.F.Files.words c.link_files.new.files) (g.F.Files.told c.link_files.new.files) (g.F.Files.faults c.link_files.new.files) (g.S.Source.left c.args.input.now) (g.S.Source.faults c.args.input.now) (g.O.Sink.held c.link_files.new.out) (g.O.Sink.faults c.link_files.new.out) (g.V.Watch.held c.args.watch.now))
     c.link_files.result is (c.link_files.ensures.links (g.S.Source.left c.args.input.now) (g.S.Source.faults c.args.input.now) (g.V.Watch.held c.args.watch.now))
 
+pub returns-in-Work-clause-executed : goal.returns-in-Work-clause-executed
+returns-in-Work-clause-executed g c =
+    let is : ◌≡◌ {A = Result Command ℕ} (Ok (Work c.in-Work.count)) (command_of (texts c.args.words.now)) = cc (c.in-Ok.is, c.in-Work.is, c.read_words.ensures.exact) in
+    does_by (texts c.args.words.now) (command_of (texts c.args.words.now)) (Ok (Work c.in-Work.count))
+    (world (g.F.Files.words c.args.files.now) (g.F.Files.told c.args.files.now) (g.F.Files.faults c.args.files.now) (g.S.Source.left c.args.input.now) (g.S.Source.faults c.args.input.now) (g.O.Sink.held c.args.out.now) (g.O.Sink.faults c.args.out.now) (g.V.Watch.held c.args.watch.now))
+    (world (g.F.Files.words c.args.files.now) (g.F.Files.told c.args.files.now) (g.F.Files.faults c.args.files.now) (g.S.Source.left c.args.input.now) (g.S.Source.faults c.args.input.now) (g.O.Sink.held c.work.new.out) (g.O.Sink.faults c.work.new.out) (g.V.Watch.held c.args.watch.now))
+    c.work.result is (c.work.ensures.works (g.F.Files.words c.args.files.now) (g.F.Files.told c.args.files.now) (g.F.Files.faults c.args.files.now) (g.S.Source.left c.args.input.now) (g.S.Source.faults c.args.input.now) (g.V.Watch.held c.args.watch.now))
+
+pub returns-in-Work-clause-rose : goal.returns-in-Work-clause-rose
+returns-in-Work-clause-rose g c =
+    works_risen c.in-Work.count _ _ c.work.result (g.S.Source.faults c.args.input.now) (g.S.Source.faults c.args.input.now)
+    (c.work.ensures.works (g.F.Files.words c.args.files.now) (g.F.Files.told c.args.files.now) (g.F.Files.faults c.args.files.now) (g.S.Source.left c.args.input.now) (g.S.Source.faults c.args.input.now) (g.V.Watch.held c.args.watch.now))
+
 pub returns-in-Asm-clause-rose : goal.returns-in-Asm-clause-rose
 returns-in-Asm-clause-rose g c =
     assembles_risen c.in-Asm.text _ _ c.assemble_file.result (g.S.Source.faults c.args.input.now) (g.S.Source.faults c.args.input.now)
@@ -32,6 +46,11 @@ pub returns-in-Link-clause-rose : goal.returns-in-Link-clause-rose
 returns-in-Link-clause-rose g c =
     links_risen _ c.in-Link.first _ _ c.link_files.result (g.S.Source.faults c.args.input.now) (g.S.Source.faults c.args.input.now)
     (c.link_files.ensures.links (g.S.Source.left c.args.input.now) (g.S.Source.faults c.args.input.now) (g.V.Watch.held c.args.watch.now))
+
+pub returns-in-Bound-clause-rose : goal.returns-in-Bound-clause-rose
+returns-in-Bound-clause-rose g c =
+    bounds_risen c.in-Bound.settings _ c.in-Bound.image _ _ c.bound_files.result (g.S.Source.faults c.args.input.now) (g.S.Source.faults c.args.input.now)
+    (c.bound_files.ensures.bounds (g.S.Source.left c.args.input.now) (g.S.Source.faults c.args.input.now) (g.V.Watch.held c.args.watch.now))
 
 pub returns-in-Trace-clause-input : goal.returns-in-Trace-clause-input
 returns-in-Trace-clause-input g c none =

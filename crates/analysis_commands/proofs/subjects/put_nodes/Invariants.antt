@@ -1,0 +1,6 @@
+use Rattle.std.proofs.Common.{◌≡◌, ◌++◌, take}
+use Rattle.analysis_lines.specs.Lines.{nodes_text}
+use Rattle.analysis_commands.proofs.subjects.put_nodes.Given as goal
+
+abbrev pub invariant-loop-node : goal.invariant-loop-node
+invariant-loop-node l = l.out.items ≡ l.initial.out.items ++ nodes_text (take l.node-index l.nodes)

@@ -1,0 +1,62 @@
+-- What is answered of a method that is asked for by its name, by the table of a program.
+use Rattle.std.specs.Prelude.{◌≡◌, ℕ, List, Option, Some}
+use Rattle.jop_text.specs.Line.{lines_of as text_lines}
+use Rattle.bytecode_model.specs.Program.{Program}
+use Rattle.method_flow.specs.Flow.{IsFlowOf}
+use Rattle.flow_costs.specs.Costs.{bounds_of}
+use Rattle.bound_cert.specs.Certificate.{Certificate}
+use Rattle.bound_cert.specs.Texts.{AreLinesOf, text_of}
+use Rattle.bound_rules.specs.declared.faults.BoundRefusal.{BoundRefusal}
+use Rattle.bound_rules.specs.Bounding.{IsAsked, IsCause}
+use Rattle.bound_causes.specs.declared.causes.Asked.{Asked}
+use Rattle.bound_causes.specs.Naming.{IsNamedBy}
+use Rattle.bound_causes.specs.Ready.{IsReady, AreInTable}
+use Rattle.analysis_lines.specs.declared.bound.BoundCause.{BoundCause}
+use Rattle.analysis_commands.specs.declared.analysis.Analysis.{Analysis}
+use Rattle.analysis_commands.specs.declared.bound.NotBounded.{NotBounded}
+use Rattle.analysis_commands.specs.declared.bound.NotBounded.TheVariants.{NoAnalysis, Forbidden, NoMemory}
+use Rattle.analysis_commands.specs.Answers.{table_name}
+use Rattle.analysis_commands.specs.Bounding.{IsBoundBy, cause_of, subject_of}
+
+-- it is the table of a program
+abbrev pub IsOfProgram : Analysis → Type 0
+IsOfProgram a = (P : Program) × IsFlowOf P a.flow
+
+-- the method is asked for in each program of the table, and nothing but its size forbids a bound
+pub record IsAskedOf (a : Analysis) (name : List ℕ) (found : Asked) : Type 0 where
+  pub asked : (P : Program) → IsFlowOf P a.flow → IsAsked P (IsNamedBy a.flow name) found.root
+  pub ready : (P : Program) → IsFlowOf P a.flow → IsReady P (bounds_of a.flow a.bounds) found
+  pub known : AreInTable a.flow found
+
+-- the certificate is of the method that is asked for, in each program of the table
+abbrev pub IsCertificateOf : Analysis → (name : List ℕ) → Certificate → Type 0
+IsCertificateOf a name c = (P : Program) → IsFlowOf P a.flow → IsBoundBy P a.timing (bounds_of a.flow a.bounds) (IsNamedBy a.flow name) c
+
+-- this forbids a bound in each
+abbrev pub IsCauseOf : Analysis → (name : List ℕ) → BoundRefusal → Type 0
+IsCauseOf a name refusal = (P : Program) → IsFlowOf P a.flow → IsCause P a.timing (bounds_of a.flow a.bounds) (IsNamedBy a.flow name) refusal
+
+-- the text is that of such a certificate
+pub record IsBoundText (a : Analysis) (name text : List ℕ) : Type 0 where
+  pub certificate : Certificate
+  pub is : IsCertificateOf a name certificate
+  pub reads : AreLinesOf (text_lines text) certificate
+  pub text_is : text ≡ text_of certificate
+
+-- the number is the bound of such a certificate
+pub record IsBoundNumberOf (a : Analysis) (name : List ℕ) (bound : Option ℕ) : Type 0 where
+  pub certificate : Certificate
+  pub is : IsCertificateOf a name certificate
+  pub bound_is : bound ≡ certificate.bound
+
+-- such a cause, with what its line names
+pub record IsForbiddenBy (a : Analysis) (name : List ℕ) (cause : BoundCause) (subject : List ℕ) : Type 0 where
+  pub refusal : BoundRefusal
+  pub is : IsCauseOf a name refusal
+  pub cause_is : cause_of refusal ≡ Some cause
+  pub subject_is : subject ≡ subject_of (table_name a.flow) refusal
+
+abbrev pub IsNotBoundedBy : Analysis → (name : List ℕ) → NotBounded → Type 0
+IsNotBoundedBy a name (NoAnalysis fault) = ⊥
+IsNotBoundedBy a name (Forbidden cause subject) = IsForbiddenBy a name cause subject.items
+IsNotBoundedBy a name NoMemory = Unit {0}

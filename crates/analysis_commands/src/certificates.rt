@@ -1,0 +1,79 @@
+//! The certificate of a method that is asked for, by the table of a program.
+ghost use Rattle.std.specs.Prelude.{◌≡◌, ◌≤◌, ◌<◌, ℕ, List, IfOk, IfErr};
+ghost use Rattle.jop_text.specs.Line.{lines_of as text_lines};
+ghost use Rattle.bound_cert.specs.Certificate.{IsInGrammar};
+ghost use Rattle.bound_cert.specs.Texts.{AreLinesOf, text_of};
+ghost use Rattle.analysis_commands.specs.declared.analysis.Analysis.{Analysis};
+ghost use Rattle.analysis_commands.specs.BoundAnswers.{IsOfProgram, IsAskedOf, IsCertificateOf, IsCauseOf, IsNotBoundedBy};
+
+use crate::analysis::Analysis;
+use crate::bound::NotBounded;
+use bound_causes::{Asked, cause_before_size};
+use bound_cert::{Cert, is_read_back, write_cert};
+use bound_rules::BoundRefusal;
+use std::alloc::Global;
+use wcet::certify;
+
+// The method of this name, where nothing but its size forbids a bound.
+fn asked(alloc: Global, analysis: &Analysis, name: &[u8]) -> Result<Asked, BoundRefusal>
+    ensures asked { IfOk result (IsAskedOf analysis.now name.now) }
+    ensures cause { IfErr result (IsCauseOf analysis.now name.now) }
+{
+    cause_before_size(alloc, &analysis.flow, &analysis.bounds, name)
+}
+
+// Its certificate.
+fn certificate_of_asked(
+    alloc: Global,
+    analysis: &Analysis,
+    name: &[u8],
+    found: &Asked,
+) -> Result<Cert, BoundRefusal>
+    requires program { IsOfProgram analysis.now }
+    requires asked { IsAskedOf analysis.now name.now found.now }
+    requires waits { (analysis.now.timing.read ≤ 63) × (analysis.now.timing.write ≤ 63) }
+    requires sizes { 0 < analysis.now.timing.block_words }
+    ensures certificate { IfOk result (IsCertificateOf analysis.now name.now) }
+    ensures grammar { IfOk result IsInGrammar }
+    ensures cause { IfErr result (IsCauseOf analysis.now name.now) }
+{
+    let Analysis {
+        flow,
+        bounds,
+        timing,
+    } = analysis;
+    certify(alloc, flow, bounds, *timing, found.root, &found.order)
+}
+
+/// The certificate of the method of this name.
+pub(crate) fn certificate_of(
+    alloc: Global,
+    analysis: &Analysis,
+    name: &[u8],
+) -> Result<Cert, BoundRefusal>
+    requires program { IsOfProgram analysis.now }
+    requires waits { (analysis.now.timing.read ≤ 63) × (analysis.now.timing.write ≤ 63) }
+    requires sizes { 0 < analysis.now.timing.block_words }
+    ensures certificate { IfOk result (IsCertificateOf analysis.now name.now) }
+    ensures grammar { IfOk result IsInGrammar }
+    ensures cause { IfErr result (IsCauseOf analysis.now name.now) }
+{
+    match asked(alloc, analysis, name) {
+        Ok(found) => certificate_of_asked(alloc, analysis, name, &found),
+        Err(refusal) => Err(refusal),
+    }
+}
+
+/// The text of a certificate.
+pub(crate) fn certificate_text(alloc: Global, certificate: &Cert) -> Result<Vec<u8>, NotBounded>
+    requires { IsInGrammar certificate.now }
+    ensures text { IfOk result (λ text. (text.items ≡ text_of certificate.now) × AreLinesOf (text_lines text.items) certificate.now) }
+    ensures memory { (a : Analysis) (name : List ℕ) → IfErr result (IsNotBoundedBy a name) }
+{
+    // The law is for the proof.
+    is_read_back();
+    match write_cert(alloc, certificate) {
+        Ok(text) => Ok(text),
+        Err(_) => Err(NotBounded::NoMemory),
+    }
+}

@@ -1,0 +1,219 @@
+-- A certificate is written where nothing forbids a bound, it holds, and what is answered else forbids one.
+use Rattle.std.proofs.Common.{◌≡◌, ℕ, ◌+◌, true, false, List, [], ◌∷◌, Option, Some, refl, sym, ◌∙◌, ap, subst, ◌⊎◌, inl, inr, ⊎_elim}
+use Rattle.std.specs.Prelude.{Ok, Vec}
+use Rattle.std.specs.declared.alloc.Global.{Global}
+use Rattle.std.specs.List.{concat}
+use Rattle.lists.specs.Lemmas.{none≢some}
+use Rattle.jop_outside.specs.Outside.{Grew}
+use Rattle.operand_files.specs.Files.{AreFiles}
+use Rattle.program_tables.specs.Resolved.{resolved}
+use Rattle.bytecode_model.specs.Program.{body_of}
+use Rattle.loop_bounds.specs.declared.BoundsFault.TheVariants as texts
+use Rattle.loop_bounds.specs.Bounds.{LoopBound}
+use Rattle.loop_bounds.specs.Laws.{GivesOne, ReadIsNotRefused}
+use Rattle.bound_cert.specs.Certificate.{Certificate, IsInGrammar}
+use Rattle.bound_cert.specs.Texts.{text_of}
+use Rattle.bound_rules.specs.declared.faults.BoundRefusal.{BoundRefusal}
+use Rattle.bound_rules.specs.declared.faults.BoundRefusal.TheVariants as forbids
+use Rattle.bound_rules.specs.Bounding.{IsCause}
+use Rattle.analysis_lines.specs.declared.bound.BoundCause.{BoundCause}
+use Rattle.analysis_lines.specs.Lines.{cause_parts}
+use Rattle.analysis_commands.specs.declared.analysis.AnalysisFault.{AnalysisFault}
+use Rattle.analysis_commands.specs.declared.analysis.AnalysisFault.TheVariants as analysis
+use Rattle.analysis_commands.specs.declared.bound.NotBounded.{NotBounded}
+use Rattle.analysis_commands.specs.declared.bound.NotBounded.TheVariants as bound
+use Rattle.analysis_commands.specs.Analysis.{timing_of, bounds_of, named_or_number, IsAnalysisFault}
+use Rattle.analysis_commands.specs.Bounding.{IsNamed, IsBoundBy, cause_of, subject_of, IsForbidden, IsNotBounded}
+use Rattle.activations.specs.Warrant.{BoundsActivations}
+use Rattle.jop_words.specs.declared.command.Settings.{Settings}
+use Rattle.jop_words.specs.declared.command.Command.TheVariants.{Bound}
+use Rattle.jopizer.specs.Linked.{Parts, image_of}
+use Rattle.jopizer.specs.Laws.{OneLinked, LinkedImagesAreRead}
+use Rattle.jop_cli.specs.declared.outcome.Refusal.TheVariants.{Bound as Forbidden}
+use Rattle.jop_cli.specs.declared.outcome.Ending.{Ending}
+use Rattle.jop_cli.specs.declared.outcome.Ending.TheVariants as endings
+use Rattle.jop_cli.specs.declared.outcome.Outcome.{Outcome}
+use Rattle.jop_cli.specs.declared.outcome.Outcome.TheVariants as outcomes
+use Rattle.jop_cli.specs.Line.{text_at, line_of}
+use Rattle.jop_cli.specs.World.{IsQuiet, IsUntaken}
+use Rattle.jop_cli.specs.Linking.{files_of, OperandsFault}
+use Rattle.jop_cli.specs.Checking.{fault_ending}
+use Rattle.jop_cli.specs.Bounding.{cause_ending, Bounds, EndsNotBounded, BoundFault, LinkedBoundFault, PutsBound, PutsText, PutsTextFront, BoundsRead, BoundsFiles}
+use Rattle.jop_cli.specs.Answer.{outcome_of}
+use Rattle.jop_cli.specs.Calls.{Call, NothingFailed, LacksMemory, AreTold}
+use Rattle.jop_cli.specs.Correct.{BoundsTexts, IsBounded, Forbids, AnswersForbidden, BoundingIsComplete, BoundRefusalsAreCaused, CheckedBoundsAreKept, WrittenBoundsAreKept, BoundsAreKept}
+use Rattle.jop_cli.proofs.Wholly.{IsWholly, wholly, executed, lacks, same_files, files_read}
+use Rattle.jop_cli.proofs.RunningLaw.{begins_linked, is_read, not_more}
+use Rattle.jop_cli.proofs.CheckingLaw.{answers}
+
+-- what a method of this name comes to, with these bounds: a certificate was put, which holds; or this forbids a bound; or there was no memory
+data Settled (c : Call) (s : Settings) (l : Parts) (lines : List LoopBound) (name : List ℕ) (ending : Ending) : Type 0 where
+  bounded : ending ≡ endings.Written → (d : Certificate) → IsBoundBy (resolved l.classes) (timing_of s) (bounds_of l.classes lines) (IsNamed l.classes name) d → IsInGrammar d → Grew c.old.out c.new.out (text_of d)
+      → BoundsActivations (resolved l.classes) (timing_of s) (bounds_of l.classes lines) d.root d.bound → Settled c s l lines name ending
+  forbidden : (cause : BoundCause) (subject : Vec ℕ Global) → ending ≡ endings.NotBounded cause subject → (refusal : BoundRefusal)
+      → IsCause (resolved l.classes) (timing_of s) (bounds_of l.classes lines) (IsNamed l.classes name) refusal → cause_of refusal ≡ Some cause → subject.items ≡ subject_of (named_or_number l.classes) refusal
+      → IsQuiet c.old c.new → Settled c s l lines name ending
+  lacking : ending ≡ endings.NoMemory → IsQuiet c.old c.new → Settled c s l lines name ending
+
+module _ (one : GivesOne) (not_refused : ReadIsNotRefused) (c : Call) (s : Settings) (image : ℕ) (l : Parts) (lines : List LoopBound) (name : List ℕ) (h : BoundsTexts c s image l lines name) where
+  text_settled : (ending : Ending) → ending ≡ endings.Written → (text : List ℕ) → Bounds l.classes s h.bounds_text name text → Grew c.old.out c.new.out text → Settled c s l lines name ending
+  text_settled ending says text b put =
+      let k = b.is in
+      let same : k.bounds ≡ lines = one h.bounds_text k.bounds lines k.bounds_read h.read in
+      bounded says k.certificate
+      (subst (λ (x : List LoopBound). IsBoundBy (resolved l.classes) (timing_of s) (bounds_of l.classes x) (IsNamed l.classes name) k.certificate) same k.is)
+      k.reads.grammar
+      (subst (λ (x : List ℕ). Grew c.old.out c.new.out x) k.text_is put)
+      (subst (λ (x : List LoopBound). BoundsActivations (resolved l.classes) (timing_of s) (bounds_of l.classes x) k.certificate.root k.certificate.bound) same b.holds)
+
+  analysed : (ending : Ending) → IsQuiet c.old c.new → (fault : AnalysisFault) → IsAnalysisFault l.classes s h.bounds_text fault → ending ≡ fault_ending s fault → Settled c s l lines name ending
+  analysed ending quiet (analysis.MethodTooLong m long blocks) cause says =
+      absurd (not_more (body_of (resolved l.classes) m) s.blocks s.block_words blocks cause.0.code (h.codes m) cause.0.more)
+  analysed ending quiet (analysis.BadBounds line) cause says =
+      let e : texts.Line line ≡ texts.NoMemory = not_refused h.bounds_text lines (texts.Line line) h.read cause.1 in
+      absurd (cc)
+  analysed ending quiet (analysis.TwiceBound line) cause says =
+      let e : texts.Twice line ≡ texts.NoMemory = not_refused h.bounds_text lines (texts.Twice line) h.read cause.1 in
+      absurd (cc)
+  analysed ending quiet analysis.NoMemory cause says = lacking says quiet
+
+  forbidden_settled : (ending : Ending) → IsQuiet c.old c.new → (cause : BoundCause) (subject : Vec ℕ Global) → ending ≡ endings.NotBounded cause subject → IsForbidden l.classes s h.bounds_text name cause subject.items
+      → Settled c s l lines name ending
+  forbidden_settled ending quiet cause subject says k =
+      let same : k.bounds ≡ lines = one h.bounds_text k.bounds lines k.bounds_read h.read in
+      forbidden cause subject says k.refusal
+      (subst (λ (x : List LoopBound). IsCause (resolved l.classes) (timing_of s) (bounds_of l.classes x) (IsNamed l.classes name) k.refusal) same k.is)
+      k.cause_is k.subject_is quiet
+
+  cause_settled : (ending : Ending) → IsQuiet c.old c.new → (cause : NotBounded) → IsNotBounded l.classes s h.bounds_text name cause → ending ≡ cause_ending s cause → Settled c s l lines name ending
+  cause_settled ending quiet (bound.NoAnalysis fault) is says = analysed ending quiet fault is says
+  cause_settled ending quiet (bound.Forbidden cause subject) is says = forbidden_settled ending quiet cause subject says is
+  cause_settled ending quiet bound.NoMemory is says = lacking says quiet
+
+  -- ---- the files
+
+  module _ (linked_one : OneLinked) (images : LinkedImagesAreRead) (n : NothingFailed c) where
+    refused_settled : (ending : Ending) → IsQuiet c.old c.new → LinkedBoundFault s h.bytes h.bounds_text name ending → Settled c s l lines name ending
+    refused_settled ending quiet fault =
+        ⊎_elim
+        (λ bytes. lacking (is_read images h.bytes l h.is_linked h.is_file ending bytes) quiet)
+        (λ r.
+        let same : r.linked ≡ l = linked_one h.bytes r.linked l r.is_linked h.is_linked r.is_file h.is_file in
+        let e = subst (λ (p : Parts). EndsNotBounded p.classes s h.bounds_text name ending) same r.ends in
+        cause_settled ending quiet e.cause e.is e.says)
+        fault
+
+    fault_settled : (ending : Ending) → IsQuiet c.old c.new → BoundFault s h.bytes h.bounds_text name ending → Settled c s l lines name ending
+    fault_settled ending quiet fault =
+        ⊎_elim
+        (λ linked. refused_settled ending quiet linked.1)
+        (λ bare.
+        let clash : false ≡ true = sym bare.0 ∙ begins_linked h.bytes (image_of l) h.is_file in
+        absurd (cc))
+        fault
+
+    put_settled : (ending : Ending) → ending ≡ endings.Written → PutsText s h.bytes h.bounds_text name c.old.out c.new.out c.old.out_faults c.new.out_faults → Settled c s l lines name ending
+    put_settled ending says p =
+        let r = p.bounds.1 in
+        let same : r.linked ≡ l = linked_one h.bytes r.linked l r.is_linked h.is_linked r.is_file h.is_file in
+        text_settled ending says p.text (subst (λ (x : Parts). Bounds x.classes s h.bounds_text name p.text) same r.bounds) p.put
+
+    puts_settled : (ending : Ending) → IsUntaken c.old c.new → c.new.watch ≡ c.old.watch → PutsBound s h.bytes h.bounds_text name c.old.out c.new.out c.old.out_faults c.new.out_faults ending → Settled c s l lines name ending
+    puts_settled ending untaken watch puts =
+        ⊎_elim
+        (λ whole. put_settled ending whole.0 whole.1)
+        (λ other. ⊎_elim (λ front. absurd (n.out front.1.rose)) (λ none. fault_settled ending (record { input = untaken; out = none.1; out_faults = none.2; watch = watch }) none.0) other)
+        puts
+
+    end_is : image + 2 ≡ c.old.words
+    end_is = h.told.many
+
+    read_settled : (ending : Ending) → BoundsRead s name image c.old c.new ending → Settled c s l lines name ending
+    read_settled ending r =
+        let are : AreFiles c.old.files image c.old.words (r.bytes ∷ r.bounds_text ∷ []) = subst (λ (e : ℕ). AreFiles c.old.files image e (r.bytes ∷ r.bounds_text ∷ [])) end_is r.are in
+        let same = same_files c image (h.bytes ∷ h.bounds_text ∷ []) (r.bytes ∷ r.bounds_text ∷ []) h.told are in
+        let bytes : r.bytes ≡ h.bytes = cc same in
+        let bounds_text : r.bounds_text ≡ h.bounds_text = cc same in
+        let first = subst (λ (x : List ℕ). PutsBound s x r.bounds_text name c.old.out c.new.out c.old.out_faults c.new.out_faults ending) bytes r.puts in
+        puts_settled ending r.input r.watch (subst (λ (x : List ℕ). PutsBound s h.bytes x name c.old.out c.new.out c.old.out_faults c.new.out_faults ending) bounds_text first)
+
+    files_settled : (ending : Ending) → BoundsFiles s name image c.old c.new ending → Settled c s l lines name ending
+    files_settled ending bounds =
+        ⊎_elim
+        (λ fault. lacking (files_read c image (h.bytes ∷ h.bounds_text ∷ []) h.told n ending (subst (λ (e : ℕ). OperandsFault image e (files_of c.old) (files_of c.new) ending) end_is fault.0)) fault.1)
+        (read_settled ending)
+        bounds
+
+    settled : Settled c s l lines name c.answered.ending
+    settled =
+        let did = executed c (Bound s h.method image h.bounds) h.command in
+        files_settled c.answered.ending (subst (λ (x : List ℕ). BoundsFiles s x image c.old c.new c.answered.ending) h.named did)
+
+-- ---- what is answered
+
+-- want of memory forbids nothing
+forbids_so : (s : Settings) (l : Parts) (lines : List LoopBound) (name : List ℕ) (refusal : BoundRefusal) (cause : BoundCause) → cause_of refusal ≡ Some cause
+    → IsCause (resolved l.classes) (timing_of s) (bounds_of l.classes lines) (IsNamed l.classes name) refusal → Forbids s l lines name refusal
+forbids_so s l lines name forbids.NoMemory cause is h = absurd (none≢some cause is)
+forbids_so s l lines name forbids.NoMethod cause is h = h
+forbids_so s l lines name (forbids.Recursion cycle) cause is h = h
+forbids_so s l lines name (forbids.Irreducible m nodes) cause is h = h
+forbids_so s l lines name (forbids.MissingBound m p) cause is h = h
+forbids_so s l lines name (forbids.TooLarge m) cause is h = h
+
+module _ (c : Call) (s : Settings) (l : Parts) (lines : List LoopBound) (name : List ℕ) (ending : Ending) (w : IsWholly c ending) where
+  is_bounded : ending ≡ endings.Written → (d : Certificate) → IsBoundBy (resolved l.classes) (timing_of s) (bounds_of l.classes lines) (IsNamed l.classes name) d → IsInGrammar d → Grew c.old.out c.new.out (text_of d)
+      → IsBounded c s l lines name
+  is_bounded says d is grammar put = record {
+    outcome = w.outcome ∙ ap outcome_of says;
+    certificate = d;
+    is = is;
+    grammar = grammar;
+    puts = record { out = put; err = subst (λ (x : List ℕ). Grew c.err_old c.err_new x) (ap (line_of c.words) says) w.line };
+  }
+
+  complete : ((refusal : BoundRefusal) → ¬ Forbids s l lines name refusal) → Settled c s l lines name ending → IsBounded c s l lines name ⊎ LacksMemory c
+  complete none (bounded says d is grammar put holds) = inl (is_bounded says d is grammar put)
+  complete none (forbidden cause subject says refusal is cause_is subject_is quiet) = absurd (none refusal (forbids_so s l lines name refusal cause cause_is is))
+  complete none (lacking says quiet) = inr (lacks c ending w says quiet)
+
+  caused : (cause : BoundCause) → c.outcome ≡ outcomes.Refused (Forbidden cause) → Settled c s l lines name ending → AnswersForbidden c s l lines name cause
+  caused cause answer (bounded says d is grammar put holds) =
+      let clash : outcomes.Refused (Forbidden cause) ≡ outcomes.Written = sym answer ∙ (w.outcome ∙ ap outcome_of says) in
+      absurd (cc)
+  caused cause answer (forbidden other subject says refusal is cause_is subject_is quiet) =
+      let e : outcomes.Refused (Forbidden other) ≡ outcomes.Refused (Forbidden cause) = sym (w.outcome ∙ ap outcome_of says) ∙ answer in
+      let same : other ≡ cause = cc e in
+      record {
+        refusal = refusal;
+        forbids = forbids_so s l lines name refusal other cause_is is;
+        cause_is = cause_is ∙ ap (λ (x : BoundCause). Some x) same;
+        answers = answers c ending w quiet (endings.NotBounded other subject) (outcomes.Refused (Forbidden cause)) (cause_parts cause (subject_of (named_or_number l.classes) refusal)) says e
+            (ap (λ (n : List ℕ). concat (cause_parts other n)) subject_is ∙ ap (λ (x : BoundCause). concat (cause_parts x (subject_of (named_or_number l.classes) refusal))) same);
+      }
+  caused cause answer (lacking says quiet) =
+      let clash : outcomes.Refused (Forbidden cause) ≡ outcomes.NoMemory = sym answer ∙ (w.outcome ∙ ap outcome_of says) in
+      absurd (cc)
+
+  kept : c.outcome ≡ outcomes.Written → Settled c s l lines name ending
+      → (b : IsBounded c s l lines name) × BoundsActivations (resolved l.classes) (timing_of s) (bounds_of l.classes lines) b.certificate.root b.certificate.bound
+  unfolding is_bounded
+  kept answer (bounded says d is grammar put holds) = (is_bounded says d is grammar put, holds)
+  kept answer (forbidden cause subject says refusal is cause_is subject_is quiet) =
+      let clash : outcomes.Written ≡ outcomes.Refused (Forbidden cause) = sym answer ∙ (w.outcome ∙ ap outcome_of says) in
+      absurd (cc)
+  kept answer (lacking says quiet) =
+      let clash : outcomes.Written ≡ outcomes.NoMemory = sym answer ∙ (w.outcome ∙ ap outcome_of says) in
+      absurd (cc)
+
+pub bounding_is_complete : GivesOne → ReadIsNotRefused → OneLinked → LinkedImagesAreRead → BoundingIsComplete
+bounding_is_complete one not_refused linked_one images c s image l lines name h n none =
+    complete c s l lines name c.answered.ending (wholly c n) none (settled one not_refused c s image l lines name h linked_one images n)
+
+pub bound_refusals_are_caused : GivesOne → ReadIsNotRefused → OneLinked → LinkedImagesAreRead → BoundRefusalsAreCaused
+bound_refusals_are_caused one not_refused linked_one images c s image l lines name cause h n answer =
+    caused c s l lines name c.answered.ending (wholly c n) cause answer (settled one not_refused c s image l lines name h linked_one images n)
+
+pub written_bounds_are_kept : GivesOne → ReadIsNotRefused → OneLinked → LinkedImagesAreRead → WrittenBoundsAreKept
+written_bounds_are_kept one not_refused linked_one images c s image l lines name h n answer =
+    kept c s l lines name c.answered.ending (wholly c n) answer (settled one not_refused c s image l lines name h linked_one images n)

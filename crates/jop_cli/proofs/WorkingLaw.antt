@@ -1,0 +1,54 @@
+-- The line of `work`, on a call on which nothing fails.
+use Rattle.std.proofs.Common.{◌≡◌, ℕ, List, [], Option, refl, sym, ◌∙◌, ap, subst, ◌⊎◌, inl, inr, ⊎_elim}
+use Rattle.jop_outside.specs.Outside.{Grew}
+use Rattle.jop_words.specs.declared.command.Command.TheVariants.{Work}
+use Rattle.jop_words.specs.Command.{command_of}
+use Rattle.jop_cli.specs.declared.outcome.Ending.{Ending}
+use Rattle.jop_cli.specs.declared.outcome.Ending.TheVariants as endings
+use Rattle.jop_cli.specs.declared.outcome.Outcome.{Outcome}
+use Rattle.jop_cli.specs.declared.outcome.Outcome.TheVariants as outcomes
+use Rattle.jop_cli.specs.Line.{line_of}
+use Rattle.jop_cli.specs.World.{IsQuiet}
+use Rattle.jop_cli.specs.Working.{PutsLine, NotWorked, OnlyOut}
+use Rattle.jop_cli.specs.Answer.{outcome_of}
+use Rattle.jop_cli.specs.Calls.{Call, NothingFailed, LacksMemory}
+use Rattle.jop_cli.specs.Correct.{IsWorkedBy, Hinders, WorkingIsComplete, WorkLinesAreTrue}
+use Rattle.jop_cli.proofs.Wholly.{IsWholly, wholly, executed, lacks}
+
+in_the_way : (n : ℕ) (ending : Ending) → NotWorked n ending → (ending ≡ endings.NoMemory) ⊎ Hinders n ending
+in_the_way n endings.NoMemory h = inl refl
+in_the_way n ending h = inr h
+
+not_written : (n : ℕ) (ending : Ending) → NotWorked n ending → outcome_of ending ≡ outcomes.Written → ⊥
+not_written n endings.Written h e = ⊎_elim (λ link. link) (λ later. ⊎_elim (λ s. s.stops) (λ f. f.forbids) later) h
+not_written n (endings.Linked sizes) h e = ⊎_elim (λ link. link) (λ later. ⊎_elim (λ s. s.stops) (λ f. f.forbids) later) h
+not_written n ending h e = absurd (cc)
+
+quiet : (c : Call) → c.new.out ≡ c.old.out → c.new.out_faults ≡ c.old.out_faults → OnlyOut c.old c.new → IsQuiet c.old c.new
+quiet c out faults rest = record { input = rest.input; out = out; out_faults = faults; watch = rest.watch }
+
+written : (c : Call) (n : ℕ) (ending : Ending) → IsWholly c ending → ending ≡ endings.Written → PutsLine n c.old.out c.new.out c.old.out_faults c.new.out_faults → IsWorkedBy c n
+written c n ending w is puts =
+    let L : Ending → Type 0 = λ e. Grew c.err_old c.err_new (line_of c.words e) in
+    record { outcome = w.outcome ∙ ap outcome_of is; line = puts.line; is = puts.is; puts = record { out = puts.put; err = subst L is w.line } }
+
+pub complete : WorkingIsComplete
+complete c n command none open_way =
+    let w = wholly c none in
+    let works = executed c (Work n) command in
+    ⊎_elim
+    (λ h. inl (written c n c.answered.ending w h.0 h.1))
+    (λ rest. ⊎_elim
+    (λ h. absurd (none.out h.1.rose))
+    (λ h. ⊎_elim (λ is. inr (lacks c c.answered.ending w is (quiet c h.1 h.2 works.1))) (λ hinders. absurd (open_way c.answered.ending hinders)) (in_the_way n c.answered.ending h.0))
+    rest)
+    works.0
+
+pub are_true : WorkLinesAreTrue
+are_true c n command none is =
+    let w = wholly c none in
+    let works = executed c (Work n) command in
+    ⊎_elim
+    (λ h. written c n c.answered.ending w h.0 h.1)
+    (λ rest. ⊎_elim (λ h. absurd (none.out h.1.rose)) (λ h. absurd (not_written n c.answered.ending h.0 (sym w.outcome ∙ is))) rest)
+    works.0
