@@ -83,8 +83,21 @@ def held(answer):
     return line if answer.status == 0 and line.startswith('holds ') and not answer.out else told(answer)
 
 
+def lowered(lines):
+    """some lines of a certificate with a number that has no slack lowered by one: the last line, the first node of the last section, and the first and the last loop"""
+    loops = [place for place, line in enumerate(lines) if line.split(' ')[0] in ('loop', 'region') and line.split(' ')[2] != '0']
+    sections = [place for place, line in enumerate(lines) if line.startswith('section ')]
+    chosen = {*loops[:1], *loops[-1:]}
+    if lines[-1] != 'bound never':
+        chosen |= {sections[-1] + 1, len(lines) - 1}
+    for place in sorted(chosen):
+        words = lines[place].split(' ')
+        at = min(2, len(words) - 1)
+        yield '%d=%s' % (place + 1, ' '.join([*words[:at], str(int(words[at]) - 1), *words[at + 1:]]))
+
+
 class Bounded(Asked):
-    """what `bound` says: rows are `bound`, a title, options, a method and bounds; its certificate has to hold, also for another checker"""
+    """what `bound` says: rows are `bound`, a title, options, a method and bounds; its certificate has to hold, also for another checker, and none with a number lowered by one"""
 
     def answer(self, caller, rows):
         sys.path.append(os.path.join(HERE, '../expected/bounds'))
@@ -104,5 +117,7 @@ class Bounded(Asked):
             return told(answer)
         caller.put('certificate', answer.out)
         lines = answer.out.decode('utf-8', 'replace').split('\n')
-        found = [held(caller.call(['check', *options, 'image', 'bounds', 'certificate'])), caller.other(options, bounds, answer.out.decode('latin-1'))]
-        return ', '.join([lines[0], lines[-2] if len(lines) > 1 else '', *sorted(set(found))])
+        found = {held(caller.call(['check', *options, 'image', 'bounds', 'certificate'])), caller.other(options, bounds, answer.out.decode('latin-1'))}
+        caller.options = options
+        wrong = ['%s %s' % (change, line) for change in lowered(lines[:-1]) for line in [checked(caller, changed(lines[:-1], [change]))] if line.startswith('holds ')]
+        return ', '.join([lines[0], lines[-2] if len(lines) > 1 else '', *sorted(found), *wrong])
