@@ -1,15 +1,16 @@
 #!/usr/bin/env python3
-"""links.py [SHAPE CLASSES METHODS | branches N | hostile NAME]: how long class files take to be linked: read, resolved, verified, laid out and written.
+"""links.py [SHAPE CLASSES METHODS | branches N | hostile NAME | costly NAME N]: how long class files take to be linked: read, resolved, verified, laid out and written.
 
 SHAPE is how the classes stand to one another, each of so many methods: `groups`, ten deep; `chain`, each below the one before it; `interfaces`, every second
 an interface that the next one implements; `long`, whose methods have 200 instructions. `branches` is a class whose main has N branches, each to a stack map
-frame, at most 9,361. The names of `hostile` are those of hostile.py. Without words, some of each are measured.
+frame, at most 9,361. The names of `hostile` are those of hostile.py, those of `costly` those of costly.py. Without words, some of each are measured.
 """
 import struct
 import sys
 
 from timing import folder, link
 
+import costly  # noqa: E402
 import hostile  # noqa: E402
 from classfile import ClassFile  # noqa: E402
 
@@ -96,6 +97,8 @@ def main():
             tell(room, ' '.join(words), 'Main', [branching_class(int(words[1]))])
         elif words[:1] == ['hostile']:
             tell(room, ' '.join(words), 'A', hostile.files_of(words[1]), 1)
+        elif words[:1] == ['costly']:
+            tell(room, ' '.join(words), MAIN, costly.files_of(words[1], int(words[2])), 1)
         elif words:
             tell(room, ' '.join(words), MAIN, shape_files(words[0], int(words[1]), int(words[2])))
         else:
@@ -105,6 +108,8 @@ def main():
                 tell(room, 'branches %d' % count, 'Main', [branching_class(count)])
             for name in hostile.MADE:
                 tell(room, 'hostile ' + name, 'A', hostile.files_of(name), 1)
+            for name in costly.MADE:
+                tell(room, 'costly %s 500' % name, MAIN, costly.files_of(name, 500), 1)
 
 
 if __name__ == '__main__':

@@ -13,6 +13,7 @@ use Rattle.bytecode_typing.specs.Types.{TypeFrame}
 use Rattle.bytecode_typing.specs.Checks.{made_at}
 use Rattle.bytecode_verifier.specs.declared.rows.Checking.{Checking}
 use Rattle.bytecode_verifier.specs.Around.{made_in}
+use Rattle.bytecode_verifier.specs.Handled.{HoldAlike}
 use Rattle.bytecode_verifier.specs.Maps.{frames_at}
 use Rattle.bytecode_verifier.specs.Methods.{IsCodeOf, method_of, body_of}
 use Rattle.bytecode_verifier.specs.Place.{HasCode, IsMethodOf}
@@ -37,7 +38,7 @@ pub record HasParts (x : Checking) (n : ℕ) (k : Code) (h : IsCodeOf x.program.
   pub locals : k.max_locals ≡ x.max_locals
   pub stack : k.max_stack ≡ x.max_stack
   pub code : x.code.now ≡ k.code
-  pub handlers : map handler_seen x.handlers.now ≡ map (handler_of x.program.now h.class) k.handlers
+  pub handlers : HoldAlike (map (handler_of x.program.now h.class) k.handlers) (map handler_seen x.handlers.now.items.items)
   pub shape : IsSomeAnd (slice_get (resolved x.program.now).methods n) (HasShape s)
   pub result : x.result ≡ s.result
 
@@ -53,6 +54,6 @@ is_method law ends x n k h shape p given same = record {
   locals = p.locals;
   stack = p.stack;
   code = sym p.code;
-  handlers = sym p.handlers;
+  handlers = p.handlers;
   result = (has_shape law x n k h shape p.shape).result ∙ ap (option_map declared_seen) (sym p.result);
 }

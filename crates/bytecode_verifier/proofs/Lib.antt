@@ -1,7 +1,6 @@
 pub mod RowLemmas
 pub mod ArgumentLemmas
 pub mod CallLemmas
-pub mod HandlerLemmas
 pub mod SwitchLemmas
 pub mod PlainLemmas
 pub mod FamilyLemmas
@@ -22,6 +21,8 @@ pub mod FindLemmas
 pub mod MemberLemmas
 pub mod LeadsLemmas
 pub mod PlaceLemmas
+pub mod HeldLemmas
+pub mod KeptLemmas
 pub mod KeyLemmas
 pub mod FormLemmas
 pub mod MadeLemmas

@@ -1,9 +1,9 @@
 -- A method whose instructions are checked, and what is found at a place of it: JVM Specification SE 8, 4.10.1.6.
 -- For contracts within this crate alone: no public contract's meaning rests on this file.
-use Rattle.std.specs.Prelude.{◌≡◌, ◌==◌, ◌||◌, not, nat_lt, ◌+◌, ℕ, Bool, List, length, map, Option, Some, Result, Ok, Err}
+use Rattle.std.specs.Prelude.{◌≡◌, ◌==◌, ◌||◌, not, nat_lt, ◌+◌, ℕ, Bool, true, List, length, map, Option, Some, Result, Ok, Err}
 use Rattle.std.specs.Option.{option_map}
 use Rattle.jop_opcodes.specs.declared.instruction.Instr.{Instr}
-use Rattle.bytecode_model.specs.Program.{Method, Body, body_of}
+use Rattle.bytecode_model.specs.Program.{Program, Handler, Method, Body, body_of}
 use Rattle.bytecode_model.specs.Rows.{Row}
 use Rattle.program_tables.specs.declared.operand.Instruction.{Instruction}
 use Rattle.program_tables.specs.Meanings.{operand_seen, handler_seen, declared_seen}
@@ -18,6 +18,7 @@ use Rattle.bytecode_verifier.specs.declared.rows.Checking.{Checking}
 use Rattle.bytecode_verifier.specs.declared.place.Step.{Step}
 use Rattle.bytecode_verifier.specs.declared.place.Step.TheVariants.{Breaks, Goes}
 use Rattle.bytecode_verifier.specs.Around.{made_in}
+use Rattle.bytecode_verifier.specs.Handled.{HoldAlike, IsHeld}
 use Rattle.bytecode_verifier.specs.Maps.{frames_at}
 
 -- the code of the method of this number is what is checked
@@ -36,7 +37,7 @@ pub record IsMethodOf (c : Checking) (number : ℕ) (m : Method) (b : Body) (giv
   pub locals : b.max_locals ≡ c.max_locals
   pub stack : b.max_stack ≡ c.max_stack
   pub code : b.code ≡ c.code.now
-  pub handlers : b.handlers ≡ map handler_seen c.handlers.now
+  pub handlers : HoldAlike b.handlers (map handler_seen c.handlers.now.items.items)
   pub result : m.result ≡ option_map declared_seen c.result
 
 -- the instruction at a place of the method of this number
@@ -59,4 +60,9 @@ behind (walk.Passes f after) = Ok after
 
 abbrev pub step_seen : Step → Result (Option TypeFrame) rules.Rule
 step_seen (Breaks rule) = Err (rule_seen rule)
-step_seen (Goes frame) = Ok (option_map frame_seen frame)
+step_seen (Goes frame held) = Ok (option_map frame_seen frame)
+
+-- the handlers that cover the place take the frame that falls into the next instruction, where that is said
+abbrev pub IsHeldBehind : Program → (frames : ℕ → Option TypeFrame) → (place : ℕ) → Step → List Handler → Type 0
+IsHeldBehind P frames place (Goes frame true) hs = IsHeld P frames (Some place) (option_map frame_seen frame) hs
+IsHeldBehind P frames place step hs = Unit {0}

@@ -1,17 +1,62 @@
 //! Exception handlers (JVM Specification SE 8, 4.10.1.6).
-ghost use Rattle.std.specs.Prelude.{◌≡◌, List, map};
+ghost use Rattle.std.specs.Prelude.{◌≡◌, ◌≤◌, List, map, length, true, false, Some, nat_le};
+ghost use Rattle.std.specs.List.{AllWithin};
+ghost use Rattle.std.specs.List.Sorted.{IsNonDecreasingBy, IsPartitionPoint};
 ghost use Rattle.bytecode_typing.specs.Walk as walk;
 ghost use Rattle.program_tables.specs.Meanings.{handler_seen};
 ghost use Rattle.program_tables.specs.Resolved.{resolved};
 ghost use Rattle.verifier_types.specs.Frame.{frame_seen};
 ghost use Rattle.bytecode_verifier.specs.Maps.{frames_at};
-ghost use Rattle.bytecode_verifier.specs.Handled.{takes};
+ghost use Rattle.bytecode_verifier.specs.Handled.{takes, WasAsked, IsHeld, HoldAlike};
 
 use crate::maps::{MapFrames, frame_at};
 use crate::objects::THROWABLE;
 use class_hierarchy::Hierarchy;
 use program_tables::{Base, Handler, ObjectKind};
 use verifier_types::{TypeFrame, VarType, is_assignable_kind};
+
+/// An exception table in the order in which its ranges begin.
+#[derive(Drop)]
+pub struct Handlers {
+    items: Vec<Handler>,
+    ghost rising: { IsNonDecreasingBy (λ h. h.start) items.items },
+}
+
+/// The same handlers in that order.
+pub fn by_start(mut handlers: Vec<Handler>) -> Handlers
+    ensures { HoldAlike (map handler_seen result.items.items) (map handler_seen handlers.items) }
+{
+    handlers.sort_unstable_by_key(|h| h.start);
+    Handlers { items: handlers }
+}
+
+impl Handlers {
+    /// Whether there are none.
+    pub fn is_empty(&self) -> bool {
+        self.items.is_empty()
+    }
+}
+
+/// How many of them begin at the place or before it.
+fn begun(handlers: &Handlers, place: u32) -> usize
+    ensures bound { result ≤ length handlers.now.items.items }
+    ensures point { IsPartitionPoint (λ h. nat_le h.start place ≡ true) (λ h. nat_le h.start place ≡ false) handlers.now.items.items result }
+{
+    handlers
+        .items
+        .partition_point(|h| u32::from(h.start) <= place)
+}
+
+/// How many of them need not be asked again at the place, since they begin no later than the one at which they were asked.
+fn begun_before(handlers: &Handlers, asked: Option<u32>, place: u32) -> usize
+    ensures bound { result ≤ length handlers.now.items.items }
+    ensures earlier { AllWithin (λ h. WasAsked asked place h.start) handlers.now.items.items 0 result }
+{
+    match asked {
+        Some(before) if before <= place => begun(handlers, before),
+        _ => 0,
+    }
+}
 
 /// Whether what the handler catches is a Throwable, and it takes the local variables with that alone on the stack.
 fn is_handled(classes: &Hierarchy, maps: &MapFrames, frame: &TypeFrame, handler: &Handler) -> bool
@@ -50,18 +95,22 @@ fn takes(
     !covers || is_handled(classes, maps, frame, handler)
 }
 
-/// Whether each handler that covers the place takes the frame.
+/// Whether each handler that covers the place takes the frame. Where those that cover an earlier place do, only those are asked that
+/// begin behind it.
 pub fn are_handled(
     classes: &Hierarchy,
     maps: &MapFrames,
+    asked: Option<u32>,
     place: u32,
     frame: &TypeFrame,
-    handlers: &[Handler],
+    handlers: &Handlers,
 ) -> bool
-    ensures { result ≡ walk.handlers_hold (resolved classes.now) (frames_at maps.now) place (frame_seen frame.now) (map handler_seen handlers.now) }
+    ensures { IsHeld (resolved classes.now) (frames_at maps.now) asked (Some (frame_seen frame.now)) (map handler_seen handlers.now.items.items) → result ≡ walk.handlers_hold (resolved classes.now) (frames_at maps.now) place (frame_seen frame.now) (map handler_seen handlers.now.items.items) }
 {
-    for handler in handlers {
-        if !takes(classes, maps, place, frame, handler) {
+    let first = begun_before(handlers, asked, place);
+    let end = begun(handlers, place);
+    for index in first..end {
+        if !takes(classes, maps, place, frame, &handlers.items[index]) {
             return false;
         }
     }

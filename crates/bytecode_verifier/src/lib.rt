@@ -18,6 +18,7 @@ mod names;
 mod objects;
 mod place;
 mod rows;
+mod same;
 mod seen;
 mod settle;
 mod switches;

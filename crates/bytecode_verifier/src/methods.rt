@@ -28,6 +28,7 @@ use crate::around::Around;
 use crate::family::{Family, Named, family_of};
 use crate::fault::MethodRule;
 use crate::first::first_frame;
+use crate::handlers::by_start;
 use crate::maps::MapFrames;
 use crate::members::class_meant;
 use crate::names::map_frames;
@@ -189,10 +190,14 @@ fn walk_places(
     ensures { IfOk result (λ failed. (m : model.Method) (b : model.Body) (maps : ℕ → Option typing.TypeFrame) → IsMethodOf checking.now number m b maps → option_map walk_failed failed ≡ walk_failure (walk.walk (resolved checking.now.program.now) number m b maps starts.now (Some (frame_seen first)))) }
 {
     let mut falling = Some(first);
+    let mut asked = None;
     for place in starts {
-        match verdict_at(alloc, checking, number, *place, falling)? {
+        match verdict_at(alloc, checking, number, *place, falling, asked)? {
             Step::Breaks(rule) => return Ok(Some((*place, rule))),
-            Step::Goes(frame) => falling = frame,
+            Step::Goes(frame, held) => {
+                falling = frame;
+                asked = if held { Some(*place) } else { None };
+            }
         }
     }
     Ok(None)
@@ -219,7 +224,7 @@ fn walk_method(
     let class = program.method(number).class;
     let starts = starts(alloc, bytes)?;
     let made = made_classes(alloc, program, number, bytes.len() as u32)?;
-    let handlers = handlers_of(alloc, program, class, code.handlers.as_slice())?;
+    let handlers = by_start(handlers_of(alloc, program, class, code.handlers.as_slice())?);
     let shape = program.shape(number);
     let checking = Checking {
         program,

@@ -1,8 +1,9 @@
 //! An instruction with the frame before it (JVM Specification SE 8, 4.10.1.6).
-ghost use Rattle.std.specs.Prelude.{◌≡◌, ◌<◌, ◌≤◌, ℕ, not, List, Option, Some, length, Ok, IfOk, IfSome};
+ghost use Rattle.std.specs.Prelude.{◌≡◌, ◌<◌, ◌≤◌, ℕ, true, not, List, Option, Some, length, Ok, IfOk, IfSome};
 ghost use Rattle.std.specs.Option.{option_map};
 ghost use Rattle.jop_opcodes.specs.Instruction.{decoded};
 ghost use Rattle.jop_opcodes.specs.Target.{cases_of};
+ghost use Rattle.jop_opcodes.specs.declared.instruction.Instr as instr;
 ghost use Rattle.bytecode_model.specs.Program as model;
 ghost use Rattle.bytecode_model.specs.Rows as rows;
 ghost use Rattle.bytecode_model.specs.Table.{row_of};
@@ -13,14 +14,16 @@ ghost use Rattle.program_tables.specs.Numbers.{methods_by_number};
 ghost use Rattle.program_tables.specs.Resolved.{resolved};
 ghost use Rattle.verifier_types.specs.Frame.{frame_seen, frame_at_seen};
 ghost use Rattle.bytecode_verifier.specs.Family.{family_row};
-ghost use Rattle.bytecode_verifier.specs.Place.{HasCode, IsMethodOf, IsNamedAs, stays_within, behind, step_seen};
+ghost use Rattle.bytecode_verifier.specs.Handled.{IsHeld, keeps_locals};
+ghost use Rattle.bytecode_verifier.specs.Place.{IsHeldBehind, HasCode, IsMethodOf, IsNamedAs, stays_within, behind, step_seen};
 ghost use Rattle.bytecode_verifier.specs.Settled.{verdict_seen};
 
-use crate::family::{Call, Family, Leads, family_of};
+use crate::family::{Call, Family, Leads, Named, Value, family_of};
 use crate::handlers::are_handled;
 use crate::maps::frame_at;
 use crate::members::callee;
 use crate::rows::{Checking, check_row};
+use crate::same::are_same;
 use crate::seen::type_of;
 use crate::settle::{Verdict, settle};
 use crate::switches::keys_rise;
@@ -31,11 +34,12 @@ use program_tables::{Instruction, MethodShape, Operand};
 use std::alloc::Global;
 use verifier_types::{Rule, TypeFrame};
 
-/// What is found of an instruction: the rule that fails first, or the frame that falls into the next one, if one does.
+/// What is found of an instruction: the rule that fails first, or the frame that falls into the next one, if one does, and whether it is
+/// known that the handlers here take that frame.
 #[derive(Drop)]
 pub enum Step {
     Breaks(Rule),
-    Goes(Option<TypeFrame>),
+    Goes(Option<TypeFrame>, bool),
 }
 
 const TABLESWITCH: u8 = 170;
@@ -142,6 +146,25 @@ fn is_formed(checking: &Checking<'_>, place: u32, x: &Instruction) -> bool
     }
 }
 
+/// Whether instructions of the family leave the local variables as they are, and whether `this` is initialised.
+fn keeps_locals(family: Family) -> bool
+    ensures { (code : List ℕ) (i : instr.Instr) (o : model.Operand) → result ≡ true → keeps_locals (family_row family code i o) ≡ true }
+{
+    match family {
+        Family::Value(value) => !matches!(value, Value::Store(_) | Value::StoreAt(_, _)),
+        Family::Named(named) => !matches!(named, Named::New),
+        Family::Call(call) => !matches!(call, Call::Special),
+        Family::Unknown | Family::Array(_) | Family::Field(_) | Family::Leads(_) => true,
+    }
+}
+
+/// Whether there are handlers, and what holds of the frame before an instruction with this opcode holds of the one behind it.
+fn is_kept(checking: &Checking<'_>, op: u8) -> bool
+    ensures { result ≡ true → (code : List ℕ) (i : instr.Instr) (o : model.Operand) → i.op ≡ op → keeps_locals (row_of code i o) ≡ true }
+{
+    !checking.handlers.is_empty() && keeps_locals(family_of(op))
+}
+
 /// Whether control doesn't pass the end of the code behind an instruction.
 fn stays_within(code: &[u8], place: u32, instr: &Instr) -> bool
     ensures { (o : model.Operand) → result ≡ stays_within code.now place instr.now (row_of code.now instr.now o) }
@@ -158,19 +181,46 @@ fn settle_row(
     place: u32,
     frame: &mut TypeFrame,
     x: &Instruction,
+    asked: Option<u32>,
 ) -> Result<Verdict, NoMemory>
     requires decoded { decoded checking.now.code.now place ≡ Ok x.now.instr }
     requires small { length checking.now.code.now ≤ 33554432 }
-    ensures { IfOk result (λ v. (n : ℕ) (m : model.Method) (b : model.Body) (maps : ℕ → Option typing.TypeFrame) → IsMethodOf checking.now n m b maps → IsNamedAs checking.now n place x.now → verdict_seen v (frame_seen frame.old) (frame_seen frame.new) ≡ walk.on_row (resolved checking.now.program.now) n m b maps place (frame_seen frame.old) x.now.instr (row_of checking.now.code.now x.now.instr (operand_seen x.now.operand))) }
+    ensures { IfOk result (λ v. (n : ℕ) (m : model.Method) (b : model.Body) (maps : ℕ → Option typing.TypeFrame) → IsMethodOf checking.now n m b maps → IsNamedAs checking.now n place x.now → IsHeld (resolved checking.now.program.now) maps asked (Some (frame_seen frame.old)) b.handlers → verdict_seen v (frame_seen frame.old) (frame_seen frame.new) ≡ walk.on_row (resolved checking.now.program.now) n m b maps place (frame_seen frame.old) x.now.instr (row_of checking.now.code.now x.now.instr (operand_seen x.now.operand))) }
 {
     checking.program.is_resolved();
     if !is_formed(checking, place, x) {
         return Ok(Verdict::Breaks(Rule::Operand));
     }
     let classes = checking.around.classes;
-    let handled = are_handled(classes, checking.maps, place, frame, checking.handlers);
+    let handled = are_handled(
+        classes,
+        checking.maps,
+        asked,
+        place,
+        frame,
+        checking.handlers,
+    );
     let checked = check_row(checking, place, frame, x)?;
     Ok(settle(checked, frame, checking.max_stack, handled))
+}
+
+/// The place at which the handlers were asked, if the frame before an instruction has the local variables of the one that falls in.
+fn still_asked(
+    asked: Option<u32>,
+    map: Option<&TypeFrame>,
+    falling: Option<&TypeFrame>,
+) -> Option<u32>
+    ensures { (P : model.Program) (frames : ℕ → Option typing.TypeFrame) (hs : List model.Handler) (f : typing.TypeFrame) → Some f ≡ walk.incoming (frame_at_seen map.entry) (frame_at_seen falling.entry) → IsHeld P frames asked (frame_at_seen falling.entry) hs → IsHeld P frames result (Some f) hs }
+{
+    let place = asked?;
+    let given = match map {
+        Some(given) => given,
+        None => return Some(place),
+    };
+    match falling {
+        Some(frame) if are_same(frame, given) => Some(place),
+        _ => None,
+    }
 }
 
 /// The frame before an instruction, which is that of the StackMapTable or the one that falls in, and whether the latter is assignable
@@ -199,21 +249,24 @@ fn joined(
     }
 }
 
-/// What is found at a place of the method of this number, into which the frame `falling` falls, if one does.
+/// What is found at a place of the method of this number, into which the frame `falling` falls, if one does. The handlers that cover the
+/// place `asked`, if there is one, take that frame.
 pub fn verdict_at(
     alloc: Global,
     checking: &Checking<'_>,
     number: u32,
     place: u32,
     falling: Option<TypeFrame>,
+    asked: Option<u32>,
 ) -> Result<Step, NoMemory>
     requires method { number < length (methods_by_number checking.now.program.now) }
     requires code { HasCode checking.now number }
     requires small { length checking.now.code.now ≤ 33554432 }
-    ensures { IfOk result (λ step. (m : model.Method) (b : model.Body) (maps : ℕ → Option typing.TypeFrame) → IsMethodOf checking.now number m b maps → step_seen step ≡ behind (walk.verdict_at (resolved checking.now.program.now) number m b maps place (option_map frame_seen falling))) }
+    ensures { IfOk result (λ step. (m : model.Method) (b : model.Body) (maps : ℕ → Option typing.TypeFrame) → IsMethodOf checking.now number m b maps → IsHeld (resolved checking.now.program.now) maps asked (option_map frame_seen falling) b.handlers → (step_seen step ≡ behind (walk.verdict_at (resolved checking.now.program.now) number m b maps place (option_map frame_seen falling))) × IsHeldBehind (resolved checking.now.program.now) maps place step b.handlers) }
 {
     let classes = checking.around.classes;
     let map = frame_at(checking.maps, u64::from(place));
+    let asked = still_asked(asked, map, falling.as_ref());
     let (mut frame, merged) = match joined(alloc, classes, map, falling)? {
         Some(found) => found,
         None => return Ok(Step::Breaks(Rule::Flow)),
@@ -228,9 +281,9 @@ pub fn verdict_at(
     if !merged {
         return Ok(Step::Breaks(Rule::Merge));
     }
-    match settle_row(checking, place, &mut frame, &x)? {
+    match settle_row(checking, place, &mut frame, &x, asked)? {
         Verdict::Breaks(rule) => Ok(Step::Breaks(rule)),
-        Verdict::Passes(true) => Ok(Step::Goes(Some(frame))),
-        Verdict::Passes(false) => Ok(Step::Goes(None)),
+        Verdict::Passes(true) => Ok(Step::Goes(Some(frame), is_kept(checking, x.instr.op))),
+        Verdict::Passes(false) => Ok(Step::Goes(None, false)),
     }
 }

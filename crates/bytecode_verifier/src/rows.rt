@@ -24,13 +24,14 @@ use crate::around::Around;
 use crate::calls::{check_return, check_special, check_static, check_virtual};
 use crate::family::{Array, Call, Family, Field, Leads, Named, Value, family_of};
 use crate::fields::{check_get_field, check_get_static, check_put_field, check_put_static};
+use crate::handlers::Handlers;
 use crate::maps::{MapFrames, target_of};
 use crate::members::{callee, class_meant, instance_type, static_type};
 use crate::objects::{check_new, check_throw};
 use crate::switches::check_switch;
 use jop_base::NoMemory;
 use jop_opcodes::Instr;
-use program_tables::{Base, Declared, Handler, Instruction, ObjectKind, Operand};
+use program_tables::{Base, Declared, Instruction, ObjectKind, Operand};
 use resolved_program::Program;
 use verifier_types::{
     Checked, GOES, NumberType, Rule, TypeFrame, VarType, check_branch, check_cast, check_compute,
@@ -46,7 +47,7 @@ pub struct Checking<'a> {
     pub around: Around<'a>,
     pub maps: &'a MapFrames,
     pub code: &'a [u8],
-    pub handlers: &'a [Handler],
+    pub handlers: &'a Handlers,
     pub max_locals: u16,
     pub max_stack: u16,
     /// What the method gives.

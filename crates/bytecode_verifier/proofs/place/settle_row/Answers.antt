@@ -8,11 +8,12 @@ use Rattle.program_tables.specs.Resolved.{resolved}
 use Rattle.verifier_types.specs.Frame.{frame_seen}
 use Rattle.bytecode_verifier.specs.Maps.{frames_at}
 use Rattle.bytecode_verifier.specs.Place.{site_at}
+use Rattle.bytecode_verifier.proofs.HeldLemmas.{held_here}
 use Rattle.bytecode_verifier.proofs.PlaceLemmas.{stands_at, same_handlers, not_formed, formed, by_code}
 use Rattle.bytecode_verifier.proofs.place.settle_row.Goals as goal
 
 pub returns-then-not-is_formed : goal.returns-then-not-is_formed
-returns-then-not-is_formed c = λ n m b maps h k.
+returns-then-not-is_formed c = λ n m b maps h k held.
     let P = resolved c.args.checking.now.program.now in
     let code = c.args.checking.now.code.now in
     let i = c.args.x.now.instr in
@@ -21,7 +22,7 @@ returns-then-not-is_formed c = λ n m b maps h k.
     (by_code P b.code code c.args.place i row false h.code (subst (λ x. IfSome row (λ r. x ≡ is_formed P code c.args.place i r)) c.if-not-is_formed.true c.is_formed.ensures))
 
 pub returns : goal.returns
-returns c = λ n m b maps h k.
+returns c = λ n m b maps h k held.
     let x = c.args.checking.now in
     let P = resolved x.program.now in
     let code = x.code.now in
@@ -30,10 +31,12 @@ returns c = λ n m b maps h k.
     let row = row_of code i (operand_seen c.args.x.now.operand) in
     let s = site_at x n m b maps c.args.place in
     let at = stands_at x n m b maps c.args.place c.args.x.now c.is_resolved.ensures h k in
+    let items = map handler_seen x.handlers.now.items.items in
+    let here = held_here P (resolved x.around.classes.now) maps (frames_at x.maps.now) c.args.asked f b.handlers items h.handlers h.maps h.classes held in
     let handled : handlers_hold P maps c.args.place f b.handlers ≡ c.are_handled-handled.result =
-    ap (handlers_hold P maps c.args.place f) h.handlers
-    ∙ (same_handlers P maps (frames_at x.maps.now) c.args.place f (map handler_seen x.handlers.now) h.maps
-    ∙ (ap (λ (Q : Program). handlers_hold Q (frames_at x.maps.now) c.args.place f (map handler_seen x.handlers.now)) (sym h.classes) ∙ sym c.are_handled-handled.ensures)) in
+    h.handlers P maps c.args.place f
+    ∙ (same_handlers P maps (frames_at x.maps.now) c.args.place f items h.maps
+    ∙ (ap (λ (Q : Program). handlers_hold Q (frames_at x.maps.now) c.args.place f items) (sym h.classes) ∙ sym (c.are_handled-handled.ensures here))) in
     c.settle.ensures s f h.stack handled
     ∙ (ap (settled P n m b maps c.args.place f) (c.in_ok-checked.ensures s at)
     ∙ formed x n m b maps c.args.place f i row
