@@ -5,7 +5,7 @@ ghost use Rattle.class_pool.specs.declared.class.ClassFile.{ClassFile};
 ghost use Rattle.image_facts.specs.Places.{pool_of};
 ghost use Rattle.program_tables.specs.Resolved.{boot_of, resolved};
 ghost use Rattle.image_words.specs.Layout.{type_place, outline_of};
-ghost use Rattle.image_words.specs.Regions.{first_place, header_region, lists_region};
+ghost use Rattle.image_words.specs.Regions.{first_place, header_region, lists_region, front_of};
 ghost use Rattle.image_words.specs.Outline.{IsOutline};
 
 use class_lookup::Place;
@@ -48,11 +48,7 @@ fn pool_of(program: &Program, outline: &Outline, method: u32) -> u32
 }
 
 /// The header.
-pub(crate) fn add_header(
-    words: &mut Vec<u32>,
-    program: &Program,
-    outline: &Outline,
-) -> Result<(), NoMemory>
+fn add_header(words: &mut Vec<u32>, program: &Program, outline: &Outline) -> Result<(), NoMemory>
     requires { IsOutline program.now outline.now }
     ensures { OnOk result (words.new.items ≡ words.old.items ++ header_region program.now (outline_of program.now)) }
 {
@@ -93,11 +89,7 @@ fn add_object_places(words: &mut Vec<u32>, outline: &Outline, many: u32) -> Resu
 }
 
 /// The places of the types of arrays of numbers, and of the objects that instructions raise.
-pub(crate) fn add_lists(
-    words: &mut Vec<u32>,
-    program: &Program,
-    outline: &Outline,
-) -> Result<(), NoMemory>
+fn add_lists(words: &mut Vec<u32>, program: &Program, outline: &Outline) -> Result<(), NoMemory>
     requires { IsOutline program.now outline.now }
     ensures { OnOk result (words.new.items ≡ words.old.items ++ lists_region program.now (outline_of program.now)) }
 {
@@ -105,4 +97,17 @@ pub(crate) fn add_lists(
     add_type_places(words, outline, 8)?;
     add_object_places(words, outline, 9)?;
     Ok(())
+}
+
+/// What lies before the static fields: the header and the two lists.
+pub(crate) fn add_front(
+    words: &mut Vec<u32>,
+    program: &Program,
+    outline: &Outline,
+) -> Result<(), NoMemory>
+    requires { IsOutline program.now outline.now }
+    ensures { OnOk result (words.new.items ≡ words.old.items ++ front_of program.now (outline_of program.now)) }
+{
+    add_header(words, program, outline)?;
+    add_lists(words, program, outline)
 }

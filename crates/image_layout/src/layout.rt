@@ -1,5 +1,5 @@
 //! The image of a program, within its limits.
-ghost use Rattle.std.specs.Prelude.{◌≡◌, ℕ, length, map, Some, None, Err, IfOk, OnOk};
+ghost use Rattle.std.specs.Prelude.{◌≡◌, ◌++◌, ℕ, length, map, Some, None, Err, IfOk, OnOk};
 ghost use Rattle.std.specs.List.{range_with_len};
 ghost use Rattle.program_tables.specs.Numbers.{fields_by_number, strings_of, types_of};
 ghost use Rattle.program_tables.specs.Operands.{string_object};
@@ -9,10 +9,10 @@ ghost use Rattle.image_layout.specs.Layout.{IsLaidOut, first_passed};
 ghost use Rattle.image_words.specs.Outline.{IsOutline};
 ghost use Rattle.image_words.specs.Layout.{type_place, outline_of};
 ghost use Rattle.image_words.specs.Pools.{static_word};
-ghost use Rattle.image_words.specs.Regions.{first_place, image_words_of};
+ghost use Rattle.image_words.specs.Regions.{first_place, middle_of, raised_region, strings_region, image_words_of};
 
 use crate::entries::{add_pools, static_word};
-use crate::front::{add_header, add_lists, add_type_places};
+use crate::front::{add_front, add_type_places};
 use crate::limits::{within_counts, within_words};
 use crate::methods::add_methods;
 use crate::outline::outline_of;
@@ -25,23 +25,44 @@ use resolved_program::Program;
 use std::alloc::Global;
 use word32::laws::packed_has_words;
 
+/// What lies between the static fields and the objects: the types, their tables, the pools and the methods with code.
+fn add_middle(
+    words: &mut Vec<u32>,
+    alloc: Global,
+    program: &Program,
+    outline: &Outline,
+) -> Result<(), NoMemory>
+    requires { IsOutline program.now outline.now }
+    ensures { OnOk result (words.new.items ≡ words.old.items ++ middle_of program.now (outline_of program.now)) }
+{
+    program.is_resolved();
+    add_types(words, program.hierarchy(), program.kinds(), outline)?;
+    add_tables(words, alloc, program, outline)?;
+    add_interfaces(words, program, outline)?;
+    add_pools(words, alloc, program, outline)?;
+    add_methods(words, program, outline)
+}
+
+/// The objects that instructions raise, and the strings.
+fn add_objects(words: &mut Vec<u32>, program: &Program, outline: &Outline) -> Result<(), NoMemory>
+    requires { IsOutline program.now outline.now }
+    ensures { OnOk result (words.new.items ≡ words.old.items ++ (raised_region program.now (outline_of program.now) ++ strings_region program.now (outline_of program.now))) }
+{
+    program.is_resolved();
+    add_raised(words, outline)?;
+    add_strings(words, program.strings(), outline)
+}
+
 /// The words, region by region.
 fn words_of(alloc: Global, program: &Program, outline: &Outline) -> Result<Vec<u32>, NoMemory>
     requires { IsOutline program.now outline.now }
     ensures { IfOk result (λ words. words.items ≡ image_words_of program.now) }
 {
-    program.is_resolved();
     let mut words = Vec::new(alloc);
-    add_header(&mut words, program, outline)?;
-    add_lists(&mut words, program, outline)?;
+    add_front(&mut words, program, outline)?;
     add_statics(&mut words, program, outline)?;
-    add_types(&mut words, program.hierarchy(), program.kinds(), outline)?;
-    add_tables(&mut words, alloc, program, outline)?;
-    add_interfaces(&mut words, program, outline)?;
-    add_pools(&mut words, alloc, program, outline)?;
-    add_methods(&mut words, program, outline)?;
-    add_raised(&mut words, outline)?;
-    add_strings(&mut words, program.strings(), outline)?;
+    add_middle(&mut words, alloc, program, outline)?;
+    add_objects(&mut words, program, outline)?;
     Ok(words)
 }
 

@@ -1,10 +1,11 @@
 //! How large an image may be.
-ghost use Rattle.std.specs.Prelude.{◌≡◌, ℕ, length, Some, None, Err, OnOk};
+ghost use Rattle.std.specs.Prelude.{◌≡◌, ℕ, length, Some, None, Err, IfOk, OnOk};
 ghost use Rattle.image_builder.specs.declared.fault.Counted.{Counted};
 ghost use Rattle.image_builder.specs.declared.fault.LayFault.TheVariants.{TooLarge};
 ghost use Rattle.image_words.specs.Limits.{coded_methods};
 ghost use Rattle.image_words.specs.Outline.{IsOutline};
 ghost use Rattle.image_words.specs.Regions.{image_words_of};
+ghost use Rattle.image_words.specs.Slots.{interface_methods};
 ghost use Rattle.image_layout.specs.Layout.{counts_passed, first_passed};
 
 use crate::tables::is_coded;
@@ -12,6 +13,7 @@ use image_builder::{Counted, LayFault, within};
 use image_facts::image_words_grow;
 use image_words::laws::image_words_lie;
 use image_words::{Outline, interface_methods};
+use jop_base::NoMemory;
 use program_laws::laws::resolved_programs_are_lawful;
 use resolved_program::Program;
 use std::alloc::Global;
@@ -40,18 +42,22 @@ pub fn coded_methods(program: &Program) -> u32
     coded
 }
 
+/// How many methods of interfaces the program has.
+fn interface_method_count(alloc: Global, program: &Program) -> Result<u64, NoMemory>
+    ensures { IfOk result (λ count. count ≡ length (interface_methods program.now)) }
+{
+    let methods = interface_methods(alloc, program.hierarchy().classes())?;
+    Ok(methods.len() as u64)
+}
+
 /// Refuses a program that has too many types, methods of interfaces or methods with code.
 pub(crate) fn within_counts(alloc: Global, program: &Program) -> Result<(), LayFault>
     ensures within { OnOk result (counts_passed program.now ≡ None) }
     ensures too_large { (what : Counted) (count limit : ℕ) → result ≡ Err (TooLarge what count limit) → counts_passed program.now ≡ Some (what, count, limit) }
 {
     within(Counted::Types, u64::from(program.type_count()), MOST_TYPES)?;
-    let methods = interface_methods(alloc, program.hierarchy().classes())?;
-    within(
-        Counted::InterfaceMethods,
-        methods.len() as u64,
-        MOST_INTERFACE_METHODS,
-    )?;
+    let methods = interface_method_count(alloc, program)?;
+    within(Counted::InterfaceMethods, methods, MOST_INTERFACE_METHODS)?;
     let coded = u64::from(coded_methods(program));
     within(Counted::Methods, coded, MOST_METHODS)?;
     Ok(())
