@@ -3,11 +3,13 @@ import analysis
 import asm_text
 import calls
 import class_files
+import damage
 import images
 import opcodes
 
 KINDS = {
     'calls': calls.Calls(),
+    'damaged': damage.Damaged(),
     'resolved': class_files.Resolved(),
     'verified': class_files.Verified(),
     'read': class_files.Read(),
