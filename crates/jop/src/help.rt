@@ -47,18 +47,22 @@ pub enum Question {
     Version,
 }
 
-/// What the words of this process ask for, where they are one such word. Words that can't be read ask for nothing.
-pub fn asked(rt: &HostRuntime) -> Option<Question> {
-    let mut words = env::args(rt).ok()?.skip(1);
-    let first = words.next()?;
+/// What the words of this process ask for, where they are one such word.
+///
+/// # Errors
+///
+/// Where the words can't be read, or there is no memory for them.
+pub fn asked(rt: &HostRuntime) -> io::Result<Option<Question>> {
+    let mut words = env::args(rt)?.skip(1);
+    let first = words.next();
     if words.next().is_some() {
-        return None;
+        return Ok(None);
     }
-    match first.as_str() {
-        "--help" => Some(Question::Help),
-        "--version" => Some(Question::Version),
+    Ok(match first.as_deref() {
+        Some("--help") => Some(Question::Help),
+        Some("--version") => Some(Question::Version),
         _ => None,
-    }
+    })
 }
 
 /// Puts the text on standard output.

@@ -1,13 +1,12 @@
 -- A text that is assembled is listed.
-use Rattle.std.proofs.Common.{◌≡◌, ℕ, List, [], ◌∷◌, ◌++◌, length, Option, Some, None, map, refl, sym, ◌∙◌, ap, subst, arith, ◌⊎◌, inl, inr}
-use Rattle.std.specs.Prelude.{Ok}
+use Rattle.std.proofs.Common.{◌≡◌, ℕ, List, [], ◌∷◌, ◌++◌, length, Option, Some, map, refl, sym, ◌∙◌, ap, subst, arith, ◌⊎◌, inl, inr}
 use Rattle.std.specs.List.{flat_map}
-use Rattle.lists.specs.Lemmas.{none≢some, some_same}
+use Rattle.lists.specs.Lemmas.{none≢some}
 use Rattle.jop_outside.specs.Outside.{Grew}
 use Rattle.microcode_lines.specs.Statements.{Line}
 use Rattle.microcode_asm.specs.declared.AsmKind.{AsmKind}
 use Rattle.microcode_asm.specs.declared.Rom.{Rom}
-use Rattle.microcode_asm.specs.Programs.{read_lines, word_count, places_of, fault_of, KeepRules}
+use Rattle.microcode_asm.specs.Programs.{word_count, places_of, fault_of}
 use Rattle.microcode_asm.specs.Roms.{IsAssembled, IsFirstRefused, HasTooManyWords, words_of}
 use Rattle.microcode_asm.specs.Listing.{listing_of}
 use Rattle.jop_words.specs.declared.command.Command.TheVariants.{Asm as Assemble}

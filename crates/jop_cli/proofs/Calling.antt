@@ -1,5 +1,5 @@
 -- What new objects tell before a call over them.
-use Rattle.std.proofs.Common.{◌≡◌, ℕ, ◌+◌, ◌<◌, ◌≤◌, List, [], ◌∷◌, length, map, get_or, None, refl, ap, subst, arith, inl, inr, ◌⊎◌, ⊎_elim}
+use Rattle.std.proofs.Common.{◌≡◌, ℕ, List, [], ◌∷◌, length, map, None, refl, ap, subst, arith, inl, inr, ◌⊎◌, ⊎_elim}
 use Rattle.std.specs.Prelude.{All, slice_index}
 use Rattle.std.specs.Borrow.{Bor}
 use Rattle.std.specs.declared.option.Option.{Option}
@@ -9,7 +9,7 @@ use Rattle.std.proofs.lemmas.Bool.{cases_lt}
 use Rattle.jop_outside.specs.Host.{StreamState, told_at}
 use Rattle.jop_words.specs.Command.{texts}
 use Rattle.jop_cli.specs.World.{World, world}
-use Rattle.jop_cli.specs.Process.{IsStatus, IsNew, IsNewStatus, IsProcessStatus}
+use Rattle.jop_cli.specs.Process.{IsStatus, IsNewStatus, IsProcessStatus}
 
 pub length_texts : (words : List (Bor (List ℕ))) → length (texts words) ≡ length words
 length_texts [] = refl

@@ -1,16 +1,13 @@
 -- A certificate that meets the conditions holds, and one that doesn't is refused by the first that fails.
-use Rattle.std.proofs.Common.{◌≡◌, ℕ, ◌+◌, true, false, List, [], ◌∷◌, Option, refl, sym, ◌∙◌, ap, ap₂, subst, arith, ◌⊎◌, inl, inr, ⊎_elim}
-use Rattle.std.specs.Prelude.{Ok, Vec}
+use Rattle.std.proofs.Common.{◌≡◌, ℕ, ◌+◌, true, false, List, [], ◌∷◌, Option, refl, sym, ◌∙◌, ap, ap₂, subst, ◌⊎◌, inl, inr, ⊎_elim}
+use Rattle.std.specs.Prelude.{Vec}
 use Rattle.std.specs.declared.alloc.Global.{Global}
 use Rattle.std.specs.List.{concat}
 use Rattle.jop_outside.specs.Outside.{Grew}
 use Rattle.operand_files.specs.Files.{AreFiles}
 use Rattle.class_pool.specs.declared.class.ClassFile.{ClassFile}
 use Rattle.program_tables.specs.Resolved.{resolved}
-use Rattle.bytecode_model.specs.Program.{Program, body_of}
-use Rattle.linked_image.specs.Linked as file
-use Rattle.method_flow.specs.declared.timing.Timing.{Timing}
-use Rattle.method_flow.specs.Keeping.{BoundOf}
+use Rattle.bytecode_model.specs.Program.{body_of}
 use Rattle.loop_bounds.specs.declared.BoundsFault.TheVariants as texts
 use Rattle.loop_bounds.specs.Bounds.{LoopBound}
 use Rattle.loop_bounds.specs.Laws.{GivesOne, ReadIsNotRefused}
@@ -28,11 +25,11 @@ use Rattle.analysis_commands.specs.declared.check.Held.{Held}
 use Rattle.analysis_commands.specs.declared.check.CheckRefusal.{CheckRefusal}
 use Rattle.analysis_commands.specs.declared.check.CheckRefusal.TheVariants as check
 use Rattle.analysis_commands.specs.Analysis.{timing_of, bounds_of, name_of, IsAnalysisFault}
-use Rattle.analysis_commands.specs.Checking.{IsHeld, FailsBy, IsRefusal, fault_name}
+use Rattle.analysis_commands.specs.Checking.{FailsBy, IsRefusal, fault_name}
 use Rattle.activations.specs.Warrant.{BoundsActivations}
 use Rattle.jop_words.specs.declared.command.Settings.{Settings}
 use Rattle.jop_words.specs.declared.command.Command.TheVariants.{Check}
-use Rattle.jopizer.specs.Linked.{Parts, IsLinked, image_of}
+use Rattle.jopizer.specs.Linked.{Parts, image_of}
 use Rattle.jopizer.specs.Laws.{OneLinked, LinkedImagesAreRead}
 use Rattle.jop_cli.specs.declared.outcome.Refusal.TheVariants.{Check as NotChecked}
 use Rattle.jop_cli.specs.declared.outcome.Ending.{Ending}
@@ -40,13 +37,11 @@ use Rattle.jop_cli.specs.declared.outcome.Ending.TheVariants as endings
 use Rattle.jop_cli.specs.declared.outcome.Outcome.{Outcome}
 use Rattle.jop_cli.specs.declared.outcome.Outcome.TheVariants as outcomes
 use Rattle.jop_cli.specs.Line.{line_of}
-use Rattle.jop_cli.specs.Phase.{is_linked}
 use Rattle.jop_cli.specs.World.{IsQuiet}
 use Rattle.jop_cli.specs.Linking.{files_of, OperandsFault}
-use Rattle.jop_cli.specs.LinkedFile.{BytesFault}
-use Rattle.jop_cli.specs.Checking.{fault_ending, refusal_ending, Checks, EndsHeld, EndsRefused, ChecksLinked, ChecksLinkedBytes, ChecksBytes, ChecksRead, ChecksFiles}
+use Rattle.jop_cli.specs.Checking.{fault_ending, refusal_ending, Checks, EndsHeld, EndsRefused, ChecksLinkedBytes, ChecksBytes, ChecksRead, ChecksFiles}
 use Rattle.jop_cli.specs.Answer.{outcome_of}
-use Rattle.jop_cli.specs.Calls.{Call, NothingFailed, LacksMemory, AreTold}
+use Rattle.jop_cli.specs.Calls.{Call, NothingFailed, LacksMemory}
 use Rattle.jop_cli.specs.Correct.{ChecksTexts, AnswersLine, CheckedBoundsAreKept, CheckingIsComplete, FaultsAreAnswered}
 use Rattle.jop_cli.proofs.Wholly.{IsWholly, wholly, executed, lacks, same_files, files_read}
 use Rattle.jop_cli.proofs.RunningLaw.{begins_linked, is_read, not_more}

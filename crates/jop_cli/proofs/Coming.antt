@@ -1,5 +1,5 @@
 -- A run on which no call fails, from where it began to where it came, as an answer of the call.
-use Rattle.std.proofs.Common.{◌≡◌, ℕ, ◌≤◌, Bool, List, [], ◌++◌, map, Option, Some, refl, sym, ◌∙◌, ap, subst, arith}
+use Rattle.std.proofs.Common.{◌≡◌, ℕ, ◌≤◌, Bool, List, [], ◌++◌, map, Option, Some, refl, sym, ◌∙◌, ap, subst}
 use Rattle.std.specs.Prelude.{slice_get, Vec}
 use Rattle.bytecode_model.specs.Types.{default}
 use Rattle.std.specs.declared.alloc.Global.{Global}
@@ -25,7 +25,7 @@ use Rattle.stream_devices.specs.Lent.{Lent, wired}
 use Rattle.outcome_lines.specs.declared.line.Counts.{Counts}
 use Rattle.jop_cli.specs.declared.outcome.Ending.TheVariants as endings
 use Rattle.jop_cli.specs.Show.{Shown, Output, Trace}
-use Rattle.jop_cli.specs.Run.{AreCounts, RunsCounted, Traced}
+use Rattle.jop_cli.specs.Run.{AreCounts, RunsCounted}
 use Rattle.jop_cli.specs.LinkedFile.{NamesClass}
 use Rattle.jop_cli.specs.Calls.{Call}
 use Rattle.jop_cli.specs.Courses.{AnswersMode, RanProgram, TracedProgram, RanShown}

@@ -1,13 +1,11 @@
 -- Files that nothing refuses are linked.
-use Rattle.std.proofs.Common.{◌≡◌, ℕ, List, sym, subst, refl, ◌⊎◌, inl, inr, ⊎_elim}
-use Rattle.std.specs.Prelude.{Ok}
+use Rattle.std.proofs.Common.{◌≡◌, ℕ, List, subst, ◌⊎◌, inl, inr, ⊎_elim}
 use Rattle.jop_words.specs.declared.command.Command.TheVariants.{Link as LinkTo}
-use Rattle.jop_words.specs.Command.{command_of}
 use Rattle.jopizer.specs.declared.refusal.LinkRefusal.{LinkRefusal}
 use Rattle.jop_cli.specs.declared.outcome.Ending.{Ending}
 use Rattle.jop_cli.specs.declared.outcome.Ending.TheVariants as endings
 use Rattle.jop_cli.specs.Line.{text_at}
-use Rattle.jop_cli.specs.World.{IsQuiet, IsUntaken}
+use Rattle.jop_cli.specs.World.{IsUntaken}
 use Rattle.jop_cli.specs.Linking.{class_name, Refuses, PutsLinked, LinksRead, LinksFiles}
 use Rattle.jop_cli.specs.Calls.{Call, NothingFailed, LacksMemory, AreTold}
 use Rattle.jop_cli.specs.Correct.{IsLinkedBy, LinkingIsComplete}

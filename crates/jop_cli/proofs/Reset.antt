@@ -13,7 +13,6 @@ use Rattle.coded_methods.specs.Methods.{AreMethods}
 use Rattle.bytecode_model.specs.declared.Ending.{Ending}
 use Rattle.bytecode_model.specs.declared.Ending.TheVariants.{Running, Ended, Uncaught}
 use Rattle.bytecode_model.specs.Lists.{onto}
-use Rattle.bytecode_model.specs.State.{State}
 use Rattle.bytecode_typing.specs.Fits.{IsGoing}
 use Rattle.boundary.specs.declared.runs.RunEnd.TheVariants as ends
 use Rattle.boundary.specs.declared.answer.Boundary.TheVariants.{Bytecode}

@@ -1,16 +1,15 @@
 -- The run of an image is that of its program.
-use Rattle.std.proofs.Common.{◌≡◌, ℕ, ◌≤◌, ◌<◌, true, false, Bool, List, [], length, Option, Some, None, refl, sym, ◌∙◌, ap, subst, arith, ◌⊎◌, inl, inr, ⊎_elim}
-use Rattle.std.specs.Prelude.{Ok, IfSome, IsSomeAnd}
+use Rattle.std.proofs.Common.{◌≡◌, ℕ, ◌≤◌, ◌<◌, true, false, List, [], length, Option, Some, None, refl, sym, ◌∙◌, ap, subst, arith, ◌⊎◌, inl, inr, ⊎_elim}
+use Rattle.std.specs.Prelude.{IfSome, IsSomeAnd}
 use Rattle.bare_image.specs.Bare.{Image, IsBare}
 use Rattle.linked_image.specs.Linked as file
 use Rattle.jop_core.specs.Reset.{bare_reset, linked_reset}
 use Rattle.boundary.specs.Setting.{bare_setting}
 use Rattle.bytecode_model.specs.Program.{Body, body_of}
 use Rattle.program_tables.specs.Resolved.{resolved}
-use Rattle.linked_methods.specs.Fitting.{MethodFits, IsFirst, code_blocks}
+use Rattle.linked_methods.specs.Fitting.{code_blocks}
 use Rattle.jop_words.specs.declared.command.Settings.{Settings}
 use Rattle.jop_words.specs.declared.command.Command.TheVariants.{Run, Trace}
-use Rattle.jop_words.specs.Command.{command_of}
 use Rattle.jopizer.specs.declared.refusal.LinkRefusal.{LinkRefusal}
 use Rattle.jopizer.specs.declared.refusal.LinkRefusal.TheVariants as links
 use Rattle.jopizer.specs.declared.fault.ImageFault.TheVariants as faults
@@ -24,17 +23,16 @@ use Rattle.jop_cli.specs.declared.show.Show.{Show}
 use Rattle.jop_cli.specs.declared.show.Show.TheVariants as shows
 use Rattle.jop_cli.specs.Show.{bare_shown, linked_shown}
 use Rattle.jop_cli.specs.Phase.{is_linked}
-use Rattle.jop_cli.specs.World.{IsQuiet, IsUntaken}
+use Rattle.jop_cli.specs.World.{IsUntaken}
 use Rattle.jop_cli.specs.Linking.{Refuses}
 use Rattle.jop_cli.specs.LinkedSettings.{CodesFit}
 use Rattle.jop_cli.specs.LinkedFile.{BytesFault, EndsAs, RunsLinkedBytes}
 use Rattle.jop_cli.specs.LinkedRun.{linked_setting}
 use Rattle.jop_cli.specs.BareFile as bare
 use Rattle.jop_cli.specs.BareFile.{ImageFault, blocks_of_code, RunsBareBytes}
-use Rattle.jop_cli.specs.Answer as answer
 use Rattle.jop_cli.specs.Answer.{RunsFile, lent_of, lent_without_input}
-use Rattle.jop_cli.specs.Calls.{Call, NothingFailed, LacksMemory, IsTold}
-use Rattle.jop_cli.specs.Courses.{RanLinked, RanBare, RanShown}
+use Rattle.jop_cli.specs.Calls.{Call, NothingFailed, LacksMemory}
+use Rattle.jop_cli.specs.Courses.{RanLinked, RanBare}
 use Rattle.jop_cli.specs.Correct.{HoldsLinked, HoldsBare, RunsAreTheBytecodes, TracesAreTheRuns, BareRunsAreTheBytecodes, BareTracesAreTheRuns, OneBareImage}
 use Rattle.jop_cli.proofs.Wholly.{IsWholly, wholly, executed, lacks, quiet_of, quiet_without, same_bytes, file_read}
 use Rattle.jop_cli.proofs.Coming.{ended, uncaught, spent}

@@ -1,22 +1,21 @@
 -- Calls on which nothing fails: what is said of them, and what is read.
-use Rattle.std.proofs.Common.{◌≡◌, ℕ, zero, suc, ◌+◌, ◌<◌, ◌≤◌, Bool, true, false, List, [], ◌∷◌, ◌++◌, length, take, get_or, Option, Some, refl, sym, ◌∙◌, ap, subst, arith, ◌⊎◌, inl, inr, ⊎_elim}
-use Rattle.std.specs.Prelude.{sum_by, Result, Ok}
+use Rattle.std.proofs.Common.{◌≡◌, ℕ, ◌+◌, ◌<◌, ◌≤◌, Bool, true, false, List, [], length, take, get_or, Option, Some, refl, sym, ◌∙◌, ap, subst, arith, ⊎_elim}
+use Rattle.std.specs.Prelude.{sum_by, Ok}
 use Rattle.std.proofs.lemmas.List.{ext_get_or, length-take-le, get_or-take}
 use Rattle.std.proofs.lemmas.List.Sums.{sum_by_more_le}
 use Rattle.jop_outside.specs.Outside.{Grew, Rose, IsWhole, HasLength}
 use Rattle.outcome_lines.specs.Said.{SaidLess}
-use Rattle.operand_files.specs.Files.{AreFiles, most_bytes, IsTooBigAt}
+use Rattle.operand_files.specs.Files.{AreFiles, IsTooBigAt}
 use Rattle.stream_devices.specs.Lent.{Lent}
 use Rattle.jop_words.specs.declared.command.Command.{Command}
 use Rattle.jop_words.specs.Command.{command_of}
 use Rattle.jop_cli.specs.declared.outcome.Refusal.TheVariants as refusals
 use Rattle.jop_cli.specs.declared.outcome.Ending.{Ending}
 use Rattle.jop_cli.specs.declared.outcome.Ending.TheVariants as endings
-use Rattle.jop_cli.specs.declared.outcome.Outcome.{Outcome}
 use Rattle.jop_cli.specs.Line.{line_of}
 use Rattle.jop_cli.specs.World.{World, IsQuiet, IsUntaken, Reads}
 use Rattle.jop_cli.specs.Linking.{files_of, OperandsFault}
-use Rattle.jop_cli.specs.Answer.{Does, Executed, FileFault, outcome_of, outcome_unsaid, lent_of, lent_without_input}
+use Rattle.jop_cli.specs.Answer.{Does, FileFault, outcome_of, lent_of, lent_without_input}
 use Rattle.jop_cli.specs.Calls.{Call, NothingFailed, LacksMemory, IsTold, AreTold}
 use Rattle.jop_cli.proofs.Executing.{does_by}
 

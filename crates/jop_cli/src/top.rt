@@ -202,14 +202,15 @@ fn outcome_for(ending: &Ending) -> Outcome
     }
 }
 
-/// Does all that the program does, and puts one line that says how it ended into `err`, unless it is `Written`.
+/// Does all that the program does, and puts one line that says how it ended into `err`, unless `asm`, `bound` or `work` have put what
+/// they answer.
 ///
 /// Word k names file k. `run` of an image takes the program's input from `input`, puts its output into `out`, and hands the
 /// registers of each state of the machine, from reset on, from which a cycle was done or tried to `watch`. `trace` is the same
 /// run, and puts its lines into `out`, and hands `watch` nothing: one before each step, one for each byte of the output and, if asked to, one before each
 /// cycle. `asm` puts the words of the text's microprogram into `out`, a line for each, and `link` the file of the image of the
-/// class files. `bound` puts the text of a certificate of the method that is asked for. `check` puts nothing there: it says whether a
-/// certificate meets its conditions.
+/// class files. `bound` puts the text of a certificate of the method that is asked for, and `work` the line of the class that it makes,
+/// links, runs and bounds. `check` puts nothing there: it says whether a certificate meets its conditions.
 pub fn jop<F: Files, S: Source, O: Sink, E: Sink, V: Watch>(
     alloc: Global,
     words: &[&str],

@@ -1,4 +1,4 @@
-use Rattle.std.proofs.Common.{ℕ, ◌≤◌, List, length, slice_index_or, subst, sym, inr, arith}
+use Rattle.std.proofs.Common.{ℕ, ◌≤◌, List, length, subst, sym, inr, arith}
 use Rattle.std.specs.Prelude.{sum_by, Vec}
 use Rattle.std.specs.declared.alloc.Global.{Global}
 use Rattle.operand_files.specs.Files.{contents, files_told}
