@@ -1,6 +1,6 @@
-use Rattle.std.proofs.Common.{List, refl, subst, inl}
+use Rattle.std.proofs.Common.{List, refl, subst, inl, inr}
 use Rattle.class_pool.specs.declared.class.ClassFile.{ClassFile}
-use Rattle.analysis_commands.specs.Checking.{IsHeld}
+use Rattle.analysis_commands.specs.Checking.{IsHeld, IsRefusal}
 use Rattle.jop_cli.proofs.Shown.{shown}
 use Rattle.jop_cli.proofs.checking.check_linked.Goals as goal
 
@@ -15,3 +15,8 @@ returns-in-Ok c =
       shows = shown c.args.linked.now.classes s c.args.bounds.now c.args.certificate.now h c.certificates_are_sound.ensures c.requires.settings.read_most c.requires.settings.write_most held;
       says = refl;
     })
+
+pub returns-in-Err : goal.returns-in-Err
+returns-in-Err c =
+    let R : List ClassFile → Type 0 = λ cs. IsRefusal cs c.args.settings.now c.args.bounds.now c.args.certificate.now c.in-Err.refusal in
+    inr (record { refusal = c.in-Err.refusal; cause = subst R c.program.ensures.program c.in-Err.ensures.refused; says = c.refusal_ending.ensures })
