@@ -4,21 +4,27 @@
 //! Each line of the input is a call; its items stand between blanks:
 //!
 //! - `<HEX`: the bytes of the input.
-//! - `!N`, `^N` and `?N`: the call of this number on the input, on out or on err fails.
+//! - `/N`, `!N`, `^N` and `?N`: the call of this number on the files, on the input, on out or on err fails.
 //! - `WORD=HEX`: a word, and the bytes of the file that it names.
 //! - `WORD=@`: the same, with the bytes that the last call of `link` put out.
 //! - `WORD`: a word; a file of this name can't be read.
 //!
-//! Two lines come of each: the words with the status and what was put out, and what stands on err. Behind those of a trace come its
+//! Of a line `each MARK CALL`, where the mark is one of these four, come the answers where the first such call fails, then the second, until none
+//! does: the status, and whether out and err hold all that the call puts there where none fails, or a front of it. Answers that follow one
+//! another and are the same stand there once.
+//!
+//! Two lines come of each other one: the words with the status and what was put out, and what stands on err. Behind those of a trace come its
 //! lines, of a long one the first and the last. Of a line `watch HEX` come the states that a watch holds after a run of this image, of
 //! many the first and the last, and once more those of one that was made with room for 4,096.
 #![tactic(auto)]
 
 mod call;
+mod each;
 mod row;
 mod watch;
 
 use call::show;
+use each::show_each;
 use std::alloc::Global;
 use std::io;
 use test_rows::RowFault;
@@ -28,6 +34,10 @@ use watch::show_watches;
 fn do_line(rt: &HostRuntime, line: &str, last: Vec<u8>) -> Result<Vec<u8>, RowFault> {
     if let Some(digits) = line.strip_prefix("watch ") {
         show_watches(rt, digits)?;
+        return Ok(last);
+    }
+    if let Some(row) = line.strip_prefix("each ") {
+        show_each(rt, row, &last)?;
         return Ok(last);
     }
     let out = show(rt, line, &last)?;

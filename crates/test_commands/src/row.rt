@@ -5,7 +5,7 @@ use test_rows::{RowFault, hex_bytes};
 
 // Whether an item is no word, but says what the input has or which calls fail.
 fn is_setting(item: &str) -> bool {
-    matches!(item.as_bytes(), [b'<' | b'!' | b'^' | b'?', ..])
+    matches!(item.as_bytes(), [b'<' | b'/' | b'!' | b'^' | b'?', ..])
 }
 
 // The word of an item.
