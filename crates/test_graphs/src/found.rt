@@ -199,9 +199,17 @@ fn show_walks(rt: &HostRuntime, problem: &Problem, nest: &Nest, loads: &[u64]) -
 
 /// Prints what is asked of the greatest walk.
 pub fn show_found(rt: &HostRuntime, problem: &Problem, asked: Asked<'_>) -> io::Result<()> {
-    let Ok(nest) = nest(rt.alloc(), &problem.graph) else {
-        return println!(rt; "  no nest");
-    };
+    match nest(rt.alloc(), &problem.graph) {
+        Ok(nest) => show_asked(rt, problem, &nest, asked),
+        Err(_) => println!(rt; "  no nest"),
+    }
+}
+
+// Prints what is asked of the greatest walk of a graph with these loops.
+fn show_asked(rt: &HostRuntime, problem: &Problem, nest: &Nest, asked: Asked<'_>) -> io::Result<()>
+    requires nest { IsNest problem.now.graph nest.now }
+    requires reducible { IsReducible problem.now.graph }
+{
     let loops = nest.loops().len();
     let are_costs = problem.costs.len() == problem.graph.nodes() as usize;
     if !are_costs || problem.bounds.len() != loops || problem.loads.len() != loops {
@@ -213,10 +221,10 @@ pub fn show_found(rt: &HostRuntime, problem: &Problem, asked: Asked<'_>) -> io::
         .map(|load| load.unwrap_or(0))
         .collect(rt.alloc())?;
     match asked {
-        Asked::Value => show_longest(rt, problem, &nest, &loads, true),
-        Asked::Section => show_longest(rt, problem, &nest, &loads, false),
-        Asked::Regions(regions) => show_regions(rt, problem, &nest, &loads, regions),
-        Asked::Walks => show_walks(rt, problem, &nest, &loads),
+        Asked::Value => show_longest(rt, problem, nest, &loads, true),
+        Asked::Section => show_longest(rt, problem, nest, &loads, false),
+        Asked::Regions(regions) => show_regions(rt, problem, nest, &loads, regions),
+        Asked::Walks => show_walks(rt, problem, nest, &loads),
     }
 }
 

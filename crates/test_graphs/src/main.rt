@@ -61,17 +61,21 @@ fn answer(rt: &HostRuntime, question: &Question) -> io::Result<()> {
 // Answers a line.
 fn answer_line(rt: &HostRuntime, line: &str) -> Result<(), RowFault> {
     let question = Question::parse(rt.alloc(), line)?;
-    answer(rt, &question)?;
-    Ok(())
+    answer(rt, &question).map_err(RowFault::Output)
+}
+
+// Prints a line and its number, and answers it or says that it is no row.
+fn show_line(rt: &HostRuntime, number: u64, line: &str) -> io::Result<()> {
+    println!(*rt; "{number}: {line}")?;
+    match answer_line(rt, line) {
+        Ok(()) => Ok(()),
+        Err(fault) => fault.told(rt),
+    }
 }
 
 fn main(rt: HostRuntime) -> io::Result<()> {
     for (number, line) in (1..u64::MAX).zip(rt.lines(rt.alloc())) {
-        let line = line?;
-        println!(rt; "{number}: {line}")?;
-        if let Err(fault) = answer_line(&rt, line.as_str()) {
-            fault.told(&rt)?;
-        }
+        show_line(&rt, number, line?.as_str())?;
     }
     Ok(())
 }

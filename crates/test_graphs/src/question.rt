@@ -3,6 +3,8 @@
 use loop_nest::{Graph, is_graph};
 use path_solver::section::{CertLoop, Section};
 use std::alloc::Global;
+use std::num::ParseIntError;
+use std::str::FromStr;
 use test_rows::{RowFault, numbers};
 
 /// A graph with the cost of each node, the bound of each loop and what an entry of it loads: nothing is
@@ -40,9 +42,13 @@ pub enum Question {
     Chain(u32),
 }
 
-/// The words of a field.
-fn words<'a>(alloc: Global, field: &'a str) -> Result<Vec<&'a str>, RowFault> {
-    Ok(field.split_whitespace().collect(alloc)?)
+/// The numbers of a field.
+fn numbers_of<N: FromStr<Err = ParseIntError> + Drop>(
+    alloc: Global,
+    field: &str,
+) -> Result<Vec<N>, RowFault> {
+    let words: Vec<&str> = field.split_whitespace().collect(alloc)?;
+    numbers(alloc, &words)
 }
 
 /// An edge such as `0-1`.
@@ -83,9 +89,9 @@ fn flags(alloc: Global, regions: &str) -> Result<Vec<bool>, RowFault> {
 fn certified_loop(alloc: Global, word: &str) -> Result<CertLoop, RowFault> {
     let (header, rest) = word.split_once(':').ok_or(RowFault::Malformed)?;
     let (cost, members) = rest.split_once(':').ok_or(RowFault::Malformed)?;
+    let (header, cost) = (header.parse()?, cost.parse()?);
     let members: Vec<&str> = members.split(',').collect(alloc)?;
-    let members = numbers(alloc, &members)?;
-    Ok(CertLoop::new(header.parse()?, cost.parse()?, members, false))
+    Ok(CertLoop::new(header, cost, numbers(alloc, &members)?, false))
 }
 
 /// The graph of three fields: its nodes, edges and exits.
@@ -95,33 +101,27 @@ fn graph(alloc: Global, fields: &[&str]) -> Result<Graph, RowFault> {
     };
     let nodes = nodes.parse::<u32>()?;
     let edges: Vec<(u32, u32)> = edges.split_whitespace().map(edge).try_collect(alloc)?;
-    let exits = numbers::<u32>(alloc, &words(alloc, exits)?)?;
+    let exits: Vec<u32> = numbers_of(alloc, exits)?;
     if !is_graph(nodes, &edges, &exits) {
         return Err(RowFault::Malformed);
     }
     Ok(Graph::new(nodes, edges, exits))
 }
 
-/// The costs, bounds and loads of three fields, for a graph.
-fn problem_of(alloc: Global, graph: Graph, fields: &[&str]) -> Result<Problem, RowFault> {
-    let [costs, bounds, loads] = fields else {
-        return Err(RowFault::Malformed);
-    };
-    Ok(Problem {
-        graph,
-        costs: numbers(alloc, &words(alloc, costs)?)?,
-        bounds: numbers(alloc, &words(alloc, bounds)?)?,
-        loads: loads.split_whitespace().map(load).try_collect(alloc)?,
-    })
-}
-
 /// The problem of six fields: its graph, and then its costs, bounds and loads.
 fn read_problem(alloc: Global, fields: &[&str]) -> Result<Problem, RowFault> {
-    if fields.len() != 6 {
+    let [nodes, edges, exits, costs, bounds, loads] = fields else {
         return Err(RowFault::Malformed);
-    }
-    let graph = graph(alloc, &fields[..3])?;
-    problem_of(alloc, graph, &fields[3..])
+    };
+    let costs = numbers_of(alloc, costs)?;
+    let bounds = numbers_of(alloc, bounds)?;
+    let loads = loads.split_whitespace().map(load).try_collect(alloc)?;
+    Ok(Problem {
+        graph: graph(alloc, &[*nodes, *edges, *exits])?,
+        costs,
+        bounds,
+        loads,
+    })
 }
 
 /// The loops of a section.

@@ -103,6 +103,42 @@ pub enum Greatest {
     CutOff,
 }
 
+// Puts the walks that go on from a walk's node onto the unfinished ones.
+fn go_on(
+    alloc: Global,
+    problem: &Problem,
+    loops: &[BoundedLoop<'_>],
+    walk: &Walk,
+    unfinished: &mut Vec<Walk>,
+) -> Result<(), AllocError> {
+    for (u, v) in problem.graph.edges() {
+        if *u == walk.node {
+            unfinished.extend(walk.onward(alloc, problem, loops, *v)?)?;
+        }
+    }
+    Ok(())
+}
+
+// What the greatest walk to an exit costs among the unfinished ones and those that go on from them.
+fn greatest_of(
+    alloc: Global,
+    problem: &Problem,
+    loops: &[BoundedLoop<'_>],
+    unfinished: &mut Vec<Walk>,
+) -> Result<Greatest, AllocError> {
+    let mut greatest = None;
+    for _ in 0..MOST_WALKS {
+        let Some(walk) = unfinished.pop() else {
+            return Ok(greatest.map_or(Greatest::NoWalk, Greatest::Value));
+        };
+        if problem.graph.exits().contains(&walk.node) {
+            greatest = greatest.max(Some(walk.cost));
+        }
+        go_on(alloc, problem, loops, &walk, unfinished)?;
+    }
+    Ok(Greatest::CutOff)
+}
+
 /// What the greatest walk to an exit costs, found by making all walks.
 pub fn greatest_walk(
     alloc: Global,
@@ -110,23 +146,8 @@ pub fn greatest_walk(
     nest: &Nest,
     loads: &[u64],
 ) -> Result<Greatest, AllocError> {
-    let (edges, exits) = (problem.graph.edges(), problem.graph.exits());
     let loops = bounded_loops(alloc, nest, &problem.bounds, loads)?;
     let mut unfinished = Vec::new(alloc);
     unfinished.extend(Walk::new(alloc, &loops)?.onward(alloc, problem, &loops, 0)?)?;
-    let mut greatest = None;
-    for _ in 0..MOST_WALKS {
-        let Some(walk) = unfinished.pop() else {
-            return Ok(greatest.map_or(Greatest::NoWalk, Greatest::Value));
-        };
-        if exits.contains(&walk.node) {
-            greatest = greatest.max(Some(walk.cost));
-        }
-        for (u, v) in edges {
-            if *u == walk.node {
-                unfinished.extend(walk.onward(alloc, problem, &loops, *v)?)?;
-            }
-        }
-    }
-    Ok(Greatest::CutOff)
+    greatest_of(alloc, problem, &loops, &mut unfinished)
 }

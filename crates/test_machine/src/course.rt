@@ -37,6 +37,16 @@ fn config_of(memory: u32) -> Option<Config> {
     })
 }
 
+// A machine at reset over an image, in a memory of so many words.
+fn at_reset(alloc: Global, image: &[u32], memory: u32) -> Result<Machine<1024>, RowFault> {
+    match config_of(memory) {
+        Some(config) if can_start(image, config) => {
+            Ok(Machine::<1024>::new(alloc, image, config)?)
+        }
+        _ => Err(RowFault::Malformed),
+    }
+}
+
 // Runs a machine to its next boundary.
 fn go_on(machine: &mut Machine<1024>, device: &mut Keeper) {
     for _ in 0..CYCLES {
@@ -93,19 +103,15 @@ impl Course {
         memory: &str,
         image: &[&str],
     ) -> Result<Course, RowFault> {
-        let image: Vec<u32> = numbers(alloc, image)?;
-        let config = config_of(memory.parse::<u32>()?).ok_or(RowFault::Malformed)?;
-        let boot = image.get(1).copied().ok_or(RowFault::Malformed)?;
-        if !can_start(&image, config) {
-            return Err(RowFault::Malformed);
-        }
-        let machine = Machine::<1024>::new(alloc, &image, config)?;
-        let methods = vec![in alloc; boot]?;
+        let memory = memory.parse::<u32>()?;
+        let name = name.to_string(alloc)?;
+        let layout = Layout::new(alloc, image)?;
+        let machine = at_reset(alloc, &layout.image, memory)?;
         Ok(Course {
-            name: name.to_string(alloc)?,
+            name,
             machine,
             device: Keeper::without_input(alloc),
-            layout: Layout { image, methods },
+            layout,
             boundaries: 0,
             different: 0,
         })

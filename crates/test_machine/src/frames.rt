@@ -2,7 +2,7 @@
 
 use jop_core::{Machine, places};
 use std::alloc::Global;
-use test_rows::RowFault;
+use test_rows::{RowFault, numbers};
 
 /// What the frames' words rest on: the words of the image, and the places of its methods by number.
 #[derive(Drop)]
@@ -18,11 +18,26 @@ const SAVED: usize = 5;
 const INVOKE: u32 = 3;
 
 impl Layout {
+    /// The words of an image, with boot's method alone.
+    pub fn new(alloc: Global, words: &[&str]) -> Result<Layout, RowFault> {
+        let image: Vec<u32> = numbers(alloc, words)?;
+        let methods = image.get(1).copied().into_iter().collect(alloc)?;
+        Ok(Layout { image, methods })
+    }
+
     // How many local variables the method at a place has.
     fn max_locals(&self, place: u32) -> Option<usize> {
         self.image
             .get(place as usize)
             .map(|word| *word as usize >> 16)
+    }
+
+    // Whether the method with the number that is written stands at a place.
+    fn is_method(&self, place: u32, number: &str) -> bool {
+        match number.parse::<u32>() {
+            Ok(number) => self.methods.get(number as usize) == Some(&place),
+            Err(_) => false,
+        }
     }
 }
 
@@ -49,40 +64,41 @@ fn are_words(words: &[u32], written: &[&str]) -> bool {
             .all(|(word, text)| is_word(*word, text))
 }
 
-// Whether a frame is the one that is written, and where it stands, its caller.
-fn frame_agrees(
-    layout: &Layout,
-    words: &[u32],
-    frame: Frame,
-    written: &[&str],
-) -> Option<(bool, Frame)> {
-    let [method, pc, rest @ ..] = written else {
+// Whether the words of local variables and of operands are those that are written, with a `:` between them.
+fn are_values(locals: &[u32], operands: &[u32], written: &[&str]) -> Option<bool> {
+    let middle = written.iter().position(|text| *text == ":")?;
+    let (before, behind) = (written.get(..middle)?, written.get(middle..)?.get(1..)?);
+    Some(are_words(locals, before) && are_words(operands, behind))
+}
+
+// The frame that goes on at the words that its callee saved, and ends where the callee begins.
+fn caller_of(saved: &[u32], end: usize) -> Option<Frame> {
+    let [_, next, vp, _, method] = saved else {
         return None;
     };
-    let middle = rest.iter().position(|text| *text == ":")?;
-    let number = method.parse::<u32>().ok()?;
-    let place = layout.methods.get(number as usize)?;
+    Some(Frame {
+        method: *method,
+        pc: next.wrapping_sub(INVOKE),
+        first: vp.wrapping_sub(places::STACK) as usize,
+        end,
+    })
+}
+
+// The caller of a frame, where the frame is the one that is written.
+fn caller_if(layout: &Layout, words: &[u32], frame: Frame, written: &[&str]) -> Option<Frame> {
+    let [method, pc, values @ ..] = written else {
+        return None;
+    };
+    if !layout.is_method(frame.method, method) || pc.parse::<u32>() != Ok(frame.pc) {
+        return None;
+    }
     let saved = frame.first.checked_add(layout.max_locals(frame.method)?)?;
     let operands = saved.checked_add(SAVED)?;
-    let same = *place == frame.method
-        && pc.parse::<u32>() == Ok(frame.pc)
-        && are_words(words.get(frame.first..saved)?, rest.get(..middle)?)
-        && are_words(
-            words.get(operands..frame.end)?,
-            rest.get(middle..)?.get(1..)?,
-        );
-    let [_, next, vp, _, caller] = words.get(saved..operands)? else {
+    let locals = words.get(frame.first..saved)?;
+    if !are_values(locals, words.get(operands..frame.end)?, values)? {
         return None;
-    };
-    Some((
-        same,
-        Frame {
-            method: *caller,
-            pc: next.wrapping_sub(INVOKE),
-            first: vp.wrapping_sub(places::STACK) as usize,
-            end: frame.first,
-        },
-    ))
+    }
+    caller_of(words.get(saved..operands)?, frame.first)
 }
 
 // The words of the stack, the first frame's first.
@@ -98,6 +114,18 @@ fn stack_of(alloc: Global, machine: &Machine<1024>) -> Result<Vec<u32>, RowFault
     Ok(words)
 }
 
+// Whether a frame and its callers are those that are written, the first one first.
+fn are_frames(layout: &Layout, words: &[u32], last: Frame, written: &[&str]) -> bool {
+    let mut frame = last;
+    for text in written.rsplit(|word| *word == "/") {
+        match caller_if(layout, words, frame, text) {
+            Some(caller) => frame = caller,
+            None => return false,
+        }
+    }
+    frame.end == 0
+}
+
 /// Whether the frames of a machine are those that are written.
 pub fn agrees(
     alloc: Global,
@@ -106,17 +134,11 @@ pub fn agrees(
     written: &[&str],
 ) -> Result<bool, RowFault> {
     let words = stack_of(alloc, machine)?;
-    let mut frame = Frame {
+    let last = Frame {
         method: machine.method(),
         pc: u32::from(machine.jpc()).wrapping_sub(1),
         first: machine.vp().wrapping_sub(places::STACK) as usize,
         end: words.len(),
     };
-    for text in written.rsplit(|word| *word == "/") {
-        match frame_agrees(layout, &words, frame, text) {
-            Some((true, caller)) => frame = caller,
-            _ => return Ok(false),
-        }
-    }
-    Ok(frame.end == 0)
+    Ok(are_frames(layout, &words, last, written))
 }

@@ -74,10 +74,9 @@ fn begin(rt: &HostRuntime, course: &mut Option<Course>, rest: &[&str]) -> Result
     Ok(())
 }
 
-// Does what a line says.
-fn do_line(rt: &HostRuntime, course: &mut Option<Course>, line: &str) -> Result<(), RowFault> {
-    let words: Vec<&str> = line.split_whitespace().collect(rt.alloc())?;
-    let [word, rest @ ..] = words.as_slice() else {
+// Does what the words of a line say.
+fn do_words(rt: &HostRuntime, course: &mut Option<Course>, words: &[&str]) -> Result<(), RowFault> {
+    let [word, rest @ ..] = words else {
         return Err(RowFault::Malformed);
     };
     if *word == "course" {
@@ -92,12 +91,23 @@ fn do_line(rt: &HostRuntime, course: &mut Option<Course>, line: &str) -> Result<
     }
 }
 
-fn main(rt: HostRuntime) -> io::Result<()> {
-    let mut course = None;
+// Does what a line says, or says that it is no row.
+fn do_line(rt: &HostRuntime, course: &mut Option<Course>, line: &str) -> io::Result<()> {
+    let words: Vec<&str> = line.split_whitespace().collect(rt.alloc())?;
+    match do_words(rt, course, &words) {
+        Ok(()) => Ok(()),
+        Err(fault) => fault.told(rt),
+    }
+}
+
+// Does what all lines say.
+fn do_lines(rt: &HostRuntime, course: &mut Option<Course>) -> io::Result<()> {
     for line in rt.lines(rt.alloc()) {
-        if let Err(fault) = do_line(&rt, &mut course, line?.as_str()) {
-            fault.told(&rt)?;
-        }
+        do_line(rt, course, line?.as_str())?;
     }
     Ok(())
+}
+
+fn main(rt: HostRuntime) -> io::Result<()> {
+    do_lines(&rt, &mut None)
 }

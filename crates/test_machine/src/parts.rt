@@ -3,6 +3,7 @@
 use memory_timing::{Config, Memory};
 use method_cache::MethodCache;
 use stack_cache::StackCache;
+use std::io;
 use test_rows::RowFault;
 
 /// Writes a word into the on-chip words.
@@ -17,14 +18,18 @@ pub fn show_stack(rt: &HostRuntime, words: &[&str]) -> Result<(), RowFault> {
     }
     let mut stack: StackCache<1024> = StackCache::new(rt.alloc())?;
     stack.write(place, word);
+    Ok(show_ends(rt, &stack)?)
+}
+
+// Shows on-chip words at both ends.
+fn show_ends(rt: &HostRuntime, stack: &StackCache<1024>) -> io::Result<()> {
     println!(*rt;
         "0: {}, 1022: {}, 1023: {}, limit {}",
         stack.read(0),
         stack.read(1022),
         stack.read(1023),
         stack.limit()
-    )?;
-    Ok(())
+    )
 }
 
 // The cycles of `stmra`, `wait` and `ldmrd`: one, those until the port is ready, and one more.
@@ -50,11 +55,15 @@ pub fn show_read(rt: &HostRuntime, words: &[&str]) -> Result<(), RowFault> {
         return Err(RowFault::Malformed);
     }
     let mut memory = Memory::with_image(rt.alloc(), &[5, 6, 7, 8], 4, wait, 0)?;
-    let Some(cycles) = cycles_of_a_read(&mut memory, place) else {
-        return Err(RowFault::Malformed);
-    };
-    println!(*rt; "{cycles} cycles, {}", memory.value())?;
-    Ok(())
+    show_cycles(rt, &mut memory, place)
+}
+
+// Reads a place, and shows how many cycles that takes, and the word there.
+fn show_cycles(rt: &HostRuntime, memory: &mut Memory, place: u32) -> Result<(), RowFault> {
+    match cycles_of_a_read(memory, place) {
+        Some(cycles) => Ok(println!(*rt; "{cycles} cycles, {}", memory.value())?),
+        None => Err(RowFault::Malformed),
+    }
 }
 
 /// Writes and reads past the end of four words.
@@ -102,23 +111,35 @@ pub fn show_methods(rt: &HostRuntime, words: &[&str]) -> Result<(), RowFault> {
     }
     let mut cache = MethodCache::new(rt.alloc(), blocks, block_words)?;
     for method in methods {
-        let (m, count) = method.split_once(':').ok_or(RowFault::Malformed)?;
-        let m = m.parse::<u32>()?;
-        fetch(&mut cache, m, count.parse::<u32>()?);
-        show_blocks(rt, &cache)?;
-        println!(*rt;
-            " next {}, holds {}: {} {} {}",
-            cache.next(),
-            cache.look(m),
-            cache.word(m, 0),
-            cache.word(m, 1),
-            cache.word(m, 2)
-        )?;
+        show_fetch(rt, &mut cache, method)?;
     }
     Ok(())
 }
 
-fn show_blocks(rt: &HostRuntime, cache: &MethodCache) -> Result<(), RowFault> {
+// Fetches a method of so many words, such as `7:2`.
+fn show_fetch(rt: &HostRuntime, cache: &mut MethodCache, method: &str) -> Result<(), RowFault> {
+    let Some((m, count)) = method.split_once(':') else {
+        return Err(RowFault::Malformed);
+    };
+    let m = m.parse::<u32>()?;
+    fetch(cache, m, count.parse::<u32>()?);
+    show_blocks(rt, cache)?;
+    Ok(show_words(rt, cache, m)?)
+}
+
+// Shows the block that is filled next, and the first words of a method.
+fn show_words(rt: &HostRuntime, cache: &MethodCache, m: u32) -> io::Result<()> {
+    println!(*rt;
+        " next {}, holds {}: {} {} {}",
+        cache.next(),
+        cache.look(m),
+        cache.word(m, 0),
+        cache.word(m, 1),
+        cache.word(m, 2)
+    )
+}
+
+fn show_blocks(rt: &HostRuntime, cache: &MethodCache) -> io::Result<()> {
     for block in 0..cache.blocks() {
         match cache.tag(block) {
             Some(m) => print!(*rt; "{m} ")?,
