@@ -13,19 +13,22 @@ fn show_bound(rt: &HostRuntime, bounds: &Bounds, name: &[u8], pc: u32) -> io::Re
     }
 }
 
+// Shows the bounds at the places 0 and 4 of the methods `a` and `b`.
+fn show_some(rt: &HostRuntime, bounds: &Bounds) -> io::Result<()> {
+    print!(rt; "bounds")?;
+    show_bound(rt, bounds, b"a", 0)?;
+    show_bound(rt, bounds, b"a", 4)?;
+    show_bound(rt, bounds, b"b", 0)?;
+    show_bound(rt, bounds, b"b", 4)?;
+    println!(rt;)
+}
+
 /// Shows what a text of bounds is read as.
 pub fn show_bounds(rt: &HostRuntime, text: &[u8]) -> io::Result<()>
     requires { length text.now ≤ 33554432 }
 {
     match read_bounds(rt.alloc(), text) {
-        Ok(bounds) => {
-            print!(rt; "bounds")?;
-            show_bound(rt, &bounds, b"a", 0)?;
-            show_bound(rt, &bounds, b"a", 4)?;
-            show_bound(rt, &bounds, b"b", 0)?;
-            show_bound(rt, &bounds, b"b", 4)?;
-            println!(rt;)
-        }
+        Ok(bounds) => show_some(rt, &bounds),
         Err(BoundsFault::Line(line)) => println!(rt; "bad line={line}"),
         Err(BoundsFault::Twice(line)) => println!(rt; "twice line={line}"),
         Err(BoundsFault::NoMemory) => Err(io::Error::from(AllocError)),

@@ -1,7 +1,7 @@
 //! Codes, instruction by instruction.
 ghost use Rattle.std.specs.Prelude.{ℕ, ◌<◌, ◌≤◌, length};
 
-use jop_opcodes::{DecodeFault, Kind, case, decode, kind, name, raises, starts, target};
+use jop_opcodes::{DecodeFault, Instr, Kind, case, decode, kind, name, raises, starts, target};
 use std::io;
 use test_rows::{RowFault, numbers};
 
@@ -21,6 +21,17 @@ fn kind_word(kind: Kind) -> &'static str {
     }
 }
 
+// Shows an instruction, but for its targets.
+fn show_instruction(rt: &HostRuntime, pc: u32, instr: &Instr) -> io::Result<()> {
+    let (wide, op) = (if instr.wide { "wide " } else { "" }, instr.op);
+    let (length, first, second) = (instr.length, instr.first, instr.second);
+    let (word, raising) = (kind_word(kind(op)), if raises(op) { " raises" } else { "" });
+    print!(rt;
+        "{pc} {wide}{} {length} {first} {second} {word}{raising}",
+        name(op)
+    )
+}
+
 // Shows the instruction at a place.
 fn show(rt: &HostRuntime, code: &[u8], pc: u32) -> io::Result<()>
     requires inside { pc < length code.now }
@@ -31,13 +42,7 @@ fn show(rt: &HostRuntime, code: &[u8], pc: u32) -> io::Result<()>
         Err(DecodeFault::NoOpcode(byte)) => return println!(rt; "{pc} no opcode {byte}"),
         Err(DecodeFault::Short) => return println!(rt; "{pc} short"),
     };
-    let (wide, op) = (if instr.wide { "wide " } else { "" }, instr.op);
-    let (length, first, second) = (instr.length, instr.first, instr.second);
-    let (word, raising) = (kind_word(kind(op)), if raises(op) { " raises" } else { "" });
-    print!(rt;
-        "{pc} {wide}{} {length} {first} {second} {word}{raising}",
-        name(op)
-    )?;
+    show_instruction(rt, pc, &instr)?;
     if let Some(place) = target(pc, &instr) {
         print!(rt; " -> {place}")?;
     }
@@ -48,6 +53,18 @@ fn show(rt: &HostRuntime, code: &[u8], pc: u32) -> io::Result<()>
     println!(rt;)
 }
 
+// Shows the instructions of a code that begin at some places.
+fn show_starts(rt: &HostRuntime, code: &[u8], starts: &[u32]) -> io::Result<()>
+    requires small { length code.now ≤ 33554432 }
+{
+    for pc in starts {
+        if (*pc as usize) < code.len() {
+            show(rt, code, *pc)?;
+        }
+    }
+    Ok(())
+}
+
 /// Shows the instructions of a code.
 pub fn show_code(rt: &HostRuntime, row: &str) -> Result<(), RowFault> {
     let words: Vec<&str> = row.split_whitespace().collect(rt.alloc())?;
@@ -55,10 +72,6 @@ pub fn show_code(rt: &HostRuntime, row: &str) -> Result<(), RowFault> {
     if code.len() > MOST {
         return Err(RowFault::Malformed);
     }
-    for pc in &starts(rt.alloc(), &code)? {
-        if (*pc as usize) < code.len() {
-            show(rt, &code, *pc)?;
-        }
-    }
-    Ok(())
+    let starts = starts(rt.alloc(), &code)?;
+    Ok(show_starts(rt, &code, &starts)?)
 }

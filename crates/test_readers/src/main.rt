@@ -41,11 +41,10 @@ fn show_text(rt: &HostRuntime, word: &str, row: &str) -> Result<(), RowFault> {
         return Err(RowFault::Malformed);
     }
     match word {
-        "bounds" => bounds::show_bounds(rt, &text)?,
-        "asm" => microcode::show_assembled(rt, &text)?,
-        _ => return Err(RowFault::Malformed),
+        "bounds" => Ok(bounds::show_bounds(rt, &text)?),
+        "asm" => Ok(microcode::show_assembled(rt, &text)?),
+        _ => Err(RowFault::Malformed),
     }
-    Ok(())
 }
 
 // Does what a line says.
@@ -53,19 +52,22 @@ fn show(rt: &HostRuntime, line: &str) -> Result<(), RowFault> {
     let (word, row) = line.split_once(' ').unwrap_or((line, ""));
     match word {
         "code" => codes::show_code(rt, row),
-        "listing" => {
-            microcode::show_listing(rt)?;
-            Ok(())
-        }
+        "listing" => Ok(microcode::show_listing(rt)?),
         _ => show_text(rt, word, row),
+    }
+}
+
+// Does what a line says, or says that it is no row.
+fn show_line(rt: &HostRuntime, line: &str) -> io::Result<()> {
+    match show(rt, line) {
+        Ok(()) => Ok(()),
+        Err(fault) => fault.told(rt),
     }
 }
 
 fn main(rt: HostRuntime) -> io::Result<()> {
     for line in rt.lines(rt.alloc()) {
-        if let Err(fault) = show(&rt, line?.as_str()) {
-            fault.told(&rt)?;
-        }
+        show_line(&rt, line?.as_str())?;
     }
     Ok(())
 }

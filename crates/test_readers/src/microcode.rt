@@ -8,25 +8,39 @@ use microcode_rom::{CONSTANTS, ENTRIES, TURNS, WORDS, raise_entry};
 use std::alloc::AllocError;
 use std::io;
 
-// Shows a microprogram.
-fn show_rom(rt: &HostRuntime, rom: &Rom) -> io::Result<()> {
-    print!(rt; "asm")?;
+// Shows the words of a microprogram.
+fn show_words(rt: &HostRuntime, rom: &Rom) -> io::Result<()> {
     for word in rom.words.as_slice() {
         print!(rt; " {word:04x}")?;
     }
+    Ok(())
+}
+
+// Shows where the instructions of a microprogram begin, and where a raise does.
+fn show_entries(rt: &HostRuntime, rom: &Rom) -> io::Result<()> {
     for (op, entry) in rom.entries.as_slice().iter().enumerate() {
         if *entry != 0 {
             print!(rt; " entry {op}={entry}")?;
         }
     }
-    if rom.raise != 0 {
-        print!(rt; " raise={}", rom.raise)?;
+    match rom.raise {
+        0 => Ok(()),
+        raise => print!(rt; " raise={raise}"),
     }
+}
+
+// Shows the constants of a microprogram that aren't 0.
+fn show_constants(rt: &HostRuntime, rom: &Rom) -> io::Result<()> {
     for (number, value) in rom.consts.as_slice().iter().enumerate() {
         if *value != 0 {
             print!(rt; " const {number}={value}")?;
         }
     }
+    Ok(())
+}
+
+// Shows how often the branches of a microprogram are taken.
+fn show_turns(rt: &HostRuntime, rom: &Rom) -> io::Result<()> {
     for (from, turns) in rom.turns.as_slice() {
         match *turns {
             Turns::Count(count) => print!(rt; " turns {from}={count}")?,
@@ -34,6 +48,16 @@ fn show_rom(rt: &HostRuntime, rom: &Rom) -> io::Result<()> {
             Turns::PerEntry => print!(rt; " turns {from}=entries")?,
         }
     }
+    Ok(())
+}
+
+// Shows a microprogram.
+fn show_rom(rt: &HostRuntime, rom: &Rom) -> io::Result<()> {
+    print!(rt; "asm")?;
+    show_words(rt, rom)?;
+    show_entries(rt, rom)?;
+    show_constants(rt, rom)?;
+    show_turns(rt, rom)?;
     println!(rt;)
 }
 
