@@ -6,3 +6,4 @@ pub mod UseLemmas
 pub mod EntryLemmas
 pub mod LimitLemmas
 pub mod LayoutLemmas
+pub mod RowLemmas

@@ -38,7 +38,7 @@ fn add_middle(
     program.is_resolved();
     add_types(words, program.hierarchy(), program.kinds(), outline)?;
     add_tables(words, alloc, program, outline)?;
-    add_interfaces(words, program, outline)?;
+    add_interfaces(words, alloc, program, outline)?;
     add_pools(words, alloc, program, outline)?;
     add_methods(words, program, outline)
 }

@@ -7,6 +7,7 @@ mod layout;
 mod limits;
 mod methods;
 mod outline;
+mod selecting;
 mod sizes;
 mod statics;
 mod tables;

@@ -2,16 +2,22 @@
 ghost use Rattle.std.specs.Prelude.{◌≡◌, ◌++◌, ◌<◌, length, map, OnOk, replicate};
 ghost use Rattle.program_tables.specs.Numbers.{is_coded};
 ghost use Rattle.image_words.specs.Layout.{outline_of};
+ghost use Rattle.image_words.specs.Slots as numbered;
 ghost use Rattle.image_words.specs.Slots.{interface_methods};
 ghost use Rattle.image_words.specs.Regions.{code_place, selected_place, implemented_place, table_image, tables_region, interface_image, interfaces_region};
 ghost use Rattle.image_words.specs.Outline.{IsOutline};
+ghost use Rattle.image_layout.specs.Rows.{AreSelected, AreAllRows, table_methods};
+ghost use Rattle.selected_below.specs.Selecting.{IsSelected};
 
+use crate::selecting::{interface_rows, slot_rows};
 use class_lookup::{Classes, Place};
 use image_builder::add_zeros;
 use image_words::{Outline, is_interface};
+use items::Items;
 use jop_base::NoMemory;
 use program_tables::method_at;
 use resolved_program::Program;
+use selected_below::Selected;
 use std::alloc::Global;
 
 /// Whether the method has code.
@@ -43,54 +49,39 @@ fn code_place(program: &Program, outline: &Outline, method: Option<Place>) -> u3
     }
 }
 
-/// The place of the method with code that is selected in the class, else 0.
-fn selected_place(program: &Program, outline: &Outline, class: u32, method: Place) -> u32
-    requires outline { IsOutline program.now outline.now }
-    requires class { class < length program.now }
-    ensures { result ≡ selected_place program.now (outline_of program.now) class method }
-{
-    let selected = program.hierarchy().select(class, method);
-    code_place(program, outline, selected)
-}
-
-/// The places of what is selected in the class for these methods.
-fn add_selected(
+/// The places of what is selected.
+fn add_places(
     words: &mut Vec<u32>,
     program: &Program,
     outline: &Outline,
-    class: u32,
-    methods: &[Place],
+    row: &[Selected],
 ) -> Result<(), NoMemory>
-    requires outline { IsOutline program.now outline.now }
-    requires class { class < length program.now }
-    ensures { OnOk result (words.new.items ≡ words.old.items ++ map (selected_place program.now (outline_of program.now) class) methods.now) }
+    requires { IsOutline program.now outline.now }
+    ensures { OnOk result (words.new.items ≡ words.old.items ++ map (λ s. code_place program.now (outline_of program.now) s.place) row.now) }
 {
-    for method in methods {
-        words.push(selected_place(program, outline, class, *method))?;
+    for selected in row {
+        words.push(code_place(program, outline, selected.place))?;
     }
     Ok(())
 }
 
-/// The method table of a class; an interface has none.
+/// The method table of a class, by its row; an interface has none.
 fn add_table(
     words: &mut Vec<u32>,
-    alloc: Global,
     program: &Program,
     outline: &Outline,
+    rows: &[Items<Selected>],
     class: u32,
 ) -> Result<(), NoMemory>
     requires outline { IsOutline program.now outline.now }
     requires class { class < length program.now }
+    requires rows { AreAllRows program.now (numbered.slots program.now) rows.now }
     ensures { OnOk result (words.new.items ≡ words.old.items ++ table_image program.now (outline_of program.now) class) }
 {
     if is_interface(program.hierarchy().classes(), class) {
         return Ok(());
     }
-    let mut methods = Vec::new(alloc);
-    outline
-        .slots
-        .add_to(&mut methods, program.hierarchy(), class)?;
-    add_selected(words, program, outline, class, &methods)
+    add_places(words, program, outline, rows[class as usize].as_slice())
 }
 
 /// The method tables.
@@ -103,73 +94,90 @@ pub(crate) fn add_tables(
     requires { IsOutline program.now outline.now }
     ensures { OnOk result (words.new.items ≡ words.old.items ++ tables_region program.now (outline_of program.now)) }
 {
+    let rows = slot_rows(alloc, program.hierarchy(), &outline.slots)?;
     for class in 0..program.class_count() {
-        add_table(words, alloc, program, outline, class)?;
+        add_table(words, program, outline, &rows, class)?;
     }
     Ok(())
 }
 
 /// The word of an interface's method in the table of a class: 0 where the class doesn't implement the interface.
-fn implemented_place(program: &Program, outline: &Outline, class: u32, method: Place) -> u32
+fn implemented_place(
+    program: &Program,
+    outline: &Outline,
+    class: u32,
+    method: Place,
+    selected: &Selected,
+) -> u32
     requires outline { IsOutline program.now outline.now }
     requires class { class < length program.now }
+    requires selected { IsSelected program.now class method selected.now }
     ensures { result ≡ implemented_place program.now (outline_of program.now) class method }
 {
     if program.extends(class, method.class) {
-        selected_place(program, outline, class, method)
+        code_place(program, outline, selected.place)
     } else {
         0
     }
 }
 
-/// The words of these methods of interfaces in the table of a class.
+/// The words of these methods of interfaces in the table of a class, by its row.
 fn add_implemented(
     words: &mut Vec<u32>,
     program: &Program,
     outline: &Outline,
     class: u32,
     methods: &[Place],
+    row: &[Selected],
 ) -> Result<(), NoMemory>
     requires outline { IsOutline program.now outline.now }
     requires class { class < length program.now }
+    requires row { AreSelected program.now class methods.now row.now }
     ensures { OnOk result (words.new.items ≡ words.old.items ++ map (implemented_place program.now (outline_of program.now) class) methods.now) }
 {
-    for method in methods {
-        words.push(implemented_place(program, outline, class, *method))?;
+    for (i, method) in methods.iter().enumerate() {
+        let place = implemented_place(program, outline, class, *method, &row[i]);
+        words.push(place)?;
     }
     Ok(())
 }
 
-/// The table of interface methods of a class; an interface has none.
+/// The table of interface methods of a class, by its row; an interface has none.
 fn add_interface_table(
     words: &mut Vec<u32>,
     program: &Program,
     outline: &Outline,
+    rows: &[Items<Selected>],
     class: u32,
 ) -> Result<(), NoMemory>
     requires outline { IsOutline program.now outline.now }
     requires class { class < length program.now }
+    requires rows { AreAllRows program.now (table_methods program.now) rows.now }
     ensures { OnOk result (words.new.items ≡ words.old.items ++ interface_image program.now (outline_of program.now) class) }
 {
     if is_interface(program.hierarchy().classes(), class) {
         return Ok(());
     }
     let methods = outline.interface_methods.as_slice();
-    add_implemented(words, program, outline, class, methods)
+    let row = rows[class as usize].as_slice();
+    add_implemented(words, program, outline, class, methods, row)
 }
 
 /// The tables of interface methods, that of zeros first.
 pub(crate) fn add_interfaces(
     words: &mut Vec<u32>,
+    alloc: Global,
     program: &Program,
     outline: &Outline,
 ) -> Result<(), NoMemory>
     requires { IsOutline program.now outline.now }
     ensures { OnOk result (words.new.items ≡ words.old.items ++ interfaces_region program.now (outline_of program.now)) }
 {
-    add_zeros(words, outline.interface_methods.len())?;
+    let methods = outline.interface_methods.as_slice();
+    let rows = interface_rows(alloc, program.hierarchy(), methods)?;
+    add_zeros(words, methods.len())?;
     for class in 0..program.class_count() {
-        add_interface_table(words, program, outline, class)?;
+        add_interface_table(words, program, outline, &rows, class)?;
     }
     Ok(())
 }

@@ -3,5 +3,5 @@ use Rattle.image_words.specs.Layout.{outline_of}
 use Rattle.image_words.specs.Regions.{implemented_place}
 use Rattle.image_layout.proofs.tables.add_implemented.Given as goal
 
-abbrev pub invariant-loop-method : goal.invariant-loop-method
-invariant-loop-method l = l.words.items ≡ l.fn.words.items ++ map (implemented_place l.program (outline_of l.program) l.class) (take l.method-index l.methods)
+abbrev pub invariant-loop-i : goal.invariant-loop-i
+invariant-loop-i l = l.words.items ≡ l.fn.words.items ++ map (implemented_place l.program (outline_of l.program) l.class) (take l.i l.methods)

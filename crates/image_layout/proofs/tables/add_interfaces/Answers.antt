@@ -1,4 +1,4 @@
-use Rattle.std.proofs.Common.{◌<◌, ◌++◌, length, replicate, append_assoc, ◌∙◌, arith}
+use Rattle.std.proofs.Common.{ℕ, ◌<◌, ◌++◌, length, replicate, append_assoc, ◌∙◌, arith}
 use Rattle.std.specs.List.{flat_map}
 use Rattle.std.proofs.lemmas.List.FromFn.{length-range_with_len}
 use Rattle.image_words.specs.Layout.{classes_of, outline_of}
@@ -22,7 +22,7 @@ pub returns : goal.returns
 returns c =
     let cs = c.args.program.now in
     let before = c.args.words.now.items in
-    let zeros = replicate (length (interface_methods cs)) 0 in
+    let zeros = replicate {A = ℕ} (length (interface_methods cs)) 0 in
     let test = c.loop-class-test.false in
     let end = c.loop-class.auto.class-end in
     let count = c.class_count-class-end.ensures in
