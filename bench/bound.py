@@ -19,10 +19,9 @@ import re
 import resource
 import shutil
 import subprocess
-import sys
 import time
 
-from timing import JOP, folder, put
+from timing import JOP, put, tell_each
 
 import bound_cases  # noqa: E402
 import check_cases  # noqa: E402
@@ -59,11 +58,6 @@ def memory_of(process):
     return 1024 * int(found[1]) if found else 0
 
 
-def options(timing):
-    given = [('--blocks', timing.blocks), ('--block-words', timing.block_words), ('--read', timing.read), ('--write', timing.write)]
-    return [word for name, value in given for word in (name, str(value))]
-
-
 def nodes(files):
     """how many numbers of nodes the codes of these class files have at most, by the sizes of the files"""
     return 2 * sum(map(len, files))
@@ -77,12 +71,12 @@ def tell(room, name):
     links, bounds = [], []
     for _ in range(RUNS):
         links.append(Took(['link', '--main', 'Main', *files], room, 'image'))
-        bounds.append(Took(['bound', *options(case.timing), '--method', ROOT, 'image', 'bounds'], room, 'certificate'))
+        bounds.append(Took(['bound', *case.timing.options(), '--method', ROOT, 'image', 'bounds'], room, 'certificate'))
         if bounds[0].seconds > LONG:
             break
     link, bound = (min(calls, key=lambda call: call.seconds) for calls in (links, bounds))
     size = os.path.getsize(os.path.join(room, 'certificate'))
-    said = bound.line or Took(['check', *options(case.timing), 'image', 'bounds', 'certificate'], room, 'out').line
+    said = bound.line or Took(['check', *case.timing.options(), 'image', 'bounds', 'certificate'], room, 'out').line
     more = bound.memory - link.memory - size
     print('%s: link %.3f s; bound %.3f s, %+.3f s; %+d bytes a node; certificate of %d bytes; load %.1f; %s' % (
         name, link.seconds, bound.seconds, bound.seconds - link.seconds, more // nodes(case.files), size, os.getloadavg()[0], said[:80]), flush=True)
@@ -106,13 +100,5 @@ def solve(room, case, seconds):
             solver, took, time.monotonic() - began, took / max(seconds, 1e-3), found[-1:] or ran.stdout[-200:], walks.greatest()), flush=True)
 
 
-def main():
-    held = True
-    for name in sys.argv[1:] or MADE:
-        with folder() as room:
-            held = tell(room, name) and held
-    sys.exit(0 if held else 1)
-
-
 if __name__ == '__main__':
-    main()
+    tell_each(MADE, tell)

@@ -21,10 +21,9 @@ names         16,383 loops of a method with a name of 60,000 characters, of whic
 import os
 import resource
 import subprocess
-import sys
 import time
 
-from timing import JOP, folder, put
+from timing import JOP, put, tell_each
 
 from check_cases import MADE  # noqa: E402
 
@@ -53,16 +52,11 @@ def least(calls):
     return '%.3f s (wall %.3f s)' % (min(each.processor for each in calls), min(each.wall for each in calls))
 
 
-def options(timing):
-    given = [('--blocks', timing.blocks), ('--block-words', timing.block_words), ('--read', timing.read), ('--write', timing.write)]
-    return [word for name, value in given for word in (name, str(value))]
-
-
 def tell(room, name):
     """prints how long a case takes, and gives whether its answer is as it has to be"""
     case = MADE[name]()
     files = [put(room, '%d.class' % number, data) for number, data in enumerate(case.files)]
-    linking, checking = ['link', '--main', 'Main', *files], ['check', *options(case.timing), 'image', 'bounds', 'certificate']
+    linking, checking = ['link', '--main', 'Main', *files], ['check', *case.timing.options(), 'image', 'bounds', 'certificate']
     put(room, 'bounds', case.bounds)
     put(room, 'certificate', case.text)
     links, checks = [], []
@@ -79,13 +73,5 @@ def tell(room, name):
     return not case.holds or checks[0].line.startswith('holds ')
 
 
-def main():
-    held = True
-    for name in sys.argv[1:] or MADE:
-        with folder() as room:
-            held = tell(room, name) and held
-    sys.exit(0 if held else 1)
-
-
 if __name__ == '__main__':
-    main()
+    tell_each(MADE, tell)

@@ -51,3 +51,12 @@ def link(room, main, files, runs):
     timed = least([JOP, 'link', '--main', main, *names], room, runs)
     put(room, 'image', timed.out)
     return timed
+
+
+def tell_each(made, tell):
+    """tells of the cases that the words name, or of all, each in a folder of its own; the status is 1 in the end where one isn't as it has to be"""
+    held = True
+    for name in sys.argv[1:] or made:
+        with folder() as room:
+            held = tell(room, name) and held
+    sys.exit(0 if held else 1)

@@ -15,6 +15,7 @@ sys.path[:0] = [os.path.join(HERE, part) for part in ('images', 'graphs', 'bound
 import expected_image  # noqa: E402
 import flow  # noqa: E402
 from costs import Timing  # noqa: E402
+from kind import sum_of  # noqa: E402
 from made import MAIN, ClassFile  # noqa: E402
 from study import Study, read_bounds  # noqa: E402
 
@@ -69,13 +70,6 @@ def line_of(n):
     bound = study.printed(study.root('W.main' + MAIN))
     assert int(counts.split(' ')[0].split('=')[1]) <= bound
     return 'work n=%d output=%s %s bound=%d\n' % (n, ' '.join(map(str, output)), counts, bound)
-
-
-def sum_of(data):
-    total = 0
-    for byte in data:
-        total = (total * 31 + byte) & 0xFFFFFFFF
-    return total
 
 
 def told(out):
