@@ -15,6 +15,7 @@ mod references;
 mod tag;
 mod text;
 mod units;
+pub mod utf8;
 
 pub use checking::is_pool;
 pub use class::{Attribute, Body, ClassFile, Code, Member};

@@ -1,40 +1,15 @@
 //! Pools as bytes (JVM Specification SE 8, 4.4).
-ghost use Rattle.std.specs.Prelude.{◌≡◌, ◌+◌, ◌<◌, ◌^◌, ◌++◌, ◌∷◌, [], length, OnOk, IfOk};
+ghost use Rattle.std.specs.Prelude.{◌≡◌, ◌+◌, ◌<◌, ◌^◌, ◌++◌, ◌∷◌, [], length, OnOk};
 ghost use Rattle.std.specs.List.{flat_map, AllByRecursion};
-ghost use Rattle.class_pool.specs.Utf8.{unit_bytes, utf8_bytes};
+ghost use Rattle.class_pool.specs.Utf8.{utf8_bytes};
 ghost use Rattle.class_pool.specs.Spelling.{u2, entry_bytes, IsInRange, pool_bytes};
 ghost use Rattle.class_pool.specs.Grammar.{IsPool};
 
 use crate::numbers::{put_u16, put_u32, put_u64};
+use class_pool::utf8::text_bytes;
 use class_pool::{Entry, Pool};
 use jop_base::NoMemory;
 use std::alloc::Global;
-
-fn put_unit(out: &mut Vec<u8>, unit: u16) -> Result<(), NoMemory>
-    ensures { OnOk result (out.new.items ≡ out.old.items ++ unit_bytes unit) }
-{
-    if 0 < unit && unit < 128 {
-        out.push(unit as u8)?;
-    } else if unit < 2048 {
-        out.push((192 + unit / 64) as u8)?;
-        out.push((128 + unit % 64) as u8)?;
-    } else {
-        out.push((224 + unit / 4096) as u8)?;
-        out.push((128 + unit / 64 % 64) as u8)?;
-        out.push((128 + unit % 64) as u8)?;
-    }
-    Ok(())
-}
-
-fn text_bytes(alloc: Global, units: &[u16]) -> Result<Vec<u8>, NoMemory>
-    ensures { IfOk result (λ bytes. bytes.items ≡ utf8_bytes units.now) }
-{
-    let mut bytes = Vec::new(alloc);
-    for unit in units {
-        put_unit(&mut bytes, *unit)?;
-    }
-    Ok(bytes)
-}
 
 fn put_text(alloc: Global, out: &mut Vec<u8>, units: &[u16]) -> Result<(), NoMemory>
     requires { length (utf8_bytes units.now) < 2 ^ 16 }

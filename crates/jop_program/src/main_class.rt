@@ -1,50 +1,23 @@
 //! The class whose main is run.
-ghost use Rattle.std.specs.Prelude.{◌≡◌, ◌++◌, false, IfOk, OnOk};
+ghost use Rattle.std.specs.Prelude.{◌≡◌, false, IfOk};
 ghost use Rattle.std.specs.Option.{option_copied, option_map_or};
-ghost use Rattle.class_pool.specs.Utf8.{unit_bytes, utf8_bytes};
+ghost use Rattle.class_pool.specs.Utf8.{utf8_bytes};
 ghost use Rattle.class_lookup.specs.Parts.{same_text, name_of};
 ghost use Rattle.jop_program.specs.Linked.{main_class, main_name, declares_main};
 
 use class_lookup::parts::{has_flags, has_signature, name_of};
 use class_making::parts::text;
+use class_pool::utf8::text_bytes;
 use class_pool::{ClassFile, Units};
 use class_rules::flags::{ACC_PUBLIC, ACC_STATIC};
 use jop_base::NoMemory;
 use std::alloc::Global;
 
-/// Puts the bytes of a unit last (4.4.7).
-fn put_unit(out: &mut Vec<u8>, unit: u16) -> Result<(), NoMemory>
-    ensures { OnOk result (out.new.items ≡ out.old.items ++ unit_bytes unit) }
-{
-    if 0 < unit && unit < 128 {
-        out.push(unit as u8)?;
-    } else if unit < 2048 {
-        out.push((192 + unit / 64) as u8)?;
-        out.push((128 + unit % 64) as u8)?;
-    } else {
-        out.push((224 + unit / 4096) as u8)?;
-        out.push((128 + unit / 64 % 64) as u8)?;
-        out.push((128 + unit % 64) as u8)?;
-    }
-    Ok(())
-}
-
-/// The bytes of a text.
-fn bytes_of(alloc: Global, units: &[u16]) -> Result<Vec<u8>, NoMemory>
-    ensures { IfOk result (λ bytes. bytes.items ≡ utf8_bytes units.now) }
-{
-    let mut bytes = Vec::new(alloc);
-    for unit in units {
-        put_unit(&mut bytes, *unit)?;
-    }
-    Ok(bytes)
-}
-
 /// Whether these bytes spell the name of the class.
 fn is_spelled(alloc: Global, class: &ClassFile, main: &[u8]) -> Result<bool, NoMemory>
     ensures { IfOk result (λ spelled. spelled ≡ same_text (utf8_bytes (name_of class.now)) main.now) }
 {
-    let bytes = bytes_of(alloc, name_of(class))?;
+    let bytes = text_bytes(alloc, name_of(class))?;
     Ok(bytes.as_slice() == main)
 }
 

@@ -5,9 +5,9 @@ ghost use Rattle.class_pool.specs.Utf8.{utf8_bytes};
 ghost use Rattle.class_pool.specs.Grammar.{entry_at};
 ghost use Rattle.refusal_lines.specs.Entries.{missing, classes_in_member, classes_in_entry, descriptor_in, signature_bytes, member_bytes, entry_bytes, unresolved_bytes};
 
-use crate::bytes::{bytes_of, put_text};
 use crate::missing::{Known, missing_in_descriptor, missing_in_name};
 use class_lookup::parts::{class_text, text_at};
+use class_pool::utf8::{put_text, text_bytes};
 use class_pool::{Entry, Pool};
 use jop_base::NoMemory;
 use program_tables::Why;
@@ -87,7 +87,7 @@ fn put_signature(out: &mut Vec<u8>, pool: &Pool, member: u16) -> Result<(), NoMe
 fn member_bytes(alloc: Global, pool: &Pool, owner: u16, member: u16) -> Result<Vec<u8>, NoMemory>
     ensures { IfOk result (λ bytes. bytes.items ≡ member_bytes pool.now owner member) }
 {
-    let mut bytes = bytes_of(alloc, class_text(pool, owner))?;
+    let mut bytes = text_bytes(alloc, class_text(pool, owner))?;
     bytes.push(DOT)?;
     put_signature(&mut bytes, pool, member)?;
     Ok(bytes)
@@ -98,7 +98,7 @@ fn entry_bytes(alloc: Global, pool: &Pool, entry: &Entry) -> Result<Vec<u8>, NoM
     ensures { IfOk result (λ bytes. bytes.items ≡ entry_bytes pool.now entry.now) }
 {
     match entry {
-        Entry::Class(name) => bytes_of(alloc, text_at(pool, *name)),
+        Entry::Class(name) => text_bytes(alloc, text_at(pool, *name)),
         Entry::Field(owner, member)
         | Entry::Method(owner, member)
         | Entry::InterfaceMethod(owner, member) => member_bytes(alloc, pool, *owner, *member),

@@ -1,7 +1,6 @@
 //! The lines that say why class files don't link: what they name in the files, and their putting.
 #![tactic(auto)]
 
-mod bytes;
 mod entries;
 pub mod laws;
 mod lines;

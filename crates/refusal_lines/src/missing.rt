@@ -7,9 +7,9 @@ ghost use Rattle.class_lookup.specs.Parts.{same_text, name_of};
 ghost use Rattle.program_tables.specs.Kinds.{class_in_type, classes_in_method_type, classes_in_field_descriptor, classes_in_method_descriptor};
 ghost use Rattle.refusal_lines.specs.Entries.{is_there, missing, class_in_name, classes_in_descriptor};
 
-use crate::bytes::bytes_of;
 use class_lookup::parts::name_of;
 use class_pool::ClassFile;
+use class_pool::utf8::text_bytes;
 use descriptors::names::is_class_name;
 use descriptors::{Element, FieldType, MethodType, field_type, method_type};
 use items::is_text;
@@ -99,7 +99,7 @@ fn found_bytes(alloc: Global, found: Option<&[u16]>) -> Result<Option<Vec<u8>>, 
     ensures { IfOk result (λ bytes. option_map (λ b. b.items) bytes ≡ option_map (λ name. utf8_bytes name.now) found.entry) }
 {
     match found {
-        Some(name) => Ok(Some(bytes_of(alloc, name)?)),
+        Some(name) => Ok(Some(text_bytes(alloc, name)?)),
         None => Ok(None),
     }
 }

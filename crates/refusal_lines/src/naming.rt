@@ -10,12 +10,12 @@ ghost use Rattle.jop_program.specs.Resolving.{AreClassesOf};
 ghost use Rattle.refusal_lines.specs.Entries.{unresolved_bytes as bytes_told};
 ghost use Rattle.refusal_lines.specs.Naming.{named_bytes, IsNamed};
 
-use crate::bytes::bytes_of;
 use crate::entries::{entry_at, unresolved_bytes};
 use crate::missing::Known;
 use class_file::read_class;
 use class_lookup::parts::name_of;
 use class_pool::ClassFile;
+use class_pool::utf8::text_bytes;
 use core_classes::core_classes;
 use jop_base::NoMemory;
 use jop_program::ProgramRefusal;
@@ -56,7 +56,7 @@ fn class_named(alloc: Global, files: &[ClassFile], file: u32) -> Result<Vec<u8>,
     ensures { IfOk result (λ bytes. bytes.items ≡ option_map_or (λ k. utf8_bytes (name_in_pool k)) (slice_get files.now file) []) }
 {
     match files.get(file as usize) {
-        Some(class) => bytes_of(alloc, name_of(class)),
+        Some(class) => text_bytes(alloc, name_of(class)),
         None => Ok(Vec::new(alloc)),
     }
 }

@@ -1,11 +1,10 @@
-//! The bytes of texts (JVM Specification SE 8, 4.4.7).
+//! Texts as bytes (JVM Specification SE 8, 4.4.7).
 ghost use Rattle.std.specs.Prelude.{◌≡◌, ◌++◌, IfOk, OnOk};
 ghost use Rattle.class_pool.specs.Utf8.{unit_bytes, utf8_bytes};
 
 use jop_base::NoMemory;
 use std::alloc::Global;
 
-/// Puts the bytes of a unit last.
 fn put_unit(out: &mut Vec<u8>, unit: u16) -> Result<(), NoMemory>
     ensures { OnOk result (out.new.items ≡ out.old.items ++ unit_bytes unit) }
 {
@@ -22,8 +21,8 @@ fn put_unit(out: &mut Vec<u8>, unit: u16) -> Result<(), NoMemory>
     Ok(())
 }
 
-/// Puts the bytes of a text last.
-pub(crate) fn put_text(out: &mut Vec<u8>, units: &[u16]) -> Result<(), NoMemory>
+/// Puts the bytes of a text last. The only error is that there was no memory.
+pub fn put_text(out: &mut Vec<u8>, units: &[u16]) -> Result<(), NoMemory>
     ensures { OnOk result (out.new.items ≡ out.old.items ++ utf8_bytes units.now) }
 {
     for unit in units {
@@ -32,8 +31,8 @@ pub(crate) fn put_text(out: &mut Vec<u8>, units: &[u16]) -> Result<(), NoMemory>
     Ok(())
 }
 
-/// The bytes of a text.
-pub(crate) fn bytes_of(alloc: Global, units: &[u16]) -> Result<Vec<u8>, NoMemory>
+/// The bytes of a text. The only error is that there was no memory.
+pub fn text_bytes(alloc: Global, units: &[u16]) -> Result<Vec<u8>, NoMemory>
     ensures { IfOk result (λ bytes. bytes.items ≡ utf8_bytes units.now) }
 {
     let mut bytes = Vec::new(alloc);

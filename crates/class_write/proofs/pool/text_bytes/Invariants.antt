@@ -1,7 +1,0 @@
-use Rattle.std.proofs.Common.{◌≡◌, take}
-use Rattle.std.specs.List.{flat_map}
-use Rattle.class_pool.specs.Utf8.{unit_bytes}
-use Rattle.class_write.proofs.pool.text_bytes.Given as goal
-
-abbrev pub invariant-loop-unit : goal.invariant-loop-unit
-invariant-loop-unit l = l.bytes.items ≡ flat_map unit_bytes (take l.unit-index l.units)
