@@ -25,11 +25,11 @@ module _ (g : Setting) (k : Known g) (t : Timing) where
   stall ls c = stall_of_loads k.words t.read ls c
 
   -- so many cycles beside the stalls of these look-ups
-  pub record Ran (a b : Stage) (taken : ℕ) (ls : List ℕ) : Type 0 where
+  pub record RanStalled (a b : Stage) (taken : ℕ) (ls : List ℕ) : Type 0 where
     pub clock : b.machine.clock ≡ a.machine.clock + (taken + stall ls a.machine.cache)
     pub cache : b.machine.cache ≡ after k.words ls a.machine.cache
 
-  pub then_ran : (a b c : Stage) (n m : ℕ) (ls ks : List ℕ) → Ran a b n ls → Ran b c m ks → Ran a c (n + m) (ls ++ ks)
+  pub then_ran : (a b c : Stage) (n m : ℕ) (ls ks : List ℕ) → RanStalled a b n ls → RanStalled b c m ks → RanStalled a c (n + m) (ls ++ ks)
   then_ran a b c n m ls ks x y =
       let s = k.stalls k.words t.read ls ks a.machine.cache in
       let here : stall ks (after k.words ls a.machine.cache) ≡ stall ks b.machine.cache = ap (λ (z : Cache). stall ks z) (sym x.cache) in
@@ -37,10 +37,10 @@ module _ (g : Setting) (k : Known g) (t : Timing) where
       let second = y.clock in
       record { clock = omega arith; cache = y.cache ∙ (ap (λ (z : Cache). after k.words ks z) x.cache ∙ sym (k.follow k.words ls ks a.machine.cache)) }
 
-  pub relisted : (a b : Stage) (n : ℕ) (ls ks : List ℕ) → ls ≡ ks → Ran a b n ls → Ran a b n ks
-  relisted a b n ls ks e r = let Q : List ℕ → Type 0 = λ z. Ran a b n z in subst Q e r
+  pub relisted : (a b : Stage) (n : ℕ) (ls ks : List ℕ) → ls ≡ ks → RanStalled a b n ls → RanStalled a b n ks
+  relisted a b n ls ks e r = let Q : List ℕ → Type 0 = λ z. RanStalled a b n z in subst Q e r
 
-  pub step_ran : (a b : Stage) (facts : StepFacts g t k.words a b) (ls : List ℕ) → looked_up g a b ≡ ls → Ran a b facts.micro ls
+  pub step_ran : (a b : Stage) (facts : StepFacts g t k.words a b) (ls : List ℕ) → looked_up g a b ≡ ls → RanStalled a b facts.micro ls
   step_ran a b facts ls e = relisted a b facts.micro (looked_up g a b) ls e (record { clock = facts.clock; cache = facts.cache })
 
 -- ---- look-ups of methods
@@ -71,7 +71,7 @@ module _ (g : Setting) (k : Known g) (t : Timing) (bound_of : BoundOf) where
     pub taken : ℕ
     pub looks : List ℕ
     pub back : List ℕ
-    pub ran : Ran g k t a b taken (looks ++ back)
+    pub ran : RanStalled g k t a b taken (looks ++ back)
     pub timing : HasTiming t b.machine
     pub within : All (IsPlaceWithin g m) looks
     pub left : Left g callers b back

@@ -28,7 +28,7 @@ use Rattle.bound_sound.proofs.Walking.{second_edge}
 use Rattle.bound_sound.proofs.Looking.{enters_looks}
 use Rattle.bound_sound.proofs.Inside.{TargetCost, target_cost}
 use Rattle.bound_sound.proofs.Sections.{SectionOf, as_section, NodeIn, later_node, told_some, told_inside, charges_of, enters_none_at}
-use Rattle.bound_sound.proofs.Accounts.{stall, Ran, then_ran, relisted, step_ran, IsPlaceWithin, all_of, Left, Account}
+use Rattle.bound_sound.proofs.Accounts.{stall, RanStalled, then_ran, relisted, step_ran, IsPlaceWithin, all_of, Left, Account}
 use Rattle.bound_sound.proofs.Accounts.Left.{returned, dropped}
 use Rattle.bound_sound.proofs.Steps.{at_running, is_instruction, even_at, odd_at, is_raise_step, nodes_cost, below_own}
 use Rattle.bound_sound.proofs.Called.{Called, closes, Invoked, covers_call}
@@ -88,13 +88,13 @@ module _ (g : Setting) (k : Known g) (t : Timing) (bound_of : BoundOf) where
     abbrev its_looks : List ℕ
     its_looks = key h.top.method ∷ y.looks
 
-    first_ran : Ran g k t a b facts.micro (key h.top.method ∷ [])
+    first_ran : RanStalled g k t a b facts.micro (key h.top.method ∷ [])
     first_ran = step_ran g k t a b facts (key h.top.method ∷ []) (enters_looks g a b top.frame callers top.frames h)
 
-    call_ran : Ran g k t a c (facts.micro + y.taken) (its_looks ++ y.back)
+    call_ran : RanStalled g k t a c (facts.micro + y.taken) (its_looks ++ y.back)
     call_ran = then_ran g k t a b c facts.micro y.taken (key h.top.method ∷ []) (y.looks ++ y.back) first_ran y.ran
 
-    all_ran : Ran g k t a d (facts.micro + y.taken + x.taken) (((its_looks ++ y.back) ++ x.looks) ++ x.back)
+    all_ran : RanStalled g k t a d (facts.micro + y.taken + x.taken) (((its_looks ++ y.back) ++ x.looks) ++ x.back)
     all_ran =
         relisted g k t a d (facts.micro + y.taken + x.taken) ((its_looks ++ y.back) ++ (x.looks ++ x.back)) (((its_looks ++ y.back) ++ x.looks) ++ x.back) (sym (append_assoc (its_looks ++ y.back) x.looks x.back))
         (then_ran g k t a c d (facts.micro + y.taken) x.taken (its_looks ++ y.back) (x.looks ++ x.back) call_ran x.ran)

@@ -5,7 +5,7 @@ use Rattle.bytecode_model.specs.Program.{Program, Method, Body}
 use Rattle.bytecode_typing.specs.Types.{TypeFrame}
 use Rattle.bytecode_typing.specs.Rules.{Rule}
 use Rattle.bytecode_typing.specs.Walk.{Verdict, Breaks, Passes, verdict_at, first_types, Walked, Failed, Frames, with_frame, unless_failed, walk, walked}
-use Rattle.bytecode_typing.specs.Typings.{IsTypingOf, IsTyping, FailsFirst}
+use Rattle.bytecode_typing.specs.Typings.{IsTypingOf, IsTyping, BreaksOffAt}
 
 module _ (P : Program) (n : ℕ) (m : Method) (b : Body) (maps : ℕ → Option TypeFrame) where
   abbrev Of : List ℕ → Option TypeFrame → List (ℕ × TypeFrame) → Option TypeFrame → Type 0
@@ -82,11 +82,11 @@ module _ (P : Program) (n : ℕ) (m : Method) (b : Body) (maps : ℕ → Option 
   pub walks_typing : (fs : List (ℕ × TypeFrame)) → walked P n m b maps ≡ Frames fs → IsTyping P n m b maps fs
   walks_typing fs e = let h = subst (Said (starts_of b.code) (first_types m b)) e (said (starts_of b.code) (first_types m b)) in record { behind = h.0; typing = h.1 }
 
-  pub failure_walks : (pc : ℕ) (r : Rule) → FailsFirst P n m b maps pc r → walked P n m b maps ≡ Failed pc r
+  pub failure_walks : (pc : ℕ) (r : Rule) → BreaksOffAt P n m b maps pc r → walked P n m b maps ≡ Failed pc r
   failure_walks pc r h =
       ap (λ (l : List ℕ). walk P n m b maps l (first_types m b)) h.places ∙ failed h.before pc h.later (first_types m b) h.falling h.frames r h.typing h.breaks
 
-  pub walks_failure : (pc : ℕ) (r : Rule) → walked P n m b maps ≡ Failed pc r → FailsFirst P n m b maps pc r
+  pub walks_failure : (pc : ℕ) (r : Rule) → walked P n m b maps ≡ Failed pc r → BreaksOffAt P n m b maps pc r
   walks_failure pc r e =
       let h = subst (Said (starts_of b.code) (first_types m b)) e (said (starts_of b.code) (first_types m b)) in record {
         before = h.before;

@@ -12,7 +12,7 @@ use Rattle.bytecode_typing.specs.Walk.{Failed, Frames, walked}
 use Rattle.bytecode_typing.specs.Typed.{Typing, Typed}
 use Rattle.bytecode_typing.specs.Fits.{Fits, IsGoing}
 use Rattle.bytecode_typing.specs.Lawful.{Lawful}
-use Rattle.bytecode_typing.specs.Typings.{IsTyping, FailsFirst, typing_found, HaveTypings}
+use Rattle.bytecode_typing.specs.Typings.{IsTyping, BreaksOffAt, typing_found, HaveTypings}
 use Rattle.bytecode_typing.specs.Bare.{IsStraightLine, bare_program, bare_typing}
 
 -- in a typed program a state that fits and hasn't ended has a next state for each answer of the input, and it fits
@@ -42,7 +42,7 @@ abbrev pub TheWalkFindsATyping : Type 0
 TheWalkFindsATyping =
     (P : Program) (n : ℕ) (m : Method) (b : Body) (maps : ℕ → Option TypeFrame)
     → ((fs : List (ℕ × TypeFrame)) → (walked P n m b maps ≡ Frames fs) ↔ IsTyping P n m b maps fs)
-    × ((pc : ℕ) (r : Rule) → (walked P n m b maps ≡ Failed pc r) ↔ FailsFirst P n m b maps pc r)
+    × ((pc : ℕ) (r : Rule) → (walked P n m b maps ≡ Failed pc r) ↔ BreaksOffAt P n m b maps pc r)
 
 -- a program whose methods have typings is typed
 abbrev pub ProgramsWithTypingsAreTyped : Type 0

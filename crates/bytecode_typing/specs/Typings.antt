@@ -25,7 +25,7 @@ module _ (P : Program) (n : ℕ) (m : Method) (b : Body) (maps : ℕ → Option 
     pub typing : IsTypingOf (starts_of b.code) (first_types m b) frames behind
 
   -- the instructions before pc have a typing, and at pc this rule is the first that fails
-  pub record FailsFirst (pc : ℕ) (rule : Rule) : Type 0 where
+  pub record BreaksOffAt (pc : ℕ) (rule : Rule) : Type 0 where
     pub before : List ℕ
     pub later : List ℕ
     pub places : starts_of b.code ≡ before ++ (pc ∷ later)

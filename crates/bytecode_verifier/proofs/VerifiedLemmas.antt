@@ -221,7 +221,7 @@ module _ (walks : TheWalkFindsATyping) (frames : FramesLaw) (codes : MethodsHave
       subst At (some_same (q, Walk s) x e) (
         record { instructions = whole; table = table; frames = ok_is found fs es },
         some_in (first_types m b) f (λ f. Unit {0}) ef tt,
-        subst (λ (g : ℕ → Option TypeFrame). typings.FailsFirst (resolved cs) n m b g q s) (sym maps) fails,
+        subst (λ (g : ℕ → Option TypeFrame). typings.BreaksOffAt (resolved cs) n m b g q s) (sym maps) fails,
       )
 
   frames_break : (f : TypeFrame) (x : Failure) (r : Result Frames ℕ) → first_bad k.code ≡ None → IsTableOf k.code k.handlers → first_types m b ≡ Some f → found ≡ r → frames_failure cs n m b r ≡ Some x → At x

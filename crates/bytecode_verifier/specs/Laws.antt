@@ -59,7 +59,7 @@ BreaksAt cs n k h pc Map =
 BreaksAt cs n k h pc (Walk r) =
     HasForm h.class h.member k
     × IsSomeAnd (first_types (method_of cs n k h) (body_of cs n k h)) (λ f. Unit {0})
-    × typings.FailsFirst (resolved cs) n (method_of cs n k h) (body_of cs n k h) (maps_of cs n) pc r
+    × typings.BreaksOffAt (resolved cs) n (method_of cs n k h) (body_of cs n k h) (maps_of cs n) pc r
 
 -- the least method whose code breaks a rule; those before it have their form and typings
 pub record BreaksFirst (cs : List ClassFile) (n pc : ℕ) (r : Broken) : Type 0 where

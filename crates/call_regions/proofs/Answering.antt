@@ -19,7 +19,7 @@ use Rattle.method_flow.specs.Regions.IsWithinNodes.{itself as nodes_itself, call
 use Rattle.method_flow.specs.Recursion.{MayCall}
 use Rattle.call_regions.specs.Laws.{RunsAreCalls, WordsAreOfTheTable}
 use Rattle.call_regions.specs.Regions.{AreOfTable, IsRegionAnswer}
-use Rattle.call_regions.specs.Searching.{IsSearch, Finds, IsFirst, IsWhole, IsAnswer}
+use Rattle.call_regions.specs.Searching.{IsSearch, FindsAll, IsFirst, IsWhole, IsAnswer}
 use Rattle.call_regions.specs.Tables.{IsOfTable, IsTargetAt, Runs, RunsAt, IsReached, words_of, blocks_in}
 use Rattle.call_regions.specs.Tables.IsReached.{given, later}
 use Rattle.call_regions.specs.declared.search.Search.{Search}
@@ -38,14 +38,14 @@ slice_get_inside xs i lt none = let has = slice_get_cases xs i in elim has.1 [ i
 
 module _ (f : Flow) (block_words most : ℕ) where
   -- more methods take no fewer blocks
-  pub blocks_grow : (K : ℕ → Type 0) (old new : Search) → IsSearch f block_words old → Finds f block_words most K old new → old.blocks ≤ new.blocks
+  pub blocks_grow : (K : ℕ → Type 0) (old new : Search) → IsSearch f block_words old → FindsAll f block_words most K old new → old.blocks ≤ new.blocks
   blocks_grow K old new search finds =
       let part = sum_of_part (blocks_in f block_words) old.methods new.methods search.distinct finds.kept in
       let a = search.blocks in
       let b = finds.search.blocks in
       omega arith
 
-  pub whole : (m : ℕ) (K : ℕ → Type 0) (a b c : Search) → IsFirst f block_words m a → Finds f block_words most K a b → Finds f block_words most (IsReached f (Contains b.queue)) b c → IsWhole f block_words most m K c
+  pub whole : (m : ℕ) (K : ℕ → Type 0) (a b c : Search) → IsFirst f block_words m a → FindsAll f block_words most K a b → FindsAll f block_words most (IsReached f (Contains b.queue)) b c → IsWhole f block_words most m K c
   whole m K a b c start first second =
       let H : List ℕ → Type 0 = λ ms. Contains ms m in
       let queued : (x : ℕ) → Contains b.queue x → K x =

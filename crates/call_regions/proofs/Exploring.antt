@@ -13,7 +13,7 @@ use Rattle.lists.specs.Lemmas.{some_same}
 use Rattle.method_flow.specs.Flow.{Flow, Coded}
 use Rattle.call_regions.specs.Tables.{IsOfTable, IsTargetOf, Runs, IsReached, words_of, blocks_in}
 use Rattle.call_regions.specs.Tables.IsReached.{given, later}
-use Rattle.call_regions.specs.Searching.{IsSearch, Finds}
+use Rattle.call_regions.specs.Searching.{IsSearch, FindsAll}
 use Rattle.call_regions.specs.declared.search.Search.{Search}
 use Rattle.call_regions.proofs.Lists.{sum_of_part, length-le-sum_by, from_get, get_contained}
 use Rattle.call_regions.proofs.Growing.{queue_kept}
@@ -68,12 +68,12 @@ module _ (f : Flow) (block_words most : ℕ) where
   }
 
   -- an item of the queue stays at its place
-  at_same : (K : ℕ → Type 0) (b c : Search) → Finds f block_words most K b c → (i y : ℕ) → i < length b.queue → slice_get c.queue i ≡ Some y → slice_get b.queue i ≡ Some y
+  at_same : (K : ℕ → Type 0) (b c : Search) → FindsAll f block_words most K b c → (i y : ℕ) → i < length b.queue → slice_get c.queue i ≡ Some y → slice_get b.queue i ≡ Some y
   at_same K b c finds i y lt at =
       let e : get_or c.queue i y ≡ get_or b.queue i y = ap (λ (q : List ℕ). get_or q i y) finds.queue ∙ get_or_append_left b.queue finds.more y i lt in
       slice_get-get_or b.queue i y lt ∙ ap Some (sym e ∙ get_or_from_slice_get c.queue i y y at)
 
-  pub explores_more : (a b c : Search) (at y : ℕ) (code : IsOfTable f y) → Explores f block_words most a b at → b.blocks ≤ most → slice_get b.queue at ≡ Some y → Finds f block_words most (IsTargetOf f code.method.calls) b c
+  pub explores_more : (a b c : Search) (at y : ℕ) (code : IsOfTable f y) → Explores f block_words most a b at → b.blocks ≤ most → slice_get b.queue at ≡ Some y → FindsAll f block_words most (IsTargetOf f code.method.calls) b c
       → Explores f block_words most a c (at + 1)
   explores_more a b c at y code was fits here finds = record {
     search = finds.search;
@@ -113,7 +113,7 @@ module _ (f : Flow) (block_words most : ℕ) where
       let inside = slice_get_within b.queue there.0 x there.1 in
       was.closed fits there.0 x t (omega arith) there.1 runs
 
-  pub explored : (a b : Search) (at : ℕ) → Explores f block_words most a b at → (b.blocks ≤ most → length b.queue ≤ at) → Finds f block_words most (IsReached f (Contains a.queue)) a b
+  pub explored : (a b : Search) (at : ℕ) → Explores f block_words most a b at → (b.blocks ≤ most → length b.queue ≤ at) → FindsAll f block_words most (IsReached f (Contains a.queue)) a b
   explored a b at was end = record {
     search = was.search;
     more = was.more;

@@ -7,7 +7,7 @@ use Rattle.cache_regions.specs.Region.{AreDistinct}
 use Rattle.upward_order.specs.Numbers.{with_number}
 use Rattle.method_flow.specs.Flow.{Flow}
 use Rattle.call_regions.specs.Tables.{IsOfTable, blocks_in}
-use Rattle.call_regions.specs.Searching.{IsSearch, Adds, Finds}
+use Rattle.call_regions.specs.Searching.{IsSearch, Adds, FindsAll}
 use Rattle.call_regions.specs.declared.search.Search.{Search}
 use Rattle.call_regions.proofs.Lists.{is_with, distinct_push}
 use Rattle.call_regions.proofs.Lists.IsWith.{had, added}
@@ -51,7 +51,7 @@ module _ (f : Flow) (block_words : ℕ) where
 
   module _ (most : ℕ) where
     -- a method that is to be looked at already
-    pub finds_queued : (s : Search) (t : ℕ) → IsSearch f block_words s → Contains s.queue t → Finds f block_words most (λ x. x ≡ t) s s
+    pub finds_queued : (s : Search) (t : ℕ) → IsSearch f block_words s → Contains s.queue t → FindsAll f block_words most (λ x. x ≡ t) s s
     finds_queued s t search has = record {
       search = search;
       more = [];
@@ -64,7 +64,7 @@ module _ (f : Flow) (block_words : ℕ) where
 
     -- and one that isn't yet
     pub finds_one : (old mid new : Search) (t : ℕ) → (Contains old.queue t → ⊥) → IsSearch f block_words old → Adds f block_words t old mid → new.queue ≡ with_number mid.queue t → new.methods ≡ mid.methods → new.blocks ≡ mid.blocks
-        → Finds f block_words most (λ x. x ≡ t) old new
+        → FindsAll f block_words most (λ x. x ≡ t) old new
     finds_one old mid new t apart search adds queue methods blocks =
         let are : new.queue ≡ old.queue ++ t ∷ [] =
         queue ∙ ap (λ q. with_number q t) adds.queue ∙ elim (is_with old.queue t) [ had c e ↦ absurd (apart c) | added never e ↦ e ] in
@@ -99,7 +99,7 @@ module _ (f : Flow) (block_words : ℕ) where
     -- ---- several searches behind one another
 
     -- nothing is to be found
-    pub finds_none : (K : ℕ → Type 0) (s : Search) → IsSearch f block_words s → ((x : ℕ) → K x → ⊥) → Finds f block_words most K s s
+    pub finds_none : (K : ℕ → Type 0) (s : Search) → IsSearch f block_words s → ((x : ℕ) → K x → ⊥) → FindsAll f block_words most K s s
     finds_none K s search none = record {
       search = search;
       more = [];
@@ -111,7 +111,7 @@ module _ (f : Flow) (block_words : ℕ) where
     }
 
     -- the cache is passed before all of a set was looked at
-    pub finds_part : (K L : ℕ → Type 0) (old new : Search) → Finds f block_words most K old new → ((x : ℕ) → K x → L x) → (new.blocks ≤ most → ⊥) → Finds f block_words most L old new
+    pub finds_part : (K L : ℕ → Type 0) (old new : Search) → FindsAll f block_words most K old new → ((x : ℕ) → K x → L x) → (new.blocks ≤ most → ⊥) → FindsAll f block_words most L old new
     finds_part K L old new finds more past = record {
       search = finds.search;
       more = finds.more;
@@ -123,7 +123,7 @@ module _ (f : Flow) (block_words : ℕ) where
     }
 
     -- the same set in other words
-    pub finds_same : (K L : ℕ → Type 0) (old new : Search) → Finds f block_words most K old new → ((x : ℕ) → K x → L x) → ((x : ℕ) → L x → K x) → Finds f block_words most L old new
+    pub finds_same : (K L : ℕ → Type 0) (old new : Search) → FindsAll f block_words most K old new → ((x : ℕ) → K x → L x) → ((x : ℕ) → L x → K x) → FindsAll f block_words most L old new
     finds_same K L old new finds to back = record {
       search = finds.search;
       more = finds.more;
@@ -134,12 +134,12 @@ module _ (f : Flow) (block_words : ℕ) where
       all = λ fits x l. finds.all fits x (back x l);
     }
 
-    pub queue_kept : (K : ℕ → Type 0) (old new : Search) → Finds f block_words most K old new → (x : ℕ) → Contains old.queue x → Contains new.queue x
+    pub queue_kept : (K : ℕ → Type 0) (old new : Search) → FindsAll f block_words most K old new → (x : ℕ) → Contains old.queue x → Contains new.queue x
     queue_kept K old new finds x c = let H : List ℕ → Type 0 = λ q. Contains q x in subst H (sym finds.queue) (Contains-append_left old.queue finds.more x c)
 
     -- one search behind another
-    pub finds_then : (K L M : ℕ → Type 0) (a b c : Search) → Finds f block_words most K a b → b.blocks ≤ most → Finds f block_words most L b c → ((x : ℕ) → K x → M x) → ((x : ℕ) → L x → M x) → ((x : ℕ) → M x → K x ⊎ L x)
-        → Finds f block_words most M a c
+    pub finds_then : (K L M : ℕ → Type 0) (a b c : Search) → FindsAll f block_words most K a b → b.blocks ≤ most → FindsAll f block_words most L b c → ((x : ℕ) → K x → M x) → ((x : ℕ) → L x → M x) → ((x : ℕ) → M x → K x ⊎ L x)
+        → FindsAll f block_words most M a c
     finds_then K L M a b c first fits second from_first from_second parts = record {
       search = second.search;
       more = first.more ++ second.more;

@@ -25,7 +25,7 @@ pub record Adds (f : Flow) (block_words : ℕ) (t : ℕ) (old new : Search) : Ty
   pub only : (x : ℕ) → Contains new.methods x → Contains old.methods x ⊎ (x ≡ t)
 
 -- the search found methods of a set beside the old ones, and all of the set where these don't pass the cache
-pub record Finds (f : Flow) (block_words most : ℕ) (K : ℕ → Type 0) (old new : Search) : Type 0 where
+pub record FindsAll (f : Flow) (block_words most : ℕ) (K : ℕ → Type 0) (old new : Search) : Type 0 where
   pub search : IsSearch f block_words new
   pub more : List ℕ
   pub queue : new.queue ≡ old.queue ++ more

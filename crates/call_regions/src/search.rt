@@ -4,7 +4,7 @@ ghost use Rattle.std.specs.Prelude.{◌≡◌, ◌<◌, ◌≤◌, ◌^◌, ◌*
 ghost use Rattle.std.specs.List.Sorted.{IsStrictlyIncreasing};
 ghost use Rattle.method_flow.specs.Flow.{places_of};
 ghost use Rattle.call_regions.specs.Tables.{IsTargetOf, IsTargetAt, IsReached};
-ghost use Rattle.call_regions.specs.Searching.{IsSearch, Adds, Finds, IsFirst};
+ghost use Rattle.call_regions.specs.Searching.{IsSearch, Adds, FindsAll, IsFirst};
 
 use super::calls::calls_of;
 use super::sizes::blocks;
@@ -78,7 +78,7 @@ pub(crate) fn add(f: &FlowProgram, s: &mut Search, t: u32, cache: Cache) -> Resu
     requires size { 0 < cache.block_words }
     requires small { s.old.blocks < 2 ^ 32 }
     requires search { IsSearch f.now cache.block_words s.old }
-    ensures { OnOk result (Finds f.now cache.block_words cache.blocks (λ x. x ≡ t) s.old s.new) }
+    ensures { OnOk result (FindsAll f.now cache.block_words cache.blocks (λ x. x ≡ t) s.old s.new) }
 {
     if s.queue.contains(t) {
         return Ok(());
@@ -92,7 +92,7 @@ fn add_all(f: &FlowProgram, s: &mut Search, targets: &[u32], cache: Cache) -> Re
     requires known { All (λ t. t < length f.now.methods) targets.now }
     requires size { 0 < cache.block_words }
     requires search { IsSearch f.now cache.block_words s.old }
-    ensures { OnOk result (Finds f.now cache.block_words cache.blocks (Contains targets.now) s.old s.new) }
+    ensures { OnOk result (FindsAll f.now cache.block_words cache.blocks (Contains targets.now) s.old s.new) }
 {
     for t in targets {
         if !s.fits(cache) {
@@ -113,7 +113,7 @@ fn add_targets(
     requires lists { All (λ c. c.targets < length f.now.targets) calls.now }
     requires size { 0 < cache.block_words }
     requires search { IsSearch f.now cache.block_words s.old }
-    ensures { OnOk result (Finds f.now cache.block_words cache.blocks (IsTargetOf f.now calls.now) s.old s.new) }
+    ensures { OnOk result (FindsAll f.now cache.block_words cache.blocks (IsTargetOf f.now calls.now) s.old s.new) }
 {
     for call in calls {
         if !s.fits(cache) {
@@ -163,7 +163,7 @@ pub(crate) fn add_members(
     requires lists { All (λ c. c.targets < length f.now.targets) calls.now }
     requires size { 0 < cache.block_words }
     requires search { IsSearch f.now cache.block_words s.old }
-    ensures { OnOk result (Finds f.now cache.block_words cache.blocks (IsTargetAt f.now calls.now members.now) s.old s.new) }
+    ensures { OnOk result (FindsAll f.now cache.block_words cache.blocks (IsTargetAt f.now calls.now members.now) s.old s.new) }
 {
     for node in members {
         if !s.fits(cache) {
@@ -192,7 +192,7 @@ fn next(s: &Search, at: usize, cache: Cache) -> Option<u32>
 pub(crate) fn add_reached(f: &FlowProgram, s: &mut Search, cache: Cache) -> Result<(), NoMemory>
     requires size { 0 < cache.block_words }
     requires search { IsSearch f.now cache.block_words s.old }
-    ensures { OnOk result (Finds f.now cache.block_words cache.blocks (IsReached f.now (Contains s.old.queue)) s.old s.new) }
+    ensures { OnOk result (FindsAll f.now cache.block_words cache.blocks (IsReached f.now (Contains s.old.queue)) s.old s.new) }
 {
     for at in 0..cache.blocks {
         let Some(method) = next(s, at as usize, cache) else {

@@ -47,7 +47,7 @@ abbrev pub ReadFields : Type 0
 ReadFields = (units : List ℕ) (t : FieldType) → (field_in units ≡ Some t) ↔ IsFieldDescriptor units t
 
 -- a parameter's type is one that is supported, and its class is there
-pub record Fits (cs : List ClassFile) (t : FieldType) : Type 0 where
+pub record TypeFits (cs : List ClassFile) (t : FieldType) : Type 0 where
   pub type : IsType t
   pub no_float : is_float t.element ≡ false
   pub no_double : is_double t.element ≡ false
@@ -60,7 +60,7 @@ pub record IsPlaced (cs : List ClassFile) (owner : ℕ) (c : ClassFile) (m : Mem
   pub object : same_text (name_of c) (codes "java/lang/Object") ≡ (owner == 0)
   pub type : MethodType
   pub read : descriptors.method_in (text_at c.pool m.descriptor) ≡ Some type
-  pub parameters : AllByRecursion (Fits cs) type.parameters
+  pub parameters : AllByRecursion (TypeFits cs) type.parameters
 
 -- its first frame by names is that of typing
 pub record HasFirst (cs : List ClassFile) (owner : ℕ) (c : ClassFile) (m : Member) (k : Code) : Type 0 where
@@ -195,7 +195,7 @@ flat_typed cs elements.Long right f d there =
 flat_typed cs elements.Short right f d there = int_typed cs elements.Short refl refl
 flat_typed cs elements.Boolean right f d there = int_typed cs elements.Boolean refl refl
 
-array_typed : ReadFields → (cs : List ClassFile) (t : FieldType) → Fits cs t → (t.dimensions == 0) ≡ false → IsTyped cs t
+array_typed : ReadFields → (cs : List ClassFile) (t : FieldType) → TypeFits cs t → (t.dimensions == 0) ≡ false → IsTyped cs t
 array_typed read cs t fits h =
     let k = kind_there cs t.dimensions t.element fits.there h in
     record {
@@ -208,7 +208,7 @@ array_typed read cs t fits h =
       no_new = λ code. refl;
     }
 
-typed_by : ReadFields → (cs : List ClassFile) (t : FieldType) → Fits cs t → (b : Bool) → (t.dimensions == 0) ≡ b → IsTyped cs t
+typed_by : ReadFields → (cs : List ClassFile) (t : FieldType) → TypeFits cs t → (b : Bool) → (t.dimensions == 0) ≡ b → IsTyped cs t
 typed_by read cs t fits true h =
     subst (λ (n : ℕ). IsTyped cs (record { dimensions = n; element = t.element })) (sym (eqb-true t.dimensions 0 h)) (flat_typed cs t.element fits.type.1 fits.no_float fits.no_double fits.there)
 typed_by read cs t fits false h = array_typed read cs t fits h
@@ -222,7 +222,7 @@ record AreTyped (cs : List ClassFile) (ts : List FieldType) : Type 0 where
   pub not_this : list_any is_this seen ≡ false
   pub no_new : (code : List ℕ) → list_all (names_new code) seen ≡ true
 
-all_typed : ReadFields → (cs : List ClassFile) (ts : List FieldType) → AllByRecursion (Fits cs) ts → AreTyped cs ts
+all_typed : ReadFields → (cs : List ClassFile) (ts : List FieldType) → AllByRecursion (TypeFits cs) ts → AreTyped cs ts
 all_typed read cs [] a = record { seen = []; seen_are = refl; same = refl; not_this = refl; no_new = λ code. refl }
 all_typed read cs (t ∷ ts) a =
     let x = typed_by read cs t a.0 (t.dimensions == 0) refl in

@@ -46,7 +46,7 @@ use Rattle.bytecode_typing.specs.Walk.{first_types}
 use Rattle.bytecode_verifier.specs.Named.{frame_by}
 use Rattle.bytecode_verifier.specs.Methods.{method_of, body_of}
 use Rattle.frame_laws.specs.Beginnings.{FirstFramesAgree}
-use Rattle.frame_laws.proofs.Begin.{ReadFields, Fits, IsPlaced, has_first}
+use Rattle.frame_laws.proofs.Begin.{ReadFields, TypeFits, IsPlaced, has_first}
 
 -- ---- the first item that passes a test
 
@@ -125,7 +125,7 @@ or_parts : (a b : Bool) → (a || b) ≡ false → (a ≡ false) × (b ≡ false
 or_parts true b h = absurd (false≢true (sym h))
 or_parts false b h = (refl, h)
 
-all_fit : (cs : List ClassFile) (ts : List FieldType) → AllByRecursion IsType ts → list_any (λ t. is_float t.element) ts ≡ false → list_any (λ t. is_double t.element) ts ≡ false → are_there cs (flat_map class_in_type ts) ≡ true → AllByRecursion (Fits cs) ts
+all_fit : (cs : List ClassFile) (ts : List FieldType) → AllByRecursion IsType ts → list_any (λ t. is_float t.element) ts ≡ false → list_any (λ t. is_double t.element) ts ≡ false → are_there cs (flat_map class_in_type ts) ≡ true → AllByRecursion (TypeFits cs) ts
 all_fit cs [] a f d h = tt
 all_fit cs (t ∷ ts) a f d h =
     let fs = or_parts (is_float t.element) (list_any (λ (t : FieldType). is_float t.element) ts) f in

@@ -16,7 +16,7 @@ use Rattle.jopizer.proofs.NameLemmas.{main_is_short}
 image_is : (l : Parts) → IsLinked l → image_of l ≡ image_with l.files l.main l.classes
 image_is l is = ap (λ (words : List ℕ). let image : Image = record { main = l.main; words = words; files = l.files } in image) is.laid.words
 
-pub record Fits (l : Parts) : Type 0 where
+pub record FitsFile (l : Parts) : Type 0 where
   pub name : IsName l.main
   pub words : IsWord (length l.laid.words)
   pub count : IsWord (length l.files)
@@ -29,7 +29,7 @@ fits_by image small =
     let short : length (flat_map file_bytes image.files) ≤ 16777216 = omega arith in
     (omega arith, omega arith, files_short 16777216 image.files short (omega arith))
 
-pub fits : (l : Parts) → IsLinked l → Fits l
+pub fits : (l : Parts) → IsLinked l → FitsFile l
 fits l is =
     let by = fits_by (image_of l) (subst (λ (image : Image). file_length image ≤ most_bytes) (sym (image_is l is)) is.linked.small) in
     record { name = main_is_short l.files l.main l.classes is.linked.program; words = by.0; count = by.1; files = by.2 }

@@ -17,18 +17,18 @@ LeadsTo g u [] = Unit {0}
 LeadsTo g u (v ∷ ns) = Edge g u v
 
 -- an edge goes from each node to the next
-abbrev pub AreLinked : Digraph → List ℕ → Type 0
-AreLinked g [] = Unit {0}
-AreLinked g (u ∷ ns) = LeadsTo g u ns × AreLinked g ns
+abbrev pub AreJoined : Digraph → List ℕ → Type 0
+AreJoined g [] = Unit {0}
+AreJoined g (u ∷ ns) = LeadsTo g u ns × AreJoined g ns
 
-walk_linked : {g : Digraph} {u v : ℕ} {ns : List ℕ} → Walk g u v ns → AreLinked g ns
+walk_linked : {g : Digraph} {u v : ℕ} {ns : List ℕ} → Walk g u v ns → AreJoined g ns
 walk_linked (stay {u}) = (tt, tt)
 walk_linked {g} (along {u} {v} {w} {ns} e t) =
     let b = begins t in
     let P : List ℕ → Type 0 = λ zs. LeadsTo g u zs in
     (subst P (sym b.1) e, walk_linked t)
 
-linked_drop : (g : Digraph) (before ns : List ℕ) → AreLinked g (before ++ ns) → AreLinked g ns
+linked_drop : (g : Digraph) (before ns : List ℕ) → AreJoined g (before ++ ns) → AreJoined g ns
 linked_drop g [] ns h = h
 linked_drop g (b ∷ bs) ns h = linked_drop g bs ns h.1
 
@@ -36,7 +36,7 @@ leads_take : (g : Digraph) (u : ℕ) (ns after : List ℕ) → LeadsTo g u (ns +
 leads_take g u [] after h = tt
 leads_take g u (v ∷ ns) after h = h
 
-linked_take : (g : Digraph) (ns after : List ℕ) → AreLinked g (ns ++ after) → AreLinked g ns
+linked_take : (g : Digraph) (ns after : List ℕ) → AreJoined g (ns ++ after) → AreJoined g ns
 linked_take g [] after h = tt
 linked_take g (u ∷ ns) after h = (leads_take g u ns after h.0, linked_take g ns after h.1)
 
@@ -103,7 +103,7 @@ module _ (g part : Digraph) (ls : List PricedLoop) (sound : AreSound g ls) (with
   back_edge u inside e = record { edge = e; dominates = header_dominates u inside }
 
   -- an iteration shows that h is a header in the part
-  header_from : (u : ℕ) (s : List ℕ) → AreLinked part (u ∷ s) → All Holds (u ∷ s) → 0 < back_edges_to h (u ∷ s) → IsHeader part h
+  header_from : (u : ℕ) (s : List ℕ) → AreJoined part (u ∷ s) → All Holds (u ∷ s) → 0 < back_edges_to h (u ∷ s) → IsHeader part h
   header_from u [] linked all some = absurd (omega arith)
   header_from u (x ∷ s) linked all some =
       let inside = All-head Holds u (x ∷ s) all in
@@ -155,19 +155,19 @@ module _ (g part : Digraph) (ls : List PricedLoop) (sound : AreSound g ls) (with
       in
       record { first = y ∷ z ∷ zs; rest = rest; is = ap (λ (ks : List ℕ). y ∷ ks) is; own = All-cons (IsMember part h) y (z ∷ zs) member own; none = none }
 
-  split : IsHeader part h → (ns : List ℕ) → AreLinked part ns → All Holds ns → IsSplit part h ns
+  split : IsHeader part h → (ns : List ℕ) → AreJoined part ns → All Holds ns → IsSplit part h ns
   split header [] linked all = record { first = []; rest = []; is = refl; own = All-nil (IsMember part h); none = λ c. nil_contains h c }
   split header (y ∷ ys) linked all =
       let s = split header ys linked.1 (All-tail Holds y ys all) in
       split_on header y ys linked.0 (All-head Holds y ys all) s.first s.rest s.is s.own s.none
 
-  header_in : (ns : List ℕ) → AreLinked part ns → All Holds ns → 0 < back_edges_to h ns → IsHeader part h
+  header_in : (ns : List ℕ) → AreJoined part ns → All Holds ns → 0 < back_edges_to h ns → IsHeader part h
   header_in [] linked all some = absurd (omega arith)
   header_in (u ∷ s) linked all some = header_from u s linked all some
 
   pub kept_by_own : (last : ℕ) (ns : List ℕ) → Walk part 0 last ns → (IsHeader part h → KeepsBound part h l.bound ns) → IsKept ns (bounded l)
   kept_by_own last ns w keeps before in_loop after is all =
-      let P : List ℕ → Type 0 = λ zs. AreLinked part zs in
+      let P : List ℕ → Type 0 = λ zs. AreJoined part zs in
       let linked = linked_drop part before in_loop (linked_take part (before ++ in_loop) after (subst P is (walk_linked w))) in
       elim (cases_eq (back_edges_to h in_loop) 0) [
         | inl none ↦ omega arith

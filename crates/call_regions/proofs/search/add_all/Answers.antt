@@ -2,7 +2,7 @@ use Rattle.std.proofs.Common.{◌≡◌, ℕ, ◌+◌, List, take, get_or, Conta
 use Rattle.std.proofs.lemmas.Bool.{both_ways}
 use Rattle.std.proofs.lemmas.List.{take_all}
 use Rattle.lists.specs.Members.{nil_contains}
-use Rattle.call_regions.specs.Searching.{Finds}
+use Rattle.call_regions.specs.Searching.{FindsAll}
 use Rattle.call_regions.proofs.Growing.{finds_none, finds_part, finds_then}
 use Rattle.call_regions.proofs.Lists.{from_take, take_has, take_keeps, take_cases}
 use Rattle.call_regions.proofs.search.add_all.Goals as goal
@@ -33,5 +33,5 @@ pub returns : goal.returns
 returns c =
     let ts = c.args.targets.now in
     let all = take_all c.loop-t.t-index ts c.loop-t-test.false in
-    let P : List ℕ → Type 0 = λ xs. Finds c.args.f.now c.args.cache.block_words c.args.cache.blocks (Contains xs) c.args.s.now c.loop-t.s in
+    let P : List ℕ → Type 0 = λ xs. FindsAll c.args.f.now c.args.cache.block_words c.args.cache.blocks (Contains xs) c.args.s.now c.loop-t.s in
     subst P all c.loop-t.invariant

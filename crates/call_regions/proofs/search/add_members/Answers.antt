@@ -2,7 +2,7 @@ use Rattle.std.proofs.Common.{ℕ, ◌+◌, ◌*◌, List, take, get_or, Contain
 use Rattle.std.proofs.lemmas.Bool.{both_ways}
 use Rattle.method_flow.specs.Flow.{targets_of_call}
 use Rattle.method_flow.specs.declared.flow.Call.{Call}
-use Rattle.call_regions.specs.Searching.{Finds}
+use Rattle.call_regions.specs.Searching.{FindsAll}
 use Rattle.call_regions.specs.Tables.{IsTargetAt}
 use Rattle.call_regions.specs.declared.search.Search.{Search}
 use Rattle.call_regions.proofs.Growing.{finds_part, finds_same, finds_then}
@@ -23,7 +23,7 @@ loop-node-preserved c =
     let K = IsTargetAt f calls (take i members) in
     let M = IsTargetAt f calls (take (i + 1) members) in
     let H : ℕ → List ℕ → Type 0 = λ x q. Contains q x in
-    let S : Search → Type 0 = λ s. Finds f w most M c.args.s.now s in
+    let S : Search → Type 0 = λ s. FindsAll f w most M c.args.s.now s in
     let keeps : (x : ℕ) → K x → M x = λ x t. record { call = t.call; among = t.among; node = take_keeps members i (2 * t.call.place) lt t.node; lists = t.lists } in
     elim c.match-call_of_node.branch [
       | in-Some+in_ok-add_all b ↦

@@ -2,7 +2,7 @@ use Rattle.std.proofs.Common.{List, subst, arith}
 use Rattle.std.proofs.lemmas.Option.{slice_get_within}
 use Rattle.std.proofs.lemmas.List.Elements.{All-contains}
 use Rattle.method_flow.specs.declared.flow.Call.{Call}
-use Rattle.call_regions.specs.Searching.{Finds}
+use Rattle.call_regions.specs.Searching.{FindsAll}
 use Rattle.call_regions.specs.Tables.{IsOfTable, IsTargetOf}
 use Rattle.call_regions.proofs.Lists.{from_get}
 use Rattle.call_regions.proofs.Exploring.{explores_none, explores_more, explored, queue_is_short}
@@ -26,7 +26,7 @@ loop-at-preserved c =
     let most = c.args.cache.blocks in
     let has = c.calls_of.ensures.calls in
     let here = c.in-Some.ensures.some in
-    let P : List Call → Type 0 = λ ks. Finds f w most (IsTargetOf f ks) c.loop-at.s c.add_targets.new.s in
+    let P : List Call → Type 0 = λ ks. FindsAll f w most (IsTargetOf f ks) c.loop-at.s c.add_targets.new.s in
     explores_more f w most c.args.s.now c.loop-at.s c.add_targets.new.s c.loop-at.at c.in-Some.method has.code c.loop-at.invariant here.0 here.1 (subst P has.are c.in_ok-add_targets.ensures)
 
 pub returns-in_default : goal.returns-in_default
