@@ -3,6 +3,7 @@ pub mod DecodeLemmas
 pub mod FaultLemmas
 pub mod ReadLemmas
 pub mod WithinLemmas
+pub mod LengthLemmas
 pub mod StartLemmas
 pub mod Examples
 pub mod TargetLemmas

@@ -1,6 +1,6 @@
 -- An instruction depends on its own bytes alone.
 use Rattle.std.proofs.Common.{◌≡◌, ℕ, zero, suc, ◌+◌, ◌-◌, ◌<◌, ◌≤◌, Bool, true, false, nat_le, List, ◌++◌, length, get_or, replicate, refl, sym, ◌∙◌, ap, subst, arith, Result, Ok, Err, OnOk, cond, inl, inr, length-append}
-use Rattle.std.proofs.lemmas.Bool.{cases_lt, leb-true, le-leb}
+use Rattle.std.proofs.lemmas.Bool.{cases_lt, leb-true, le-leb, lt-leb}
 use Rattle.std.proofs.lemmas.List.{get_or_append_left, get_or-append_right, get_or_past}
 use Rattle.jop_opcodes.specs.declared.instruction.Instr.{Instr}
 use Rattle.jop_opcodes.specs.declared.instruction.DecodeFault.{DecodeFault}
@@ -91,6 +91,12 @@ pub Ok-within : (code : List ℕ) (pc : ℕ) (found : Instr) → pc + found.leng
 Ok-within code pc found h =
     let otherwise : Result Instr DecodeFault = Err Short in
     ap (λ (test : Bool). cond test (Ok found) otherwise) (le-leb (pc + found.length) (length code) h)
+
+-- one that passes the end
+pub passes : (code : List ℕ) (pc : ℕ) (found : Instr) → length code < pc + found.length → within code pc (Ok found) ≡ Err Short
+passes code pc found h =
+    let otherwise : Result Instr DecodeFault = Err Short in
+    ap (λ (test : Bool). cond test (Ok found) otherwise) (lt-leb (pc + found.length) (length code) h)
 
 -- what passes no end has its header within the code
 pub front_fits : (pc front rest n : ℕ) → pc + (front + rest - pc) ≤ n → front ≤ n

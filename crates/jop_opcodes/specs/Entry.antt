@@ -1,4 +1,5 @@
--- What an entry of the code's table says.
+-- What the code's tables say of an opcode.
+use Rattle.std.specs.Prelude.{ℕ, ◌+◌}
 use Rattle.jop_opcodes.specs.declared.table.Operand.{Operand as OperandCode}
 use Rattle.jop_opcodes.specs.declared.table.Operand.TheVariants as code
 use Rattle.jop_opcodes.specs.declared.table.Operands.{Operands as OperandsCode}
@@ -6,6 +7,7 @@ use Rattle.jop_opcodes.specs.declared.table.Form.{Form as FormCode}
 use Rattle.jop_opcodes.specs.declared.table.Form.TheVariants as forms
 use Rattle.jop_opcodes.specs.declared.table.Entry.{Entry}
 use Rattle.jop_opcodes.specs.Form.{Operand, Absent, UnsignedByte, UnsignedShort, SignedByte, SignedShort, Offset, WideOffset, Operands, Form, NotAnOpcode, Fixed, Widened, TableSwitch, LookupSwitch, Wide}
+use Rattle.jop_opcodes.specs.Instruction.{operands_width}
 use Rattle.jop_opcodes.specs.Row.{Row}
 
 abbrev pub entry_operand : OperandCode → Operand
@@ -34,3 +36,9 @@ parts_of e = record { number = e.opcode; mnemonic = e.name.now; form = entry_for
 -- the row that an entry stands for; it is opaque, so that a goal on an entry stays short
 unfoldable pub entry_row : Entry → Row
 entry_row e = parts_of e
+
+-- how many bytes the instructions of a form have, and 0 where they differ
+abbrev pub length_by : Form → ℕ
+length_by (Fixed plain) = 1 + operands_width plain
+length_by (Widened plain widened) = 1 + operands_width plain
+length_by _ = 0

@@ -10,7 +10,7 @@ ghost use Rattle.jop_opcodes.specs.Form.{Wide};
 ghost use Rattle.jop_opcodes.specs.Target.{IsWithin};
 
 use crate::instruction::{DecodeFault, Instr};
-use crate::table::{Form, Operand, Operands, form_of};
+use crate::table::{Form, Operand, Operands, fixed_length, form_of};
 
 /// The instruction that begins at a place of a code.
 pub fn decode(code: &[u8], pc: u32) -> Result<Instr, DecodeFault>
@@ -47,6 +47,22 @@ pub fn length(code: &[u8], pc: u32) -> Option<u32>
     requires small { length code.now ≤ 33554432 }
     ensures { result ≡ option_map (λ instr. instr.length) (result_ok (decoded code.now pc)) }
 {
+    let fixed = fixed_length(code[pc as usize]);
+    if fixed == 0 {
+        varying_length(code, pc)
+    } else if pc as usize + fixed as usize <= code.len() {
+        Some(fixed)
+    } else {
+        None
+    }
+}
+
+/// The same, where the opcode doesn't tell.
+fn varying_length(code: &[u8], pc: u32) -> Option<u32>
+    requires inside { pc < length code.now }
+    requires small { length code.now ≤ 33554432 }
+    ensures { result ≡ option_map (λ instr. instr.length) (result_ok (decoded code.now pc)) }
+{
     decode(code, pc).ok().map(|instr| instr.length)
 }
 
@@ -68,6 +84,7 @@ fn widened(code: &[u8], pc: u32) -> Result<Instr, DecodeFault>
 }
 
 /// An instruction with operands of fixed width, whose opcode stands at `pc` or, where it is wide, behind it.
+#[inline(always)]
 fn fixed(code: &[u8], pc: u32, wide: bool, operands: Operands) -> Result<Instr, DecodeFault>
     requires inside { pc + prefix_width wide < length code.now }
     requires small { length code.now ≤ 33554432 }
@@ -92,6 +109,7 @@ fn fixed(code: &[u8], pc: u32, wide: bool, operands: Operands) -> Result<Instr, 
 }
 
 /// How many bytes an operand takes.
+#[inline(always)]
 fn width_of(operand: Operand) -> usize
     ensures value { result ≡ width (entry_operand operand) }
     ensures short { result ≤ 4 }
@@ -105,6 +123,7 @@ fn width_of(operand: Operand) -> usize
 }
 
 /// The number of an operand at a place of a code.
+#[inline(always)]
 fn number(code: &[u8], place: usize, operand: Operand) -> i32
     requires { place + width (entry_operand operand) ≤ length code.now }
     ensures { result ≡ value_at code.now place (entry_operand operand) }

@@ -6,7 +6,7 @@ ghost use Rattle.jop_opcodes.specs.Start.{starts_of, next_start};
 ghost use Rattle.jop_opcodes.specs.Entry.{entry_form};
 ghost use Rattle.jop_opcodes.specs.Target.{cases_of, targets_of, leads, or_none};
 
-use crate::decoder::{decode, signed_word};
+use crate::decoder::{length, signed_word};
 use crate::instruction::{Case, Instr};
 use crate::table::{Form, Operand, form_of};
 use jop_base::NoMemory;
@@ -18,7 +18,7 @@ pub fn starts(alloc: Global, code: &[u8]) -> Result<Vec<u32>, NoMemory>
     requires small { length code.now ≤ 33554432 }
     ensures { IfOk result (λ starts. starts.items ≡ starts_of code.now) }
 {
-    let mut starts = Vec::new(alloc);
+    let mut starts = Vec::with_capacity(alloc, code.len())?;
     let mut next = if code.is_empty() { None } else { Some(0) };
     while let Some(pc) = next {
         starts.push(pc)?;
@@ -33,7 +33,7 @@ fn place_behind(code: &[u8], pc: u32) -> Option<u32>
     requires small { length code.now ≤ 33554432 }
     ensures { result ≡ next_start code.now pc }
 {
-    let behind = pc + decode(code, pc).ok()?.length;
+    let behind = pc + length(code, pc)?;
     if (behind as usize) < code.len() {
         Some(behind)
     } else {

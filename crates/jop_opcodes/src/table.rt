@@ -2,7 +2,7 @@
 
 ghost use Rattle.std.specs.Prelude.{◌≡◌};
 ghost use Rattle.jop_opcodes.specs.Row.{row_of};
-ghost use Rattle.jop_opcodes.specs.Entry.{entry_form, entry_row};
+ghost use Rattle.jop_opcodes.specs.Entry.{entry_form, entry_row, length_by};
 
 /// Where control goes after an instruction.
 #[derive(Clone, Copy)]
@@ -114,6 +114,8 @@ const LOOKUP_SWITCH: Form = Form::LookupSwitch;
 
 const WIDE: Form = Form::Wide;
 
+const NO_OPCODE: Form = Form::NotAnOpcode;
+
 /// An opcode's number, mnemonic, form and kind, whether it may raise, and whether this machine runs it.
 macro_rules! entries {
     ($($opcode:literal $name:literal $form:ident $kind:ident $raises:literal $supported:literal;)*) => {
@@ -128,14 +130,8 @@ macro_rules! entries {
     };
 }
 
-/// The last opcode of those that follow one another from 0.
-const LAST_OPCODE: u8 = 202;
-
-/// The first of the two reserved opcodes that end the table.
-const FIRST_RESERVED: u8 = 254;
-
-/// The opcodes, rising.
-static ENTRIES: [Entry; 205] = entries! {
+/// By byte; those that are no opcodes are named `none`.
+static ENTRIES: [Entry; 256] = entries! {
     0 "nop" NOTHING Plain false true;
     1 "aconst_null" NOTHING Plain false true;
     2 "iconst_m1" NOTHING Plain false true;
@@ -339,34 +335,102 @@ static ENTRIES: [Entry; 205] = entries! {
     200 "goto_w" WIDE_BRANCH Jump false true;
     201 "jsr_w" WIDE_BRANCH Jump false false;
     202 "breakpoint" NOTHING Plain false false;
+    203 "none" NO_OPCODE Plain false false;
+    204 "none" NO_OPCODE Plain false false;
+    205 "none" NO_OPCODE Plain false false;
+    206 "none" NO_OPCODE Plain false false;
+    207 "none" NO_OPCODE Plain false false;
+    208 "none" NO_OPCODE Plain false false;
+    209 "none" NO_OPCODE Plain false false;
+    210 "none" NO_OPCODE Plain false false;
+    211 "none" NO_OPCODE Plain false false;
+    212 "none" NO_OPCODE Plain false false;
+    213 "none" NO_OPCODE Plain false false;
+    214 "none" NO_OPCODE Plain false false;
+    215 "none" NO_OPCODE Plain false false;
+    216 "none" NO_OPCODE Plain false false;
+    217 "none" NO_OPCODE Plain false false;
+    218 "none" NO_OPCODE Plain false false;
+    219 "none" NO_OPCODE Plain false false;
+    220 "none" NO_OPCODE Plain false false;
+    221 "none" NO_OPCODE Plain false false;
+    222 "none" NO_OPCODE Plain false false;
+    223 "none" NO_OPCODE Plain false false;
+    224 "none" NO_OPCODE Plain false false;
+    225 "none" NO_OPCODE Plain false false;
+    226 "none" NO_OPCODE Plain false false;
+    227 "none" NO_OPCODE Plain false false;
+    228 "none" NO_OPCODE Plain false false;
+    229 "none" NO_OPCODE Plain false false;
+    230 "none" NO_OPCODE Plain false false;
+    231 "none" NO_OPCODE Plain false false;
+    232 "none" NO_OPCODE Plain false false;
+    233 "none" NO_OPCODE Plain false false;
+    234 "none" NO_OPCODE Plain false false;
+    235 "none" NO_OPCODE Plain false false;
+    236 "none" NO_OPCODE Plain false false;
+    237 "none" NO_OPCODE Plain false false;
+    238 "none" NO_OPCODE Plain false false;
+    239 "none" NO_OPCODE Plain false false;
+    240 "none" NO_OPCODE Plain false false;
+    241 "none" NO_OPCODE Plain false false;
+    242 "none" NO_OPCODE Plain false false;
+    243 "none" NO_OPCODE Plain false false;
+    244 "none" NO_OPCODE Plain false false;
+    245 "none" NO_OPCODE Plain false false;
+    246 "none" NO_OPCODE Plain false false;
+    247 "none" NO_OPCODE Plain false false;
+    248 "none" NO_OPCODE Plain false false;
+    249 "none" NO_OPCODE Plain false false;
+    250 "none" NO_OPCODE Plain false false;
+    251 "none" NO_OPCODE Plain false false;
+    252 "none" NO_OPCODE Plain false false;
+    253 "none" NO_OPCODE Plain false false;
     254 "impdep1" NOTHING Plain false true;
     255 "impdep2" NOTHING Plain false true;
 };
 
+/// By byte, how many bytes the instructions of that opcode have, and 0 where they differ or the byte is no opcode.
+static LENGTHS: [u32; 256] = [
+    1, 1, 1, 1, 1, 1, 1, 1, 1, 1, 1, 1, 1, 1, 1, 1, // from 0
+    2, 3, 2, 3, 3, 2, 2, 2, 2, 2, 1, 1, 1, 1, 1, 1, // from 16
+    1, 1, 1, 1, 1, 1, 1, 1, 1, 1, 1, 1, 1, 1, 1, 1, // from 32
+    1, 1, 1, 1, 1, 1, 2, 2, 2, 2, 2, 1, 1, 1, 1, 1, // from 48
+    1, 1, 1, 1, 1, 1, 1, 1, 1, 1, 1, 1, 1, 1, 1, 1, // from 64
+    1, 1, 1, 1, 1, 1, 1, 1, 1, 1, 1, 1, 1, 1, 1, 1, // from 80
+    1, 1, 1, 1, 1, 1, 1, 1, 1, 1, 1, 1, 1, 1, 1, 1, // from 96
+    1, 1, 1, 1, 1, 1, 1, 1, 1, 1, 1, 1, 1, 1, 1, 1, // from 112
+    1, 1, 1, 1, 3, 1, 1, 1, 1, 1, 1, 1, 1, 1, 1, 1, // from 128
+    1, 1, 1, 1, 1, 1, 1, 1, 1, 3, 3, 3, 3, 3, 3, 3, // from 144
+    3, 3, 3, 3, 3, 3, 3, 3, 3, 2, 0, 0, 1, 1, 1, 1, // from 160
+    1, 1, 3, 3, 3, 3, 3, 3, 3, 5, 5, 3, 2, 3, 1, 1, // from 176
+    3, 3, 1, 1, 0, 4, 3, 3, 5, 5, 1, 0, 0, 0, 0, 0, // from 192
+    0, 0, 0, 0, 0, 0, 0, 0, 0, 0, 0, 0, 0, 0, 0, 0, // from 208
+    0, 0, 0, 0, 0, 0, 0, 0, 0, 0, 0, 0, 0, 0, 0, 0, // from 224
+    0, 0, 0, 0, 0, 0, 0, 0, 0, 0, 0, 0, 0, 0, 1, 1, // from 240
+];
+
 /// The row of an opcode, and one named `none` for a byte that is no opcode.
-pub(crate) fn entry_of(op: u8) -> Entry
-    ensures { entry_row result ≡ row_of op }
+#[inline(always)]
+pub(crate) fn entry_of(op: u8) -> &'static Entry
+    ensures { entry_row result.now ≡ row_of op }
 {
-    if op <= LAST_OPCODE {
-        ENTRIES[op as usize]
-    } else if op >= FIRST_RESERVED {
-        ENTRIES[(op - FIRST_RESERVED + LAST_OPCODE + 1) as usize]
-    } else {
-        Entry {
-            opcode: op,
-            name: "none",
-            form: Form::NotAnOpcode,
-            kind: Kind::Plain,
-            raises: false,
-            supported: false,
-        }
-    }
+    &ENTRIES[op as usize]
 }
 
 /// The form of an opcode's operands.
 #[tactic(auto, unfolding(crate::specs::Entry::entry_row))]
+#[inline(always)]
 pub(crate) fn form_of(op: u8) -> Form
     ensures { entry_form result ≡ (row_of op).form }
 {
     entry_of(op).form
+}
+
+/// How many bytes the instructions of an opcode have, and 0 where they differ or the byte is no opcode.
+#[inline(always)]
+pub(crate) fn fixed_length(op: u8) -> u32
+    ensures { result ≡ length_by (row_of op).form }
+{
+    LENGTHS[op as usize]
 }
