@@ -3,7 +3,7 @@ ghost use Rattle.std.specs.Prelude.{◌≡◌, ◌<◌, ◌↔◌, ℕ, map, sli
 ghost use Rattle.loop_nest.specs.Digraph.{IsDigraph, turned, AreSources};
 ghost use Rattle.loop_nest.specs.Chains.{IsLink, IsLater, IsBlock, AreBlocksBelow};
 
-use super::digraph::{Graph, Sources, turned};
+use super::digraph::{Graph, Sources, targets};
 use std::alloc::{AllocError, Global};
 use std::marker::Model;
 
@@ -105,20 +105,32 @@ fn chain(
     Ok(nodes)
 }
 
+/// The blocks, in the order of their first nodes, by the nodes' targets and sources.
+fn chains_by(
+    alloc: Global,
+    g: &Graph,
+    targets: &Sources,
+    sources: &Sources,
+) -> Result<Vec<Vec<u32>>, AllocError>
+    requires targets { AreSources (turned g.now.edges) g.now.nodes targets.now }
+    requires sources { AreSources g.now.edges g.now.nodes sources.now }
+    ensures { IfOk result (λ bs. AreBlocksBelow g.now g.now.nodes (map (λ ns. ns.items) bs.items)) }
+{
+    let mut chains = Vec::new(alloc);
+    for u in 0..g.nodes() {
+        if !is_later(g, targets, sources, u) {
+            chains.push(chain(alloc, g, targets, sources, u)?)?;
+        }
+    }
+    Ok(chains)
+}
+
 /// The blocks, in the order of their first nodes.
 pub(crate) fn chains(alloc: Global, g: &Graph) -> Result<Vec<Vec<u32>>, AllocError>
     ensures valid { IsDigraph g.now }
     ensures chains { IfOk result (λ bs. AreBlocksBelow g.now g.now.nodes (map (λ ns. ns.items) bs.items)) }
 {
-    let nodes = g.nodes();
-    let turned = turned(alloc, g.edges())?;
-    let targets = Sources::by_target(alloc, nodes as usize, &turned)?;
-    let sources = Sources::by_target(alloc, nodes as usize, g.edges())?;
-    let mut chains = Vec::new(alloc);
-    for u in 0..nodes {
-        if !is_later(g, &targets, &sources, u) {
-            chains.push(chain(alloc, g, &targets, &sources, u)?)?;
-        }
-    }
-    Ok(chains)
+    let targets = targets(alloc, g)?;
+    let sources = Sources::by_target(alloc, g.nodes() as usize, g.edges())?;
+    chains_by(alloc, g, &targets, &sources)
 }

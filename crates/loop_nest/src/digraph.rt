@@ -128,6 +128,15 @@ pub fn turned(alloc: Global, edges: &[(u32, u32)]) -> Result<Vec<(u32, u32)>, Al
     edges.iter().map(|e| (e.1, e.0)).collect(alloc)
 }
 
+/// For each node of a graph the targets of the edges from it, in the order of the edges.
+pub fn targets(alloc: Global, g: &Graph) -> Result<Sources, AllocError>
+    ensures valid { IsDigraph g.now }
+    ensures targets { IfOk result (AreSources (turned g.now.edges) g.now.nodes) }
+{
+    let turned = turned(alloc, g.edges())?;
+    Sources::by_target(alloc, g.nodes() as usize, &turned)
+}
+
 /// How many edges lead to each of `nodes` nodes.
 pub fn arrivals(alloc: Global, nodes: usize, edges: &[(u32, u32)]) -> Result<Vec<usize>, AllocError>
     requires { All (λ e. e.1 < nodes) edges.now }

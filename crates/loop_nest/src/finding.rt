@@ -62,9 +62,40 @@ fn headers(alloc: Global, g: &Graph, flags: &[bool]) -> Result<(Vec<Loop>, Vec<u
     Ok((loops, numbers))
 }
 
+/// For each node the number of the innermost loop that has it; sets the outer loop of each loop. Outer
+/// loops come first, so that the mark that a header has before its own loop is marked is that of the
+/// next loop around it.
+fn innermost_loops(
+    alloc: Global,
+    g: &Graph,
+    back_edges: &[(u32, u32)],
+    flags: &[bool],
+    numbers: &[u32],
+    loops: &mut [Loop],
+) -> Result<Vec<Option<u32>>, AllocError>
+    requires back_edges { AreBackEdges g.now back_edges.now }
+    requires reached { AreReached g.now }
+    requires flags { AreHeaderFlags g.now flags.now }
+    requires headers { AreHeadersBelow g.now g.now.nodes loops.old numbers.now }
+    ensures { IfOk result (λ marks. IsNesting g.now loops.new marks.items) }
+{
+    let nodes = g.nodes() as usize;
+    let sources = Sources::by_target(alloc, nodes, g.edges())?;
+    let starts = Sources::by_target(alloc, nodes, back_edges)?;
+    let order = dominators_first(alloc, g)?;
+    let mut marks = vec![in alloc; None; nodes]?;
+    for h in &order {
+        if flags[*h as usize] {
+            let number = numbers[*h as usize];
+            loops[number as usize].set_outer(marks[*h as usize]);
+            mark(alloc, g, &sources, *h, starts.of(*h), number, &mut marks)?;
+        }
+    }
+    Ok(marks)
+}
+
 /// The loops with these back edges, headers rising, with their outer loops and without members; and
-/// for each node the number of the innermost loop that has it. Outer loops come first, so that the
-/// mark that a header has before its own loop is marked is that of the next loop around it.
+/// for each node the number of the innermost loop that has it.
 pub fn nesting(
     alloc: Global,
     g: &Graph,
@@ -74,21 +105,9 @@ pub fn nesting(
     requires reached { AreReached g.now }
     ensures { IfOk result (λ r. IsNesting g.now r.0.items r.1.items) }
 {
-    let nodes = g.nodes() as usize;
-    let sources = Sources::by_target(alloc, nodes, g.edges())?;
-    let starts = Sources::by_target(alloc, nodes, back_edges)?;
     let flags = header_flags(alloc, g, back_edges)?;
     let (mut loops, numbers) = headers(alloc, g, &flags)?;
-    let order = dominators_first(alloc, g)?;
-    let mut marks = vec![in alloc; None; nodes]?;
-    for h in &order {
-        if flags[*h as usize] {
-            let number = numbers[*h as usize];
-            loops[number as usize].set_outer(marks[*h as usize]);
-            let stack = Vec::from_slice(alloc, starts.of(*h))?;
-            mark(alloc, g, &sources, *h, stack, number, &mut marks)?;
-        }
-    }
+    let marks = innermost_loops(alloc, g, back_edges, &flags, &numbers, &mut loops)?;
     Ok((loops, marks))
 }
 

@@ -17,26 +17,27 @@ fn is_mark_of(mark: Option<u32>, number: u32) -> bool
     }
 }
 
-/// Marks with the number of a loop its header `h` and the nodes from which one of the nodes `stack`
+/// Marks with the number of a loop its header `h` and the nodes from which one of the nodes `starts`
 /// is reached without visiting `h`.
 pub fn mark(
     alloc: Global,
     g: &Graph,
     sources: &Sources,
     h: u32,
-    mut stack: Vec<u32>,
+    starts: &[u32],
     number: u32,
     marks: &mut [Option<u32>],
 ) -> Result<(), AllocError>
     requires sources { AreSources g.now.edges g.now.nodes sources.now }
     requires valid { IsDigraph g.now }
     requires header { h < g.now.nodes }
-    requires within { All (λ x. x < g.now.nodes) stack.items }
+    requires within { All (λ x. x < g.now.nodes) starts.now }
     requires long { length marks.old ≡ g.now.nodes }
     requires fresh { AreUnmarked number marks.old }
-    ensures found { OnOk result (AreFound g.now h stack.items number marks.new) }
+    ensures found { OnOk result (AreFound g.now h starts.now number marks.new) }
     ensures others { OnOk result (IsMarkedWith number marks.old marks.new) }
 {
+    let mut stack = Vec::from_slice(alloc, starts)?;
     marks[h as usize] = Some(number);
     while let Some(x) = stack.pop() {
         if !is_mark_of(marks[x as usize], number) {

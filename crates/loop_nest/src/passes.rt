@@ -1,14 +1,14 @@
 //! The reduction in passes over all nodes. A pass takes one step for each edge that enters a node
 //! which is left, and ends the reduction of a graph without loops; loops take a pass for each depth.
 //! The last pass merges none, which shows that none can be merged.
-ghost use Rattle.std.specs.Prelude.{◌≡◌, ◌^◌, ◌<◌, ℕ, length, map, All, Contains, IfOk, IfSome, IfNone};
+ghost use Rattle.std.specs.Prelude.{◌≡◌, ◌^◌, ◌<◌, ℕ, length, map, All, Contains, IfOk, OnOk, IfSome, IfNone};
 ghost use Rattle.std.specs.Bool.{OnTrue, OnFalse};
 ghost use Rattle.loop_nest.specs.Digraph.{IsDigraph};
 ghost use Rattle.loop_nest.specs.Classes.{NoneCanMerge};
 ghost use Rattle.loop_nest.specs.Entered.{class_of, names as names_in, edge_at, IsEnteredFromOne, IsClassList, AreBackEdgesMarked};
 ghost use Rattle.loop_nest.specs.Pointers.{AreFollowed, DoEnd, ArePointers, AreIncoming, IsNameOf, AreNumbered, IsScanned, KeepsMarks, AreNames, CannotMerge, AreFlags, AreAllNodes};
 
-use super::digraph::{Graph, Sources, turned};
+use super::digraph::{Graph, Sources, targets};
 use super::merging::{Entered, unmerged};
 use std::alloc::{AllocError, Global};
 
@@ -147,15 +147,43 @@ fn pass(g: &Graph, numbers: &Sources, order: &[u32], into: &mut [u32], back: &mu
     merged
 }
 
-/// The nodes that are reached from node 0, in the reverse postorder of a depth-first walk: a node
-/// stands behind those that lead to it, but for the sources of edges that close a cycle.
-fn depth_first(alloc: Global, g: &Graph) -> Result<Vec<u32>, AllocError>
-    ensures { IfOk result (λ order. All (λ x. x < g.now.nodes) order.items) }
+/// One step of a depth-first walk, at this visit: on to the next target, where the walk hasn't seen
+/// it; or back, where the visit has tried each target, and then the node comes next in the postorder.
+fn step(
+    targets: &Sources,
+    visit: Visit,
+    seen: &mut [bool],
+    stack: &mut Vec<Visit>,
+    order: &mut Vec<u32>,
+) -> Result<(), AllocError>
+    requires targets { length targets.now ≡ length seen.old }
+    requires visit { visit.node < length seen.old }
+    requires stack { All (λ s. s.node < length seen.old) stack.old.items }
+    requires order { All (λ x. x < length seen.old) order.old.items }
+    ensures stack { OnOk result (All (λ s. s.node < length seen.old) stack.new.items) }
+    ensures order { OnOk result (All (λ x. x < length seen.old) order.new.items) }
 {
-    let nodes = g.nodes() as usize;
-    let turned = turned(alloc, g.edges())?;
-    let targets = Sources::by_target(alloc, nodes, &turned)?;
-    let mut seen = vec![in alloc; false; nodes]?;
+    let Some(v) = targets.of(visit.node).get(visit.tried).copied() else {
+        order.push(visit.node)?;
+        return Ok(());
+    };
+    stack.push(Visit {
+        node: visit.node,
+        tried: visit.tried + 1,
+    })?;
+    if (v as usize) < seen.len() && !seen[v as usize] {
+        seen[v as usize] = true;
+        stack.push(Visit { node: v, tried: 0 })?;
+    }
+    Ok(())
+}
+
+/// The nodes that a depth-first walk from node 0 reaches, in postorder. Marks them as seen.
+fn postorder(alloc: Global, targets: &Sources, seen: &mut [bool]) -> Result<Vec<u32>, AllocError>
+    requires targets { length targets.now ≡ length seen.old }
+    requires entry { 0 < length seen.old }
+    ensures { IfOk result (λ order. All (λ x. x < length seen.old) order.items) }
+{
     let mut stack = Vec::new(alloc);
     let mut order = Vec::new(alloc);
     stack.push(Visit { node: 0, tried: 0 })?;
@@ -164,19 +192,19 @@ fn depth_first(alloc: Global, g: &Graph) -> Result<Vec<u32>, AllocError>
         let Some(visit) = stack.pop() else {
             break;
         };
-        let Some(v) = targets.of(visit.node).get(visit.tried).copied() else {
-            order.push(visit.node)?;
-            continue;
-        };
-        stack.push(Visit {
-            node: visit.node,
-            tried: visit.tried + 1,
-        })?;
-        if (v as usize) < nodes && !seen[v as usize] {
-            seen[v as usize] = true;
-            stack.push(Visit { node: v, tried: 0 })?;
-        }
+        step(targets, visit, seen, &mut stack, &mut order)?;
     }
+    Ok(order)
+}
+
+/// The nodes that are reached from node 0, in the reverse postorder of a depth-first walk: a node
+/// stands behind those that lead to it, but for the sources of edges that close a cycle.
+fn depth_first(alloc: Global, g: &Graph) -> Result<Vec<u32>, AllocError>
+    ensures { IfOk result (λ order. All (λ x. x < g.now.nodes) order.items) }
+{
+    let targets = targets(alloc, g)?;
+    let mut seen = vec![in alloc; false; g.nodes() as usize]?;
+    let mut order = postorder(alloc, &targets, &mut seen)?;
     order.reverse();
     Ok(order)
 }

@@ -25,8 +25,9 @@ loop-x-init c =
     let marks = c.args.marks.now in
     let n = c.args.number in
     let same : IsMarkedWith n marks marks = record { long = refl; each = λ x. inr refl } in
+    let P : List ℕ → Type 0 = λ ls. IsSearch c.args.g.now c.args.h c.args.starts.now n ls (set marks c.args.h (Some n)) in
     record {
-      search = search_start c.args.g.now c.args.h c.args.stack.items n marks c.requires.header c.requires.long c.requires.fresh c.requires.within;
+      search = subst P (sym c.in_ok-stack.ensures.items) (search_start c.args.g.now c.args.h c.args.starts.now n marks c.requires.header c.requires.long c.requires.fresh c.requires.within);
       marked = marked_more n c.args.h marks marks same;
     }
 
@@ -51,8 +52,8 @@ of-requires c =
     let long = c.requires.sources.long in
     omega arith
 
-pub loop-x-smaller-in-Continue-1 : goal.loop-x-smaller-in-Continue-1
-loop-x-smaller-in-Continue-1 c =
+pub loop-x-smaller-in-Continue-branch-2 : goal.loop-x-smaller-in-Continue-branch-2
+loop-x-smaller-in-Continue-branch-2 c =
     let g = c.args.g.now in
     let x = c.in-Some.x in
     let marks = c.loop-x.marks in
@@ -66,8 +67,8 @@ loop-x-smaller-in-Continue-1 c =
     let more : c.extend_from_slice.new.self.items ≡ left ++ sources_of g.edges x = c.in_ok-extend_from_slice.ensures.items ∙ ap (λ ls. left ++ ls) srcs in
     smaller c.args.number x (length g.edges) marks c.loop-x.stack.items left c.extend_from_slice.new.self.items (sources_of g.edges x) inside fresh (few_sources g.edges x) c.in-Some.ensures.items more
 
-pub loop-x-preserved-in-Continue-1 : goal.loop-x-preserved-in-Continue-1
-loop-x-preserved-in-Continue-1 c =
+pub loop-x-preserved-in-Continue-branch-2 : goal.loop-x-preserved-in-Continue-branch-2
+loop-x-preserved-in-Continue-branch-2 c =
     let g = c.args.g.now in
     let h = c.args.h in
     let n = c.args.number in
@@ -75,7 +76,7 @@ loop-x-preserved-in-Continue-1 c =
     let marks = c.loop-x.marks in
     let s = c.loop-x.invariant.search in
     let left = c.pop.new.self.items in
-    let ends = c.args.stack.items in
+    let ends = c.args.starts.now in
     let lt = within g.nodes x c.loop-x.stack.items left c.in-Some.ensures.items s.stack_within in
     let fresh : mark_at marks x ≢ Some n = λ e. both_ways c.is_mark_of.result c.if-not-is_mark_of.true (c.is_mark_of.ensures.1 e) in
     let srcs : c.of.result.now ≡ sources_of g.edges x = c.of.ensures ∙ c.requires.sources.each x lt in
@@ -89,7 +90,7 @@ loop-x-preserved-in-Continue-1 c =
 
 pub loop-x-preserved : goal.loop-x-preserved
 loop-x-preserved c =
-    let P : List ℕ → Type 0 = λ ls. IsSearch c.args.g.now c.args.h c.args.stack.items c.args.number ls c.loop-x.marks in
+    let P : List ℕ → Type 0 = λ ls. IsSearch c.args.g.now c.args.h c.args.starts.now c.args.number ls c.loop-x.marks in
     record {
       search = search_skips c.pop.new.self.items c.in-Some.x (subst P c.in-Some.ensures.items c.loop-x.invariant.search) (c.is_mark_of.ensures.0 c.if-not-is_mark_of.false);
       marked = c.loop-x.invariant.marked;
@@ -100,5 +101,5 @@ returns-clause-found c = λ x.
     let ok = c.loop-x.stack.ok in
     let cases = c.in_default.ensures.cases in
     let empty : c.loop-x.stack.items ≡ [] = nil_from_length c.loop-x.stack.items (omega (arith, ok.0, cases.0)) in
-    let P : List ℕ → Type 0 = λ ls. IsSearch c.args.g.now c.args.h c.args.stack.items c.args.number ls c.loop-x.marks in
+    let P : List ℕ → Type 0 = λ ls. IsSearch c.args.g.now c.args.h c.args.starts.now c.args.number ls c.loop-x.marks in
     search_ends (subst P empty c.loop-x.invariant.search) x

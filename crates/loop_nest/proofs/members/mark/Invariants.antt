@@ -5,7 +5,7 @@ use Rattle.loop_nest.proofs.members.mark.Given as goal
 
 abbrev pub invariant-loop-x : goal.invariant-loop-x
 invariant-loop-x l = record {
-  search : IsSearch l.g l.h l.fn.stack.items l.number l.stack.items l.marks;
+  search : IsSearch l.g l.h l.starts l.number l.stack.items l.marks;
   marked : IsMarkedWith l.number l.fn.marks l.marks;
 }
 

@@ -1,19 +1,10 @@
-use Rattle.std.proofs.Common.{◌≡◌, ℕ, ◌<◌, ◌+◌, List, [], ◌∷◌, map, All, Vec, sym, ap, ◌∙◌, subst}
+use Rattle.std.proofs.Common.{ℕ, ◌+◌, List, [], ◌∷◌, map, Vec, sym, ap, ◌∙◌, subst}
 use Rattle.std.specs.declared.alloc.Global.{Global}
 use Rattle.std.proofs.lemmas.List.{map-append}
 use Rattle.loop_nest.specs.Chains.{AreBlocksBelow}
-use Rattle.loop_nest.proofs.Linked.{blocks_more, blocks_same, turned_within}
-use Rattle.loop_nest.proofs.chains.chains.Goals as goal
-use Rattle.loop_nest.proofs.chains.chains.Goals.{then-not-is_later+in_ok-chain+in_ok-push, else-not-is_later}
-
-pub by_target-requires : goal.by_target-requires
-by_target-requires c =
-    let g = c.args.g.now in
-    let is : c.deref.result.now ≡ map (λ (e : ℕ × ℕ). (e.1, e.0)) g.edges =
-    c.deref.ensures.value ∙ c.in_ok-turned.ensures ∙ ap (map (λ (e : ℕ × ℕ). (e.1, e.0))) c.edges.ensures.edges in
-    let P : List (ℕ × ℕ) → Type 0 = λ es. All (λ (e : ℕ × ℕ). e.1 < g.nodes) es in
-    let Q : ℕ → Type 0 = λ n. All (λ (e : ℕ × ℕ). e.1 < n) c.deref.result.now in
-    subst Q (sym c.nodes-nodes.ensures.nodes) (subst P (sym is) (turned_within g c.nodes-nodes.ensures.valid))
+use Rattle.loop_nest.proofs.Linked.{blocks_more, blocks_same}
+use Rattle.loop_nest.proofs.chains.chains_by.Goals as goal
+use Rattle.loop_nest.proofs.chains.chains_by.Goals.{then-not-is_later+in_ok-chain+in_ok-push, else-not-is_later}
 
 pub loop-u-preserved : goal.loop-u-preserved
 loop-u-preserved c =
