@@ -54,6 +54,8 @@ fn class_indexes(maker: &PoolMaker, alloc: Global, names: &[Units]) -> Result<Ve
 fn class_in(maker: &PoolMaker, alloc: Global, plan: &ClassPlan) -> Result<ClassFile, NoMemory>
     ensures { IfOk result (λ class. class ≡ class_in maker.now plan.now) }
 {
+    let this_class = maker.class_index(alloc, &plan.name)?;
+    let super_class = superclass_index(maker, alloc, &plan.superclass)?;
     let interfaces = class_indexes(maker, alloc, plan.interfaces.as_slice())?;
     let fields = fields(maker, alloc, plan.fields.as_slice())?;
     let methods = methods(maker, alloc, plan.methods.as_slice())?;
@@ -62,8 +64,8 @@ fn class_in(maker: &PoolMaker, alloc: Global, plan: &ClassPlan) -> Result<ClassF
         major: plan.major,
         pool: maker.pool(alloc)?,
         flags: plan.flags,
-        this_class: maker.class_index(alloc, &plan.name)?,
-        super_class: superclass_index(maker, alloc, &plan.superclass)?,
+        this_class,
+        super_class,
         interfaces: Items::new(interfaces),
         fields: Items::new(fields),
         methods: Items::new(methods),

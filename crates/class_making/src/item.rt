@@ -50,26 +50,27 @@ impl Item {
     pub(crate) fn copied(&self, alloc: Global) -> Result<Item, NoMemory>
         ensures { IfOk result (λ copy. copy ≡ self.now) }
     {
-        Ok(match self {
-            Item::Text(text) => Item::Text(copy_of(alloc, text)?),
-            Item::Integer(bits) => Item::Integer(*bits),
-            Item::Class(name) => Item::Class(copy_of(alloc, name)?),
-            Item::Str(text) => Item::Str(copy_of(alloc, text)?),
+        match self {
+            Item::Text(text) => Ok(Item::Text(copy_of(alloc, text)?)),
+            Item::Integer(bits) => Ok(Item::Integer(*bits)),
+            Item::Class(name) => Ok(Item::Class(copy_of(alloc, name)?)),
+            Item::Str(text) => Ok(Item::Str(copy_of(alloc, text)?)),
             Item::NameAndType(name, descriptor) => {
-                Item::NameAndType(copy_of(alloc, name)?, copy_of(alloc, descriptor)?)
+                let name = copy_of(alloc, name)?;
+                Ok(Item::NameAndType(name, copy_of(alloc, descriptor)?))
             }
             Item::Field(owner, name, descriptor) => {
                 let (owner, name, descriptor) = copies_of(alloc, owner, name, descriptor)?;
-                Item::Field(owner, name, descriptor)
+                Ok(Item::Field(owner, name, descriptor))
             }
             Item::Method(owner, name, descriptor) => {
                 let (owner, name, descriptor) = copies_of(alloc, owner, name, descriptor)?;
-                Item::Method(owner, name, descriptor)
+                Ok(Item::Method(owner, name, descriptor))
             }
             Item::InterfaceMethod(owner, name, descriptor) => {
                 let (owner, name, descriptor) = copies_of(alloc, owner, name, descriptor)?;
-                Item::InterfaceMethod(owner, name, descriptor)
+                Ok(Item::InterfaceMethod(owner, name, descriptor))
             }
-        })
+        }
     }
 }

@@ -134,6 +134,33 @@ impl PoolMaker {
         Ok(self.index_of(&Item::NameAndType(name, descriptor)))
     }
 
+    // The indexes of two texts.
+    fn text_indexes(
+        &self,
+        alloc: Global,
+        first: &Units,
+        second: &Units,
+    ) -> Result<(u16, u16), NoMemory>
+        ensures { IfOk result (λ i. i ≡ (index_of self.now (Item.Text first.now), index_of self.now (Item.Text second.now))) }
+    {
+        let first = self.text_index(alloc, first)?;
+        Ok((first, self.text_index(alloc, second)?))
+    }
+
+    // The indexes of a member's class, and of its name and descriptor.
+    fn member_indexes(
+        &self,
+        alloc: Global,
+        owner: &Units,
+        name: &Units,
+        descriptor: &Units,
+    ) -> Result<(u16, u16), NoMemory>
+        ensures { IfOk result (λ i. i ≡ (index_of self.now (Item.Class owner.now), index_of self.now (Item.NameAndType name.now descriptor.now))) }
+    {
+        let owner = self.class_index(alloc, owner)?;
+        Ok((owner, self.pair_index(alloc, name, descriptor)?))
+    }
+
     // The entry of an item.
     fn entry_of(&self, alloc: Global, item: &Item) -> Result<Entry, NoMemory>
         ensures { IfOk result (λ e. e ≡ entry_of self.now item.now) }
@@ -144,20 +171,20 @@ impl PoolMaker {
             Item::Class(name) => Ok(Entry::Class(self.text_index(alloc, name)?)),
             Item::Str(text) => Ok(Entry::Text(self.text_index(alloc, text)?)),
             Item::NameAndType(name, descriptor) => {
-                let name = self.text_index(alloc, name)?;
-                Ok(Entry::NameAndType(name, self.text_index(alloc, descriptor)?))
+                let (name, descriptor) = self.text_indexes(alloc, name, descriptor)?;
+                Ok(Entry::NameAndType(name, descriptor))
             }
             Item::Field(owner, name, descriptor) => {
-                let owner = self.class_index(alloc, owner)?;
-                Ok(Entry::Field(owner, self.pair_index(alloc, name, descriptor)?))
+                let (owner, member) = self.member_indexes(alloc, owner, name, descriptor)?;
+                Ok(Entry::Field(owner, member))
             }
             Item::Method(owner, name, descriptor) => {
-                let owner = self.class_index(alloc, owner)?;
-                Ok(Entry::Method(owner, self.pair_index(alloc, name, descriptor)?))
+                let (owner, member) = self.member_indexes(alloc, owner, name, descriptor)?;
+                Ok(Entry::Method(owner, member))
             }
             Item::InterfaceMethod(owner, name, descriptor) => {
-                let owner = self.class_index(alloc, owner)?;
-                Ok(Entry::InterfaceMethod(owner, self.pair_index(alloc, name, descriptor)?))
+                let (owner, member) = self.member_indexes(alloc, owner, name, descriptor)?;
+                Ok(Entry::InterfaceMethod(owner, member))
             }
         }
     }
