@@ -13,7 +13,8 @@ use class_lookup::Classes;
 use items::Items;
 use jop_base::NoMemory;
 use std::alloc::Global;
-use upward_order::{NumberSet, empty_sets, insert_lists, upward_lists};
+use upward_lists::{MarkedSet, upward_lists};
+use upward_order::{NumberSet, empty_sets};
 
 /// What stands above each class.
 #[derive(Drop)]
@@ -90,12 +91,12 @@ fn inherited_list(
     requires through { IsTransitive interfaces.now }
     ensures { IfOk result (λ set. IsSameSearch set (flat_map (entry interfaces.now) (superinterfaces classes.now class) ++ option_map_or (entry table.now) (superclass classes.now class) [])) }
 {
-    let mut set = NumberSet::new(alloc);
-    insert_lists(&mut set, classes.superinterfaces(class), interfaces)?;
+    let mut set = MarkedSet::new(alloc, table.len())?;
+    set.insert_lists(classes.superinterfaces(class), interfaces)?;
     if let Some(upper) = classes.superclass(class) {
         set.insert_all(table[upper as usize].as_slice())?;
     }
-    Ok(set)
+    Ok(set.into_set())
 }
 
 /// For each class: all its superinterfaces, and then those of its superclass that aren't among them.

@@ -17,3 +17,4 @@ pub use acyclic::is_acyclic;
 pub use class_lookup::Place;
 pub use cycles::first_on_cycle;
 pub use hierarchy::Hierarchy;
+pub use methods::{is_joining, is_open, is_public_instance};

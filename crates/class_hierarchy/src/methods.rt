@@ -26,7 +26,7 @@ pub(crate) fn method_at(classes: &Classes, place: Place) -> Option<&Member>
 }
 
 /// Whether there is such a method, and it is public and isn't static.
-pub(crate) fn is_public_instance(classes: &Classes, place: Place) -> bool
+pub fn is_public_instance(classes: &Classes, place: Place) -> bool
     ensures { result ≡ is_public_instance classes.now place }
 {
     match method_at(classes, place) {
@@ -57,7 +57,7 @@ pub(crate) fn is_virtual(classes: &Classes, place: Place) -> bool
 }
 
 /// Whether each class below may override the method.
-pub(crate) fn is_open(classes: &Classes, place: Place) -> bool
+pub fn is_open(classes: &Classes, place: Place) -> bool
     ensures { result ≡ is_open classes.now place }
 {
     match method_at(classes, place) {
@@ -84,13 +84,7 @@ fn is_near(classes: &Classes, place: Place, resolved: Place) -> bool
 
 /// Whether a method of the resolved one's name and descriptor is it or overrides it, where `found` says whether it or one that
 /// overrides it stands above, and `free` whether one of these may be overridden by each class below.
-pub(crate) fn is_joining(
-    classes: &Classes,
-    resolved: Place,
-    found: bool,
-    free: bool,
-    place: Place,
-) -> bool
+pub fn is_joining(classes: &Classes, resolved: Place, found: bool, free: bool, place: Place) -> bool
     ensures { result ≡ is_joining classes.now resolved found free place }
 {
     place == resolved

@@ -2,7 +2,6 @@
 //! for receivers of its direct superclass: one look at what the class declares tells it.
 #![tactic(auto)]
 
-mod methods;
 mod named;
 mod selected;
 

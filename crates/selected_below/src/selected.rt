@@ -5,9 +5,8 @@ ghost use Rattle.class_lookup.specs.Hierarchy.{is_interface};
 ghost use Rattle.class_lookup.specs.Lookup.{Place as APlace};
 ghost use Rattle.selected_below.specs.Selecting.{IsSelected, IsSelectedAbove, IsSelectedOf};
 
-use crate::methods::{is_joining, is_open, is_public_instance};
 use crate::named::declared_as;
-use class_hierarchy::Hierarchy;
+use class_hierarchy::{Hierarchy, is_joining, is_open, is_public_instance};
 use class_lookup::{Classes, Place};
 
 /// What is selected for receivers of a class and a resolved method.

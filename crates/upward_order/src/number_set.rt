@@ -1,4 +1,4 @@
-ghost use Rattle.std.specs.Prelude.{◌≡◌, ℕ, ◌++◌, [], nat_eq, OnOk};
+ghost use Rattle.std.specs.Prelude.{◌≡◌, ℕ, ◌++◌, [], nat_eq, replicate, IfOk, OnOk};
 ghost use Rattle.std.specs.List.{IsDistinct};
 ghost use Rattle.lists.specs.Numbers.{is_among};
 ghost use Rattle.upward_order.specs.Numbers.{with_number, IsSameSearch};
@@ -69,4 +69,15 @@ impl NumberSet {
         }
         Ok(())
     }
+}
+
+/// So many empty sets.
+pub fn empty_sets(alloc: Global, count: usize) -> Result<Vec<NumberSet>, NoMemory>
+    ensures { IfOk result (λ sets. sets.items ≡ replicate count []) }
+{
+    let mut sets = Vec::new(alloc);
+    for _index in 0..count {
+        sets.push(NumberSet::new(alloc))?;
+    }
+    Ok(sets)
 }

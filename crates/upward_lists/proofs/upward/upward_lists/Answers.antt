@@ -5,7 +5,7 @@ use Rattle.upward_order.specs.Numbers.{entry, IsTransitive}
 use Rattle.lists.proofs.Among.{among_at}
 use Rattle.upward_order.proofs.UpwardLemmas.{built_through, built_more, falls_at, falls_apart, front_more, through_end}
 use Rattle.lists.proofs.Tables.{entry_read, same_along}
-use Rattle.upward_order.proofs.upward.upward_lists.Goals as goal
+use Rattle.upward_lists.proofs.upward.upward_lists.Goals as goal
 
 pub bounds-above-index : goal.bounds-above-index
 bounds-above-index c = c.requires.peeled.below (get_or c.args.order.now c.loop-number.number-index 0) (among_at c.args.order.now c.loop-number.number-index c.loop-number-test.true)
