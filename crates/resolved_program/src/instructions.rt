@@ -34,19 +34,44 @@ impl Program {
         }
     }
 
+    /// An instruction of the class, with what it names.
+    fn with_operand(&self, class: u32, instr: &Instr) -> Instruction
+        requires { class < length self.now }
+        ensures instr { result.instr ≡ instr.now }
+        ensures operand { (c : ClassFile) → slice_get self.now class ≡ Some c → operand_seen result.operand ≡ operand_in self.now class c instr.now }
+        ensures guarded { (c : ClassFile) → slice_get self.now class ≡ Some c → result.guarded ≡ guarded_in self.now class c instr.now }
+    {
+        let instr = *instr;
+        if !self.takes(class, &instr) {
+            return Instruction {
+                instr,
+                operand: Operand::Nothing,
+                guarded: false,
+            };
+        }
+        let meaning = self.meaning(class, instr.first.unsigned_abs());
+        let guarded = meaning.guarded;
+        if instr.op == INVOKESPECIAL {
+            Instruction {
+                instr,
+                operand: meaning.special,
+                guarded,
+            }
+        } else {
+            Instruction {
+                instr,
+                operand: meaning.usual,
+                guarded,
+            }
+        }
+    }
+
     /// What the pool entry means that an instruction of the class names.
     pub fn operand(&self, class: u32, instr: &Instr) -> Operand
         requires { class < length self.now }
         ensures { (c : ClassFile) → slice_get self.now class ≡ Some c → operand_seen result ≡ operand_in self.now class c instr.now }
     {
-        let meaning = self.meaning(class, instr.first.unsigned_abs());
-        if !self.takes(class, instr) {
-            Operand::Nothing
-        } else if instr.op == INVOKESPECIAL {
-            meaning.special
-        } else {
-            meaning.usual
-        }
+        self.with_operand(class, instr).operand
     }
 
     /// Whether it names a protected member of a superclass in another package (4.10.1.8).
@@ -54,8 +79,7 @@ impl Program {
         requires { class < length self.now }
         ensures { (c : ClassFile) → slice_get self.now class ≡ Some c → result ≡ guarded_in self.now class c instr.now }
     {
-        let meaning = self.meaning(class, instr.first.unsigned_abs());
-        self.takes(class, instr) && meaning.guarded
+        self.with_operand(class, instr).guarded
     }
 
     /// What objects are of the type that a Class entry of the class names.
@@ -102,11 +126,7 @@ impl Program {
             return None;
         }
         match decode(code, pc) {
-            Ok(instr) => Some(Instruction {
-                instr,
-                operand: self.operand(class, &instr),
-                guarded: self.is_guarded(class, &instr),
-            }),
+            Ok(instr) => Some(self.with_operand(class, &instr)),
             Err(_) => None,
         }
     }

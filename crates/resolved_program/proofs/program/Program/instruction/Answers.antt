@@ -2,6 +2,7 @@ use Rattle.std.proofs.Common.{◌≡◌, ◌<◌, ◌≤◌, List, ℕ, None, So
 use Rattle.std.specs.Prelude.{slice_get}
 use Rattle.std.specs.Option.{option_map}
 use Rattle.class_lookup.specs.Lookup.{Place}
+use Rattle.jop_opcodes.specs.declared.instruction.Instr.{Instr}
 use Rattle.jop_opcodes.specs.Instruction.{decoded}
 use Rattle.bytecode_model.specs.Program.{as_instr, NoOperand}
 use Rattle.program_tables.specs.Operands.{operand_in, guarded_in}
@@ -27,17 +28,8 @@ returns-then-pc-code-clause-instr c =
     none_past_end k.code pc past (c.instructions_end_within.ensures k.code pc)
     ∙ instr_told c.methods_stand_by_number.ensures cs n pc p (Some k) c.method.ensures (code_here cs n p (Some k) c.in_ok-code.ensures.code c.method.ensures)
 
-pub operand-requires : goal.operand-requires
-operand-requires c =
-    let cs = c.args.self.now in
-    let p = c.method.result in
-    let k = c.in_ok-code.field-0.now in
-    let one : c.class.inside.class ≡ p.0 = ap (λ (q : Place). q.0) c.class.view_is in
-    let there = class_there cs p k (code_here cs c.args.method p (Some k) c.in_ok-code.ensures.code c.method.ensures) in
-    subst (λ (class : ℕ). class < length cs) (sym one) there
-
-pub is_guarded-requires : goal.is_guarded-requires
-is_guarded-requires c =
+pub with_operand-requires : goal.with_operand-requires
+with_operand-requires c =
     let cs = c.args.self.now in
     let p = c.method.result in
     let k = c.in_ok-code.field-0.now in
@@ -52,7 +44,8 @@ returns-in-Ok-clause-instr c =
     let pc = c.args.pc in
     let p = c.method.result in
     let k = c.in_ok-code.field-0.now in
-    ap as_instr (c.in-Ok.ensures.exact ∙ ap (λ (code : List ℕ). decoded code pc) c.as_slice-code.ensures)
+    ap (λ (i : Instr). Some i) c.with_operand.ensures.instr
+    ∙ ap as_instr (c.in-Ok.ensures.exact ∙ ap (λ (code : List ℕ). decoded code pc) c.as_slice-code.ensures)
     ∙ instr_told c.methods_stand_by_number.ensures cs n pc p (Some k) c.method.ensures (code_here cs n p (Some k) c.in_ok-code.ensures.code c.method.ensures)
 
 pub returns-in-Ok-clause-operand : goal.returns-in-Ok-clause-operand
@@ -67,7 +60,7 @@ returns-in-Ok-clause-operand c =
     let here = code_here cs n p (Some k) c.in_ok-code.ensures.code c.method.ensures in
     let file = class_of_method cs p k here in
     let decodes = ap as_instr (sym (c.in-Ok.ensures.exact ∙ ap (λ (code : List ℕ). decoded code pc) c.as_slice-code.ensures)) in
-    c.operand.ensures file.0 (ap (slice_get cs) one ∙ file.1)
+    c.with_operand.ensures.operand file.0 (ap (slice_get cs) one ∙ file.1)
     ∙ (ap (λ (class : ℕ). operand_in cs class file.0 i) one ∙ said_at cs n pc p file.0 k i NoOperand (operand_in cs) c.method.ensures file.1 here decodes)
 
 pub returns-in-Ok-clause-guarded : goal.returns-in-Ok-clause-guarded
@@ -82,7 +75,7 @@ returns-in-Ok-clause-guarded c =
     let here = code_here cs n p (Some k) c.in_ok-code.ensures.code c.method.ensures in
     let file = class_of_method cs p k here in
     let decodes = ap as_instr (sym (c.in-Ok.ensures.exact ∙ ap (λ (code : List ℕ). decoded code pc) c.as_slice-code.ensures)) in
-    c.is_guarded.ensures file.0 (ap (slice_get cs) one ∙ file.1)
+    c.with_operand.ensures.guarded file.0 (ap (slice_get cs) one ∙ file.1)
     ∙ (ap (λ (class : ℕ). guarded_in cs class file.0 i) one ∙ said_at cs n pc p file.0 k i false (guarded_in cs) c.method.ensures file.1 here decodes)
 
 pub returns-in-Err-clause-instr : goal.returns-in-Err-clause-instr
