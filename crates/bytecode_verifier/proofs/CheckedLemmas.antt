@@ -1,23 +1,18 @@
 -- A method of a program as it is checked.
-use Rattle.std.proofs.Common.{◌≡◌, ℕ, List, length, map, Option, Some, sym, ap, ◌∙◌, subst}
+use Rattle.std.proofs.Common.{◌≡◌, ℕ, map, Option, Some, sym, ap, ◌∙◌, subst}
 use Rattle.std.specs.Prelude.{slice_get}
 use Rattle.std.specs.Option.{option_map, IsSomeAnd}
-use Rattle.std.specs.List.{range_with_len}
-use Rattle.jop_opcodes.specs.Target.{WholeIsWithin}
 use Rattle.class_pool.specs.declared.class.Code.{Code}
 use Rattle.program_tables.specs.declared.operand.MethodShape.{MethodShape}
 use Rattle.program_tables.specs.Laws.{MethodsStandByNumber}
 use Rattle.program_tables.specs.Meanings.{handler_seen, declared_seen, HasShape}
 use Rattle.program_tables.specs.Resolved.{handler_of, resolved}
 use Rattle.bytecode_typing.specs.Types.{TypeFrame}
-use Rattle.bytecode_typing.specs.Checks.{made_at}
 use Rattle.bytecode_verifier.specs.declared.rows.Checking.{Checking}
-use Rattle.bytecode_verifier.specs.Around.{made_in}
 use Rattle.bytecode_verifier.specs.Handled.{HoldAlike}
 use Rattle.bytecode_verifier.specs.Maps.{frames_at}
 use Rattle.bytecode_verifier.specs.Methods.{IsCodeOf, method_of, body_of}
 use Rattle.bytecode_verifier.specs.Place.{HasCode, IsMethodOf}
-use Rattle.bytecode_verifier.proofs.MadeLemmas.{none_behind, table_has}
 use Rattle.bytecode_verifier.proofs.MethodLemmas.{method_is, body_there}
 
 pub some_at : {A : Type 0} (o : Option A) (P : A → Type 0) (x : A) → o ≡ Some x → IsSomeAnd o P → P x
@@ -34,7 +29,7 @@ pub record HasParts (x : Checking) (n : ℕ) (k : Code) (h : IsCodeOf x.program.
   pub classes : x.around.classes.now ≡ x.program.now
   pub owner : x.around.owner ≡ h.place.0
   pub init : x.around.is_init ≡ s.is_init
-  pub made : x.around.made.now ≡ map (made_at (resolved x.program.now) n) (range_with_len 0 (length k.code))
+  pub stands : x.around.number ≡ n
   pub locals : k.max_locals ≡ x.max_locals
   pub stack : k.max_stack ≡ x.max_stack
   pub code : x.code.now ≡ k.code
@@ -42,14 +37,13 @@ pub record HasParts (x : Checking) (n : ℕ) (k : Code) (h : IsCodeOf x.program.
   pub shape : IsSomeAnd (slice_get (resolved x.program.now).methods n) (HasShape s)
   pub result : x.result ≡ s.result
 
-pub is_method : MethodsStandByNumber → ((code : List ℕ) (pc : ℕ) → WholeIsWithin code pc) → (x : Checking) (n : ℕ) (k : Code) (h : IsCodeOf x.program.now n k) (shape : MethodShape) → HasParts x n k h shape
+pub is_method : MethodsStandByNumber → (x : Checking) (n : ℕ) (k : Code) (h : IsCodeOf x.program.now n k) (shape : MethodShape) → HasParts x n k h shape
     → (given : ℕ → Option TypeFrame) → ((place : ℕ) → given place ≡ frames_at x.maps.now place) → IsMethodOf x n (method_of x.program.now n k h) (body_of x.program.now n k h) given
-is_method law ends x n k h shape p given same = record {
+is_method law x n k h shape p given same = record {
   classes = ap resolved p.classes;
   owner = sym p.owner;
   init = (has_shape law x n k h shape p.shape).is_init ∙ sym p.init;
-  made = λ place. ap (λ (l : List (Option ℕ)). made_in l place) p.made
-      ∙ table_has (made_at (resolved x.program.now) n) (length k.code) place (λ past. none_behind ends (resolved x.program.now) n place (body_of x.program.now n k h) (body_there law x.program.now n k h) past);
+  stands = p.stands;
   maps = same;
   locals = p.locals;
   stack = p.stack;

@@ -5,7 +5,7 @@ use Rattle.std.specs.Option.{option_map}
 use Rattle.jop_opcodes.specs.declared.instruction.Instr.{Instr}
 use Rattle.lists.specs.Lists.{onto}
 use Rattle.lists.specs.Lemmas.{none≢some, some_same, onto_some}
-use Rattle.bytecode_model.specs.Program.{Program, Body, Operand, body_of, as_instr, instr_at}
+use Rattle.bytecode_model.specs.Program.{Program, Operand, body_of, as_instr, instr_at}
 use Rattle.jop_opcodes.specs.Instruction.{decoded}
 use Rattle.bytecode_model.specs.Rows as rows
 use Rattle.bytecode_model.specs.Rows.{Row}
@@ -78,20 +78,6 @@ has_row P n pc i o e h =
           ∙ (ap (λ y. onto {A = ℕ × Row} (onto (row_of b.0.code i y) (λ r. Some (pc + i.length, r))) (λ x. class_made_by x.1)) (sym h)
           ∙ pairs (pc + i.length) (row_of b.0.code i o)));
     }
-
-none_onto : (P : Program) (n pc : ℕ) (b : Option Body) (i : Option Instr) → onto b (λ b. i) ≡ None
-    → onto {A = ℕ × Row} (onto b (λ b. onto i (λ i. onto (row_of b.code i (P.operand n pc)) (λ r. Some (pc + i.length, r))))) (λ x. class_made_by x.1) ≡ None
-none_onto P n pc None i e = refl
-none_onto P n pc (Some b) None e = refl
-none_onto P n pc (Some b) (Some i) e = absurd (none≢some i (sym e))
-
-in_none : (b : Option Body) (i : Option Instr) → i ≡ None → onto b (λ b. i) ≡ None
-in_none None i e = refl
-in_none (Some b) i e = e
-
--- where there is none
-pub no_row : (P : Program) (n pc : ℕ) → None ≡ instr_at P n pc → made_at P n pc ≡ None
-no_row P n pc e = none_onto P n pc (body_of P n) (instr_at P n pc) (in_none (body_of P n) (instr_at P n pc) (sym e))
 
 pub made_as : (code : List ℕ) (i : Instr) (o : Operand) (found f : Family) → IsFamilyOf i.op found → found ≡ f → onto (row_of code i o) class_made_by ≡ onto (family_row f code i o) class_made_by
 unfolding IsFamilyOf

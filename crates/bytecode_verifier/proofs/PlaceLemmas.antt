@@ -31,7 +31,7 @@ use Rattle.bytecode_verifier.proofs.TextLemmas.{operands_typed}
 pub stands_at : (c : Checking) (n : ℕ) (m : Method) (b : Body) (maps : ℕ → Option TypeFrame) (place : ℕ) (x : Instruction) → IsResolved c.program.now → IsMethodOf c n m b maps → IsNamedAs c n place x → IsAt c place x (site_at c n m b maps place)
 stands_at c n m b maps place x r h k = record {
   program = refl;
-  around = record { program = sym h.classes; owner = h.owner; init = h.init; made = h.made };
+  around = record { program = sym h.classes; owner = h.owner; init = h.init; number = sym h.stands };
   place = refl;
   maps = h.maps;
   locals = h.locals;

@@ -10,14 +10,12 @@ use Rattle.program_tables.specs.Meanings.{operand_seen, handler_seen, declared_s
 use Rattle.program_tables.specs.Resolved.{resolved}
 use Rattle.bytecode_typing.specs.Types.{TypeFrame}
 use Rattle.bytecode_typing.specs.Rules as rules
-use Rattle.bytecode_typing.specs.Checks.{made_at}
 use Rattle.bytecode_typing.specs.Walk as walk
 use Rattle.verifier_types.specs.Frame.{frame_seen}
 use Rattle.verifier_types.specs.Site.{Site, rule_seen}
 use Rattle.bytecode_verifier.specs.declared.rows.Checking.{Checking}
 use Rattle.bytecode_verifier.specs.declared.place.Step.{Step}
 use Rattle.bytecode_verifier.specs.declared.place.Step.TheVariants.{Breaks, Goes}
-use Rattle.bytecode_verifier.specs.Around.{made_in}
 use Rattle.bytecode_verifier.specs.Handled.{HoldAlike, IsHeld}
 use Rattle.bytecode_verifier.specs.Maps.{frames_at}
 
@@ -32,7 +30,7 @@ pub record IsMethodOf (c : Checking) (number : ℕ) (m : Method) (b : Body) (giv
   pub classes : resolved c.around.classes.now ≡ resolved c.program.now
   pub owner : m.owner ≡ c.around.owner
   pub init : m.is_init ≡ c.around.is_init
-  pub made : (place : ℕ) → made_in c.around.made.now place ≡ made_at (resolved c.program.now) number place
+  pub stands : c.around.number ≡ number
   pub maps : (place : ℕ) → given place ≡ frames_at c.maps.now place
   pub locals : b.max_locals ≡ c.max_locals
   pub stack : b.max_stack ≡ c.max_stack

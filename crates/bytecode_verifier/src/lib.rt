@@ -11,6 +11,7 @@ mod fields;
 mod first;
 mod handlers;
 pub mod laws;
+mod made;
 mod maps;
 mod members;
 mod methods;

@@ -1,36 +1,30 @@
 //! The rules of a method in their order, and what fails first in a program (JVM Specification SE 8, 4.7.3, 4.7.4, 4.9.1 and 4.10.1).
 ghost use Rattle.std.specs.Prelude.{◌≡◌, ◌<◌, ◌≤◌, ◌==◌, ◌&&◌, ◌||◌, ℕ, List, Option, Some, None, length, map, find, not, is_ok, IfOk, slice_get};
 ghost use Rattle.std.specs.Option.{option_map};
-ghost use Rattle.std.specs.List.{filter, range_with_len};
+ghost use Rattle.std.specs.List.{filter};
 ghost use Rattle.jop_opcodes.specs.Instruction.{decoded};
-ghost use Rattle.jop_opcodes.specs.declared.instruction.Instr as instr;
 ghost use Rattle.jop_opcodes.specs.Start.{starts_of, first_bad};
 ghost use Rattle.class_pool.specs.declared.class.ClassFile.{ClassFile};
 ghost use Rattle.bytecode_model.specs.Program as model;
 ghost use Rattle.bytecode_typing.specs.Types as typing;
-ghost use Rattle.bytecode_typing.specs.Checks.{class_made_by, made_at};
 ghost use Rattle.bytecode_typing.specs.Walk as walk;
 ghost use Rattle.frame_types.specs.Types.{is_start};
-ghost use Rattle.program_tables.specs.Meanings.{handler_seen, operand_seen};
+ghost use Rattle.program_tables.specs.Meanings.{handler_seen};
 ghost use Rattle.program_tables.specs.Numbers.{methods_by_number};
 ghost use Rattle.program_tables.specs.Resolved.{handler_of, resolved};
 ghost use Rattle.verifier_types.specs.Frame.{frame_seen};
-ghost use Rattle.bytecode_verifier.specs.Around.{made_in};
-ghost use Rattle.bytecode_model.specs.Lists.{onto};
-ghost use Rattle.bytecode_verifier.specs.Family.{named_row};
 ghost use Rattle.bytecode_verifier.specs.Failure.{is_bad_entry, lesser, least, types_failure, code_failure, method_failure, walk_failure};
+ghost use Rattle.bytecode_verifier.specs.Handled.{HoldAlike};
 ghost use Rattle.bytecode_verifier.specs.Maps.{frames_at};
 ghost use Rattle.bytecode_verifier.specs.Verdict.{IsFirstFailure};
 ghost use Rattle.bytecode_verifier.specs.Methods.{IsCodeOf, method_of, body_of, found_in, AreMaps, failure_seen, walk_failed};
 ghost use Rattle.bytecode_verifier.specs.Place.{HasCode, IsMethodOf};
 
 use crate::around::Around;
-use crate::family::{Family, Named, family_of};
 use crate::fault::MethodRule;
 use crate::first::first_frame;
-use crate::handlers::by_start;
+use crate::handlers::{Handlers, by_start};
 use crate::maps::MapFrames;
-use crate::members::class_meant;
 use crate::names::map_frames;
 use crate::place::{Step, verdict_at};
 use crate::rows::Checking;
@@ -39,10 +33,10 @@ use class_rules::laws::methods_have_code;
 use frame_types::laws::frames_stand_at_instructions;
 use frame_types::{MapFault, frames};
 use jop_base::NoMemory;
-use jop_opcodes::laws::{instructions_end_within, starts_follow_one_another};
+use jop_opcodes::laws::starts_follow_one_another;
 use jop_opcodes::{decode, starts};
+use program_tables::Handler;
 use program_tables::laws::{members_are_there, methods_stand_by_number};
-use program_tables::{Handler, Operand};
 use resolved_program::Program;
 use std::alloc::Global;
 use verifier_types::{Rule, TypeFrame};
@@ -111,54 +105,6 @@ fn lesser(found: Option<u16>, other: u16) -> Option<u16>
     }
 }
 
-/// The class that an instruction of the family makes an object of, if it does.
-fn made_by(named: Named, operand: Operand) -> Option<u32>
-    ensures { (code : List ℕ) (i : instr.Instr) → result ≡ onto (named_row named code i (operand_seen operand)) class_made_by }
-{
-    match named {
-        Named::New => class_meant(operand),
-        Named::Constant => None,
-        Named::LongConstant => None,
-        Named::NewArray => None,
-        Named::Cast => None,
-        Named::Test => None,
-    }
-}
-
-/// The class that the `new` at a place of a method names.
-fn made_at(program: &Program, method: u32, place: u32) -> Option<u32>
-    requires { method < length (methods_by_number program.now) }
-    ensures { result ≡ made_at (resolved program.now) method place }
-{
-    let x = program.instruction(method, place)?;
-    match family_of(x.instr.op) {
-        Family::Named(named) => made_by(named, x.operand),
-        Family::Unknown => None,
-        Family::Value(_) => None,
-        Family::Array(_) => None,
-        Family::Field(_) => None,
-        Family::Call(_) => None,
-        Family::Leads(_) => None,
-    }
-}
-
-/// The same by places.
-fn made_classes(
-    alloc: Global,
-    program: &Program,
-    method: u32,
-    count: u32,
-) -> Result<Vec<Option<u32>>, NoMemory>
-    requires { method < length (methods_by_number program.now) }
-    ensures { IfOk result (λ made. made.items ≡ map (made_at (resolved program.now) method) (range_with_len 0 count)) }
-{
-    let mut made = Vec::new(alloc);
-    for place in 0..count {
-        made.push(made_at(program, method, place))?;
-    }
-    Ok(made)
-}
-
 /// The exception table of a method of the class.
 fn handlers_of(
     alloc: Global,
@@ -203,6 +149,44 @@ fn walk_places(
     Ok(None)
 }
 
+/// What is checked of the method of this number, which has this code, these frames and these handlers.
+fn checking_of<'a>(
+    program: &'a Program,
+    number: u32,
+    code: &'a Code,
+    maps: &'a MapFrames,
+    handlers: &'a Handlers,
+) -> Checking<'a>
+    requires method { number < length (methods_by_number program.now) }
+    requires code { IsCodeOf program.now number code.now }
+    ensures program { result.program.now ≡ program.now }
+    ensures code { result.code.now ≡ code.now.code }
+    ensures there { HasCode result number }
+    ensures method { (h : IsCodeOf program.now number code.now) (given : ℕ → Option typing.TypeFrame) → ((place : ℕ) → given place ≡ frames_at maps.now place) → HoldAlike (map (handler_of program.now h.class) code.now.handlers) (map handler_seen handlers.now.items.items) → IsMethodOf result number (method_of program.now number code.now h) (body_of program.now number code.now h) given }
+{
+    members_are_there();
+    methods_stand_by_number();
+    let class = program.method(number).class;
+    let shape = program.shape(number);
+    let around = Around {
+        program,
+        classes: program.hierarchy(),
+        number,
+        owner: class,
+        is_init: shape.is_init,
+    };
+    Checking {
+        program,
+        around,
+        maps,
+        code: code.code.as_slice(),
+        handlers,
+        max_locals: code.max_locals,
+        max_stack: code.max_stack,
+        result: shape.result,
+    }
+}
+
 /// The walk over the method of this number, which has this code and these frames.
 fn walk_method(
     alloc: Global,
@@ -218,29 +202,10 @@ fn walk_method(
     ensures { IfOk result (λ failure. (h : IsCodeOf program.now number code.now) (given : ℕ → Option typing.TypeFrame) → walk.first_types (method_of program.now number code.now h) (body_of program.now number code.now h) ≡ Some (frame_seen first) → ((place : ℕ) → given place ≡ frames_at maps.now place) → option_map failure_seen failure ≡ walk_failure (walk.walked (resolved program.now) number (method_of program.now number code.now h) (body_of program.now number code.now h) given)) }
 {
     members_are_there();
-    methods_stand_by_number();
-    instructions_end_within();
-    let bytes = code.code.as_slice();
     let class = program.method(number).class;
-    let starts = starts(alloc, bytes)?;
-    let made = made_classes(alloc, program, number, bytes.len() as u32)?;
+    let starts = starts(alloc, code.code.as_slice())?;
     let handlers = by_start(handlers_of(alloc, program, class, code.handlers.as_slice())?);
-    let shape = program.shape(number);
-    let checking = Checking {
-        program,
-        around: Around {
-            classes: program.hierarchy(),
-            owner: class,
-            is_init: shape.is_init,
-            made: &made,
-        },
-        maps,
-        code: bytes,
-        handlers: &handlers,
-        max_locals: code.max_locals,
-        max_stack: code.max_stack,
-        result: shape.result,
-    };
+    let checking = checking_of(program, number, code, maps, &handlers);
     match walk_places(alloc, &checking, number, &starts, first)? {
         Some((place, rule)) => Ok(Some((place, MethodRule::Walk(rule)))),
         None => Ok(None),

@@ -12,6 +12,7 @@ ghost use Rattle.verifier_types.specs.Site.{Site};
 ghost use Rattle.bytecode_verifier.specs.Around.{StandsAt};
 
 use crate::around::Around;
+use crate::made;
 use class_hierarchy::Hierarchy;
 use program_tables::{Base, Declared, ObjectKind};
 use verifier_types::{VarType, extends, is_assignable, is_assignable_item, is_interface};
@@ -41,12 +42,7 @@ pub fn type_of(declared: Declared) -> VarType
 fn made_at(around: &Around<'_>, place: u32) -> Option<u32>
     ensures { (s : Site) → StandsAt around.now s → result ≡ checks.made_at s.program s.number place }
 {
-    let place = place as usize;
-    if place < around.made.len() {
-        around.made[place]
-    } else {
-        None
-    }
+    made::made_at(around.program, around.number, place)
 }
 
 /// The class of which an uninitialised type is.

@@ -6,7 +6,7 @@ use Rattle.bytecode_verifier.specs.Family.{named_row}
 use Rattle.bytecode_verifier.specs.declared.family.Named.TheVariants as named
 use Rattle.bytecode_verifier.proofs.FormLemmas.{made_new}
 use Rattle.bytecode_verifier.proofs.OrdinaryLemmas.{makes_none, constant_ordinary, long_ordinary, new_array_ordinary, cast_ordinary, test_ordinary}
-use Rattle.bytecode_verifier.proofs.methods.made_by.Goals as goal
+use Rattle.bytecode_verifier.proofs.made.made_by.Goals as goal
 
 pub returns-in-New : goal.returns-in-New
 returns-in-New c = λ code i.

@@ -4,7 +4,7 @@ use Rattle.program_tables.specs.Resolved.{resolved}
 use Rattle.bytecode_verifier.specs.Family.{value_row, array_row, field_row}
 use Rattle.bytecode_verifier.proofs.FormLemmas.{has_row, made_as}
 use Rattle.bytecode_verifier.proofs.OrdinaryLemmas.{makes_none, value_ordinary, array_ordinary, field_ordinary, call_makes_none, leads_make_none}
-use Rattle.bytecode_verifier.proofs.methods.made_at.Goals as goal
+use Rattle.bytecode_verifier.proofs.made.made_at.Goals as goal
 
 pub returns-in-Named : goal.returns-in-Named
 returns-in-Named c =
