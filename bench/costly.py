@@ -11,8 +11,12 @@ targets          so many entries that cover as many instructions and lead to as 
 guarded          so many instructions, as many local variables, and one entry
 stores           so many stores that change the type of a local variable, and as many entries that cover all of them
 interfaces       so many interfaces, each of which extends all before it, and a class that implements all
+layers           a third of so many interfaces below one of the rest, which extends the others of the rest, and a third that each extend those
 descriptors      so many methods of one descriptor of 65,000 characters, and calls of them
+framed-names     so many methods like these, with a frame each, and no calls
+named-frames     so many instructions of one such method, and a frame at each
 branches         so many branches, at most 8,191, to one frame with 65,535 local variables that hold objects
+apart            the same where the local variables hold objects of another class before the branches
 cases            a switch of so many cases that lead to one such frame
 beginnings       so many objects that are made and initialised, and 65,535 local variables
 """
@@ -121,6 +125,14 @@ def interfaces(count):
     return [main_of(lambda made: None)] + files + [ClassFile(0x21, 'p/C', OBJECT, names).data()]
 
 
+def layers(count):
+    third = count // 3
+    tops, middle = ['p/T%d' % number for number in range(third)], ['p/M%d' % number for number in range(third)]
+    files = [ClassFile(0x601, name, OBJECT).data() for name in tops] + [ClassFile(0x601, 'p/All', OBJECT, tops).data()]
+    files += [ClassFile(0x601, name, OBJECT, ['p/All']).data() for name in middle]
+    return [main_of(lambda made: None)] + files + [ClassFile(0x601, 'p/B%d' % number, OBJECT, middle).data() for number in range(third)]
+
+
 def called(made, tag, owner, name, descriptor):
     pair = made.entry(b'\x0c' + u2(made.utf8(name)) + u2(made.utf8(descriptor)))
     return u2(made.entry(bytes([tag]) + u2(made.cls(owner)) + u2(pair)))
@@ -138,11 +150,35 @@ def descriptors(count):
     return [main_of(fill), ClassFile(0x21, name).data()]
 
 
+def framed_names(count):
+    name = 'p/' + 'L' * 64990
+    def fill(made):
+        for number in range(count):
+            method(made, 'm%d' % number, '(L%s;)V' % name, NOP + RETURN, frames=[same_frame(0)])
+    return [main_of(fill), ClassFile(0x21, name).data()]
+
+
+def named_frames(count):
+    name = 'p/' + 'L' * 64990
+    def fill(made):
+        method(made, 'f', '(L%s;)V' % name, NOP * (count - 1) + RETURN, frames=[same_frame(0)] * count)
+    return [main_of(fill), ClassFile(0x21, name).data()]
+
+
 def branches(count):
     """behind a return: nop, and then aconst_null, ifnonnull to the nop"""
     def fill(made):
         code = RETURN + NOP + b''.join(b'\x01\xc7' + struct.pack('>h', -2 - 4 * n) for n in range(count)) + RETURN
         method(made, 'f', '()V', code, frames=[object_frame(made, 1, MOST)], local=MOST)
+    return [main_of(fill)]
+
+
+def apart(count):
+    """two returns, and then aconst_null, ifnonnull to the second return"""
+    def fill(made):
+        code = RETURN * 2 + b''.join(b'\x01\xc7' + struct.pack('>h', -2 - 4 * n) for n in range(count)) + RETURN
+        frames = [full_frame(1, [object_type(made)] * MOST), object_frame(made, 0, MOST)]
+        method(made, 'f', '()V', code, frames=frames, local=MOST)
     return [main_of(fill)]
 
 
@@ -208,6 +244,7 @@ def guarded(count):
 MADE = {
     'overrides': overrides, 'frames': frames, 'known-frames': known_frames, 'handlers': handlers, 'framed-handlers': framed_handlers,
     'interfaces': interfaces, 'descriptors': descriptors, 'branches': branches, 'cases': cases, 'stores': stores, 'beginnings': beginnings,
+    'apart': apart, 'layers': layers, 'framed-names': framed_names, 'named-frames': named_frames,
     'targets': targets, 'waves': waves, 'ranges': ranges, 'guarded': guarded,
 }
 
