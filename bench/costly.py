@@ -19,8 +19,13 @@ branches         so many branches, at most 8,191, to one frame with 65,535 local
 apart            the same where the local variables hold objects of another class before the branches
 cases            a switch of so many cases that lead to one such frame
 beginnings       so many objects that are made and initialised, and 65,535 local variables
+prefixes         so many fields, whose names have 2,000 characters and differ in the last eight
+colliding        so many fields, at most 60,000, whose names stand at one place of a hash table of the toolchain (colliding.c searches for them)
 """
+import os
 import struct
+import subprocess
+import tempfile
 
 from classfile import ClassFile
 
@@ -234,6 +239,28 @@ def ranges(count):
     return [main_of(fill)]
 
 
+def colliding(count):
+    """the names are searched for by colliding.c, which gcc compiles"""
+    with tempfile.TemporaryDirectory(prefix='jop-bench-') as room:
+        search = os.path.join(room, 'colliding')
+        subprocess.run(['gcc', '-O2', '-o', search, os.path.join(os.path.dirname(os.path.abspath(__file__)), 'colliding.c')], check=True)
+        lines = subprocess.run([search, str(count)], capture_output=True, text=True, check=True).stdout.splitlines()
+    def fill(made):
+        descriptor = u2(made.utf8('I'))
+        for line in lines:
+            name = ''.join(chr(int(unit, 16)) for unit in line.split())
+            made.fields.append(u2(9) + u2(made.utf8(name)) + descriptor + u2(0))
+    return [main_of(fill)]
+
+
+def prefixes(count):
+    def fill(made):
+        descriptor = u2(made.utf8('I'))
+        for number in range(count):
+            made.fields.append(u2(9) + u2(made.utf8('x' * 1992 + '%08d' % number)) + descriptor + u2(0))
+    return [main_of(fill)]
+
+
 def guarded(count):
     """the handler is an athrow behind the instructions, and nothing is known of the local variables"""
     def fill(made):
@@ -245,7 +272,8 @@ MADE = {
     'overrides': overrides, 'frames': frames, 'known-frames': known_frames, 'handlers': handlers, 'framed-handlers': framed_handlers,
     'interfaces': interfaces, 'descriptors': descriptors, 'branches': branches, 'cases': cases, 'stores': stores, 'beginnings': beginnings,
     'apart': apart, 'layers': layers, 'framed-names': framed_names, 'named-frames': named_frames,
-    'targets': targets, 'waves': waves, 'ranges': ranges, 'guarded': guarded,
+    'targets': targets, 'waves': waves, 'ranges': ranges, 'guarded': guarded, 'prefixes': prefixes,
+    'colliding': colliding,
 }
 
 

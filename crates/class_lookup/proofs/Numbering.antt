@@ -1,44 +1,22 @@
 -- Texts with their numbers.
-use Rattle.std.proofs.Common.{◌≡◌, ℕ, zero, suc, ◌+◌, ◌<◌, get_or, Bool, true, false, ◌||◌, not, cond, nat_lt, List, [], ◌∷◌, ◌++◌, ◌⊎◌, inl, inr, map, Option, Some, None, Vec, Global, length, refl, sym, ap, ap₂, ◌∙◌, subst, arith}
-use Rattle.std.specs.Prelude.{is_some, if◌then◌else◌, position, slice_get}
+use Rattle.std.proofs.Common.{◌≡◌, ℕ, zero, suc, ◌<◌, get_or, Bool, true, false, ◌||◌, List, [], ◌∷◌, ◌++◌, ◌⊎◌, inl, inr, ⊎_elim, map, Option, Some, None, Vec, Global, length, refl, sym, ap, ap₂, ◌∙◌, subst, arith}
+use Rattle.std.specs.Prelude.{is_some, if◌then◌else◌, slice_get}
 use Rattle.std.specs.Option.{option_or}
-use Rattle.std.specs.List.{list_any, position_or_len}
+use Rattle.std.specs.List.{list_any}
+use Rattle.std.specs.Map.{KeepsOthers}
+use Rattle.std.specs.Ordering.{is_eq, nat_cmp}
+use Rattle.std.specs.Cmp.{eq_by_cmp_equiv}
+use Rattle.std.specs.Cmp.Lexicographic.{slice_cmp, nat_list_cmp_total}
+use Rattle.std.specs.BTreeMap.{BTreeMap, UpdatesBy}
 use Rattle.std.proofs.lemmas.List.{map-append}
-use Rattle.std.proofs.lemmas.Bool.{true≢false, lt-ltb, le-ltb, ltb-true, ltb-false}
+use Rattle.std.proofs.lemmas.Bool.{true≢false, cases_Bool}
+use Rattle.std.proofs.lemmas.Map.Text.{is_eq-slice_cmp}
 use Rattle.lists.specs.Lists.{onto, index_of}
 use Rattle.lists.specs.Lemmas.{none≢some, some_same, index_append, index_found}
 use Rattle.class_lookup.specs.Parts.{same_text}
 use Rattle.class_lookup.specs.Lists.{with_item, with_items}
-use Rattle.class_lookup.specs.Numbered.{number_in, AreNumbered}
+use Rattle.class_lookup.specs.Numbered.{number_in, number_of, AreNumbered, HasNumbers}
 use Rattle.class_lookup.proofs.Searches.{text_same, same_is_text}
-
--- ---- where an item stands first
-
-position_next : (b : Bool) (k n : ℕ) (o : Option ℕ) → nat_lt k n ≡ b → cond b (Some k) None ≡ o → cond (nat_lt (1 + k) (suc n)) (Some (1 + k)) None ≡ onto o (λ j. Some (suc j))
-position_next true k n o e h =
-    let next : 1 + k ≡ suc k = omega arith in
-    let lt = ltb-true k n e in
-    ap (λ (x : Bool). cond x (Some (1 + k)) None) (lt-ltb (1 + k) (suc n) (omega arith)) ∙ (ap (λ j. Some j) next ∙ ap (λ x. onto x (λ j. Some (suc j))) h)
-position_next false k n o e h =
-    let le = ltb-false k n e in
-    ap (λ (x : Bool). cond x (Some (1 + k)) None) (le-ltb (1 + k) (suc n) (omega arith)) ∙ ap (λ x. onto x (λ j. Some (suc j))) h
-
-position_case : (b : Bool) (k n : ℕ) (o : Option ℕ) → cond (nat_lt k n) (Some k) None ≡ o
-    → cond (nat_lt (cond (not b) (1 + k) 0) (suc n)) (Some (cond (not b) (1 + k) 0)) None ≡ (if b then Some 0 else onto o (λ j. Some (suc j)))
-position_case true k n o h = ap (λ (x : Bool). cond x (Some 0) None) (lt-ltb 0 (suc n) (omega arith))
-position_case false k n o h = position_next (nat_lt k n) k n o refl h
-
-position_is : {A : Type 0} (t : A → Bool) (xs : List A) → position t xs ≡ index_of t xs
-position_is t [] = refl
-position_is t (x ∷ xs) = position_case (t x) (position_or_len t xs) (length xs) (index_of t xs) (position_is t xs)
-
-index_of-map : {A B : Type 0} (t : B → Bool) (f : A → B) (xs : List A) → index_of (λ x. t (f x)) xs ≡ index_of t (map f xs)
-index_of-map t f [] = refl
-index_of-map t f (x ∷ xs) = ap (λ o. if t (f x) then Some 0 else onto o (λ k. Some (suc k))) (index_of-map t f xs)
-
--- as a set of texts says it
-pub number_of_keys : (text : List ℕ) (keys : List (Vec ℕ Global)) (o : Option ℕ) → o ≡ position (λ v. same_text text v.items) keys → o ≡ number_in (map (λ v. v.items) keys) text
-number_of_keys text keys o h = h ∙ (position_is (λ v. same_text text v.items) keys ∙ index_of-map (same_text text) (λ v. v.items) keys)
 
 -- ---- two texts of one number are one
 
@@ -109,23 +87,33 @@ pub all_kept : (texts more : List (List ℕ)) (t : List ℕ) (n : ℕ) → numbe
 all_kept texts [] t n h = h
 all_kept texts (text ∷ more) t n h = all_kept (with_item same_text texts text) more t n (kept texts text t n h)
 
--- ---- as a set of texts does it
+-- ---- as the map of texts has it
 
-set_any : (text : List ℕ) (keys : List (Vec ℕ Global)) → list_any (λ v. same_text text v.items) keys ≡ list_any (same_text text) (map (λ v. v.items) keys)
-set_any text [] = refl
-set_any text (k ∷ keys) = ap (λ b. same_text text k.items || b) (set_any text keys)
+updated : (numbers after : BTreeMap (Vec ℕ Global) ℕ) (k : Vec ℕ Global) (n : ℕ) (t u : List ℕ) → UpdatesBy (λ x y. slice_cmp nat_cmp x.items y.items) (λ y. slice_cmp nat_cmp k.items y.items) numbers after (Some n) → k.items ≡ t
+    → same_text u t ≡ false → number_of after u ≡ number_of numbers u
+unfolding KeepsOthers
+updated numbers after k n t u h e apart =
+    h.3 (λ v. is_eq (slice_cmp nat_cmp u v.items)) (λ x y. (eq_by_cmp_equiv nat_list_cmp_total).congr u x.items y.items)
+    (λ v at. let same : t ≡ v.items = sym e ∙ text_same k.items v.items (sym (is_eq-slice_cmp k.items v.items) ∙ at) in is_eq-slice_cmp u v.items ∙ (ap (same_text u) (sym same) ∙ apart))
 
-chosen_map : (keys : List (Vec ℕ Global)) (k : Vec ℕ Global) (b : Bool) → map (λ v. v.items) (if b then keys else keys ++ k ∷ []) ≡ (if b then map (λ v. v.items) keys else map (λ v. v.items) keys ++ k.items ∷ [])
-chosen_map keys k true = refl
-chosen_map keys k false = map-append (λ v. v.items) keys (k ∷ [])
+option_or-none : (o : Option ℕ) → option_or o None ≡ o
+option_or-none None = refl
+option_or-none (Some n) = refl
 
-pub texts_put : (keys after : List (Vec ℕ Global)) (k : Vec ℕ Global) (text : List ℕ) → after ≡ (if list_any (λ v. same_text k.items v.items) keys then keys else keys ++ k ∷ []) → k.items ≡ text
-    → map (λ v. v.items) after ≡ with_item same_text (map (λ v. v.items) keys) text
-texts_put keys after k text h e =
-    ap (map (λ (v : Vec ℕ Global). v.items)) h
-    ∙ (chosen_map keys k (list_any (λ v. same_text k.items v.items) keys)
-    ∙ (ap (λ (b : Bool). if b then map (λ v. v.items) keys else map (λ v. v.items) keys ++ k.items ∷ []) (set_any k.items keys)
-    ∙ ap (with_item same_text (map (λ v. v.items) keys)) e))
+-- one more text, with the number of its place
+pub put_more : (texts : List (List ℕ)) (numbers after : BTreeMap (Vec ℕ Global) ℕ) (k : Vec ℕ Global) (n : ℕ) (t : List ℕ)
+    → UpdatesBy (λ x y. slice_cmp nat_cmp x.items y.items) (λ y. slice_cmp nat_cmp k.items y.items) numbers after (Some n) → k.items ≡ t → n ≡ length texts → number_in texts t ≡ None
+    → HasNumbers texts numbers → HasNumbers (texts ++ t ∷ []) after
+put_more texts numbers after k n t h e place none has u =
+    ⊎_elim
+    (λ y. ap (number_of after) (text_same u t y ∙ sym e) ∙ (h.1 ∙ (ap Some place ∙ (sym (new_number texts t none) ∙ ap (number_in (texts ++ t ∷ [])) (sym (text_same u t y))))))
+    (λ a. updated numbers after k n t u h e a ∙ (has u ∙ (sym (option_or-none (number_in texts u))
+    ∙ (ap (λ (b : Bool). option_or (number_in texts u) (if b then Some (length texts) else None)) (sym a) ∙ sym (index_append (same_text u) texts t)))))
+    (cases_Bool (same_text u t))
+
+pub put_first : (numbers after : BTreeMap (Vec ℕ Global) ℕ) (k : Vec ℕ Global) → numbers.entries ≡ []
+    → UpdatesBy (λ x y. slice_cmp nat_cmp x.items y.items) (λ y. slice_cmp nat_cmp k.items y.items) numbers after (Some 0) → k.items ≡ [] → HasNumbers ([] ∷ []) after
+put_first numbers after k empty h e = put_more [] numbers after k 0 [] h e refl refl (λ u. rw empty refl)
 
 pub none_of : {A : Type 0} (o : Option A) → ((x : A) → o ≡ Some x → ⊥) → o ≡ None
 none_of None h = refl
@@ -134,6 +122,9 @@ none_of (Some x) h = absurd (h x refl)
 pub long_keys : (keys : List (Vec ℕ Global)) → length (map (λ v. v.items) keys) ≡ length keys
 long_keys [] = refl
 long_keys (k ∷ keys) = ap suc (long_keys keys)
+
+pub keys_more : (keys after : List (Vec ℕ Global)) (k : Vec ℕ Global) → after ≡ keys ++ k ∷ [] → map (λ v. v.items) after ≡ map (λ v. v.items) keys ++ k.items ∷ []
+keys_more keys after k h = ap (map (λ (v : Vec ℕ Global). v.items)) h ∙ map-append (λ v. v.items) keys (k ∷ [])
 
 pub key_at : (keys : List (Vec ℕ Global)) (n : ℕ) (k : Vec ℕ Global) → n < length keys → k ≡ get_or keys n k → slice_get (map (λ v. v.items) keys) n ≡ Some k.items
 key_at [] n k lt h = absurd (omega (arith, lt))

@@ -1,7 +1,11 @@
 -- Texts by their place in a list of texts.
-use Rattle.std.specs.Prelude.{◌≡◌, ℕ, zero, suc, ◌&&◌, ◌==◌, List, [], Option, Some, option_map, slice_get, slice_index_or, unwrap_or}
+use Rattle.std.specs.Prelude.{◌≡◌, ℕ, zero, suc, ◌&&◌, ◌==◌, List, [], Option, Some, Vec, option_map, slice_get, slice_index_or, unwrap_or}
 use Rattle.std.specs.List.{AllZip}
 use Rattle.std.specs.Map.{lookup}
+use Rattle.std.specs.Ordering.{nat_cmp}
+use Rattle.std.specs.Cmp.Lexicographic.{slice_cmp}
+use Rattle.std.specs.BTreeMap.{BTreeMap, get_by}
+use Rattle.std.specs.declared.alloc.Global.{Global}
 use Rattle.class_pool.specs.declared.entry.Entry.{Entry}
 use Rattle.class_pool.specs.declared.class.Member.{Member}
 use Rattle.class_pool.specs.declared.class.ClassFile.{ClassFile}
@@ -17,6 +21,14 @@ number_in texts text = index_of (same_text text) texts
 -- each has the number of its place
 abbrev pub AreNumbered : (texts : List (List ℕ)) → Type 0
 AreNumbered texts = (n : ℕ) (text : List ℕ) → slice_get texts n ≡ Some text → number_in texts text ≡ Some n
+
+-- the number that a map has for a text
+abbrev pub number_of : (numbers : BTreeMap (Vec ℕ Global) ℕ) → (text : List ℕ) → Option ℕ
+number_of numbers text = get_by (λ k. slice_cmp nat_cmp text k.items) numbers
+
+-- the map has for each text its place among them, and nothing for a text that isn't there
+abbrev pub HasNumbers : (texts : List (List ℕ)) → (numbers : BTreeMap (Vec ℕ Global) ℕ) → Type 0
+HasNumbers texts numbers = (text : List ℕ) → number_of numbers text ≡ number_in texts text
 
 -- the text that an entry is, or the empty one
 abbrev pub entry_text : Entry → List ℕ

@@ -103,7 +103,7 @@ kind_seen_same k l e =
     let base = base_same k.base l.base (sym (core_is k.dimensions k.base) ∙ (ap core e ∙ core_is l.dimensions l.base)) in
     ap₂ (λ (n : ℕ) (b : Base). let kind : ObjectKind = record { dimensions = n; base = b } in kind) dimensions base
 
--- ---- sets of kinds and of texts
+-- ---- sets of kinds
 
 set_any : {K V : Type 0} (f : K → V) (eq : K → K → Bool) (same : V → V → Bool) → ((x y : K) → eq x y ≡ same (f x) (f y)) → (x : K) (ks : List K)
     → list_any (eq x) ks ≡ list_any (same (f x)) (map f ks)

@@ -11,7 +11,7 @@ use Rattle.program_tables.specs.declared.mentions.Arrays.{Arrays}
 use Rattle.program_tables.specs.declared.mentions.Literals.{Literals}
 use Rattle.program_tables.specs.Numbers.{reference_arrays}
 use Rattle.class_lookup.specs.Symbols.{texts}
-use Rattle.program_tables.specs.Tables.{kinds_of, texts_of}
+use Rattle.program_tables.specs.Tables.{kinds_of}
 use Rattle.program_tables.specs.Texts.{kind_of_text}
 
 -- the items of each marked number are among those that are there
@@ -31,7 +31,7 @@ pub record AreArrays (cs : List ClassFile) (a : Arrays) : Type 0 where
 
 pub record AreLiterals (cs : List ClassFile) (s : Literals) : Type 0 where
   pub long : length s.added.items ≡ length (texts cs)
-  pub added : AreAdded same_text (text_of cs) (texts_of s.strings) s.added.items
+  pub added : AreAdded same_text (text_of cs) s.strings s.added.items
 
 pub record AreMentions (cs : List ClassFile) (m : Mentions) : Type 0 where
   pub arrays : AreArrays cs m.arrays

@@ -4,8 +4,6 @@ use Rattle.std.specs.Prelude.{map}
 use Rattle.std.specs.HashSet.{HashSet}
 use Rattle.std.specs.declared.hash.FoldHasher.{FoldHasher}
 use Rattle.std.specs.declared.hash.BuildHasherDefault.{BuildHasherDefault}
-use Rattle.std.specs.Prelude.{Vec}
-use Rattle.std.specs.declared.alloc.Global.{Global}
 use Rattle.std.specs.Option.{option_map}
 use Rattle.std.specs.List.{AllByRecursion}
 use Rattle.class_pool.specs.declared.entry.Entry.{Entry}
@@ -28,9 +26,6 @@ use Rattle.program_tables.specs.Kinds.{arrays_of}
 abbrev pub Kinds : Type 0
 Kinds = HashSet ObjectKind (BuildHasherDefault FoldHasher)
 
-abbrev pub Texts : Type 0
-Texts = HashSet (Vec ℕ Global) (BuildHasherDefault FoldHasher)
-
 -- what is named, by the indexes of a pool
 abbrev pub seen_in : List Entry → Named → Option definitions.Named
 seen_in pool (found.Constant index) = option_map definitions.Constant (entry_at pool index)
@@ -47,12 +42,9 @@ base_kind (Numbers code) = OfNumbers code
 abbrev pub kind_seen : ObjectKind → Kind
 kind_seen k = arrays_of k.dimensions (base_kind k.base)
 
--- the kinds of a set, and the texts of one, in order
+-- the kinds of a set, in order
 abbrev pub kinds_of : Kinds → List Kind
 kinds_of set = map kind_seen set.keys
-
-abbrev pub texts_of : Texts → List (List ℕ)
-texts_of set = map (λ v. v.items) set.keys
 
 -- the number of each text of the classes among strings, by symbol
 abbrev pub numbers_among : (strings : List (List ℕ)) → List ClassFile → List (Option ℕ)

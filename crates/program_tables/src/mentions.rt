@@ -10,7 +10,7 @@ ghost use Rattle.program_tables.specs.Instructions.{instructions_in, instruction
 ghost use Rattle.program_tables.specs.Kinds.{kind_of_entry};
 ghost use Rattle.program_tables.specs.Marks.{AreAdded, AreArrays, AreLiterals, AreMentions};
 ghost use Rattle.program_tables.specs.Numbers.{reference_arrays, used_by, class_kind, arrays_mentioned_by, arrays_mentioned_in, first_types, types_of, strings_of, string_in, constant_named, constant_entry, strings_in};
-ghost use Rattle.program_tables.specs.Tables.{kind_seen, texts_of, kinds_of, HasBounds};
+ghost use Rattle.program_tables.specs.Tables.{kind_seen, kinds_of, HasBounds};
 
 use crate::kinds::{Base, ObjectKind};
 use crate::named::{Named, entry_at, named_in};
@@ -40,7 +40,7 @@ struct Arrays {
 /// The strings that were mentioned, each once, in order; and the symbols whose texts are there.
 #[derive(Drop)]
 struct Literals {
-    strings: IndexSet<Vec<u16>>,
+    strings: Strings,
     added: Vec<bool>,
 }
 
@@ -51,18 +51,6 @@ struct Mentions {
     literals: Literals,
 }
 
-/// Puts a string last, unless it is there.
-fn add_string(
-    alloc: Global,
-    strings: &mut IndexSet<Vec<u16>>,
-    units: &[u16],
-) -> Result<(), NoMemory>
-    ensures { OnOk result (texts_of strings.new ≡ with_item same_text (texts_of strings.old) units.now) }
-{
-    strings.insert(Vec::from_slice(alloc, units)?)?;
-    Ok(())
-}
-
 /// Puts the text of a symbol last, unless it is there.
 fn add_literal(
     alloc: Global,
@@ -71,15 +59,15 @@ fn add_literal(
     units: &[u16],
 ) -> Result<(), NoMemory>
     requires { number < length literals.now.added.items }
-    ensures put { OnOk result ((items : ℕ → List (List ℕ)) → AreAdded same_text items (texts_of literals.old.strings) literals.old.added.items → items number ≡ units.now ∷ []
-        → (texts_of literals.new.strings ≡ with_item same_text (texts_of literals.old.strings) units.now)
-        × AreAdded same_text items (texts_of literals.new.strings) literals.new.added.items) }
+    ensures put { OnOk result ((items : ℕ → List (List ℕ)) → AreAdded same_text items literals.old.strings literals.old.added.items → items number ≡ units.now ∷ []
+        → (literals.new.strings ≡ with_item same_text literals.old.strings units.now)
+        × AreAdded same_text items literals.new.strings literals.new.added.items) }
     ensures long { OnOk result (length literals.new.added.items ≡ length literals.old.added.items) }
 {
     if literals.added[number as usize] {
         return Ok(());
     }
-    add_string(alloc, &mut literals.strings, units)?;
+    literals.strings.insert(alloc, units)?;
     literals.added[number as usize] = true;
     Ok(())
 }
@@ -96,7 +84,7 @@ fn add_constant(
     requires number { number < length classes.now }
     requires class { slice_get classes.now number ≡ Some class.now }
     requires added { AreLiterals classes.now literals.now }
-    ensures strings { OnOk result (texts_of literals.new.strings ≡ with_items same_text (texts_of literals.old.strings) (string_in class.now.pool (entry_at class.now.pool index))) }
+    ensures strings { OnOk result (literals.new.strings ≡ with_items same_text literals.old.strings (string_in class.now.pool (entry_at class.now.pool index))) }
     ensures added { OnOk result (AreLiterals classes.now literals.new) }
 {
     match entry_at(&class.pool, index) {
@@ -120,7 +108,7 @@ fn add_fields(
     requires number { number < length classes.now }
     requires class { slice_get classes.now number ≡ Some class.now }
     requires added { AreLiterals classes.now literals.now }
-    ensures strings { OnOk result (texts_of literals.new.strings ≡ with_items same_text (texts_of literals.old.strings) (flat_map (λ f. string_in class.now.pool (constant_entry class.now f)) class.now.fields)) }
+    ensures strings { OnOk result (literals.new.strings ≡ with_items same_text literals.old.strings (flat_map (λ f. string_in class.now.pool (constant_entry class.now f)) class.now.fields)) }
     ensures added { OnOk result (AreLiterals classes.now literals.new) }
 {
     for field in class.fields.as_slice() {
@@ -231,7 +219,7 @@ impl Mentions {
         requires class { slice_get texts.now number ≡ Some class.now }
         requires added { AreMentions texts.now self.now }
         ensures types { OnOk result (kinds_of self.new.arrays.types ≡ with_items same_kind (kinds_of self.old.arrays.types) (used_by instr.now.op (class_kind texts.now class.now (named_in class.now instr.now)))) }
-        ensures strings { OnOk result (texts_of self.new.literals.strings ≡ with_items same_text (texts_of self.old.literals.strings) (string_in class.now.pool (constant_named (named_in class.now instr.now)))) }
+        ensures strings { OnOk result (self.new.literals.strings ≡ with_items same_text self.old.literals.strings (string_in class.now.pool (constant_named (named_in class.now instr.now)))) }
         ensures added { OnOk result (AreMentions texts.now self.new) }
     {
         match named_in(class, instr) {
@@ -267,7 +255,7 @@ impl Mentions {
         requires class { slice_get texts.now number ≡ Some class.now }
         requires added { AreMentions texts.now self.now }
         ensures types { OnOk result (kinds_of self.new.arrays.types ≡ with_items same_kind (kinds_of self.old.arrays.types) (flat_map (arrays_mentioned_by texts.now class.now) (instructions_in code.now))) }
-        ensures strings { OnOk result (texts_of self.new.literals.strings ≡ with_items same_text (texts_of self.old.literals.strings)
+        ensures strings { OnOk result (self.new.literals.strings ≡ with_items same_text self.old.literals.strings
             (flat_map (λ p. string_in class.now.pool (constant_named (named_in class.now p.instr))) (instructions_in code.now))) }
         ensures added { OnOk result (AreMentions texts.now self.new) }
     {
@@ -294,7 +282,7 @@ impl Mentions {
         requires class { slice_get texts.now number ≡ Some class.now }
         requires added { AreMentions texts.now self.now }
         ensures types { OnOk result (kinds_of self.new.arrays.types ≡ with_items same_kind (kinds_of self.old.arrays.types) (arrays_mentioned_in texts.now class.now)) }
-        ensures strings { OnOk result (texts_of self.new.literals.strings ≡ with_items same_text (texts_of self.old.literals.strings)
+        ensures strings { OnOk result (self.new.literals.strings ≡ with_items same_text self.old.literals.strings
             (flat_map (λ m. flat_map (λ p. string_in class.now.pool (constant_named (named_in class.now p.instr))) (instructions_of m)) class.now.methods)) }
         ensures added { OnOk result (AreMentions texts.now self.new) }
     {
@@ -319,7 +307,7 @@ impl Mentions {
         requires class { slice_get texts.now number ≡ Some class.now }
         requires added { AreMentions texts.now self.now }
         ensures types { OnOk result (kinds_of self.new.arrays.types ≡ with_items same_kind (kinds_of self.old.arrays.types) (arrays_mentioned_in texts.now class.now)) }
-        ensures strings { OnOk result (texts_of self.new.literals.strings ≡ with_items same_text (texts_of self.old.literals.strings) (strings_in class.now)) }
+        ensures strings { OnOk result (self.new.literals.strings ≡ with_items same_text self.old.literals.strings (strings_in class.now)) }
         ensures added { OnOk result (AreMentions texts.now self.new) }
     {
         add_fields(alloc, &mut self.literals, texts.classes(), number, class)?;
@@ -351,7 +339,7 @@ fn first_types(alloc: Global, class_count: u32) -> Result<IndexSet<ObjectKind>, 
 /// Nothing but the types that every program has of these classes.
 fn no_mentions(alloc: Global, classes: &Classes) -> Result<Mentions, NoMemory>
     ensures types { IfOk result (λ m. kinds_of m.arrays.types ≡ first_types (length classes.now)) }
-    ensures strings { IfOk result (λ m. texts_of m.literals.strings ≡ []) }
+    ensures strings { IfOk result (λ m. m.literals.strings ≡ []) }
     ensures added { IfOk result (AreMentions classes.now) }
 {
     let symbols = classes.symbol_count() as usize;
@@ -361,7 +349,7 @@ fn no_mentions(alloc: Global, classes: &Classes) -> Result<Mentions, NoMemory>
             added: vec![in alloc; false; symbols]?,
         },
         literals: Literals {
-            strings: IndexSet::new(alloc),
+            strings: Strings::new(alloc),
             added: vec![in alloc; false; symbols]?,
         },
     })
@@ -371,7 +359,7 @@ fn no_mentions(alloc: Global, classes: &Classes) -> Result<Mentions, NoMemory>
 fn mentions_of(alloc: Global, texts: &TextTypes<'_>) -> Result<Mentions, NoMemory>
     requires { AllByRecursion HasBounds texts.now }
     ensures types { IfOk result (λ m. kinds_of m.arrays.types ≡ types_of texts.now) }
-    ensures strings { IfOk result (λ m. texts_of m.literals.strings ≡ strings_of texts.now) }
+    ensures strings { IfOk result (λ m. m.literals.strings ≡ strings_of texts.now) }
 {
     let classes = texts.classes();
     let mut mentions = no_mentions(alloc, classes)?;
@@ -396,6 +384,8 @@ pub fn mentioned_by(alloc: Global, texts: &TextTypes<'_>) -> Result<Mentioned, N
 {
     let Mentions { arrays, literals } = mentions_of(alloc, texts)?;
     let types = Types::new(arrays.types)?;
-    let strings = Strings::new(literals.strings)?;
-    Ok(Mentioned { types, strings })
+    Ok(Mentioned {
+        types,
+        strings: literals.strings,
+    })
 }

@@ -1,43 +1,47 @@
-ghost use Rattle.std.specs.Prelude.{◌≡◌, ◌<◌, length, Some, IfOk, IfSome, slice_get};
+ghost use Rattle.std.specs.Prelude.{◌≡◌, ◌+◌, ◌<◌, ◌^◌, [], ◌∷◌, ◌++◌, length, None, Some, IfOk, IfSome, OnOk, slice_get};
 ghost use Rattle.bytecode_model.specs.Lists.{onto, index_of};
 ghost use Rattle.class_lookup.specs.Parts.{same_text};
-ghost use Rattle.program_tables.specs.Tables.{texts_of, numbers_among};
+ghost use Rattle.program_tables.specs.Lists.{with_item};
+ghost use Rattle.program_tables.specs.Tables.{numbers_among};
 
 use class_lookup::Classes;
-use indexmap::IndexSet;
 use jop_base::NoMemory;
 use std::alloc::Global;
+use std::collections::BTreeMap;
 use std::marker::Model;
 
 /// The most strings whose objects have numbers of 32 bits.
-const MOST_STRINGS: usize = 1 << 30;
+const MOST_STRINGS: usize = (1 << 30) - 1;
 
 /// String literals by number. Contracts see them as the list of their units.
+///
+/// Each string is in memory twice: by number, and in the order of texts, where it is looked up.
 #[derive(Drop)]
 pub struct Strings {
-    texts: IndexSet<Vec<u16>>,
+    texts: Vec<Vec<u16>>,
+    numbers: BTreeMap<Vec<u16>, u32>,
 }
 
 impl Model for Strings {
-    ghost use Rattle.std.specs.Prelude.{ℕ, List, ◌<◌, ◌^◌, length};
-    ghost use Rattle.program_tables.specs.Tables.{texts_of};
+    ghost use Rattle.std.specs.Prelude.{ℕ, List, ◌<◌, ◌^◌, length, map};
+    ghost use Rattle.class_lookup.specs.Numbered.{HasNumbers};
 
     ghost Value = { List (List ℕ) };
 
-    ghost view = { λ a. texts_of a.texts };
+    ghost view = { λ a. map (λ k. k.items) a.texts.items };
 
-    ghost invariant = { λ a. length a.texts.keys < 2 ^ 30 };
+    ghost invariant = { λ a. (length a.texts.items < 2 ^ 30) × HasNumbers (map (λ k. k.items) a.texts.items) a.numbers };
 }
 
 impl Strings {
-    /// These strings, by number.
-    pub(crate) fn new(texts: IndexSet<Vec<u16>>) -> Result<Self, NoMemory>
-        ensures { IfOk result (λ made. made ≡ texts_of texts) }
+    /// No strings.
+    pub(crate) fn new(alloc: Global) -> Self
+        ensures { result ≡ [] }
     {
-        if texts.len() >= MOST_STRINGS {
-            return Err(NoMemory);
+        Strings {
+            texts: Vec::new(alloc),
+            numbers: BTreeMap::new(alloc),
         }
-        Ok(Strings { texts })
     }
 
     /// How many there are: fewer than 2^30.
@@ -53,7 +57,7 @@ impl Strings {
         requires { number < length self.now }
         ensures { slice_get self.now number ≡ Some result.now }
     {
-        self.texts.as_slice()[number as usize].as_slice()
+        self.texts[number as usize].as_slice()
     }
 
     /// The number of a string.
@@ -61,10 +65,37 @@ impl Strings {
         ensures number { result ≡ index_of (same_text units.now) self.now }
         ensures few { IfSome result (λ number. number < 1073741824) }
     {
-        match self.texts.get_index_of(units) {
-            Some(number) => Some(number as u32),
-            None => None,
+        self.numbers.get(units).copied()
+    }
+
+    /// Puts a string last, unless it is there.
+    pub(crate) fn insert(&mut self, alloc: Global, units: &[u16]) -> Result<(), NoMemory>
+        ensures { OnOk result (self.new ≡ with_item same_text self.old units.now) }
+    {
+        if self.number(units).is_some() {
+            return Ok(());
         }
+        let number = self.texts.len();
+        if number >= MOST_STRINGS {
+            return Err(NoMemory);
+        }
+        let by_number = Vec::from_slice(alloc, units)?;
+        let in_order = Vec::from_slice(alloc, units)?;
+        self.add(number as u32, by_number, in_order)
+    }
+
+    /// Puts a new string last, of which two copies are given.
+    fn add(&mut self, number: u32, by_number: Vec<u16>, in_order: Vec<u16>) -> Result<(), NoMemory>
+        requires same { by_number.items ≡ in_order.items }
+        requires new { index_of (same_text by_number.items) self.old ≡ None }
+        requires number { number ≡ length self.old }
+        requires few { number + 1 < 2 ^ 30 }
+        ensures { OnOk result (self.new ≡ self.old ++ by_number.items ∷ []) }
+    {
+        self.texts.reserve(1)?;
+        self.numbers.insert(in_order, number)?;
+        self.texts.push_reserved(by_number);
+        Ok(())
     }
 }
 

@@ -35,7 +35,9 @@ class ClassFile:
     def data(self):
         out = struct.pack('>IHHH', 0xCAFEBABE, 0, 52, len(self.entries) + 1) + b''.join(self.entries)
         out += struct.pack('>HHHH', self.flags, self.name, self.above, len(self.interfaces)) + b''.join(struct.pack('>H', i) for i in self.interfaces)
-        out += struct.pack('>H', 0) + struct.pack('>H', len(self.methods)) + b''.join(self.methods) + b'\0\0'
+        for members in (self.fields, self.methods):
+            out += struct.pack('>H', len(members)) + b''.join(members)
+        out += b'\0\0'
         return out
 
 

@@ -10,7 +10,6 @@ use Rattle.program_tables.specs.Lists.{with_item, with_items}
 use Rattle.program_tables.specs.Marks.{text_of}
 use Rattle.program_tables.specs.Numbers.{string_in}
 use Rattle.class_lookup.specs.Symbols.{texts, symbol}
-use Rattle.program_tables.specs.Tables.{texts_of}
 use Rattle.program_tables.proofs.TextLemmas.{text_there, symbol_within}
 use Rattle.program_tables.proofs.mentions.add_constant.Goals as goal
 
@@ -32,7 +31,7 @@ returns-in_ok-add_literal-in-Some-Text-clause-strings c =
     let cs = c.args.classes.now in
     let pool = c.args.class.now.pool in
     let n = c.symbol-symbol.result in
-    let old = texts_of c.args.literals.now.strings in
+    let old = c.args.literals.now.strings in
     let text = text_at pool c.in-Some-Text.units in
     let same = same_unit cs text c.text.result.now n (c.symbol-symbol.ensures c.args.class.now c.requires.class) c.text.ensures.text in
     let items : text_of cs n ≡ c.text.result.now ∷ [] = ap (λ (o : Option (List ℕ)). option_map_or (λ t. t ∷ []) o []) c.text.ensures.text in

@@ -5,7 +5,7 @@ use Rattle.bytecode_model.specs.Types.{same_kind}
 use Rattle.class_lookup.specs.Parts.{same_text}
 use Rattle.program_tables.specs.Lists.{with_items}
 use Rattle.program_tables.specs.Numbers.{arrays_mentioned_in, first_types, strings_in}
-use Rattle.program_tables.specs.Tables.{kinds_of, texts_of, HasBounds}
+use Rattle.program_tables.specs.Tables.{kinds_of, HasBounds}
 use Rattle.program_tables.proofs.ListLemmas.{got_index}
 use Rattle.program_tables.proofs.MentionLemmas.{next_part, types_are, strings_are}
 use Rattle.program_tables.proofs.TableLemmas.{all_at}
@@ -21,7 +21,7 @@ loop-number-preserved c =
     let is = got_index cs i k (ap (λ (xs : List ClassFile). slice_get xs i) (sym c.classes-classes.ensures) ∙ c.class.ensures) in
     record {
       types = next_part same_kind (arrays_mentioned_in cs) cs i k (first_types (length cs)) (kinds_of m.arrays.types) (kinds_of c.add_class_file.new.self.arrays.types) lt is c.loop-number.invariant.types c.in_ok-add_class_file.ensures.types;
-      strings = next_part same_text strings_in cs i k [] (texts_of m.literals.strings) (texts_of c.add_class_file.new.self.literals.strings) lt is c.loop-number.invariant.strings c.in_ok-add_class_file.ensures.strings;
+      strings = next_part same_text strings_in cs i k [] m.literals.strings c.add_class_file.new.self.literals.strings lt is c.loop-number.invariant.strings c.in_ok-add_class_file.ensures.strings;
       added = c.in_ok-add_class_file.ensures.added;
     }
 

@@ -4,7 +4,7 @@ use Rattle.std.proofs.lemmas.List.{length-replicate}
 use Rattle.bytecode_model.specs.Types.{same_kind}
 use Rattle.class_lookup.specs.Parts.{same_text}
 use Rattle.program_tables.specs.Marks.{AreAdded, arrays_of_text, text_of}
-use Rattle.program_tables.specs.Tables.{kinds_of, texts_of}
+use Rattle.program_tables.specs.Tables.{kinds_of}
 use Rattle.program_tables.proofs.MarkLemmas.{no_true}
 use Rattle.program_tables.proofs.mentions.no_mentions.Goals as goal
 
@@ -24,6 +24,6 @@ returns-clause-added c =
       };
       literals = record {
         long = ap length other ∙ (length-replicate n false ∙ c.symbol_count-symbols.ensures);
-        added = no_mark same_text (text_of cs) (texts_of c.new.result) n c.in_ok-vec-2.field-0.items other;
+        added = no_mark same_text (text_of cs) c.new.result n c.in_ok-vec-2.field-0.items other;
       };
     }

@@ -12,7 +12,7 @@ use Rattle.program_tables.specs.Lists.{with_items}
 use Rattle.program_tables.specs.declared.mentions.Mentions.{Mentions}
 use Rattle.program_tables.specs.Marks.{AreMentions}
 use Rattle.program_tables.specs.Numbers.{arrays_mentioned_by, string_in, constant_named}
-use Rattle.program_tables.specs.Tables.{kinds_of, texts_of}
+use Rattle.program_tables.specs.Tables.{kinds_of}
 use Rattle.program_tables.proofs.MentionLemmas.{next_place, all_places, no_instr}
 use Rattle.program_tables.proofs.mentions.Mentions.add_code.Goals as goal
 use Rattle.program_tables.proofs.mentions.Mentions.add_code.Goals.{in-Ok+in_ok-add_instruction, in_default}
@@ -36,20 +36,20 @@ loop-pc-preserved c =
     let types = λ (after : List Kind) (o : Option Instr).
     next_place same_kind (arrays_mentioned_by c.args.texts.now class) code ps i pc (kinds_of c.args.self.now.arrays.types) (kinds_of self.arrays.types) after o c.loop-pc-test.true refl c.loop-pc.invariant.types in
     let strings = λ (after : List (List ℕ)) (o : Option Instr).
-    next_place same_text (λ (p : Placed). string_in class.pool (constant_named (named_in class p.instr))) code ps i pc (texts_of c.args.self.now.literals.strings) (texts_of self.literals.strings) after o c.loop-pc-test.true refl c.loop-pc.invariant.strings in
+    next_place same_text (λ (p : Placed). string_in class.pool (constant_named (named_in class p.instr))) code ps i pc c.args.self.now.literals.strings self.literals.strings after o c.loop-pc-test.true refl c.loop-pc.invariant.strings in
     elim c.match-decode.branch [
       | in-Ok+in_ok-add_instruction w ↦
           let e = ap as_instr (sym c.decode.ensures.exact ∙ w.in-Ok.is) in
           record {
             types = ap (λ (s : Mentions). kinds_of s.arrays.types) w.self-is ∙ types (kinds_of w.add_instruction.new.self.arrays.types) (Some w.in-Ok.instr) e w.in_ok-add_instruction.ensures.types;
-            strings = ap (λ (s : Mentions). texts_of s.literals.strings) w.self-is ∙ strings (texts_of w.add_instruction.new.self.literals.strings) (Some w.in-Ok.instr) e w.in_ok-add_instruction.ensures.strings;
+            strings = ap (λ (s : Mentions). s.literals.strings) w.self-is ∙ strings w.add_instruction.new.self.literals.strings (Some w.in-Ok.instr) e w.in_ok-add_instruction.ensures.strings;
             added = subst (AreMentions c.args.texts.now) (sym w.self-is) w.in_ok-add_instruction.ensures.added;
           }
       | in_default w ↦
           let e = ap as_instr (sym c.decode.ensures.exact) ∙ no_instr c.decode.result w.in_default.not-Ok in
           record {
             types = ap (λ (s : Mentions). kinds_of s.arrays.types) w.self-is ∙ types (kinds_of self.arrays.types) None e refl;
-            strings = ap (λ (s : Mentions). texts_of s.literals.strings) w.self-is ∙ strings (texts_of self.literals.strings) None e refl;
+            strings = ap (λ (s : Mentions). s.literals.strings) w.self-is ∙ strings self.literals.strings None e refl;
             added = subst (AreMentions c.args.texts.now) (sym w.self-is) c.loop-pc.invariant.added;
           }
     ]
@@ -71,4 +71,4 @@ returns-clause-strings c =
     let ps = c.deref-pc-items.result.now in
     let e = c.deref-pc-items.ensures.value ∙ c.in_ok-starts.ensures in
     c.loop-pc.invariant.strings
-    ∙ ap (with_items same_text (texts_of c.args.self.now.literals.strings)) (ap (flat_map (λ q. option_map_or f (placed_at code q) [])) (take_all c.loop-pc.pc-index ps c.loop-pc-test.false ∙ e) ∙ all_places f code)
+    ∙ ap (with_items same_text c.args.self.now.literals.strings) (ap (flat_map (λ q. option_map_or f (placed_at code q) [])) (take_all c.loop-pc.pc-index ps c.loop-pc-test.false ∙ e) ∙ all_places f code)

@@ -10,7 +10,7 @@ use Rattle.program_tables.specs.Lists.{with_items}
 use Rattle.program_tables.specs.declared.mentions.Mentions.{Mentions}
 use Rattle.program_tables.specs.Marks.{AreMentions}
 use Rattle.program_tables.specs.Numbers.{arrays_mentioned_by, string_in, constant_named}
-use Rattle.program_tables.specs.Tables.{kinds_of, texts_of}
+use Rattle.program_tables.specs.Tables.{kinds_of}
 use Rattle.program_tables.proofs.ListLemmas.{no_copy}
 use Rattle.program_tables.proofs.MentionLemmas.{next_method}
 use Rattle.program_tables.proofs.mentions.Mentions.add_methods.Goals as goal
@@ -28,7 +28,7 @@ loop-method-preserved c =
     let types = λ (after : List Kind) (o : Option Code).
     next_method same_kind (arrays_mentioned_by c.args.texts.now class) ms i m (kinds_of c.args.self.now.arrays.types) (kinds_of c.loop-method.self.arrays.types) after o lt is c.loop-method.invariant.types in
     let strings = λ (after : List (List ℕ)) (o : Option Code).
-    next_method same_text (λ (p : Placed). string_in class.pool (constant_named (named_in class p.instr))) ms i m (texts_of c.args.self.now.literals.strings) (texts_of c.loop-method.self.literals.strings) after o lt is c.loop-method.invariant.strings in
+    next_method same_text (λ (p : Placed). string_in class.pool (constant_named (named_in class p.instr))) ms i m c.args.self.now.literals.strings c.loop-method.self.literals.strings after o lt is c.loop-method.invariant.strings in
     elim c.match-code.branch [
       | in-Some+in_ok-add_code w ↦
           let e = sym c.code.ensures ∙ ap option_copied w.in-Some.is in
@@ -37,16 +37,16 @@ loop-method-preserved c =
             types = ap (λ (s : Mentions). kinds_of s.arrays.types) w.self-is
                 ∙ types (kinds_of w.add_code.new.self.arrays.types) (Some w.in-Some.code.now) e
                 (w.in_ok-add_code.ensures.types ∙ ap (λ (k : List ℕ). with_items same_kind (kinds_of c.loop-method.self.arrays.types) (flat_map (arrays_mentioned_by c.args.texts.now class) (instructions_in k))) code);
-            strings = ap (λ (s : Mentions). texts_of s.literals.strings) w.self-is
-                ∙ strings (texts_of w.add_code.new.self.literals.strings) (Some w.in-Some.code.now) e
-                (w.in_ok-add_code.ensures.strings ∙ ap (λ (k : List ℕ). with_items same_text (texts_of c.loop-method.self.literals.strings) (flat_map (λ (p : Placed). string_in class.pool (constant_named (named_in class p.instr))) (instructions_in k))) code);
+            strings = ap (λ (s : Mentions). s.literals.strings) w.self-is
+                ∙ strings w.add_code.new.self.literals.strings (Some w.in-Some.code.now) e
+                (w.in_ok-add_code.ensures.strings ∙ ap (λ (k : List ℕ). with_items same_text c.loop-method.self.literals.strings (flat_map (λ (p : Placed). string_in class.pool (constant_named (named_in class p.instr))) (instructions_in k))) code);
             added = subst (AreMentions c.args.texts.now) (sym w.self-is) w.in_ok-add_code.ensures.added;
           }
       | in_default w ↦
           let e = sym c.code.ensures ∙ no_copy c.code.result w.in_default.not-Some in
           record {
             types = ap (λ (s : Mentions). kinds_of s.arrays.types) w.self-is ∙ types (kinds_of c.loop-method.self.arrays.types) None e refl;
-            strings = ap (λ (s : Mentions). texts_of s.literals.strings) w.self-is ∙ strings (texts_of c.loop-method.self.literals.strings) None e refl;
+            strings = ap (λ (s : Mentions). s.literals.strings) w.self-is ∙ strings c.loop-method.self.literals.strings None e refl;
             added = subst (AreMentions c.args.texts.now) (sym w.self-is) c.loop-method.invariant.added;
           }
     ]
