@@ -1,4 +1,5 @@
 pub mod ItemLemmas
 pub mod FirstLemmas
+pub mod OpcodeLemmas
 pub mod BoundLemmas
 pub mod TableLemmas

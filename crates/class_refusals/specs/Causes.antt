@@ -1,6 +1,6 @@
 -- What isn't supported at each place of a class file, with the place, as words that proofs open only where they need what they say.
 -- For proofs alone: each is a definition of `program_tables` under another name, and no public contract's meaning rests on this file.
-use Rattle.std.specs.Prelude.{ℕ, Bool, List}
+use Rattle.std.specs.Prelude.{◌≡◌, ℕ, Bool, List, []}
 use Rattle.class_pool.specs.declared.class.Member.{Member}
 use Rattle.class_pool.specs.declared.class.ClassFile.{ClassFile}
 use Rattle.jop_opcodes.specs.declared.instruction.Instr.{Instr}
@@ -15,6 +15,10 @@ refused_opcode in_io op = is_refused_opcode in_io op
 
 unfoldable pub instruction_items : ClassFile → Instr → List Item
 instruction_items c i = items_at_instruction c i
+
+-- an instruction with the opcode has nothing that isn't supported
+abbrev pub HasNoItems : (op : ℕ) → Type 0
+HasNoItems op = (c : ClassFile) (i : Instr) → i.op ≡ op → instruction_items c i ≡ []
 
 unfoldable pub method_items : ClassFile → Member → List Item
 method_items c m = items_at_method c m

@@ -12,17 +12,18 @@ ghost use Rattle.class_refusals.specs.Descriptors.{AreItems};
 ghost use Rattle.class_refusals.specs.Causes.{unsupported_at_field, unsupported_at, unsupported_in_method};
 
 use crate::found::{item_at_field, item_at_instruction, item_at_method};
+use crate::opcodes::may_have_items;
 use crate::tables::DescriptorItems;
 use class_pool::{ClassFile, Member};
 use class_rules::laws::methods_have_code;
 use jop_base::NoMemory;
 use jop_opcodes::laws::starts_follow_one_another;
 use jop_opcodes::{decode, starts};
-use program_tables::{Item, Site};
+use program_tables::{Item, Site, opcode_at};
 use std::alloc::Global;
 
 /// The first at a place of a code.
-#[tactic(auto, using(crate::proofs::FirstLemmas::of_sited), unfolding(crate::specs::Causes::unsupported_at, crate::specs::Causes::instruction_items))]
+#[tactic(auto, using(crate::proofs::FirstLemmas::of_sited, crate::proofs::OpcodeLemmas::nothing_at), unfolding(crate::specs::Causes::unsupported_at, crate::specs::Causes::instruction_items))]
 fn first_at_place(
     class: &ClassFile,
     descriptors: &DescriptorItems,
@@ -36,6 +37,9 @@ fn first_at_place(
     requires small { length code.now ≤ 33554432 }
     ensures { result ≡ first (option_map_or (unsupported_at class.now method) (placed_at code.now pc) []) }
 {
+    if !may_have_items(opcode_at(code, pc)) {
+        return None;
+    }
     match decode(code, pc) {
         Ok(instr) => match item_at_instruction(class, descriptors, &instr) {
             Some(item) => Some((Site::Code(method, pc), item)),

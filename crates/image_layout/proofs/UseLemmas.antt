@@ -1,22 +1,27 @@
 -- One instruction more that uses entries of a pool.
-use Rattle.std.proofs.Common.{◌≡◌, ℕ, zero, suc, ◌<◌, ◌≤◌, Bool, true, false, not, ◌&&◌, eqb, inl, inr, List, [], ◌∷◌, ◌++◌, Option, Some, None, map, length, length-append, get_or, set, length-set, append-nil, refl, sym, ap, ap₂, ◌∙◌, subst, arith}
+use Rattle.std.proofs.Common.{◌≡◌, ℕ, zero, suc, ◌<◌, ◌≤◌, Bool, true, false, not, ◌&&◌, eqb, inl, inr, List, [], ◌∷◌, ◌++◌, Option, Some, None, Result, Ok, Err, ◌+◌, map, take, length, length-append, get_or, set, length-set, append-nil, refl, sym, ap, ap₂, ◌∙◌, subst, arith}
 use Rattle.std.specs.Prelude.{slice_get, is_some, if◌then◌else◌}
 use Rattle.lists.specs.Lemmas.{none≢some, some_same}
 use Rattle.program_tables.specs.Tables.{HasBounds}
 use Rattle.std.specs.Option.{option_map, option_or}
-use Rattle.std.specs.List.{filter, find, range_with_len, AllByRecursion}
+use Rattle.std.specs.List.{filter, filter_map, find, range_with_len, AllByRecursion}
 use Rattle.std.proofs.lemmas.Bool.{false≢true, cases_Bool, eqb-true, eqb-false}
 use Rattle.std.proofs.lemmas.List.{get_or-set_same, get_or-set_other}
 use Rattle.std.proofs.lemmas.List.FromFn.{fill_by_all, length-map-range_with_len, get_or-map-range_with_len}
 use Rattle.std.proofs.lemmas.List.Elements.{filter-append}
 use Rattle.class_pool.specs.declared.class.ClassFile.{ClassFile}
 use Rattle.jop_opcodes.specs.declared.instruction.Instr.{Instr}
-use Rattle.program_tables.specs.Instructions.{index_of_entry, named_in}
+use Rattle.jop_opcodes.specs.declared.instruction.DecodeFault.{DecodeFault}
+use Rattle.jop_opcodes.specs.Instruction.{decoded}
+use Rattle.bytecode_model.specs.Program.{as_instr}
+use Rattle.program_tables.specs.Instructions.{Placed, placed_at, index_of_entry, named_in}
+use Rattle.program_tables.specs.Naming.{NamesNothingAt}
 use Rattle.program_tables.specs.Operands.{operand_in}
 use Rattle.image_words.specs.Layout.{outline_of}
 use Rattle.image_words.specs.Pools.{operand_place}
 use Rattle.image_layout.specs.declared.uses.Use.{Use}
-use Rattle.image_layout.specs.Uses.{is_fixed, names_index, use_by, use_of, again, fixed_place}
+use Rattle.image_layout.specs.Uses.{instr_of, is_fixed, names_index, use_by, use_of, again, fixed_place}
+use Rattle.image_layout.proofs.EntryLemmas.{instructions_more}
 
 find_case : {A : Type 0} (t : A → Bool) (y x : A) (ys : List A) (b : Bool) → find t (ys ++ x ∷ []) ≡ option_or (find t ys) (if t x then Some x else None)
     → (if b then Some y else find t (ys ++ x ∷ [])) ≡ option_or (if b then Some y else find t ys) (if t x then Some x else None)
@@ -112,6 +117,35 @@ past_named k x many i past less =
       | inl t ↦ let same = eqb-true (index_of_entry x) i t in absurd (omega (arith, same, past, less))
       | inr o ↦ ap (λ (a : Bool). a && is_some (named_in k x)) o
     ]
+
+-- ---- places of a code
+
+-- the instructions before a place, and the one there
+abbrev pub before_place : List Instr → (code pcs : List ℕ) → (i : ℕ) → List Instr
+before_place before code pcs i = before ++ map instr_of (filter_map (placed_at code) (take i pcs))
+
+pub place_noted : (before : List Instr) (code pcs : List ℕ) (i pc : ℕ) (x : Instr) → slice_get pcs i ≡ Some pc → decoded code pc ≡ Ok x
+    → before_place before code pcs i ++ x ∷ [] ≡ before_place before code pcs (i + 1)
+place_noted before code pcs i pc x at is =
+    let placed : Placed = record { pc = pc; instr = x } in
+    let old = before_place before code pcs i in
+    instructions_more code pcs i pc (Some placed) before old (old ++ x ∷ []) at (ap (λ r. option_map (λ i. let p : Placed = record { pc = pc; instr = i } in p) (as_instr r)) is) refl refl
+
+-- an instruction that names nothing, or none
+pub place_passed : (cs : List ClassFile) (c : ℕ) (k : ClassFile) (before : List Instr) (code pcs : List ℕ) (i pc many : ℕ) (old : List Use) → slice_get pcs i ≡ Some pc → NamesNothingAt code pc
+    → old ≡ map (use_of cs c k (before_place before code pcs i)) (range_with_len 0 many) → old ≡ map (use_of cs c k (before_place before code pcs (i + 1))) (range_with_len 0 many)
+place_passed cs c k before code pcs i pc many old at none h = by (decoded code pc) refl
+  where
+    by : (r : Result Instr DecodeFault) → decoded code pc ≡ r → old ≡ map (use_of cs c k (before_place before code pcs (i + 1))) (range_with_len 0 many)
+    by (Ok x) e =
+        let xs = before_place before code pcs i in
+        let nothing : is_some (named_in k x) ≡ false = ap is_some (none x e k) in
+        use_passed cs c k xs x many old h (λ j less. unnamed k x j nothing)
+        ∙ ap (λ (is : List Instr). map (use_of cs c k is) (range_with_len 0 many)) (place_noted before code pcs i pc x at e)
+    by (Err fault) e =
+        let xs = before_place before code pcs i in
+        let same = instructions_more code pcs i pc None before xs xs at (ap (λ r. option_map (λ i. let p : Placed = record { pc = pc; instr = i } in p) (as_instr r)) e) refl (sym (append-nil xs)) in
+        h ∙ ap (λ (is : List Instr). map (use_of cs c k is) (range_with_len 0 many)) same
 
 -- ---- classes within bounds
 

@@ -14,8 +14,8 @@ use image_words::Outline;
 use jop_base::NoMemory;
 use jop_opcodes::laws::starts_follow_one_another;
 use jop_opcodes::mnemonics::{INVOKESPECIAL, INVOKESTATIC};
-use jop_opcodes::{Instr, decode, starts};
-use program_tables::{Named, Operand, entry_of, named_in};
+use jop_opcodes::{Instr, starts};
+use program_tables::{Named, Operand, entry_of, named_in, naming_at};
 use resolved_program::Program;
 use std::alloc::Global;
 
@@ -25,35 +25,6 @@ use std::alloc::Global;
 pub(crate) struct Use {
     pub(crate) named: bool,
     pub(crate) taken: Option<u32>,
-}
-
-/// Puts the instructions of a code behind others, up to the first place from which it isn't a whole instruction.
-fn add_instructions(instrs: &mut Vec<Instr>, alloc: Global, code: &[u8]) -> Result<(), NoMemory>
-    requires { length code.now ≤ 33554432 }
-    ensures { OnOk result (instrs.new.items ≡ instrs.old.items ++ map instr_of (definitions.instructions_in code.now)) }
-{
-    starts_follow_one_another();
-    let starts = starts(alloc, code)?;
-    for pc in &starts {
-        if let Ok(instr) = decode(code, *pc) {
-            instrs.push(instr)?;
-        }
-    }
-    Ok(())
-}
-
-/// The instructions of a class, method by method.
-fn instructions_of(alloc: Global, class: &ClassFile) -> Result<Vec<Instr>, NoMemory>
-    requires { HasBounds class.now }
-    ensures { IfOk result (λ instrs. instrs.items ≡ map instr_of (instructions_in class.now)) }
-{
-    let mut instrs = Vec::new(alloc);
-    for method in class.methods.as_slice() {
-        if let Some(code) = method.code() {
-            add_instructions(&mut instrs, alloc, code.code.as_slice())?;
-        }
-    }
-    Ok(instrs)
 }
 
 /// The place of the method that an instruction of the class takes without a selection.
@@ -134,6 +105,31 @@ fn unused(alloc: Global, many: usize) -> Result<Vec<Use>, NoMemory>
     Ok(uses)
 }
 
+/// Notes what the instructions of a code of the class name, up to the first place from which it isn't a whole instruction.
+fn note_code(
+    uses: &mut Vec<Use>,
+    alloc: Global,
+    program: &Program,
+    outline: &Outline,
+    number: u32,
+    code: &[u8],
+) -> Result<(), NoMemory>
+    requires outline { IsOutline program.now outline.now }
+    requires class { number < length program.now }
+    requires small { length code.now ≤ 33554432 }
+    ensures { OnOk result ((k : ClassFile) (before : List Instr) (many : ℕ) → slice_get program.now number ≡ Some k → uses.old.items ≡ map (use_of program.now number k before) (range_with_len 0 many)
+        → uses.new.items ≡ map (use_of program.now number k (before ++ map instr_of (definitions.instructions_in code.now))) (range_with_len 0 many)) }
+{
+    starts_follow_one_another();
+    let starts = starts(alloc, code)?;
+    for pc in &starts {
+        if let Some(instr) = naming_at(code, *pc) {
+            note_use(uses, program, outline, number, &instr);
+        }
+    }
+    Ok(())
+}
+
 /// How the instructions of a class use the entries of its pool, by index, from 0 on.
 pub(crate) fn uses_of(
     alloc: Global,
@@ -147,10 +143,18 @@ pub(crate) fn uses_of(
 {
     program.is_within_bounds();
     let class = program.class(number);
-    let instrs = instructions_of(alloc, class)?;
     let mut uses = unused(alloc, class.pool.entries().len() + 1)?;
-    for instr in &instrs {
-        note_use(&mut uses, program, outline, number, instr);
+    for method in class.methods.as_slice() {
+        if let Some(code) = method.code() {
+            note_code(
+                &mut uses,
+                alloc,
+                program,
+                outline,
+                number,
+                code.code.as_slice(),
+            )?;
+        }
     }
     Ok(uses)
 }

@@ -5,6 +5,7 @@ pub mod ComponentLemmas
 pub mod NumberingLemmas
 pub mod EntryLemmas
 pub mod TakenLemmas
+pub mod NamingLemmas
 pub mod TableLemmas
 pub mod ShapeLemmas
 pub mod TextLemmas

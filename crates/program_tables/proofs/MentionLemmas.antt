@@ -59,10 +59,6 @@ pub all_places : {Y : Type 0} (f : Placed → List Y) (code : List ℕ) → flat
 unfolding instructions_in
 all_places f code = sym (parts_of_some f (placed_at code) (starts_of code))
 
-pub no_instr : {E : Type 0} (r : Result Instr E) → ((x : Instr) → r ≡ Ok x → ⊥) → as_instr r ≡ None
-no_instr (Ok x) h = absurd (h x refl)
-no_instr (Err e) h = refl
-
 -- ---- kinds are told apart
 
 pub kind_decides : (k l : Kind) → Decides (same_kind k l) (k ≡ l)

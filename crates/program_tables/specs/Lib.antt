@@ -15,6 +15,7 @@ pub mod Tables
 pub mod Laws
 pub mod Meanings
 pub mod Taken
+pub mod Naming
 pub mod Entries
 pub mod Texts
 pub mod Marks

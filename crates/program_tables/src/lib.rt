@@ -10,6 +10,7 @@ mod meanings;
 mod members;
 mod mentions;
 mod named;
+mod naming;
 mod operand;
 mod refusal;
 mod shapes;
@@ -26,6 +27,7 @@ pub use meanings::{
 pub use members::{Members, Places, instance_fields_of, members_of};
 pub use mentions::{Mentioned, mentioned_by};
 pub use named::{Named, named_in, takes_entry};
+pub use naming::{may_name, naming_at, opcode_at};
 pub use operand::{Declared, Handler, Instruction, MethodShape, Operand};
 pub use refusal::{Item, Site, Why};
 pub use shapes::{field_type_at, field_types_of, shapes_of};

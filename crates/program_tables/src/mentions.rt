@@ -14,6 +14,7 @@ ghost use Rattle.program_tables.specs.Tables.{kind_seen, kinds_of, HasBounds};
 
 use crate::kinds::{Base, ObjectKind};
 use crate::named::{Named, entry_at, named_in};
+use crate::naming::naming_at;
 use crate::strings::Strings;
 use crate::texts::TextTypes;
 use crate::types::Types;
@@ -22,7 +23,7 @@ use class_pool::Entry;
 use indexmap::IndexSet;
 use jop_base::NoMemory;
 use jop_opcodes::laws::starts_follow_one_another;
-use jop_opcodes::{Instr, decode, starts};
+use jop_opcodes::{Instr, starts};
 use std::alloc::Global;
 
 /// The array type codes of the arrays of numbers (6.5.newarray).
@@ -262,7 +263,7 @@ impl Mentions {
         starts_follow_one_another();
         let starts = starts(alloc, code)?;
         for pc in &starts {
-            if let Ok(instr) = decode(code, *pc) {
+            if let Some(instr) = naming_at(code, *pc) {
                 self.add_instruction(alloc, texts, number, class, &instr)?;
             }
         }

@@ -36,28 +36,28 @@ pub(crate) fn entry_at(pool: &Pool, index: u16) -> Option<&Entry>
 }
 
 /// Whether the opcode is ldc or ldc_w.
-fn is_ldc(op: u8) -> bool
+pub(crate) fn is_ldc(op: u8) -> bool
     ensures { result ≡ is_ldc op }
 {
     op == LDC || op == LDC_W
 }
 
 /// Whether the opcode reads or writes a field.
-fn is_field_access(op: u8) -> bool
+pub(crate) fn is_field_access(op: u8) -> bool
     ensures { result ≡ is_field_access op }
 {
     op >= GETSTATIC && op <= PUTFIELD
 }
 
 /// Whether the opcode names a class.
-fn is_class_use(op: u8) -> bool
+pub(crate) fn is_class_use(op: u8) -> bool
     ensures { result ≡ is_class_use op }
 {
     op == NEW || op == ANEWARRAY || op == CHECKCAST || op == INSTANCEOF
 }
 
 /// Whether the opcode takes a method of a class.
-fn takes_method(op: u8) -> bool
+pub(crate) fn takes_method(op: u8) -> bool
     ensures { result ≡ takes_method op }
 {
     op >= INVOKEVIRTUAL && op <= INVOKESTATIC

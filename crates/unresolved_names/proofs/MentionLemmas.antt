@@ -1,5 +1,5 @@
 -- What a class names, part by part.
-use Rattle.std.proofs.Common.{◌≡◌, ℕ, Bool, true, false, not, ◌==◌, List, [], ◌∷◌, ◌++◌, map, Option, Some, None, Ok, Err, refl, sym, ap, ap₂, ◌∙◌}
+use Rattle.std.proofs.Common.{◌≡◌, ℕ, Bool, true, false, not, ◌==◌, List, [], ◌∷◌, ◌++◌, map, Option, Some, None, Ok, refl, sym, ap, ap₂, ◌∙◌}
 use Rattle.std.specs.Prelude.{if◌then◌else◌}
 use Rattle.std.specs.Option.{option_map, option_map_or}
 use Rattle.std.specs.List.{filter, flat_map}
@@ -10,16 +10,17 @@ use Rattle.class_pool.specs.declared.class.Member.{Member}
 use Rattle.class_pool.specs.declared.class.ClassFile.{ClassFile}
 use Rattle.class_pool.specs.Found.{code_of}
 use Rattle.jop_opcodes.specs.declared.instruction.Instr.{Instr}
-use Rattle.jop_opcodes.specs.declared.instruction.DecodeFault.{DecodeFault}
 use Rattle.jop_opcodes.specs.Instruction.{decoded}
 use Rattle.bytecode_model.specs.Program.{as_instr}
-use Rattle.program_tables.specs.Instructions.{Placed, placed_at, instructions_in}
+use Rattle.program_tables.specs.Instructions.{Placed, placed_at, instructions_in, index_of_entry, named_in}
+use Rattle.program_tables.specs.Naming.{NamesNothingAt}
+use Rattle.program_tables.proofs.NamingLemmas.{nothing_there}
 use Rattle.program_tables.specs.FrameClasses.{classes_in_frames}
 use Rattle.program_tables.specs.declared.refusal.Why.{Why}
 use Rattle.program_tables.specs.declared.refusal.Why.TheVariants as reasons
 use Rattle.program_tables.specs.Kinds.{classes_in_method_descriptor}
-use Rattle.class_lookup.specs.Parts.{text_at}
-use Rattle.program_tables.specs.Unresolved.{ThisClass, FieldDescriptor, MethodDescriptor, AtInstruction, AtHandler, InFrame, unless, are_there, implements_all, mentions_in_code, mentions_in_method}
+use Rattle.class_lookup.specs.Parts.{text_at, signature_of}
+use Rattle.program_tables.specs.Unresolved.{ThisClass, FieldDescriptor, MethodDescriptor, AtInstruction, AtHandler, InFrame, unless, are_there, implements_all, mentions_in_code, mentions_in_method, why_named}
 use Rattle.unresolved_names.specs.Causes.{refused_entry, refused_class, refused_catch, refused_frame_class, refused_instruction, refused_mention, unresolved_mentions}
 
 -- ---- at a place of a code
@@ -27,8 +28,12 @@ use Rattle.unresolved_names.specs.Causes.{refused_entry, refused_class, refused_
 pub of_placed : {A : Type 0} (f : Placed → List A) (code : List ℕ) (pc : ℕ) (instr : Instr) → decoded code pc ≡ Ok instr → first (option_map_or f (placed_at code pc) []) ≡ first (f (record { pc = pc; instr = instr }))
 of_placed f code pc instr e = ap (λ r. first (option_map_or f (option_map (λ i. record { pc = pc; instr = i }) (as_instr r)) [])) e
 
-pub of_no_instr : {A : Type 0} (f : Placed → List A) (code : List ℕ) (pc : ℕ) (fault : DecodeFault) → decoded code pc ≡ Err fault → first (option_map_or f (placed_at code pc) []) ≡ None
-of_no_instr f code pc fault e = ap (λ r. first (option_map_or f (option_map (λ i. record { pc = pc; instr = i }) (as_instr r)) [])) e
+pub of_nothing : (cs : List ClassFile) (c : ℕ) (k : ClassFile) (m : Member) (code : List ℕ) (pc : ℕ) → NamesNothingAt code pc → None ≡ first (option_map_or (refused_instruction cs c k m) (placed_at code pc) [])
+unfolding refused_instruction
+of_nothing cs c k m code pc none =
+    let f = refused_instruction cs c k m in
+    let nothing = λ (p : Placed) (h : named_in k p.instr ≡ None). ap (λ n. refused_entry (index_of_entry p.instr) (why_named cs c k (signature_of k m) p.instr.op n)) h in
+    ap first (sym (nothing_there f k nothing code pc none))
 
 -- ---- parts of parts
 

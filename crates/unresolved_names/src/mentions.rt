@@ -25,8 +25,8 @@ use class_pool::{ClassFile, Code, Member};
 use jop_base::NoMemory;
 use jop_opcodes::laws::starts_follow_one_another;
 use jop_opcodes::mnemonics::NEW;
-use jop_opcodes::{Instr, decode, starts};
-use program_tables::{Named, TextTypes, Why, named_in};
+use jop_opcodes::starts;
+use program_tables::{Named, TextTypes, Why, named_in, naming_at};
 use std::alloc::Global;
 
 /// Whether an object of the class of a Class entry of the caller may be made.
@@ -126,7 +126,7 @@ fn why_named(
 }
 
 /// What an instruction at a place of the caller's method names, if it isn't resolved.
-#[tactic(auto, using(crate::proofs::MentionLemmas::of_placed, crate::proofs::MentionLemmas::of_no_instr), unfolding(crate::specs::Causes::refused_instruction, crate::specs::Words::named_reason))]
+#[tactic(auto, using(crate::proofs::MentionLemmas::of_placed, crate::proofs::MentionLemmas::of_nothing), unfolding(crate::specs::Causes::refused_instruction, crate::specs::Words::named_reason))]
 fn refused_at_place(
     classes: &Hierarchy,
     texts: &TextTypes<'_>,
@@ -144,15 +144,15 @@ fn refused_at_place(
     requires small { length code.now ≤ 33554432 }
     ensures { result ≡ first (option_map_or (refused_instruction classes.now caller class.now method.now) (placed_at code.now pc) []) }
 {
-    match decode(code, pc) {
-        Ok(instr) => {
+    match naming_at(code, pc) {
+        Some(instr) => {
             let named = named_in(class, &instr);
             match why_named(classes, texts, caller, class, method, instr.op, named) {
                 Some(why) => Some((instr.first.unsigned_abs(), why)),
                 None => None,
             }
         }
-        Err(_) => None,
+        None => None,
     }
 }
 

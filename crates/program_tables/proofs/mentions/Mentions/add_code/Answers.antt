@@ -1,8 +1,9 @@
-use Rattle.std.proofs.Common.{◌<◌, List, ℕ, [], Option, Some, None, length, get_or, take_all, refl, sym, ap, ◌∙◌, subst}
+use Rattle.std.proofs.Common.{◌<◌, List, ℕ, [], Option, Some, length, get_or, take_all, refl, sym, ap, ◌∙◌, subst}
 use Rattle.std.specs.Option.{option_map_or}
 use Rattle.std.specs.List.{flat_map}
 use Rattle.std.proofs.lemmas.List.Elements.{Contains-get_or}
 use Rattle.jop_opcodes.specs.declared.instruction.Instr.{Instr}
+use Rattle.jop_opcodes.specs.Instruction.{decoded}
 use Rattle.jop_opcodes.specs.Start.{starts_of}
 use Rattle.bytecode_model.specs.Program.{as_instr}
 use Rattle.bytecode_model.specs.Types.{Kind, same_kind}
@@ -11,14 +12,16 @@ use Rattle.program_tables.specs.Instructions.{Placed, placed_at, named_in}
 use Rattle.program_tables.specs.Lists.{with_items}
 use Rattle.program_tables.specs.declared.mentions.Mentions.{Mentions}
 use Rattle.program_tables.specs.Marks.{AreMentions}
-use Rattle.program_tables.specs.Numbers.{arrays_mentioned_by, string_in, constant_named}
+use Rattle.program_tables.specs.Numbers.{arrays_mentioned_by, used_by, class_kind, string_in, constant_named}
 use Rattle.program_tables.specs.Tables.{kinds_of}
-use Rattle.program_tables.proofs.MentionLemmas.{next_place, all_places, no_instr}
+use Rattle.program_tables.proofs.ListLemmas.{no_value}
+use Rattle.program_tables.proofs.MentionLemmas.{next_place, all_places}
+use Rattle.program_tables.proofs.NamingLemmas.{nothing_there}
 use Rattle.program_tables.proofs.mentions.Mentions.add_code.Goals as goal
-use Rattle.program_tables.proofs.mentions.Mentions.add_code.Goals.{in-Ok+in_ok-add_instruction, in_default}
+use Rattle.program_tables.proofs.mentions.Mentions.add_code.Goals.{in-Some+in_ok-add_instruction, in_default}
 
-pub decode-requires-clause-inside : goal.decode-requires-clause-inside
-decode-requires-clause-inside c =
+pub naming_at-requires-clause-inside : goal.naming_at-requires-clause-inside
+naming_at-requires-clause-inside c =
     let code = c.args.code.now in
     let i = c.loop-pc.pc-index in
     let e = c.deref-pc-items.ensures.value ∙ c.in_ok-starts.ensures in
@@ -33,23 +36,28 @@ loop-pc-preserved c =
     let i = c.loop-pc.pc-index in
     let pc = get_or ps i 0 in
     let self = c.loop-pc.self in
+    let types_at = arrays_mentioned_by c.args.texts.now class in
+    let strings_at = λ (p : Placed). string_in class.pool (constant_named (named_in class p.instr)) in
     let types = λ (after : List Kind) (o : Option Instr).
-    next_place same_kind (arrays_mentioned_by c.args.texts.now class) code ps i pc (kinds_of c.args.self.now.arrays.types) (kinds_of self.arrays.types) after o c.loop-pc-test.true refl c.loop-pc.invariant.types in
+    next_place same_kind types_at code ps i pc (kinds_of c.args.self.now.arrays.types) (kinds_of self.arrays.types) after o c.loop-pc-test.true refl c.loop-pc.invariant.types in
     let strings = λ (after : List (List ℕ)) (o : Option Instr).
-    next_place same_text (λ (p : Placed). string_in class.pool (constant_named (named_in class p.instr))) code ps i pc c.args.self.now.literals.strings self.literals.strings after o c.loop-pc-test.true refl c.loop-pc.invariant.strings in
-    elim c.match-decode.branch [
-      | in-Ok+in_ok-add_instruction w ↦
-          let e = ap as_instr (sym c.decode.ensures.exact ∙ w.in-Ok.is) in
+    next_place same_text strings_at code ps i pc c.args.self.now.literals.strings self.literals.strings after o c.loop-pc-test.true refl c.loop-pc.invariant.strings in
+    elim c.match-naming_at.branch [
+      | in-Some+in_ok-add_instruction w ↦
+          let e = ap as_instr w.in-Some.ensures.there in
           record {
-            types = ap (λ (s : Mentions). kinds_of s.arrays.types) w.self-is ∙ types (kinds_of w.add_instruction.new.self.arrays.types) (Some w.in-Ok.instr) e w.in_ok-add_instruction.ensures.types;
-            strings = ap (λ (s : Mentions). s.literals.strings) w.self-is ∙ strings w.add_instruction.new.self.literals.strings (Some w.in-Ok.instr) e w.in_ok-add_instruction.ensures.strings;
+            types = ap (λ (s : Mentions). kinds_of s.arrays.types) w.self-is ∙ types (kinds_of w.add_instruction.new.self.arrays.types) (Some w.in-Some.instr) e w.in_ok-add_instruction.ensures.types;
+            strings = ap (λ (s : Mentions). s.literals.strings) w.self-is ∙ strings w.add_instruction.new.self.literals.strings (Some w.in-Some.instr) e w.in_ok-add_instruction.ensures.strings;
             added = subst (AreMentions c.args.texts.now) (sym w.self-is) w.in_ok-add_instruction.ensures.added;
           }
       | in_default w ↦
-          let e = ap as_instr (sym c.decode.ensures.exact) ∙ no_instr c.decode.result w.in_default.not-Ok in
+          let o = as_instr (decoded code pc) in
+          let none = c.naming_at.ensures.none (no_value c.naming_at.result w.in_default.not-Some) in
           record {
-            types = ap (λ (s : Mentions). kinds_of s.arrays.types) w.self-is ∙ types (kinds_of self.arrays.types) None e refl;
-            strings = ap (λ (s : Mentions). s.literals.strings) w.self-is ∙ strings self.literals.strings None e refl;
+            types = ap (λ (s : Mentions). kinds_of s.arrays.types) w.self-is
+                ∙ types (kinds_of self.arrays.types) o refl (ap (with_items same_kind (kinds_of self.arrays.types)) (sym (nothing_there types_at class (λ p h. ap (λ n. used_by p.instr.op (class_kind c.args.texts.now class n)) h) code pc none)));
+            strings = ap (λ (s : Mentions). s.literals.strings) w.self-is
+                ∙ strings self.literals.strings o refl (ap (with_items same_text self.literals.strings) (sym (nothing_there strings_at class (λ p h. ap (λ n. string_in class.pool (constant_named n)) h) code pc none)));
             added = subst (AreMentions c.args.texts.now) (sym w.self-is) c.loop-pc.invariant.added;
           }
     ]
