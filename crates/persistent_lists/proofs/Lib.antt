@@ -1,0 +1,5 @@
+pub mod TreeLemmas
+pub mod SearchLemmas
+pub mod FillLemmas
+pub mod TableLemmas
+pub mod AnswerLemmas

@@ -1,0 +1,237 @@
+//! Binary trees over indices, of a height: a node of height 0 is an item, and any other is the number of the pair of its two halves.
+ghost use Rattle.std.specs.Prelude.{◌≡◌, ◌<◌, ◌≤◌, ◌-◌, ◌^◌, [], ◌∷◌, ◌++◌, length, replicate, set, slice_get, Some, IfOk, IfSome};
+ghost use Rattle.persistent_lists.specs.Tables.{IsDifference, IsPosition};
+ghost use Rattle.persistent_lists.specs.Answers.{AreAnswered};
+ghost use Rattle.persistent_lists.specs.Trees.{items, IsTree, IsNode, IsFilled, IsTreeOf, Extends};
+
+use crate::pairs::Pairs;
+use jop_base::NoMemory;
+
+/// An index at which two lists differ, and the items there.
+#[derive(Clone, Copy)]
+pub struct Difference {
+    pub index: u32,
+    pub first: u32,
+    pub second: u32,
+}
+
+/// A tree, and that of as many times the rest alone.
+#[derive(Clone, Copy)]
+pub(crate) struct Filled {
+    pub(crate) node: u32,
+    pub(crate) rest: u32,
+}
+
+/// How many items a tree of this height has.
+fn size_of(height: u32) -> u32
+    requires { height ≤ 16 }
+    ensures { result ≡ 2 ^ height }
+{
+    1 << height
+}
+
+/// The least height of a tree with so many items.
+pub(crate) fn height_of(width: u32) -> u32
+    requires { width < 2 ^ 16 }
+    ensures room { width ≤ 2 ^ result }
+    ensures most { result ≤ 16 }
+{
+    for height in 0..16 {
+        if width <= size_of(height) {
+            return height;
+        }
+    }
+    16
+}
+
+/// The item at an index.
+pub(crate) fn item_at(pairs: &Pairs, height: u32, node: u32, index: u32) -> u32
+    requires height { height ≤ 16 }
+    requires within { index < 2 ^ height }
+    ensures { slice_get (items pairs.now height node) index ≡ Some result }
+{
+    if height == 0 {
+        return node;
+    }
+    let half = size_of(height - 1);
+    let halves = pairs.get(node);
+    if index < half {
+        return item_at(pairs, height - 1, halves.0, index);
+    }
+    item_at(pairs, height - 1, halves.1, index - half)
+}
+
+/// The least index from `from` on at which two trees differ. Halves that are the same node are passed over.
+pub(crate) fn difference_in(
+    pairs: &Pairs,
+    height: u32,
+    first: u32,
+    second: u32,
+    from: u32,
+) -> Option<u32>
+    requires { height ≤ 16 }
+    ensures found { IsDifference (items pairs.now height first) (items pairs.now height second) from result }
+    ensures within { IfSome result (λ index. index < 2 ^ height) }
+{
+    if first == second {
+        return None;
+    }
+    if from >= size_of(height) {
+        return None;
+    }
+    if height == 0 {
+        return Some(0);
+    }
+    let half = size_of(height - 1);
+    let halves = pairs.get(first);
+    let others = pairs.get(second);
+    if let Some(index) = difference_in(pairs, height - 1, halves.0, others.0, from) {
+        return Some(index);
+    }
+    let behind = from.saturating_sub(half);
+    match difference_in(pairs, height - 1, halves.1, others.1, behind) {
+        Some(index) => Some(index + half),
+        None => None,
+    }
+}
+
+/// Whether a test passes at each index below the width at which two trees differ, the first item of which has the index `at`. Halves that
+/// are the same node are passed over.
+pub(crate) fn passes_in<F: Fn(Difference) -> bool>(
+    pairs: &Pairs,
+    height: u32,
+    first: u32,
+    second: u32,
+    at: u32,
+    width: u32,
+    test: &F,
+) -> bool
+    requires height { height ≤ 16 }
+    requires at { at < 2 ^ 17 }
+    requires width { width ≤ 2 ^ 16 }
+    requires callable { F.IsAlwaysCallable test.now }
+    ensures { AreAnswered (F.post test.now) at width (items pairs.now height first) (items pairs.now height second) result }
+{
+    if first == second || at >= width {
+        return true;
+    }
+    if height == 0 {
+        return test(Difference {
+            index: at,
+            first,
+            second,
+        });
+    }
+    let halves = pairs.get(first);
+    let others = pairs.get(second);
+    if !passes_in(pairs, height - 1, halves.0, others.0, at, width, test) {
+        return false;
+    }
+    let behind = at + size_of(height - 1);
+    passes_in(pairs, height - 1, halves.1, others.1, behind, width, test)
+}
+
+/// The least index from `from` on that holds the item. Where both halves are the same node, the second is passed over.
+pub(crate) fn position_in(
+    pairs: &Pairs,
+    height: u32,
+    node: u32,
+    item: u32,
+    from: u32,
+) -> Option<u32>
+    requires { height ≤ 16 }
+    ensures found { IsPosition (items pairs.now height node) item from result }
+    ensures within { IfSome result (λ index. index < 2 ^ height) }
+{
+    if from >= size_of(height) {
+        return None;
+    }
+    if height == 0 {
+        return if node == item { Some(0) } else { None };
+    }
+    let half = size_of(height - 1);
+    let halves = pairs.get(node);
+    if let Some(index) = position_in(pairs, height - 1, halves.0, item, from) {
+        return Some(index);
+    }
+    if from == 0 && halves.0 == halves.1 {
+        return None;
+    }
+    let behind = from.saturating_sub(half);
+    match position_in(pairs, height - 1, halves.1, item, behind) {
+        Some(index) => Some(index + half),
+        None => None,
+    }
+}
+
+/// The first item, and the rest where there is none.
+fn first_or(given: &[u32], rest: u32) -> u32
+    requires { length given.now ≤ 1 }
+    ensures { result ∷ [] ≡ given.now ++ replicate (1 - length given.now) rest }
+{
+    if given.is_empty() { rest } else { given[0] }
+}
+
+/// A tree of these halves, and one of twice the rest.
+fn join(pairs: &mut Pairs, left: u32, right: u32, rest: u32) -> Result<Filled, NoMemory>
+    ensures more { Extends pairs.old pairs.new }
+    ensures nodes { IfOk result (λ made. IsNode pairs.new (left, right) made.node × IsNode pairs.new (rest, rest) made.rest) }
+{
+    let node = pairs.insert((left, right))?;
+    let rest = pairs.insert((rest, rest))?;
+    Ok(Filled { node, rest })
+}
+
+/// The tree of these items, behind which the rest stands.
+pub(crate) fn tree_of(
+    pairs: &mut Pairs,
+    height: u32,
+    given: &[u32],
+    rest: u32,
+) -> Result<Filled, NoMemory>
+    requires height { height ≤ 16 }
+    requires room { length given.now ≤ 2 ^ height }
+    ensures more { Extends pairs.old pairs.new }
+    ensures filled { IfOk result (λ made. IsFilled pairs.new height given.now rest made.node made.rest) }
+{
+    if height == 0 {
+        let node = first_or(given, rest);
+        return Ok(Filled { node, rest });
+    }
+    let half = size_of(height - 1) as usize;
+    if given.len() <= half {
+        let left = tree_of(pairs, height - 1, given, rest)?;
+        return join(pairs, left.node, left.rest, left.rest);
+    }
+    let (front, back) = given.split_at(half);
+    let left = tree_of(pairs, height - 1, front, rest)?;
+    let right = tree_of(pairs, height - 1, back, rest)?;
+    join(pairs, left.node, right.node, left.rest)
+}
+
+/// A tree with another item at an index.
+pub(crate) fn tree_with(
+    pairs: &mut Pairs,
+    height: u32,
+    node: u32,
+    index: u32,
+    item: u32,
+) -> Result<u32, NoMemory>
+    requires height { height ≤ 16 }
+    requires within { index < 2 ^ height }
+    requires tree { IsTree pairs.old height node }
+    ensures more { Extends pairs.old pairs.new }
+    ensures made { IfOk result (λ made. IsTreeOf pairs.new height made (set (items pairs.old height node) index item)) }
+{
+    if height == 0 {
+        return Ok(item);
+    }
+    let half = size_of(height - 1);
+    let halves = pairs.get(node);
+    if index < half {
+        let left = tree_with(pairs, height - 1, halves.0, index, item)?;
+        return pairs.insert((left, halves.1));
+    }
+    let right = tree_with(pairs, height - 1, halves.1, index - half, item)?;
+    pairs.insert((halves.0, right))
+}
