@@ -12,7 +12,7 @@ use Rattle.std.proofs.lemmas.List.Sums.{AllPass-from_list_all, list_all-from_All
 use Rattle.std.proofs.lemmas.List.Sorted.{All-permutation, IsPermutation-map, IsPermutation-sym}
 use Rattle.bytecode_model.specs.Program as model
 use Rattle.bytecode_model.specs.Program.{Program}
-use Rattle.bytecode_typing.specs.Types.{TypeFrame}
+use Rattle.bytecode_typing.specs.Types.{VarType, TypeFrame}
 use Rattle.bytecode_typing.specs.Walk.{covers, is_handled, handlers_hold}
 use Rattle.program_tables.specs.declared.operand.Handler.{Handler}
 use Rattle.program_tables.specs.Meanings.{handler_seen}
@@ -127,16 +127,16 @@ held_alike P frames (Some place) f g hs e h = sym (same_held P frames place f g 
 
 -- ---- the frame that falls in, by reference
 
-pub referred_seen : (o : Option (Bor code.TypeFrame)) (x : Option code.TypeFrame) → option_copied o ≡ x → frame_at_seen o ≡ option_map frame_seen x
-referred_seen None x e = ap (option_map frame_seen) e
-referred_seen (Some g) x e = ap (option_map frame_seen) e
+pub referred_seen : (ls : List (List VarType)) (o : Option (Bor code.TypeFrame)) (x : Option code.TypeFrame) → option_copied o ≡ x → frame_at_seen ls o ≡ option_map (frame_seen ls) x
+referred_seen ls None x e = ap (option_map (frame_seen ls)) e
+referred_seen ls (Some g) x e = ap (option_map (frame_seen ls)) e
 
 -- ---- what is told of the next instruction
 
-pub held_when : (P : Program) (frames : ℕ → Option TypeFrame) (place : ℕ) (frame : Option code.TypeFrame) (hs : List model.Handler) (kept : Bool) → (kept ≡ true → IsHeld P frames (Some place) (option_map frame_seen frame) hs) → IsHeldBehind P frames place (Goes frame kept) hs
-held_when P frames place frame hs true h = h refl
-held_when P frames place frame hs false h = tt
+pub held_when : (ls : List (List VarType)) (P : Program) (frames : ℕ → Option TypeFrame) (place : ℕ) (frame : Option code.TypeFrame) (hs : List model.Handler) (kept : Bool) → (kept ≡ true → IsHeld P frames (Some place) (option_map (frame_seen ls) frame) hs) → IsHeldBehind ls P frames place (Goes frame kept) hs
+held_when ls P frames place frame hs true h = h refl
+held_when ls P frames place frame hs false h = tt
 
-pub held_next : (P : Program) (frames : ℕ → Option TypeFrame) (place : ℕ) (frame : Option code.TypeFrame) (hs : List model.Handler) (held : Bool) → IsHeldBehind P frames place (Goes frame held) hs → IsHeld P frames (if held then Some place else None) (option_map frame_seen frame) hs
-held_next P frames place frame hs true h = h
-held_next P frames place frame hs false h = tt
+pub held_next : (ls : List (List VarType)) (P : Program) (frames : ℕ → Option TypeFrame) (place : ℕ) (frame : Option code.TypeFrame) (hs : List model.Handler) (held : Bool) → IsHeldBehind ls P frames place (Goes frame held) hs → IsHeld P frames (if held then Some place else None) (option_map (frame_seen ls) frame) hs
+held_next ls P frames place frame hs true h = h
+held_next ls P frames place frame hs false h = tt

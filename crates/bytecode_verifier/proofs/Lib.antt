@@ -15,6 +15,8 @@ pub mod TableLemmas
 pub mod VerifiedLemmas
 pub mod PlacedLemmas
 pub mod PlacedTables
+pub mod ListedLemmas
+pub mod SteppedLemmas
 pub mod NameLemmas
 pub mod FirstLemmas
 pub mod FindLemmas

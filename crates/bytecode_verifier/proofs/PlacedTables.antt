@@ -1,13 +1,13 @@
 -- Verified programs are well placed.
-use Rattle.std.proofs.Common.{◌≡◌, ℕ, ◌<◌, Bool, true, false, List, [], ◌∷◌, ◌⊎◌, length, map, refl, sym, ap, ◌∙◌, subst, inl, inr}
-use Rattle.std.specs.Prelude.{◌&&◌, ◌||◌, ◌==◌, nat_lt, IsTrue, slice_get}
+use Rattle.std.proofs.Common.{◌≡◌, ℕ, Bool, true, false, List, [], ◌∷◌, ◌⊎◌, length, map, refl, ◌∙◌, subst, inl, inr}
+use Rattle.std.specs.Prelude.{◌&&◌, ◌||◌, ◌==◌, nat_lt}
 use Rattle.std.specs.List.{AllByRecursion}
 use Rattle.std.proofs.lemmas.Bool.{eqb-true, ltb-true}
 use Rattle.jop_opcodes.specs.Start.{IsStart, starts_of, AreStarts}
 use Rattle.class_pool.specs.declared.class.ClassFile.{ClassFile}
 use Rattle.class_rules.specs.Found.{MethodsHaveCode}
 use Rattle.lists.specs.Tests.{and_left, and_right, not_false}
-use Rattle.bytecode_model.specs.Program.{Method, Body}
+use Rattle.bytecode_model.specs.Program.{Body}
 use Rattle.frame_types.specs.Types.{is_start}
 use Rattle.frame_types.specs.Laws.{FramesLaw}
 use Rattle.frame_types.proofs.SearchLemmas.{among_contains}

@@ -1,6 +1,6 @@
 -- No rule fails in a program just where its methods have typings, and what fails first is the first failure of a typing.
-use Rattle.std.proofs.Common.{◌≡◌, ℕ, ◌+◌, ◌<◌, ◌≤◌, Bool, true, false, List, [], ◌∷◌, ◌⊎◌, map, Contains, Option, Some, None, Result, Ok, Err, refl, sym, ap, ◌∙◌, subst, inl, inr, arith}
-use Rattle.std.specs.Prelude.{min, if◌then◌else◌, IsOk, slice_get}
+use Rattle.std.proofs.Common.{◌≡◌, ℕ, ◌≤◌, Bool, true, false, List, [], ◌∷◌, ◌⊎◌, map, Contains, Option, Some, None, Result, Ok, Err, refl, sym, ap, ◌∙◌, subst, inl, inr, arith}
+use Rattle.std.specs.Prelude.{min, if◌then◌else◌, IsOk}
 use Rattle.std.specs.Option.{option_map, IsSomeAnd}
 use Rattle.std.specs.List.{filter}
 use Rattle.jop_opcodes.specs.Start.{first_bad}
@@ -18,12 +18,11 @@ use Rattle.program_tables.specs.Laws.{MethodsStandByNumber}
 use Rattle.program_tables.specs.Resolved.{resolved}
 use Rattle.program_tables.specs.Resolving.{IsResolved}
 use Rattle.bytecode_typing.specs.Types.{TypeFrame}
-use Rattle.bytecode_typing.specs.Rules as rules
 use Rattle.bytecode_typing.specs.Walk as walk
 use Rattle.bytecode_typing.specs.Walk.{Walked, first_types, walked}
 use Rattle.bytecode_typing.specs.Typings as typings
 use Rattle.bytecode_typing.specs.Laws.{TheWalkFindsATyping}
-use Rattle.bytecode_verifier.specs.Failure.{Broken, Opcode, Table, Map, Walk, Failure, opcode_failure, is_bad_entry, lesser, least, table_failure, walk_failure, maps_in, frames_failure, types_failure, code_failure, method_failure, maps_of, IsVerified, FailsFirst}
+use Rattle.bytecode_verifier.specs.Failure.{Broken, Opcode, Table, Map, Walk, Failure, opcode_failure, is_bad_entry, lesser, least, table_failure, walk_failure, maps_in, frames_failure, types_failure, method_failure, maps_of, IsVerified, FailsFirst}
 use Rattle.bytecode_verifier.specs.Methods.{IsCodeOf, method_of, body_of}
 use Rattle.bytecode_verifier.specs.Laws.{IsTableOf, HasForm, HasTyping, VerifiedMeansTyped, IsLeastBadStart, BreaksAt, BreaksFirst, FirstFailureMeansFirst}
 use Rattle.bytecode_verifier.proofs.TableLemmas.{Entry, least_start}

@@ -1,6 +1,6 @@
 -- The instruction of a method that is checked, and what is found of its row.
 -- For contracts within this crate alone: no public contract's meaning rests on this file.
-use Rattle.std.specs.Prelude.{◌≡◌, ℕ, Option, Some, None}
+use Rattle.std.specs.Prelude.{◌≡◌, ℕ, List, Option, Some, None}
 use Rattle.std.specs.Option.{option_map, IsSomeAnd}
 use Rattle.std.specs.Borrow.{Bor}
 use Rattle.bytecode_model.specs.declared.Value.TheVariants.{Ref}
@@ -11,7 +11,7 @@ use Rattle.program_tables.specs.declared.operand.Instruction.{Instruction}
 use Rattle.program_tables.specs.declared.operand.MethodShape.{MethodShape}
 use Rattle.program_tables.specs.Meanings.{operand_seen, declared_seen, HasShape}
 use Rattle.program_tables.specs.Resolved.{resolved}
-use Rattle.bytecode_typing.specs.Types.{ReferenceTo}
+use Rattle.bytecode_typing.specs.Types.{VarType, ReferenceTo}
 use Rattle.bytecode_typing.specs.Checks.{constant_type}
 use Rattle.verifier_types.specs.declared.frame.TypeFrame.{TypeFrame}
 use Rattle.verifier_types.specs.declared.checked.Checked.{Checked}
@@ -38,9 +38,13 @@ pub record IsAt (m : Checking) (pc : ℕ) (x : Instruction) (s : Site) : Type 0 
   pub guarded : s.program.guarded s.number s.place ≡ x.guarded
   pub text : IsTyped s.program (operand_seen x.operand)
 
--- the code's answer and the frame that it leaves are what the rules say of the row, if there is one
-abbrev pub Finds : Site → Option Row → (old : TypeFrame) → Checked → (new : TypeFrame) → Type 0
-Finds s row old checked new = checked_seen checked (frame_seen new) ≡ check_found s (frame_seen old) row
+-- the code's answer and the frame that it leaves are what the rules say of the row, if there is one, the lists of types of local variables being these
+abbrev pub ChecksRowIn : List (List VarType) → Site → Option Row → (old : TypeFrame) → Checked → (new : TypeFrame) → Type 0
+ChecksRowIn ls s row old checked new = checked_seen checked (frame_seen ls new) ≡ check_found s (frame_seen ls old) row
+
+-- the same whatever the lists are
+abbrev pub ChecksRow : Site → Option Row → (old : TypeFrame) → Checked → (new : TypeFrame) → Type 0
+ChecksRow s row old checked new = (ls : List (List VarType)) → ChecksRowIn ls s row old checked new
 
 -- the shape of a method, if there is one
 abbrev pub IsShapeOf : Option (Bor MethodShape) → Option Method → Type 0

@@ -1,5 +1,5 @@
 -- What is proved of verified programs, and of what fails first: JVM Specification SE 8, 4.7.3, 4.7.4, 4.9.1 and 4.10.1.
-use Rattle.std.specs.Prelude.{◌≡◌, ◌↔◌, ◌⊎◌, ℕ, ◌<◌, ◌≤◌, true, false, List, Option, Some, None, Contains, IsOk, Err}
+use Rattle.std.specs.Prelude.{◌≡◌, ◌↔◌, ◌⊎◌, ℕ, ◌<◌, ◌≤◌, true, false, List, Some, None, Contains, IsOk, Err}
 use Rattle.std.specs.List.{AllByRecursion}
 use Rattle.std.specs.Option.{IsSomeAnd}
 use Rattle.jop_opcodes.specs.Start.{first_bad}

@@ -2,6 +2,7 @@ pub mod Around
 pub mod Arguments
 pub mod Calls
 pub mod Maps
+pub mod Listed
 pub mod Settled
 pub mod Handled
 pub mod Switched

@@ -8,7 +8,7 @@ use Rattle.bytecode_model.specs.Rows.{Row}
 use Rattle.program_tables.specs.declared.operand.Instruction.{Instruction}
 use Rattle.program_tables.specs.Meanings.{operand_seen, handler_seen, declared_seen}
 use Rattle.program_tables.specs.Resolved.{resolved}
-use Rattle.bytecode_typing.specs.Types.{TypeFrame}
+use Rattle.bytecode_typing.specs.Types.{VarType, TypeFrame}
 use Rattle.bytecode_typing.specs.Rules as rules
 use Rattle.bytecode_typing.specs.Walk as walk
 use Rattle.verifier_types.specs.Frame.{frame_seen}
@@ -56,11 +56,11 @@ abbrev pub behind : walk.Verdict → Result (Option TypeFrame) rules.Rule
 behind (walk.Breaks r) = Err r
 behind (walk.Passes f after) = Ok after
 
-abbrev pub step_seen : Step → Result (Option TypeFrame) rules.Rule
-step_seen (Breaks rule) = Err (rule_seen rule)
-step_seen (Goes frame held) = Ok (option_map frame_seen frame)
+abbrev pub step_seen : List (List VarType) → Step → Result (Option TypeFrame) rules.Rule
+step_seen ls (Breaks rule) = Err (rule_seen rule)
+step_seen ls (Goes frame held) = Ok (option_map (frame_seen ls) frame)
 
 -- the handlers that cover the place take the frame that falls into the next instruction, where that is said
-abbrev pub IsHeldBehind : Program → (frames : ℕ → Option TypeFrame) → (place : ℕ) → Step → List Handler → Type 0
-IsHeldBehind P frames place (Goes frame true) hs = IsHeld P frames (Some place) (option_map frame_seen frame) hs
-IsHeldBehind P frames place step hs = Unit {0}
+abbrev pub IsHeldBehind : List (List VarType) → Program → (frames : ℕ → Option TypeFrame) → (place : ℕ) → Step → List Handler → Type 0
+IsHeldBehind ls P frames place (Goes frame true) hs = IsHeld P frames (Some place) (option_map (frame_seen ls) frame) hs
+IsHeldBehind ls P frames place step hs = Unit {0}

@@ -11,7 +11,8 @@ ghost use Rattle.bytecode_typing.specs.Rules.{Leaves};
 ghost use Rattle.program_tables.specs.Meanings.{declared_seen, HasShape};
 ghost use Rattle.verifier_types.specs.Frame.{frame_seen, operands_seen};
 ghost use Rattle.verifier_types.specs.Seen.{type_seen, moved_seen};
-ghost use Rattle.verifier_types.specs.Site.{Site, Checks, checked_seen};
+ghost use Rattle.verifier_types.specs.Locals.{lists_seen};
+ghost use Rattle.verifier_types.specs.Site.{Site, Checks, ChecksIn, checked_seen};
 ghost use Rattle.bytecode_verifier.specs.Around.{StandsAt};
 ghost use Rattle.bytecode_verifier.specs.Arguments.{arguments_found};
 ghost use Rattle.bytecode_verifier.specs.Calls.{init_left, super_left, virtual_left};
@@ -21,7 +22,7 @@ use crate::seen::{is_own_class, is_seen_as, is_seen_for, may_access, may_begin, 
 use jop_base::NoMemory;
 use program_tables::{Declared, MethodShape};
 use verifier_types::laws::what_is_taken_is_found;
-use verifier_types::{Checked, Left, Moved, Operands, Rule, TypeFrame, VarType, substitute};
+use verifier_types::{Checked, Left, LocalLists, Moved, Operands, Rule, TypeFrame, VarType};
 
 /// Whether both hold.
 pub fn both(first: bool, second: bool) -> bool
@@ -87,26 +88,32 @@ pub fn check_static(
 }
 
 /// A call of an `<init>` once its arguments are taken.
-fn check_begin(around: &Around<'_>, frame: &mut TypeFrame, named: u32, all: bool) -> Checked
-    ensures { (s : Site) (first : List typing.VarType) → StandsAt around.now s → checked_seen result (frame_seen frame.new) ≡ init_left s (record (frame_seen frame.old) { stack = first }) named all (operands_seen frame.old.operands) }
+fn check_begin(
+    around: &Around<'_>,
+    lists: &LocalLists,
+    frame: &mut TypeFrame,
+    named: u32,
+    all: bool,
+) -> Result<Checked, NoMemory>
+    ensures { let ls = lists_seen lists.now in IfOk result (λ c. (s : Site) (first : List typing.VarType) → StandsAt around.now s → checked_seen c (frame_seen ls frame.new) ≡ init_left s (record (frame_seen ls frame.old) { stack = first }) named all (operands_seen frame.old.operands)) }
 {
     let object = match frame.operands.pop() {
         Some(item) => item,
-        None => return Checked::Fails(Rule::Stack),
+        None => return Ok(Checked::Fails(Rule::Stack)),
     };
     if !object.is_reference() {
-        return Checked::Fails(Rule::Stack);
+        return Ok(Checked::Fails(Rule::Stack));
     }
     let begun = seen(around, object);
-    substitute(&mut frame.locals, object, begun);
+    frame.locals.substitute(lists, object, begun)?;
     frame.operands.substitute(object, begun);
     frame.flag = keeps(frame.flag, object);
-    Checked::Leaves(Left {
+    Ok(Checked::Leaves(Left {
         falls: true,
         access: true,
         init: both(all, may_begin(around, named, object)),
         target: true,
-    })
+    }))
 }
 
 /// Whether `this` still isn't initialised once this is.
@@ -125,7 +132,7 @@ fn check_super(
     all: bool,
     given: Option<Declared>,
 ) -> Result<Checked, NoMemory>
-    ensures { IfOk result (λ c. (s : Site) (first : List typing.VarType) (k : model.Method) → StandsAt around.now s → s.program.guarded s.number s.place ≡ guarded → k.result ≡ option_map declared_seen given → checked_seen c (frame_seen frame.new) ≡ super_left s (record (frame_seen frame.old) { stack = first }) named all k (operands_seen frame.old.operands)) }
+    ensures { IfOk result (λ c. (s : Site) (first : List typing.VarType) (k : model.Method) (ls : List (List typing.VarType)) → StandsAt around.now s → s.program.guarded s.number s.place ≡ guarded → k.result ≡ option_map declared_seen given → checked_seen c (frame_seen ls frame.new) ≡ super_left s (record (frame_seen ls frame.old) { stack = first }) named all k (operands_seen frame.old.operands)) }
 {
     let object = match frame.operands.pop() {
         Some(item) => item,
@@ -149,12 +156,13 @@ fn check_super(
 /// `invokespecial` of this method, named through the class `named`.
 pub fn check_special(
     around: &Around<'_>,
+    lists: &LocalLists,
     guarded: bool,
     frame: &mut TypeFrame,
     named: u32,
     callee: &MethodShape,
 ) -> Result<Checked, NoMemory>
-    ensures { IfOk result (λ c. (s : Site) (number : ℕ) (k : model.Method) → StandsAt around.now s → s.program.guarded s.number s.place ≡ guarded → slice_get s.program.methods number ≡ Some k → HasShape callee.now k → Checks s (rows.CallSpecial named number) frame.old c frame.new) }
+    ensures { IfOk result (λ c. (s : Site) (number : ℕ) (k : model.Method) → StandsAt around.now s → s.program.guarded s.number s.place ≡ guarded → slice_get s.program.methods number ≡ Some k → HasShape callee.now k → ChecksIn (lists_seen lists.now) s (rows.CallSpecial named number) frame.old c frame.new) }
 {
     what_is_taken_is_found();
     let all = match pop_arguments(around, &mut frame.operands, callee.parameters.as_slice()) {
@@ -162,7 +170,7 @@ pub fn check_special(
         None => return Ok(Checked::Fails(Rule::Stack)),
     };
     if callee.is_init {
-        return Ok(check_begin(around, frame, named, all));
+        return check_begin(around, lists, frame, named, all);
     }
     check_super(around, guarded, frame, named, all, callee.result)
 }
@@ -176,7 +184,7 @@ fn check_receiver(
     all: bool,
     given: Option<Declared>,
 ) -> Result<Checked, NoMemory>
-    ensures { IfOk result (λ c. (s : Site) (first : List typing.VarType) (k : model.Method) → StandsAt around.now s → s.program.guarded s.number s.place ≡ guarded → k.result ≡ option_map declared_seen given → checked_seen c (frame_seen frame.new) ≡ virtual_left s (record (frame_seen frame.old) { stack = first }) named all k (operands_seen frame.old.operands)) }
+    ensures { IfOk result (λ c. (s : Site) (first : List typing.VarType) (k : model.Method) (ls : List (List typing.VarType)) → StandsAt around.now s → s.program.guarded s.number s.place ≡ guarded → k.result ≡ option_map declared_seen given → checked_seen c (frame_seen ls frame.new) ≡ virtual_left s (record (frame_seen ls frame.old) { stack = first }) named all k (operands_seen frame.old.operands)) }
 {
     let object = match frame.operands.pop() {
         Some(item) => item,
@@ -239,7 +247,7 @@ fn check_value(
     declared: Declared,
     sort: Moved,
 ) -> Checked
-    ensures { (s : Site) → StandsAt around.now s → checked_seen result (frame_seen frame.new) ≡ checks.return_check s.program s.number s.method s.body s.maps s.place (frame_seen frame.old) (Some (declared_seen declared)) (Some (moved_seen sort)) }
+    ensures { (s : Site) (ls : List (List typing.VarType)) → StandsAt around.now s → checked_seen result (frame_seen ls frame.new) ≡ checks.return_check s.program s.number s.method s.body s.maps s.place (frame_seen ls frame.old) (Some (declared_seen declared)) (Some (moved_seen sort)) }
 {
     let item = match frame.operands.pop() {
         Some(item) => item,

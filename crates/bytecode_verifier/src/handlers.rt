@@ -6,7 +6,7 @@ ghost use Rattle.bytecode_typing.specs.Walk as walk;
 ghost use Rattle.program_tables.specs.Meanings.{handler_seen};
 ghost use Rattle.program_tables.specs.Resolved.{resolved};
 ghost use Rattle.verifier_types.specs.Frame.{frame_seen};
-ghost use Rattle.bytecode_verifier.specs.Maps.{frames_at};
+ghost use Rattle.bytecode_verifier.specs.Maps.{lists_in, frames_at};
 ghost use Rattle.bytecode_verifier.specs.Handled.{takes, WasAsked, IsHeld, HoldAlike};
 
 use crate::maps::{MapFrames, frame_at};
@@ -60,7 +60,7 @@ fn begun_before(handlers: &Handlers, asked: Option<u32>, place: u32) -> usize
 
 /// Whether what the handler catches is a Throwable, and it takes the local variables with that alone on the stack.
 fn is_handled(classes: &Hierarchy, maps: &MapFrames, frame: &TypeFrame, handler: &Handler) -> bool
-    ensures { result ≡ walk.is_handled (resolved classes.now) (frames_at maps.now) (frame_seen frame.now) (handler_seen handler.now) }
+    ensures { result ≡ walk.is_handled (resolved classes.now) (frames_at maps.now) (frame_seen (lists_in maps.now) frame.now) (handler_seen handler.now) }
 {
     let throwable = ObjectKind {
         dimensions: 0,
@@ -76,7 +76,7 @@ fn is_handled(classes: &Hierarchy, maps: &MapFrames, frame: &TypeFrame, handler:
         None => throwable,
     };
     match frame_at(maps, u64::from(handler.target)) {
-        Some(target) => frame.raises_to(classes, VarType::Reference(caught), target),
+        Some(target) => frame.raises_to(classes, &maps.lists, VarType::Reference(caught), target),
         None => false,
     }
 }
@@ -89,7 +89,7 @@ fn takes(
     frame: &TypeFrame,
     handler: &Handler,
 ) -> bool
-    ensures { result ≡ takes (resolved classes.now) (frames_at maps.now) place (frame_seen frame.now) (handler_seen handler.now) }
+    ensures { result ≡ takes (resolved classes.now) (frames_at maps.now) place (frame_seen (lists_in maps.now) frame.now) (handler_seen handler.now) }
 {
     let covers = u32::from(handler.start) <= place && place < u32::from(handler.end);
     !covers || is_handled(classes, maps, frame, handler)
@@ -105,7 +105,7 @@ pub fn are_handled(
     frame: &TypeFrame,
     handlers: &Handlers,
 ) -> bool
-    ensures { IsHeld (resolved classes.now) (frames_at maps.now) asked (Some (frame_seen frame.now)) (map handler_seen handlers.now.items.items) → result ≡ walk.handlers_hold (resolved classes.now) (frames_at maps.now) place (frame_seen frame.now) (map handler_seen handlers.now.items.items) }
+    ensures { IsHeld (resolved classes.now) (frames_at maps.now) asked (Some (frame_seen (lists_in maps.now) frame.now)) (map handler_seen handlers.now.items.items) → result ≡ walk.handlers_hold (resolved classes.now) (frames_at maps.now) place (frame_seen (lists_in maps.now) frame.now) (map handler_seen handlers.now.items.items) }
 {
     let first = begun_before(handlers, asked, place);
     let end = begun(handlers, place);

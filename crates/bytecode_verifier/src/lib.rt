@@ -19,7 +19,6 @@ mod names;
 mod objects;
 mod place;
 mod rows;
-mod same;
 mod seen;
 mod settle;
 mod switches;

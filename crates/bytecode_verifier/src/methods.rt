@@ -15,7 +15,8 @@ ghost use Rattle.program_tables.specs.Resolved.{handler_of, resolved};
 ghost use Rattle.verifier_types.specs.Frame.{frame_seen};
 ghost use Rattle.bytecode_verifier.specs.Failure.{is_bad_entry, lesser, least, types_failure, code_failure, method_failure, walk_failure};
 ghost use Rattle.bytecode_verifier.specs.Handled.{HoldAlike};
-ghost use Rattle.bytecode_verifier.specs.Maps.{frames_at};
+ghost use Rattle.bytecode_verifier.specs.Listed.{HasListsOf};
+ghost use Rattle.bytecode_verifier.specs.Maps.{lists_in, frames_at};
 ghost use Rattle.bytecode_verifier.specs.Verdict.{IsFirstFailure};
 ghost use Rattle.bytecode_verifier.specs.Methods.{IsCodeOf, method_of, body_of, found_in, AreMaps, failure_seen, walk_failed};
 ghost use Rattle.bytecode_verifier.specs.Place.{HasCode, IsMethodOf};
@@ -25,13 +26,13 @@ use crate::fault::MethodRule;
 use crate::first::first_frame;
 use crate::handlers::{Handlers, by_start};
 use crate::maps::MapFrames;
-use crate::names::map_frames;
+use crate::names::{Owner, map_frames};
 use crate::place::{Step, verdict_at};
 use crate::rows::Checking;
 use class_pool::Code;
 use class_rules::laws::methods_have_code;
 use frame_types::laws::frames_stand_at_instructions;
-use frame_types::{MapFault, frames};
+use frame_types::{MapFault, map_steps};
 use jop_base::NoMemory;
 use jop_opcodes::laws::starts_follow_one_another;
 use jop_opcodes::{decode, starts};
@@ -39,7 +40,7 @@ use program_tables::Handler;
 use program_tables::laws::{members_are_there, methods_stand_by_number};
 use resolved_program::Program;
 use std::alloc::Global;
-use verifier_types::{Rule, TypeFrame};
+use verifier_types::{LocalLists, Rule, TypeFrame};
 
 /// A place, and the rule that fails there.
 pub type Failure = (u32, MethodRule);
@@ -133,7 +134,7 @@ fn walk_places(
     requires method { number < length (methods_by_number checking.now.program.now) }
     requires code { HasCode checking.now number }
     requires small { length checking.now.code.now ≤ 33554432 }
-    ensures { IfOk result (λ failed. (m : model.Method) (b : model.Body) (maps : ℕ → Option typing.TypeFrame) → IsMethodOf checking.now number m b maps → option_map walk_failed failed ≡ walk_failure (walk.walk (resolved checking.now.program.now) number m b maps starts.now (Some (frame_seen first)))) }
+    ensures { IfOk result (λ failed. (m : model.Method) (b : model.Body) (maps : ℕ → Option typing.TypeFrame) → IsMethodOf checking.now number m b maps → option_map walk_failed failed ≡ walk_failure (walk.walk (resolved checking.now.program.now) number m b maps starts.now (Some (frame_seen (lists_in checking.now.maps.now) first)))) }
 {
     let mut falling = Some(first);
     let mut asked = None;
@@ -161,6 +162,7 @@ fn checking_of<'a>(
     requires code { IsCodeOf program.now number code.now }
     ensures program { result.program.now ≡ program.now }
     ensures code { result.code.now ≡ code.now.code }
+    ensures maps { result.maps.now ≡ maps.now }
     ensures there { HasCode result number }
     ensures method { (h : IsCodeOf program.now number code.now) (given : ℕ → Option typing.TypeFrame) → ((place : ℕ) → given place ≡ frames_at maps.now place) → HoldAlike (map (handler_of program.now h.class) code.now.handlers) (map handler_seen handlers.now.items.items) → IsMethodOf result number (method_of program.now number code.now h) (body_of program.now number code.now h) given }
 {
@@ -199,7 +201,7 @@ fn walk_method(
     requires method { number < length (methods_by_number program.now) }
     requires code { IsCodeOf program.now number code.now }
     requires small { length code.now.code ≤ 33554432 }
-    ensures { IfOk result (λ failure. (h : IsCodeOf program.now number code.now) (given : ℕ → Option typing.TypeFrame) → walk.first_types (method_of program.now number code.now h) (body_of program.now number code.now h) ≡ Some (frame_seen first) → ((place : ℕ) → given place ≡ frames_at maps.now place) → option_map failure_seen failure ≡ walk_failure (walk.walked (resolved program.now) number (method_of program.now number code.now h) (body_of program.now number code.now h) given)) }
+    ensures { IfOk result (λ failure. (h : IsCodeOf program.now number code.now) (given : ℕ → Option typing.TypeFrame) → walk.first_types (method_of program.now number code.now h) (body_of program.now number code.now h) ≡ Some (frame_seen (lists_in maps.now) first) → ((place : ℕ) → given place ≡ frames_at maps.now place) → option_map failure_seen failure ≡ walk_failure (walk.walked (resolved program.now) number (method_of program.now number code.now h) (body_of program.now number code.now h) given)) }
 {
     members_are_there();
     let class = program.method(number).class;
@@ -212,17 +214,20 @@ fn walk_method(
     }
 }
 
-/// The frames of the StackMapTable of the method of this number, which has so many bytes of code.
+/// The frames of the StackMapTable of the method of this number, behind the lists of types of local variables that there are.
 fn maps_of(
     alloc: Global,
     program: &Program,
     number: u32,
     code: &Code,
+    lists: LocalLists,
 ) -> Result<MapFrames, MapFault>
     requires method { number < length (methods_by_number program.now) }
     requires code { IsCodeOf program.now number code.now }
     requires small { length code.now.code ≤ 33554432 }
-    ensures { (h : IsCodeOf program.now number code.now) → AreMaps program.now (found_in program.now number code.now h) result }
+    requires room { lists.max_locals ≡ code.now.max_locals }
+    ensures maps { (h : IsCodeOf program.now number code.now) → AreMaps program.now (found_in program.now number code.now h) result }
+    ensures lists { IfOk result (λ maps. HasListsOf lists maps.lists) }
 {
     members_are_there();
     frames_stand_at_instructions();
@@ -231,14 +236,14 @@ fn maps_of(
     let Ok(index) = u32::try_from(place.index) else {
         return Err(MapFault::NoMemory);
     };
-    let found = frames(alloc, program.class(place.class), index)?;
-    let classes = program.hierarchy().classes();
-    let maps = map_frames(
-        alloc,
-        classes,
-        found.at.as_slice(),
-        code.code.as_slice().len() as u32,
-    )?;
+    let class = program.class(place.class);
+    let steps = map_steps(alloc, class, index)?;
+    let of = Owner {
+        program,
+        class: place.class,
+    };
+    let length = code.code.as_slice().len() as u32;
+    let maps = map_frames(alloc, &of, lists, &steps, code.max_locals, length)?;
     Ok(maps)
 }
 
@@ -255,11 +260,12 @@ fn types_failure(
     ensures { IfOk result (λ failure. (h : IsCodeOf program.now number code.now) → let m = method_of program.now number code.now h in let b = body_of program.now number code.now h in option_map failure_seen failure ≡ types_failure program.now number m b (walk.first_types m b) (found_in program.now number code.now h)) }
 {
     methods_stand_by_number();
-    let first = match first_frame(alloc, program.shape(number), code.max_locals)? {
+    let mut lists = LocalLists::new(alloc, code.max_locals)?;
+    let first = match first_frame(alloc, &mut lists, program.shape(number), code.max_locals)? {
         Some(frame) => frame,
         None => return Ok(Some((0, MethodRule::Map))),
     };
-    match maps_of(alloc, program, number, code) {
+    match maps_of(alloc, program, number, code, lists) {
         Ok(maps) => walk_method(alloc, program, number, code, first, &maps),
         Err(fault) => match fault {
             MapFault::Bad(place) => Ok(Some((place, MethodRule::Map))),

@@ -1,19 +1,53 @@
-//! Frames by the names of classes as frames of types (JVM Specification SE 8, 4.7.4 and 4.10.1.2).
-ghost use Rattle.std.specs.Prelude.{◌≡◌, ◌<◌, ℕ, map, replicate, None, All, IfOk};
+//! Frames that a StackMapTable gives as changes, as frames of types (JVM Specification SE 8, 4.7.4 and 4.10.1.2).
+ghost use Rattle.std.specs.Prelude.{◌≡◌, ◌≤◌, ◌<◌, ◌+◌, ◌-◌, ◌∷◌, [], ◌++◌, ℕ, List, length, map, take, drop, reverse, replicate, Some, None, IfOk, OnOk, slice_get};
+ghost use Rattle.std.specs.List.{AllByRecursion};
+ghost use Rattle.class_pool.specs.declared.class.ClassFile.{ClassFile};
+ghost use Rattle.class_pool.specs.declared.class.Code.{Code};
+ghost use Rattle.class_lookup.specs.Parts.{class_text};
+ghost use Rattle.bytecode_model.specs.Slots.{padded};
+ghost use Rattle.bytecode_typing.specs.Types as typing;
+ghost use Rattle.bytecode_typing.specs.Types.{is_long_type};
 ghost use Rattle.bytecode_typing.specs.Typings.{frame_among};
+ghost use Rattle.frame_types.specs.declared.types.VarType as named_types;
+ghost use Rattle.frame_types.specs.declared.types.TypeFrame as named_frames;
 ghost use Rattle.frame_types.specs.declared.types.VarType.TheVariants.{Object};
+ghost use Rattle.frame_types.specs.Frames.{changed, frame_of};
+ghost use Rattle.frame_types.specs.Steps.{named as type_named, change_named, AreSteps};
 ghost use Rattle.verifier_types.specs.Frame.{frame_seen};
+ghost use Rattle.verifier_types.specs.Locals.{LocalTable, lists_seen, filled};
 ghost use Rattle.verifier_types.specs.Seen.{type_seen, types_seen};
-ghost use Rattle.bytecode_verifier.specs.Maps.{frames_at};
+ghost use Rattle.bytecode_verifier.specs.Listed.{HasListsOf, IsListed, words_of, starts_from, HasLocals, types_by};
+ghost use Rattle.bytecode_verifier.specs.Maps.{seen_at, frames_seen, frames_at};
 ghost use Rattle.bytecode_verifier.specs.Named.{type_by, frame_by, frames_by};
 
+use crate::first::{list_of, push_spread};
 use crate::maps::MapFrames;
 use class_lookup::Classes;
 use frame_types as named;
+use frame_types::{EntryType, MapStep, MapSteps, StepChange};
 use jop_base::NoMemory;
 use program_tables::kind_named;
+use resolved_program::Program;
 use std::alloc::Global;
-use verifier_types::{Operands, TypeFrame, VarType};
+use verifier_types::laws::what_has_room_is_filled;
+use verifier_types::{LocalLists, Locals, Operands, TypeFrame, VarType};
+
+/// The local variables behind an entry: the number of the list of their types, the index of the first word of each, and how many words
+/// they are.
+#[derive(Drop)]
+pub struct Current {
+    pub list: u32,
+    pub starts: Vec<u32>,
+    pub words: u32,
+}
+
+/// The class whose method has the frames, in its program.
+#[derive(Drop)]
+pub struct Owner<'a> {
+    pub program: &'a Program,
+    pub class: u32,
+    ghost there: { class < length program.now },
+}
 
 /// The type of an object by the name of its class; of what no class is found for, nothing is known.
 fn object_type(alloc: Global, classes: &Classes, name: &[u16]) -> Result<VarType, NoMemory>
@@ -55,21 +89,275 @@ fn types_of_named(
     Ok(found)
 }
 
-/// A frame.
-fn frame_of_named(
-    alloc: Global,
-    classes: &Classes,
-    frame: &named::TypeFrame,
-) -> Result<TypeFrame, NoMemory>
-    ensures { IfOk result (λ found. frame_seen found ≡ frame_by classes.now frame.now) }
+/// The type of an object by a Class entry.
+fn entry_object(of: &Owner<'_>, index: u16) -> VarType
+    ensures { (c : ClassFile) → slice_get of.now.program.now of.now.class ≡ Some c → type_seen result ≡ type_by of.now.program.now (Object (class_text c.pool index)) }
 {
-    let locals = types_of_named(alloc, classes, frame.locals.as_slice())?;
-    let stack = types_of_named(alloc, classes, frame.stack.as_slice())?;
+    match of.program.kind_of_entry(of.class, index) {
+        Some(kind) => VarType::Reference(kind),
+        None => VarType::Top,
+    }
+}
+
+/// A type that has its class by a Class entry.
+fn type_of_entry(of: &Owner<'_>, entry: EntryType) -> VarType
+    ensures { (c : ClassFile) → slice_get of.now.program.now of.now.class ≡ Some c → type_seen result ≡ type_by of.now.program.now (type_named c.pool entry) }
+{
+    match entry {
+        EntryType::Top => VarType::Top,
+        EntryType::Integer => VarType::Integer,
+        EntryType::Null => VarType::Null,
+        EntryType::UninitializedThis => VarType::UninitializedThis,
+        EntryType::Object(index) => entry_object(of, index),
+        EntryType::Uninitialized(place) => VarType::Uninitialized(place),
+        EntryType::Long => VarType::LongInteger,
+    }
+}
+
+/// Types one after another.
+fn types_of_entries(
+    alloc: Global,
+    of: &Owner<'_>,
+    entries: &[EntryType],
+) -> Result<Vec<VarType>, NoMemory>
+    ensures { IfOk result (λ found. (c : ClassFile) → slice_get of.now.program.now of.now.class ≡ Some c → types_seen found.items ≡ types_by of.now.program.now (map (type_named c.pool) entries.now)) }
+{
+    let mut found = Vec::new(alloc);
+    for entry in entries {
+        found.push(type_of_entry(of, *entry))?;
+    }
+    Ok(found)
+}
+
+/// The index behind the words of a value.
+fn behind(index: u32, item: VarType) -> Result<u32, NoMemory>
+    ensures { IfOk result (λ next. next ≡ index + length (words_of (type_seen item ∷ []))) }
+{
+    let words = if item.is_long() { 2 } else { 1 };
+    match index.checked_add(words) {
+        Some(next) => Ok(next),
+        None => Err(NoMemory),
+    }
+}
+
+/// Adds a local variable behind the others, which has its room.
+fn add_local(lists: &mut LocalLists, current: &mut Current, item: VarType) -> Result<(), NoMemory>
+    ensures lists { OnOk result (HasListsOf lists.old lists.new) }
+    ensures locals { OnOk result ((types : List typing.VarType) → length (words_of (types ++ type_seen item ∷ [])) ≤ lists.old.max_locals → HasLocals lists.old current.old types → HasLocals lists.new current.new (types ++ type_seen item ∷ [])) }
+{
+    current.starts.push(current.words)?;
+    current.list = lists.push_with(current.list, current.words, item)?;
+    current.words = behind(current.words, item)?;
+    Ok(())
+}
+
+/// Adds local variables behind the others, which have their room.
+fn add_locals(
+    of: &Owner<'_>,
+    lists: &mut LocalLists,
+    current: &mut Current,
+    entries: &[EntryType],
+) -> Result<(), NoMemory>
+    ensures lists { OnOk result (HasListsOf lists.old lists.new) }
+    ensures locals { OnOk result ((c : ClassFile) (types : List typing.VarType) → slice_get of.now.program.now of.now.class ≡ Some c → length (words_of (types ++ types_by of.now.program.now (map (type_named c.pool) entries.now))) ≤ lists.old.max_locals → HasLocals lists.old current.old types → HasLocals lists.new current.new (types ++ types_by of.now.program.now (map (type_named c.pool) entries.now))) }
+{
+    for entry in entries {
+        add_local(lists, current, type_of_entry(of, *entry))?;
+    }
+    Ok(())
+}
+
+/// A list that is another one but for Top at the words from one index to another.
+fn forget_words(lists: &mut LocalLists, list: u32, from: u32, end: u32) -> Result<u32, NoMemory>
+    ensures lists { OnOk result (HasListsOf lists.old lists.new) }
+    ensures list { IfOk result (λ number. (words : List typing.VarType) → length words ≤ lists.old.max_locals → length words ≡ end → from ≤ end → IsListed lists.old list (filled lists.old.max_locals words) → IsListed lists.new number (filled lists.old.max_locals (take from words))) }
+{
+    let mut now = list;
+    let mut index = end;
+    while index > from {
+        index -= 1;
+        now = lists.push_with(now, index, VarType::Top)?;
+    }
+    Ok(now)
+}
+
+/// The index of the first word of a local variable, or the one behind all.
+fn start_of(current: &Current, index: usize) -> u32
+    ensures { (t : LocalTable) (types : List typing.VarType) → HasLocals t current.now types → index ≤ length types → result ≡ length (words_of (take index types)) }
+{
+    if index < current.starts.len() {
+        current.starts[index]
+    } else {
+        current.words
+    }
+}
+
+/// Takes so many of the last local variables away, which are there.
+fn chop_locals(lists: &mut LocalLists, current: &mut Current, count: u8) -> Result<(), NoMemory>
+    ensures lists { OnOk result (HasListsOf lists.old lists.new) }
+    ensures locals { OnOk result ((types : List typing.VarType) → count ≤ length types → HasLocals lists.old current.old types → HasLocals lists.new current.new (take (length types - count) types)) }
+{
+    let kept = current.starts.len().saturating_sub(usize::from(count));
+    let from = start_of(current, kept);
+    let list = forget_words(lists, current.list, from, current.words)?;
+    current.list = list;
+    current.starts.truncate(kept);
+    current.words = from;
+    Ok(())
+}
+
+/// The index of the first word of each of these types.
+fn starts_of(alloc: Global, types: &[VarType]) -> Result<(Vec<u32>, u32), NoMemory>
+    ensures starts { IfOk result (λ s. s.0.items ≡ starts_from 0 (types_seen types.now)) }
+    ensures words { IfOk result (λ s. s.1 ≡ length (words_of (types_seen types.now))) }
+{
+    let mut starts = Vec::new(alloc);
+    let mut words = 0;
+    for item in types {
+        let next = behind(words, *item)?;
+        starts.push(words)?;
+        words = next;
+    }
+    Ok((starts, words))
+}
+
+/// The words of these types: a long one is followed by Top.
+fn spread(alloc: Global, types: &[VarType]) -> Result<Vec<VarType>, NoMemory>
+    ensures { IfOk result (λ words. types_seen words.items ≡ words_of (types_seen types.now)) }
+{
+    let mut words = Vec::new(alloc);
+    for item in types {
+        push_spread(&mut words, *item)?;
+    }
+    Ok(words)
+}
+
+/// All local variables, which have their room.
+fn all_locals(
+    alloc: Global,
+    lists: &mut LocalLists,
+    types: &[VarType],
+    max_locals: u16,
+) -> Result<Current, NoMemory>
+    requires { lists.old.max_locals ≡ max_locals }
+    ensures lists { OnOk result (HasListsOf lists.old lists.new) }
+    ensures locals { IfOk result (λ current. length (words_of (types_seen types.now)) ≤ lists.old.max_locals → HasLocals lists.new current (types_seen types.now)) }
+{
+    what_has_room_is_filled();
+    let found = starts_of(alloc, types)?;
+    let all = spread(alloc, types)?;
+    match list_of(alloc, lists, &all, max_locals)? {
+        Some(list) => Ok(Current {
+            list,
+            starts: found.0,
+            words: found.1,
+        }),
+        None => Err(NoMemory),
+    }
+}
+
+/// All local variables by entries, which have their room.
+fn full_locals(
+    alloc: Global,
+    of: &Owner<'_>,
+    lists: &mut LocalLists,
+    current: &mut Current,
+    entries: &[EntryType],
+    max_locals: u16,
+) -> Result<(), NoMemory>
+    requires { lists.old.max_locals ≡ max_locals }
+    ensures lists { OnOk result (HasListsOf lists.old lists.new) }
+    ensures locals { OnOk result ((c : ClassFile) → slice_get of.now.program.now of.now.class ≡ Some c → length (words_of (types_by of.now.program.now (map (type_named c.pool) entries.now))) ≤ lists.old.max_locals → HasLocals lists.new current.new (types_by of.now.program.now (map (type_named c.pool) entries.now))) }
+{
+    let types = types_of_entries(alloc, of, entries)?;
+    let all = all_locals(alloc, lists, &types, max_locals)?;
+    *current = all;
+    Ok(())
+}
+
+/// The local variables behind an entry, which have their room.
+fn change_locals(
+    alloc: Global,
+    of: &Owner<'_>,
+    lists: &mut LocalLists,
+    current: &mut Current,
+    change: &StepChange,
+    max_locals: u16,
+) -> Result<(), NoMemory>
+    requires { lists.old.max_locals ≡ max_locals }
+    ensures lists { OnOk result (HasListsOf lists.old lists.new) }
+    ensures locals { OnOk result ((c : ClassFile) (before after stack : List named_types.VarType) → slice_get of.now.program.now of.now.class ≡ Some c → changed (change_named c.pool change.now) before ≡ Some (after, stack) → length (words_of (types_by of.now.program.now after)) ≤ lists.old.max_locals → HasLocals lists.old current.old (types_by of.now.program.now before) → HasLocals lists.new current.new (types_by of.now.program.now after)) }
+{
+    match change {
+        StepChange::Same => Ok(()),
+        StepChange::OneItem(_) => Ok(()),
+        StepChange::Chop(count) => chop_locals(lists, current, *count),
+        StepChange::Append(entries) => add_locals(of, lists, current, entries.as_slice()),
+        StepChange::Full(entries, _) => {
+            full_locals(alloc, of, lists, current, entries.as_slice(), max_locals)
+        }
+    }
+}
+
+/// The operand stack that an entry gives, from its bottom to its top.
+fn stack_of(alloc: Global, of: &Owner<'_>, change: &StepChange) -> Result<Vec<VarType>, NoMemory>
+    ensures { IfOk result (λ found. (c : ClassFile) (before after stack : List named_types.VarType) → slice_get of.now.program.now of.now.class ≡ Some c → changed (change_named c.pool change.now) before ≡ Some (after, stack) → types_seen found.items ≡ types_by of.now.program.now stack) }
+{
+    match change {
+        StepChange::OneItem(entry) => types_of_entries(alloc, of, &[*entry]),
+        StepChange::Full(_, entries) => types_of_entries(alloc, of, entries.as_slice()),
+        StepChange::Same | StepChange::Chop(_) | StepChange::Append(_) => Ok(Vec::new(alloc)),
+    }
+}
+
+/// The frame that an entry gives.
+fn frame_behind(
+    alloc: Global,
+    of: &Owner<'_>,
+    lists: &mut LocalLists,
+    current: &mut Current,
+    step: &MapStep,
+    max_locals: u16,
+) -> Result<TypeFrame, NoMemory>
+    requires { lists.old.max_locals ≡ max_locals }
+    ensures lists { OnOk result (HasListsOf lists.old lists.new) }
+    ensures locals { OnOk result ((c : ClassFile) (k : Code) (before after stack : List named_types.VarType) (f : named_frames.TypeFrame) → slice_get of.now.program.now of.now.class ≡ Some c → k.max_locals ≡ max_locals → changed (change_named c.pool step.now.change) before ≡ Some (after, stack) → frame_of k after stack ≡ Some f → HasLocals lists.old current.old (types_by of.now.program.now before) → HasLocals lists.new current.new (types_by of.now.program.now after)) }
+    ensures frame { IfOk result (λ frame. (c : ClassFile) (k : Code) (before after stack : List named_types.VarType) (f : named_frames.TypeFrame) (more : List (List typing.VarType)) → slice_get of.now.program.now of.now.class ≡ Some c → k.max_locals ≡ max_locals → changed (change_named c.pool step.now.change) before ≡ Some (after, stack) → frame_of k after stack ≡ Some f → f.flag ≡ step.now.flag → HasLocals lists.old current.old (types_by of.now.program.now before) → frame_seen (lists_seen lists.new ++ more) frame ≡ frame_by of.now.program.now f) }
+{
+    what_has_room_is_filled();
+    change_locals(alloc, of, lists, current, &step.change, max_locals)?;
+    let stack = stack_of(alloc, of, &step.change)?;
+    let locals = Locals::new(alloc, current.list);
+    let operands = Operands::new(stack);
     Ok(TypeFrame {
         locals,
-        operands: Operands::new(stack),
-        flag: frame.flag,
+        operands,
+        flag: step.flag,
     })
+}
+
+/// The frames of a StackMapTable with their places, one after another.
+fn placed_frames(
+    alloc: Global,
+    of: &Owner<'_>,
+    lists: &mut LocalLists,
+    steps: &MapSteps,
+    max_locals: u16,
+) -> Result<Vec<(u32, TypeFrame)>, NoMemory>
+    requires { lists.old.max_locals ≡ max_locals }
+    ensures lists { OnOk result (HasListsOf lists.old lists.new) }
+    ensures frames { IfOk result (λ found. (c : ClassFile) (k : Code) (first : named_frames.TypeFrame) (xs : List (ℕ × named_frames.TypeFrame)) → slice_get of.now.program.now of.now.class ≡ Some c → k.max_locals ≡ max_locals → frame_of k steps.now.first [] ≡ Some first → AreSteps c.pool k steps.now.first steps.now.at xs → frames_seen (lists_seen lists.new) found.items ≡ frames_by of.now.program.now xs) }
+    ensures places { IfOk result (λ found. map (λ x. x.0) found.items ≡ map (λ s. s.place) steps.now.at) }
+{
+    let classes = of.program.hierarchy().classes();
+    let first = types_of_named(alloc, classes, steps.first.as_slice())?;
+    let mut current = all_locals(alloc, lists, &first, max_locals)?;
+    let mut found = Vec::new(alloc);
+    for step in steps.at.as_slice() {
+        let frame = frame_behind(alloc, of, lists, &mut current, step, max_locals)?;
+        found.push((step.place, frame))?;
+    }
+    Ok(found)
 }
 
 /// No frame at any of so many places.
@@ -83,23 +371,37 @@ fn no_frames(alloc: Global, length: u32) -> Result<Vec<Option<TypeFrame>>, NoMem
     Ok(frames)
 }
 
-/// The frames of a StackMapTable, whose places are within a code of so many bytes. Where two stood at one place, the first would count.
+/// Frames by their places, which are within a code of so many bytes. Where two stood at one place, the first would count.
+fn by_place(
+    alloc: Global,
+    mut frames: Vec<(u32, TypeFrame)>,
+    length: u32,
+) -> Result<Vec<Option<TypeFrame>>, NoMemory>
+    requires { AllByRecursion (λ x. x.0 < length) frames.items }
+    ensures { IfOk result (λ places. (ls : List (List typing.VarType)) (place : ℕ) → seen_at ls places.items place ≡ frame_among (frames_seen ls frames.items) place) }
+{
+    let mut places = no_frames(alloc, length)?;
+    while let Some((place, frame)) = frames.pop() {
+        places[place as usize] = Some(frame);
+    }
+    Ok(places)
+}
+
+/// The frames of a StackMapTable, whose places are within a code of so many bytes, behind the lists that there are.
 pub fn map_frames(
     alloc: Global,
-    classes: &Classes,
-    frames: &[(u32, named::TypeFrame)],
+    of: &Owner<'_>,
+    mut lists: LocalLists,
+    steps: &MapSteps,
+    max_locals: u16,
     length: u32,
 ) -> Result<MapFrames, NoMemory>
-    requires { All (λ x. x.0 < length) frames.now }
-    ensures { IfOk result (λ maps. (place : ℕ) → frames_at maps place ≡ frame_among (frames_by classes.now frames.now) place) }
+    requires room { lists.max_locals ≡ max_locals }
+    requires within { AllByRecursion (λ s. s.place < length) steps.now.at }
+    ensures lists { IfOk result (λ maps. HasListsOf lists maps.lists) }
+    ensures frames { IfOk result (λ maps. (c : ClassFile) (k : Code) (first : named_frames.TypeFrame) (xs : List (ℕ × named_frames.TypeFrame)) (place : ℕ) → slice_get of.now.program.now of.now.class ≡ Some c → k.max_locals ≡ max_locals → frame_of k steps.now.first [] ≡ Some first → AreSteps c.pool k steps.now.first steps.now.at xs → frames_at maps place ≡ frame_among (frames_by of.now.program.now xs) place) }
 {
-    let mut by_place = no_frames(alloc, length)?;
-    let mut left = frames.len();
-    while left > 0 {
-        left -= 1;
-        let entry = &frames[left];
-        let frame = frame_of_named(alloc, classes, &entry.1)?;
-        by_place[entry.0 as usize] = Some(frame);
-    }
-    Ok(MapFrames { by_place })
+    let frames = placed_frames(alloc, of, &mut lists, steps, max_locals)?;
+    let by_place = by_place(alloc, frames, length)?;
+    Ok(MapFrames { lists, by_place })
 }

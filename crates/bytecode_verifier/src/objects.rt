@@ -1,29 +1,28 @@
 //! Objects that are made and thrown (JVM Specification SE 8, 4.10.1.9).
 ghost use Rattle.std.specs.Prelude.{◌≡◌, ℕ, IfOk};
 ghost use Rattle.bytecode_model.specs.Rows as rows;
-ghost use Rattle.verifier_types.specs.Site.{Site, Checks};
+ghost use Rattle.verifier_types.specs.Locals.{lists_seen};
+ghost use Rattle.verifier_types.specs.Site.{Site, Checks, ChecksIn};
 ghost use Rattle.bytecode_verifier.specs.Around.{StandsAt};
 
 use crate::around::Around;
 use crate::seen::is_seen_as;
 use jop_base::NoMemory;
-use verifier_types::{Checked, GOES, Left, Rule, TypeFrame, VarType, substitute};
+use verifier_types::{Checked, GOES, Left, LocalLists, Rule, TypeFrame, VarType};
 
 /// The number of the class Throwable.
 pub const THROWABLE: u32 = 4;
 
 /// `new` at this place.
-pub fn check_new(frame: &mut TypeFrame, place: u32) -> Result<Checked, NoMemory>
-    ensures { IfOk result (λ c. (s : Site) (class : ℕ) → s.place ≡ place → Checks s (rows.New class) frame.old c frame.new) }
+pub fn check_new(lists: &LocalLists, frame: &mut TypeFrame, place: u32) -> Result<Checked, NoMemory>
+    ensures { IfOk result (λ c. (s : Site) (class : ℕ) → s.place ≡ place → ChecksIn (lists_seen lists.now) s (rows.New class) frame.old c frame.new) }
 {
     if frame.operands.holds_made(place) {
         return Ok(Checked::Fails(Rule::Stack));
     }
-    substitute(
-        &mut frame.locals,
-        VarType::Uninitialized(place),
-        VarType::Top,
-    );
+    frame
+        .locals
+        .substitute(lists, VarType::Uninitialized(place), VarType::Top)?;
     frame.operands.push(VarType::Uninitialized(place))?;
     Ok(GOES)
 }

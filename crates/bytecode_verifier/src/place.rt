@@ -13,8 +13,10 @@ ghost use Rattle.program_tables.specs.Meanings.{operand_seen, HasShape};
 ghost use Rattle.program_tables.specs.Numbers.{methods_by_number};
 ghost use Rattle.program_tables.specs.Resolved.{resolved};
 ghost use Rattle.verifier_types.specs.Frame.{frame_seen, frame_at_seen};
+ghost use Rattle.verifier_types.specs.Locals.{lists_seen};
 ghost use Rattle.bytecode_verifier.specs.Family.{family_row};
-ghost use Rattle.bytecode_verifier.specs.Handled.{IsHeld, keeps_locals};
+ghost use Rattle.bytecode_verifier.specs.Handled.{HaveSameLocals, IsHeld, keeps_locals};
+ghost use Rattle.bytecode_verifier.specs.Maps.{lists_in};
 ghost use Rattle.bytecode_verifier.specs.Place.{IsHeldBehind, HasCode, IsMethodOf, IsNamedAs, stays_within, behind, step_seen};
 ghost use Rattle.bytecode_verifier.specs.Settled.{verdict_seen};
 
@@ -23,7 +25,6 @@ use crate::handlers::are_handled;
 use crate::maps::frame_at;
 use crate::members::callee;
 use crate::rows::{Checking, check_row};
-use crate::same::are_same;
 use crate::seen::type_of;
 use crate::settle::{Verdict, settle};
 use crate::switches::keys_rise;
@@ -32,7 +33,7 @@ use jop_base::NoMemory;
 use jop_opcodes::Instr;
 use program_tables::{Instruction, MethodShape, Operand};
 use std::alloc::Global;
-use verifier_types::{Rule, TypeFrame};
+use verifier_types::{LocalLists, Rule, TypeFrame, has_same_locals};
 
 /// What is found of an instruction: the rule that fails first, or the frame that falls into the next one, if one does, and whether it is
 /// known that the handlers here take that frame.
@@ -185,7 +186,7 @@ fn settle_row(
 ) -> Result<Verdict, NoMemory>
     requires decoded { decoded checking.now.code.now place ≡ Ok x.now.instr }
     requires small { length checking.now.code.now ≤ 33554432 }
-    ensures { IfOk result (λ v. (n : ℕ) (m : model.Method) (b : model.Body) (maps : ℕ → Option typing.TypeFrame) → IsMethodOf checking.now n m b maps → IsNamedAs checking.now n place x.now → IsHeld (resolved checking.now.program.now) maps asked (Some (frame_seen frame.old)) b.handlers → verdict_seen v (frame_seen frame.old) (frame_seen frame.new) ≡ walk.on_row (resolved checking.now.program.now) n m b maps place (frame_seen frame.old) x.now.instr (row_of checking.now.code.now x.now.instr (operand_seen x.now.operand))) }
+    ensures { let ls = lists_in checking.now.maps.now in IfOk result (λ v. (n : ℕ) (m : model.Method) (b : model.Body) (maps : ℕ → Option typing.TypeFrame) → IsMethodOf checking.now n m b maps → IsNamedAs checking.now n place x.now → IsHeld (resolved checking.now.program.now) maps asked (Some (frame_seen ls frame.old)) b.handlers → verdict_seen v (frame_seen ls frame.old) (frame_seen ls frame.new) ≡ walk.on_row (resolved checking.now.program.now) n m b maps place (frame_seen ls frame.old) x.now.instr (row_of checking.now.code.now x.now.instr (operand_seen x.now.operand))) }
 {
     checking.program.is_resolved();
     if !is_formed(checking, place, x) {
@@ -204,13 +205,21 @@ fn settle_row(
     Ok(settle(checked, frame, checking.max_stack, handled))
 }
 
+/// Whether the local variables of both are known to be of the same types, and `this` isn't initialised in both or in neither.
+fn are_same(lists: &LocalLists, first: &TypeFrame, second: &TypeFrame) -> bool
+    ensures { let ls = lists_seen lists.now in result ≡ true → HaveSameLocals (frame_seen ls first.now) (frame_seen ls second.now) }
+{
+    first.flag == second.flag && has_same_locals(lists, &first.locals, &second.locals)
+}
+
 /// The place at which the handlers were asked, if the frame before an instruction has the local variables of the one that falls in.
 fn still_asked(
+    lists: &LocalLists,
     asked: Option<u32>,
     map: Option<&TypeFrame>,
     falling: Option<&TypeFrame>,
 ) -> Option<u32>
-    ensures { (P : model.Program) (frames : ℕ → Option typing.TypeFrame) (hs : List model.Handler) (f : typing.TypeFrame) → Some f ≡ walk.incoming (frame_at_seen map.entry) (frame_at_seen falling.entry) → IsHeld P frames asked (frame_at_seen falling.entry) hs → IsHeld P frames result (Some f) hs }
+    ensures { let ls = lists_seen lists.now in (P : model.Program) (frames : ℕ → Option typing.TypeFrame) (hs : List model.Handler) (f : typing.TypeFrame) → Some f ≡ walk.incoming (frame_at_seen ls map.entry) (frame_at_seen ls falling.entry) → IsHeld P frames asked (frame_at_seen ls falling.entry) hs → IsHeld P frames result (Some f) hs }
 {
     let place = asked?;
     let given = match map {
@@ -218,7 +227,7 @@ fn still_asked(
         None => return Some(place),
     };
     match falling {
-        Some(frame) if are_same(frame, given) => Some(place),
+        Some(frame) if are_same(lists, frame, given) => Some(place),
         _ => None,
     }
 }
@@ -228,11 +237,12 @@ fn still_asked(
 fn joined(
     alloc: Global,
     classes: &Hierarchy,
+    lists: &LocalLists,
     map: Option<&TypeFrame>,
     falling: Option<TypeFrame>,
 ) -> Result<Option<(TypeFrame, bool)>, NoMemory>
-    ensures frame { IfOk result (λ j. option_map (λ x. frame_seen x.0) j ≡ walk.incoming (frame_at_seen map.entry) (option_map frame_seen falling)) }
-    ensures merged { IfOk result (λ j. IfSome j (λ x. x.1 ≡ walk.merges (resolved classes.now) (frame_at_seen map.entry) (option_map frame_seen falling))) }
+    ensures frame { let ls = lists_seen lists.now in IfOk result (λ j. option_map (λ x. frame_seen ls x.0) j ≡ walk.incoming (frame_at_seen ls map.entry) (option_map (frame_seen ls) falling)) }
+    ensures merged { let ls = lists_seen lists.now in IfOk result (λ j. IfSome j (λ x. x.1 ≡ walk.merges (resolved classes.now) (frame_at_seen ls map.entry) (option_map (frame_seen ls) falling))) }
 {
     match map {
         None => match falling {
@@ -241,7 +251,7 @@ fn joined(
         },
         Some(given) => {
             let merged = match &falling {
-                Some(frame) => frame.flows_to(classes, given),
+                Some(frame) => frame.flows_to(classes, lists, given),
                 None => true,
             };
             Ok(Some((given.copied(alloc)?, merged)))
@@ -262,12 +272,13 @@ pub fn verdict_at(
     requires method { number < length (methods_by_number checking.now.program.now) }
     requires code { HasCode checking.now number }
     requires small { length checking.now.code.now ≤ 33554432 }
-    ensures { IfOk result (λ step. (m : model.Method) (b : model.Body) (maps : ℕ → Option typing.TypeFrame) → IsMethodOf checking.now number m b maps → IsHeld (resolved checking.now.program.now) maps asked (option_map frame_seen falling) b.handlers → (step_seen step ≡ behind (walk.verdict_at (resolved checking.now.program.now) number m b maps place (option_map frame_seen falling))) × IsHeldBehind (resolved checking.now.program.now) maps place step b.handlers) }
+    ensures { let ls = lists_in checking.now.maps.now in IfOk result (λ step. (m : model.Method) (b : model.Body) (maps : ℕ → Option typing.TypeFrame) → IsMethodOf checking.now number m b maps → IsHeld (resolved checking.now.program.now) maps asked (option_map (frame_seen ls) falling) b.handlers → (step_seen ls step ≡ behind (walk.verdict_at (resolved checking.now.program.now) number m b maps place (option_map (frame_seen ls) falling))) × IsHeldBehind ls (resolved checking.now.program.now) maps place step b.handlers) }
 {
     let classes = checking.around.classes;
+    let lists = &checking.maps.lists;
     let map = frame_at(checking.maps, u64::from(place));
-    let asked = still_asked(asked, map, falling.as_ref());
-    let (mut frame, merged) = match joined(alloc, classes, map, falling)? {
+    let asked = still_asked(lists, asked, map, falling.as_ref());
+    let (mut frame, merged) = match joined(alloc, classes, lists, map, falling)? {
         Some(found) => found,
         None => return Ok(Step::Breaks(Rule::Flow)),
     };

@@ -14,10 +14,11 @@ ghost use Rattle.program_tables.specs.Meanings.{operand_seen};
 ghost use Rattle.program_tables.specs.Resolved.{resolved};
 ghost use Rattle.program_tables.specs.Tables.{kind_seen};
 ghost use Rattle.verifier_types.specs.Frame.{frame_at_seen};
+ghost use Rattle.verifier_types.specs.Locals.{lists_seen};
 ghost use Rattle.verifier_types.specs.Site.{Site, Checks};
 ghost use Rattle.bytecode_verifier.specs.Around.{StandsAt};
-ghost use Rattle.bytecode_verifier.specs.Maps.{frame_over};
-ghost use Rattle.bytecode_verifier.specs.Checking.{IsTyped, IsAt, Finds};
+ghost use Rattle.bytecode_verifier.specs.Maps.{lists_in, frame_over};
+ghost use Rattle.bytecode_verifier.specs.Checking.{IsTyped, IsAt, ChecksRow, ChecksRowIn};
 ghost use Rattle.bytecode_verifier.specs.Family.{value_row, array_row, named_row, field_row, call_row, leads_row};
 
 use crate::around::Around;
@@ -34,10 +35,10 @@ use jop_opcodes::Instr;
 use program_tables::{Base, Declared, Instruction, ObjectKind, Operand};
 use resolved_program::Program;
 use verifier_types::{
-    Checked, GOES, NumberType, Rule, TypeFrame, VarType, check_branch, check_cast, check_compute,
-    check_increment, check_jump, check_length, check_load, check_load_number, check_load_reference,
-    check_monitor, check_new_array, check_null, check_push, check_same, check_shuffle, check_store,
-    check_store_number, check_store_reference, check_test,
+    Checked, GOES, LocalLists, NumberType, Rule, TypeFrame, VarType, check_branch, check_cast,
+    check_compute, check_increment, check_jump, check_length, check_load, check_load_number,
+    check_load_reference, check_monitor, check_new_array, check_null, check_push, check_same,
+    check_shuffle, check_store, check_store_number, check_store_reference, check_test,
 };
 
 /// A method whose instructions are checked.
@@ -92,12 +93,13 @@ fn check_write(frame: &mut TypeFrame) -> Checked
 
 /// Constants, numbers, local variables, words of the operand stack, input and output.
 fn check_value(
+    lists: &LocalLists,
     frame: &mut TypeFrame,
     max_locals: u16,
     instr: &Instr,
     family: Value,
 ) -> Result<Checked, NoMemory>
-    ensures { IfOk result (λ c. (s : Site) (code : List ℕ) (o : program.Operand) → s.body.max_locals ≡ max_locals → Finds s (value_row family code instr.now o) frame.old c frame.new) }
+    ensures { IfOk result (λ c. (s : Site) (code : List ℕ) (o : program.Operand) → s.body.max_locals ≡ max_locals → ChecksRowIn (lists_seen lists.now) s (value_row family code instr.now o) frame.old c frame.new) }
 {
     match family {
         Value::Nothing => Ok(GOES),
@@ -106,17 +108,17 @@ fn check_value(
         Value::PushLong => check_push(frame, VarType::LongInteger),
         Value::Compute(taken, given) => check_compute(frame, taken, given),
         Value::Load(sort) => match local_of(instr) {
-            Some(index) => check_load(frame, max_locals, sort, index),
+            Some(index) => check_load(lists, frame, max_locals, sort, index),
             None => Ok(OUT_OF_FORM),
         },
-        Value::LoadAt(sort, index) => check_load(frame, max_locals, sort, index),
+        Value::LoadAt(sort, index) => check_load(lists, frame, max_locals, sort, index),
         Value::Store(sort) => match local_of(instr) {
-            Some(index) => Ok(check_store(frame, max_locals, sort, index)),
+            Some(index) => check_store(lists, frame, max_locals, sort, index),
             None => Ok(OUT_OF_FORM),
         },
-        Value::StoreAt(sort, index) => Ok(check_store(frame, max_locals, sort, index)),
+        Value::StoreAt(sort, index) => check_store(lists, frame, max_locals, sort, index),
         Value::Increment => match local_of(instr) {
-            Some(index) => Ok(check_increment(frame, max_locals, index)),
+            Some(index) => Ok(check_increment(lists, frame, max_locals, index)),
             None => Ok(OUT_OF_FORM),
         },
         Value::Shuffle(form, upper, lower) => check_shuffle(frame, form, upper, lower),
@@ -126,7 +128,7 @@ fn check_value(
 
 /// Arrays and monitors.
 fn check_array(frame: &mut TypeFrame, instr: &Instr, family: Array) -> Result<Checked, NoMemory>
-    ensures { IfOk result (λ c. (s : Site) (code : List ℕ) (o : program.Operand) → Finds s (array_row family code instr.now o) frame.old c frame.new) }
+    ensures { IfOk result (λ c. (s : Site) (code : List ℕ) (o : program.Operand) → ChecksRow s (array_row family code instr.now o) frame.old c frame.new) }
 {
     match family {
         Array::New => match code_of_numbers(instr) {
@@ -150,7 +152,7 @@ fn check_array(frame: &mut TypeFrame, instr: &Instr, family: Array) -> Result<Ch
 
 /// `ldc` and `ldc_w`.
 fn check_constant(frame: &mut TypeFrame, operand: Operand) -> Result<Checked, NoMemory>
-    ensures { IfOk result (λ c. (s : Site) (code : List ℕ) (i : model.Instr) → IsTyped s.program (operand_seen operand) → Finds s (constant code i (operand_seen operand)) frame.old c frame.new) }
+    ensures { IfOk result (λ c. (s : Site) (code : List ℕ) (i : model.Instr) → IsTyped s.program (operand_seen operand) → ChecksRow s (constant code i (operand_seen operand)) frame.old c frame.new) }
 {
     match operand {
         Operand::Int(_) => check_push(frame, VarType::Integer),
@@ -161,7 +163,7 @@ fn check_constant(frame: &mut TypeFrame, operand: Operand) -> Result<Checked, No
 
 /// `ldc2_w`.
 fn check_long(frame: &mut TypeFrame, operand: Operand) -> Result<Checked, NoMemory>
-    ensures { IfOk result (λ c. (s : Site) (code : List ℕ) (i : model.Instr) → Finds s (long_constant code i (operand_seen operand)) frame.old c frame.new) }
+    ensures { IfOk result (λ c. (s : Site) (code : List ℕ) (i : model.Instr) → ChecksRow s (long_constant code i (operand_seen operand)) frame.old c frame.new) }
 {
     match operand {
         Operand::Long(_) => check_push(frame, VarType::LongInteger),
@@ -188,18 +190,19 @@ fn check_array_of(frame: &mut TypeFrame, component: ObjectKind) -> Result<Checke
 
 /// Constants and types of the pool.
 fn check_named(
+    lists: &LocalLists,
     frame: &mut TypeFrame,
     place: u32,
     operand: Operand,
     family: Named,
 ) -> Result<Checked, NoMemory>
-    ensures { IfOk result (λ c. (s : Site) (code : List ℕ) (i : model.Instr) → s.place ≡ place → IsTyped s.program (operand_seen operand) → Finds s (named_row family code i (operand_seen operand)) frame.old c frame.new) }
+    ensures { IfOk result (λ c. (s : Site) (code : List ℕ) (i : model.Instr) → s.place ≡ place → IsTyped s.program (operand_seen operand) → ChecksRowIn (lists_seen lists.now) s (named_row family code i (operand_seen operand)) frame.old c frame.new) }
 {
     match family {
         Named::Constant => check_constant(frame, operand),
         Named::LongConstant => check_long(frame, operand),
         Named::New => match class_meant(operand) {
-            Some(_) => check_new(frame, place),
+            Some(_) => check_new(lists, frame, place),
             None => Ok(OUT_OF_FORM),
         },
         Named::NewArray => match operand {
@@ -259,7 +262,7 @@ fn check_field(
     x: &Instruction,
     family: Field,
 ) -> Result<Checked, NoMemory>
-    ensures { IfOk result (λ c. (s : Site) (place : ℕ) (code : List ℕ) (i : model.Instr) → IsAt checking.now place x.now s → Finds s (field_row family code i (operand_seen x.now.operand)) frame.old c frame.new) }
+    ensures { IfOk result (λ c. (s : Site) (place : ℕ) (code : List ℕ) (i : model.Instr) → IsAt checking.now place x.now s → ChecksRow s (field_row family code i (operand_seen x.now.operand)) frame.old c frame.new) }
 {
     match family {
         Field::GetStatic => match x.operand {
@@ -293,7 +296,7 @@ fn check_callee(
     method: (u32, u32),
     family: Call,
 ) -> Result<Checked, NoMemory>
-    ensures { IfOk result (λ c. (s : Site) (code : List ℕ) (i : model.Instr) → s.program ≡ resolved checking.now.program.now → StandsAt checking.now.around s → s.program.guarded s.number s.place ≡ guarded → Finds s (call_row family code i (AMethod method.0 method.1)) frame.old c frame.new) }
+    ensures { IfOk result (λ c. (s : Site) (code : List ℕ) (i : model.Instr) → s.program ≡ resolved checking.now.program.now → StandsAt checking.now.around s → s.program.guarded s.number s.place ≡ guarded → ChecksRowIn (lists_in checking.now.maps.now) s (call_row family code i (AMethod method.0 method.1)) frame.old c frame.new) }
 {
     let (named, number) = method;
     let around = &checking.around;
@@ -303,7 +306,7 @@ fn check_callee(
     };
     match family {
         Call::Static => check_static(around, frame, shape),
-        Call::Special => check_special(around, guarded, frame, named, shape),
+        Call::Special => check_special(around, &checking.maps.lists, guarded, frame, named, shape),
         Call::Virtual => check_virtual(around, guarded, frame, named, shape),
         Call::Interface => check_virtual(around, guarded, frame, named, shape),
     }
@@ -316,7 +319,7 @@ fn check_call(
     x: &Instruction,
     family: Call,
 ) -> Result<Checked, NoMemory>
-    ensures { IfOk result (λ c. (s : Site) (place : ℕ) (code : List ℕ) (i : model.Instr) → IsAt checking.now place x.now s → Finds s (call_row family code i (operand_seen x.now.operand)) frame.old c frame.new) }
+    ensures { IfOk result (λ c. (s : Site) (place : ℕ) (code : List ℕ) (i : model.Instr) → IsAt checking.now place x.now s → ChecksRowIn (lists_in checking.now.maps.now) s (call_row family code i (operand_seen x.now.operand)) frame.old c frame.new) }
 {
     match x.operand {
         Operand::Method(named, number) => {
@@ -328,7 +331,7 @@ fn check_call(
 
 /// The frame at the target of a branch.
 fn branch_target(maps: &MapFrames, place: u32, instr: Instr) -> Option<&TypeFrame>
-    ensures { frame_at_seen result ≡ frame_over maps.now (natural (pos place +ℤ instr.first)) }
+    ensures { frame_at_seen (lists_in maps.now) result ≡ frame_over maps.now (natural (pos place +ℤ instr.first)) }
 {
     target_of(maps, place, instr.first)
 }
@@ -343,17 +346,24 @@ fn check_leads(
 ) -> Checked
     requires decoded { decoded checking.now.code.now place ≡ Ok instr.now }
     requires small { length checking.now.code.now ≤ 33554432 }
-    ensures { (s : Site) (x : tables.Instruction) (o : program.Operand) → IsAt checking.now place x s → Finds s (leads_row family checking.now.code.now instr.now o) frame.old result frame.new }
+    ensures { (s : Site) (x : tables.Instruction) (o : program.Operand) → IsAt checking.now place x s → ChecksRowIn (lists_in checking.now.maps.now) s (leads_row family checking.now.code.now instr.now o) frame.old result frame.new }
 {
     let classes = checking.around.classes;
     let maps = checking.maps;
+    let lists = &maps.lists;
     match family {
         Leads::Branch(taken) => {
-            check_branch(classes, frame, taken, branch_target(maps, place, *instr))
+            check_branch(
+                classes,
+                lists,
+                frame,
+                taken,
+                branch_target(maps, place, *instr),
+            )
         }
-        Leads::Same => check_same(classes, frame, branch_target(maps, place, *instr)),
-        Leads::IsNull => check_null(classes, frame, branch_target(maps, place, *instr)),
-        Leads::Jump => check_jump(classes, frame, branch_target(maps, place, *instr)),
+        Leads::Same => check_same(classes, lists, frame, branch_target(maps, place, *instr)),
+        Leads::IsNull => check_null(classes, lists, frame, branch_target(maps, place, *instr)),
+        Leads::Jump => check_jump(classes, lists, frame, branch_target(maps, place, *instr)),
         Leads::TableSwitch => check_switch(classes, maps, place, frame, checking.code, instr),
         Leads::LookupSwitch if instr.second < 0 => OUT_OF_FORM,
         Leads::LookupSwitch => check_switch(classes, maps, place, frame, checking.code, instr),
@@ -371,14 +381,15 @@ pub fn check_row(
 ) -> Result<Checked, NoMemory>
     requires decoded { decoded checking.now.code.now place ≡ Ok x.now.instr }
     requires small { length checking.now.code.now ≤ 33554432 }
-    ensures { IfOk result (λ c. (s : Site) → IsAt checking.now place x.now s → Finds s (row_of checking.now.code.now x.now.instr (operand_seen x.now.operand)) frame.old c frame.new) }
+    ensures { IfOk result (λ c. (s : Site) → IsAt checking.now place x.now s → ChecksRowIn (lists_in checking.now.maps.now) s (row_of checking.now.code.now x.now.instr (operand_seen x.now.operand)) frame.old c frame.new) }
 {
     let instr = &x.instr;
+    let lists = &checking.maps.lists;
     match family_of(instr.op) {
         Family::Unknown => Ok(OUT_OF_FORM),
-        Family::Value(family) => check_value(frame, checking.max_locals, instr, family),
+        Family::Value(family) => check_value(lists, frame, checking.max_locals, instr, family),
         Family::Array(family) => check_array(frame, instr, family),
-        Family::Named(family) => check_named(frame, place, x.operand, family),
+        Family::Named(family) => check_named(lists, frame, place, x.operand, family),
         Family::Field(family) => check_field(checking, frame, x, family),
         Family::Call(family) => check_call(checking, frame, x, family),
         Family::Leads(family) => Ok(check_leads(checking, place, frame, instr, family)),

@@ -1,5 +1,5 @@
 //! The rules behind those on operands and stack, in their order (JVM Specification SE 8, 4.10.1.6).
-ghost use Rattle.std.specs.Prelude.{◌≡◌, Option, Some, None, if◌then◌else◌};
+ghost use Rattle.std.specs.Prelude.{◌≡◌, List, Option, Some, None, if◌then◌else◌};
 ghost use Rattle.bytecode_typing.specs.Types as typing;
 ghost use Rattle.bytecode_typing.specs.Walk as walk;
 ghost use Rattle.verifier_types.specs.Frame.{frame_seen};
@@ -18,7 +18,7 @@ pub enum Verdict {
 /// What is left of an instruction is held to the depth of the operand stack, and then to the rules on access, on initialisation,
 /// on targets and on handlers.
 pub fn settle(checked: Checked, after: &TypeFrame, max_stack: u16, handled: bool) -> Verdict
-    ensures { (s : Site) (before : typing.TypeFrame) → s.body.max_stack ≡ max_stack → walk.handlers_hold s.program s.maps s.place before s.body.handlers ≡ handled → verdict_seen result before (frame_seen after.now) ≡ walk.settled s.program s.number s.method s.body s.maps s.place before (checked_seen checked (frame_seen after.now)) }
+    ensures { (s : Site) (before : typing.TypeFrame) (ls : List (List typing.VarType)) → s.body.max_stack ≡ max_stack → walk.handlers_hold s.program s.maps s.place before s.body.handlers ≡ handled → verdict_seen result before (frame_seen ls after.now) ≡ walk.settled s.program s.number s.method s.body s.maps s.place before (checked_seen checked (frame_seen ls after.now)) }
 {
     let left = match checked {
         Checked::Fails(rule) => return Verdict::Breaks(rule),

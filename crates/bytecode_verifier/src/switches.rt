@@ -9,8 +9,8 @@ ghost use Rattle.program_tables.specs.Resolved.{resolved};
 ghost use Rattle.bytecode_typing.specs.Assignable.{flows_to};
 ghost use Rattle.bytecode_typing.specs.Walk.{keys_rise};
 ghost use Rattle.verifier_types.specs.Frame.{frame_seen};
-ghost use Rattle.verifier_types.specs.Site.{Site, Checks};
-ghost use Rattle.bytecode_verifier.specs.Maps.{AreMapsOf, frame_over};
+ghost use Rattle.verifier_types.specs.Site.{Site, ChecksIn};
+ghost use Rattle.bytecode_verifier.specs.Maps.{lists_in, AreMapsOf, frame_over};
 ghost use Rattle.bytecode_verifier.specs.Switched.{is_case_taken};
 
 use crate::calls::both;
@@ -27,17 +27,17 @@ pub fn is_taken(
     frame: &TypeFrame,
     offset: i32,
 ) -> bool
-    ensures { result ≡ flows_to (resolved classes.now) (frame_seen frame.now) (frame_over maps.now (natural (pos place +ℤ offset))) }
+    ensures { result ≡ flows_to (resolved classes.now) (frame_seen (lists_in maps.now) frame.now) (frame_over maps.now (natural (pos place +ℤ offset))) }
 {
     match target_of(maps, place, offset) {
-        Some(other) => frame.flows_to(classes, other),
+        Some(other) => frame.flows_to(classes, &maps.lists, other),
         None => false,
     }
 }
 
 /// Whether that holds of a case of a switch.
 fn leads(classes: &Hierarchy, maps: &MapFrames, place: u32, frame: &TypeFrame, case: Case) -> bool
-    ensures { result ≡ is_case_taken (resolved classes.now) maps.now place (frame_seen frame.now) case }
+    ensures { result ≡ is_case_taken (resolved classes.now) maps.now place (frame_seen (lists_in maps.now) frame.now) case }
 {
     is_taken(classes, maps, place, frame, case.offset)
 }
@@ -50,7 +50,7 @@ fn leads_default(
     frame: &TypeFrame,
     instr: Instr,
 ) -> bool
-    ensures { result ≡ flows_to (resolved classes.now) (frame_seen frame.now) (frame_over maps.now (natural (pos place +ℤ instr.first))) }
+    ensures { result ≡ flows_to (resolved classes.now) (frame_seen (lists_in maps.now) frame.now) (frame_over maps.now (natural (pos place +ℤ instr.first))) }
 {
     is_taken(classes, maps, place, frame, instr.first)
 }
@@ -66,7 +66,7 @@ fn are_taken(
 ) -> bool
     requires decoded { decoded code.now place ≡ Ok instr.now }
     requires small { length code.now ≤ 33554432 }
-    ensures { result ≡ list_all (is_case_taken (resolved classes.now) maps.now place (frame_seen frame.now)) (cases_of code.now instr.now) }
+    ensures { result ≡ list_all (is_case_taken (resolved classes.now) maps.now place (frame_seen (lists_in maps.now) frame.now)) (cases_of code.now instr.now) }
 {
     for index in 0..instr.count {
         if !leads(classes, maps, place, frame, case(code, place, instr, index)) {
@@ -87,7 +87,7 @@ pub fn check_switch(
 ) -> Checked
     requires decoded { decoded code.now place ≡ Ok instr.now }
     requires small { length code.now ≤ 33554432 }
-    ensures { (s : Site) → s.program ≡ resolved classes.now → s.place ≡ place → AreMapsOf maps.now s → Checks s (rows.Switch instr.now.first (cases_of code.now instr.now)) frame.old result frame.new }
+    ensures { (s : Site) → s.program ≡ resolved classes.now → s.place ≡ place → AreMapsOf maps.now s → ChecksIn (lists_in maps.now) s (rows.Switch instr.now.first (cases_of code.now instr.now)) frame.old result frame.new }
 {
     if !frame.operands.pop_numbers(&[NumberType::Int]) {
         return Checked::Fails(Rule::Stack);

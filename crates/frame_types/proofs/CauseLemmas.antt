@@ -30,7 +30,7 @@ use Rattle.frame_types.proofs.GivenLemmas.{the_frame, frame_same, FrameCases, fr
 abbrev Rest : Type 0
 Rest = Result (List (ℕ × TypeFrame)) ℕ
 
-with_none : (r : Rest) → with_frames [] r ≡ r
+pub with_none : (r : Rest) → with_frames [] r ≡ r
 with_none (Ok fs) = refl
 with_none (Err place) = refl
 

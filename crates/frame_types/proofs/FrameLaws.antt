@@ -167,7 +167,7 @@ of_code k locals stack f h =
     in
     subst (IsOfCode k) (some_same made f r.2) here
 
-pub at_start : (k : Code) (place : ℕ) (change : Change) (locals : List VarType) (x : List VarType × TypeFrame) → mapped k place change locals ≡ Some x → IsTrue (is_start k.code place) × IsOfCode k x.1
+at_start : (k : Code) (place : ℕ) (change : Change) (locals : List VarType) (x : List VarType × TypeFrame) → mapped k place change locals ≡ Some x → IsTrue (is_start k.code place) × IsOfCode k x.1
 at_start k place change locals x h =
     let build : List VarType → TypeFrame → Option (List VarType × TypeFrame) = λ ls f. Some (ls, f) in
     let go : List VarType × List VarType → Option (List VarType × TypeFrame) = λ y. onto (frame_of k y.0 y.1) (build y.0) in

@@ -30,7 +30,7 @@ pub spread_words : (ts : List VarType) → length (spread is_long Top ts) ≡ st
 spread_words [] = refl
 spread_words (t ∷ ts) = spread_case (is_long t) t ts (spread_words ts) ∙ sym (sum_by-cons words_of t ts)
 
-padded_is : (n m : ℕ) (xs : List VarType) → length xs + m ≡ n → padded Top n xs ≡ Some (xs ++ replicate m Top)
+pub padded_is : (n m : ℕ) (xs : List VarType) → length xs + m ≡ n → padded Top n xs ≡ Some (xs ++ replicate m Top)
 padded_is zero zero [] h = refl
 padded_is zero (suc m) [] h = absurd (omega arith)
 padded_is zero m (x ∷ xs) h = absurd (omega arith)
@@ -81,10 +81,10 @@ frame_same k ls st f h =
     let c = ap (λ (x : Bool). let g : TypeFrame = record { locals = f.locals; stack = f.stack; flag = x } in g) (sym h.flag) in
     a ∙ (b ∙ c)
 
-nat_cases : (a b : ℕ) → (a ≤ b) ⊎ (b < a)
+pub nat_cases : (a b : ℕ) → (a ≤ b) ⊎ (b < a)
 nat_cases a b = grind arith
 
-not_le : (a b : ℕ) → nat_le a b ≡ false → b < a
+pub not_le : (a b : ℕ) → nat_le a b ≡ false → b < a
 not_le a b h = by (nat_cases a b)
   where
     by : (a ≤ b) ⊎ (b < a) → b < a

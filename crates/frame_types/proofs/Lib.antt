@@ -9,3 +9,6 @@ pub mod SpellingLemmas
 pub mod TableSpelling
 pub mod GivenLemmas
 pub mod CauseLemmas
+pub mod ExtentLemmas
+pub mod MakesLemmas
+pub mod StepLemmas

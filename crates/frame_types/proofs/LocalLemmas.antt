@@ -1,5 +1,5 @@
 -- The types of parameters behind those that were found before; and local variables that are padded.
-use Rattle.std.proofs.Common.{◌≡◌, ℕ, zero, suc, ◌<◌, ◌≤◌, List, [], ◌∷◌, ◌++◌, length, Option, Some, None, refl, arith}
+use Rattle.std.proofs.Common.{◌≡◌, ℕ, zero, suc, ◌<◌, List, [], ◌∷◌, ◌++◌, length, Option, Some, None, refl, arith}
 use Rattle.lists.specs.Lists.{onto}
 use Rattle.bytecode_model.specs.Slots.{padded}
 use Rattle.frame_types.specs.declared.types.VarType.{VarType}
@@ -12,14 +12,3 @@ pub padded_past : {A : Type 0} (unset : A) (n : ℕ) (xs : List A) → n < lengt
 padded_past unset n [] lt = absurd (omega arith)
 padded_past unset zero (x ∷ xs) lt = refl
 padded_past unset (suc n) (x ∷ xs) lt = rw (padded_past unset n xs (omega arith)) refl
-
-pub padded_more : {A : Type 0} (unset : A) (n : ℕ) (xs : List A) → length xs < n → padded unset n (xs ++ unset ∷ []) ≡ padded unset n xs
-padded_more unset zero xs lt = absurd (omega arith)
-padded_more unset (suc n) [] lt = refl
-padded_more unset (suc n) (x ∷ xs) lt = rw (padded_more unset n xs (omega arith)) refl
-
-pub padded_full : {A : Type 0} (unset : A) (n : ℕ) (xs : List A) → n ≤ length xs → length xs ≤ n → padded unset n xs ≡ Some xs
-padded_full unset zero [] ge le = refl
-padded_full unset zero (x ∷ xs) ge le = absurd (omega arith)
-padded_full unset (suc n) [] ge le = absurd (omega arith)
-padded_full unset (suc n) (x ∷ xs) ge le = rw (padded_full unset n xs (omega arith) (omega arith)) refl

@@ -1,15 +1,14 @@
 -- The entries of a StackMapTable, one after the other, as a loop does.
-use Rattle.std.proofs.Common.{◌≡◌, ℕ, suc, ◌+◌, ◌<◌, ◌≤◌, List, [], ◌∷◌, ◌++◌, length, get_or, drop, Some, Result, Ok, Err, refl, sym, ap, subst, ◌∙◌, append_assoc, arith}
+use Rattle.std.proofs.Common.{◌≡◌, ℕ, suc, ◌+◌, ◌<◌, ◌≤◌, true, List, [], ◌∷◌, ◌++◌, length, get_or, drop, Some, Result, Ok, Err, refl, sym, ap, subst, ◌∙◌, append_assoc, arith}
 use Rattle.std.proofs.Math.Seq.{drop-cons}
 use Rattle.jop_opcodes.specs.Start.{starts_of, AreStarts}
 use Rattle.class_pool.specs.declared.class.Code.{Code}
 use Rattle.frame_types.specs.declared.types.VarType.{VarType}
 use Rattle.frame_types.specs.declared.types.TypeFrame.{TypeFrame}
-use Rattle.frame_types.specs.declared.read.Change.{Change}
 use Rattle.frame_types.specs.declared.read.MapEntry.{MapEntry}
+use Rattle.frame_types.specs.Types.{is_start}
 use Rattle.frame_types.specs.Frames.{mapped, with_frames, frames_from}
 use Rattle.frame_types.proofs.SearchLemmas.{among_contains}
-use Rattle.frame_types.proofs.FrameLaws.{at_start}
 
 abbrev Found : Type 0
 Found = Result (List (ℕ × TypeFrame)) ℕ
@@ -18,7 +17,7 @@ regroup : (front : List (ℕ × TypeFrame)) (f : ℕ × TypeFrame) (found : Foun
 regroup front f (Err place) = refl
 regroup front f (Ok fs) = ap (λ (xs : List (ℕ × TypeFrame)). Ok xs) (sym (append_assoc front (f ∷ []) fs))
 
-next_entry : (es : List MapEntry) (i : ℕ) (e : MapEntry) → i < length es → e ≡ get_or es i e → drop i es ≡ e ∷ drop (suc i) es
+pub next_entry : (es : List MapEntry) (i : ℕ) (e : MapEntry) → i < length es → e ≡ get_or es i e → drop i es ≡ e ∷ drop (suc i) es
 next_entry es i e lt at = drop-cons es i e lt ∙ ap (λ (q : MapEntry). q ∷ drop (suc i) es) (sym at)
 
 walk_goes_on : (k : Code) (front : List (ℕ × TypeFrame)) (next : ℕ) (locals : List VarType) (es : List MapEntry) (i : ℕ) (e : MapEntry) (x : List VarType × TypeFrame) (total : Found) → i < length es → e ≡ get_or es i e
@@ -41,9 +40,8 @@ walk_goes_on_at k front next locals es i e place x total lt at here is so_far =
     let P : ℕ → Type 0 = λ p. mapped k p e.change locals ≡ Some x → with_frames (front ++ (p, x.1) ∷ []) (frames_from k (p + 1) x.0 (drop (i + 1) es)) ≡ total in
     subst P (sym here) (λ there. walk_goes_on k front next locals es i e x total lt at there so_far) is
 
--- an entry stands within the code
-pub walk_within : (k : Code) (place : ℕ) (change : Change) (locals : List VarType) (x : List VarType × TypeFrame) (most : ℕ) → AreStarts k.code → mapped k place change locals ≡ Some x → length k.code ≤ most → place + 1 ≤ most
-walk_within k place change locals x most starts is small =
-    let start = at_start k place change locals x is in
-    let within = starts.within_code place (among_contains (starts_of k.code) place start.0) in
+-- an instruction begins within the code
+pub start_within : (k : Code) (place most : ℕ) → AreStarts k.code → is_start k.code place ≡ true → length k.code ≤ most → place + 1 ≤ most
+start_within k place most starts start small =
+    let within = starts.within_code place (among_contains (starts_of k.code) place start) in
     omega arith

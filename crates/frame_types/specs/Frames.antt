@@ -71,11 +71,6 @@ frames_of c m k =
 -- ---- answers
 
 -- a fault names the place at which the rule fails first, or says that memory ran out
-abbrev pub FailsFirst : {Y : Type 0} → MapFault → Result Y ℕ → Type 0
-FailsFirst (faults.Bad place) found = found ≡ Err place
-FailsFirst faults.NoMemory found = Unit {0}
-
--- what a function returned, seen by view, is what the rule gives, unless memory ran out
-abbrev pub Maps : {X Y : Type 0} → (X → Y) → Result X MapFault → Result Y ℕ → Type 0
-Maps view (Ok x) found = found ≡ Ok (view x)
-Maps view (Err fault) found = FailsFirst fault found
+abbrev pub IsMapFault : {Y : Type 0} → MapFault → Result Y ℕ → Type 0
+IsMapFault (faults.Bad place) found = found ≡ Err place
+IsMapFault faults.NoMemory found = Unit {0}

@@ -3,6 +3,8 @@ pub mod Types
 pub mod Table
 pub mod Locals
 pub mod Frames
+pub mod Steps
+pub mod Extents
 pub mod Spelling
 pub mod Given
 pub mod Laws

@@ -3,12 +3,15 @@
 #![tactic(auto)]
 
 mod code;
+mod extents;
 mod first;
 pub mod laws;
 mod mapping;
 mod read;
+mod steps;
 mod types;
 
-pub use mapping::frames;
+pub use mapping::map_steps;
 pub use read::{Change, MapEntry};
+pub use steps::{EntryType, MapStep, MapSteps, StepChange};
 pub use types::{Frames, MapFault, TypeFrame, VarType};

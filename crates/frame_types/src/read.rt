@@ -1,18 +1,20 @@
 //! A StackMapTable as it is read (JVM Specification SE 8, 4.7.4).
-ghost use Rattle.std.specs.Prelude.{◌≡◌, ◌-◌, ◌≤◌, ◌<◌};
+ghost use Rattle.std.specs.Prelude.{◌≡◌, ◌-◌, ◌≤◌, ◌<◌, map};
 ghost use Rattle.jop_base.specs.Reading.{Gives};
 ghost use Rattle.class_reader.specs.Reading.{many_in, counted_in};
 ghost use Rattle.frame_types.specs.Table.{object_in, uninitialized_in, tagged_in, type_in, one_item_in, append_in, full_in, change_in, frame_in, map_entry_in, table_in, entries_of};
+ghost use Rattle.frame_types.specs.Steps.{named, change_named};
+ghost use Rattle.frame_types.specs.Extents.{entry_named};
 
+use crate::steps::{EntryType, StepChange};
 use crate::types::VarType;
-use class_lookup::parts::text_at;
 use class_pool::numbers::{u8_at, u16_at};
 use class_pool::{Code, Pool};
 use items::Items;
 use jop_base::FormatFault;
 use std::alloc::Global;
 
-/// What an entry changes of the frame before it. The operand stack is empty where nothing is said of it.
+/// A change with the names of classes, as contracts see a [`StepChange`].
 #[derive(Drop)]
 pub enum Change {
     /// same_frame and same_frame_extended: the same local variables.
@@ -27,7 +29,7 @@ pub enum Change {
     Full(Items<VarType>, Items<VarType>),
 }
 
-/// An entry of a StackMapTable.
+/// An entry of a StackMapTable with the names of classes, as contracts see one.
 #[derive(Drop)]
 pub struct MapEntry {
     /// How far it stands behind the least place at which it may stand.
@@ -35,62 +37,60 @@ pub struct MapEntry {
     pub change: Change,
 }
 
+/// An entry of a StackMapTable.
+#[derive(Drop)]
+pub(crate) struct StepEntry {
+    /// How far it stands behind the least place at which it may stand.
+    pub offset: u16,
+    pub change: StepChange,
+}
+
 #[tactic(auto, unfolding(crate::specs::Table::object_in))]
-fn object_at<'a>(
-    alloc: Global,
-    pool: &Pool,
-    bytes: &'a [u8],
-) -> Result<(VarType, &'a [u8]), FormatFault>
-    ensures { Gives (λ x. (x.0, x.1.now)) result (object_in pool.now bytes.now) }
+fn object_at<'a>(pool: &Pool, bytes: &'a [u8]) -> Result<(EntryType, &'a [u8]), FormatFault>
+    ensures { Gives (λ x. (named pool.now x.0, x.1.now)) result (object_in pool.now bytes.now) }
 {
     let (index, rest) = u16_at(bytes)?;
-    let Some(name) = pool.class_name(index) else {
-        return Err(FormatFault::Bad);
-    };
-    let name = Items::new(Vec::from_slice(alloc, text_at(pool, name))?);
-    Ok((VarType::Object(name), rest))
+    match pool.class_name(index) {
+        Some(_) => Ok((EntryType::Object(index), rest)),
+        None => Err(FormatFault::Bad),
+    }
 }
 
 #[tactic(auto, unfolding(crate::specs::Table::uninitialized_in))]
-fn uninitialized_at(bytes: &[u8]) -> Result<(VarType, &[u8]), FormatFault>
-    ensures { Gives (λ x. (x.0, x.1.now)) result (uninitialized_in bytes.now) }
+fn uninitialized_at<'a>(pool: &Pool, bytes: &'a [u8]) -> Result<(EntryType, &'a [u8]), FormatFault>
+    ensures { Gives (λ x. (named pool.now x.0, x.1.now)) result (uninitialized_in bytes.now) }
 {
     let (place, rest) = u16_at(bytes)?;
-    Ok((VarType::Uninitialized(u32::from(place)), rest))
+    Ok((EntryType::Uninitialized(u32::from(place)), rest))
 }
 
 // What stands behind a tag.
 #[tactic(auto, unfolding(crate::specs::Table::tagged_in))]
 fn tagged_at<'a>(
-    alloc: Global,
     pool: &Pool,
     tag: u8,
     bytes: &'a [u8],
-) -> Result<(VarType, &'a [u8]), FormatFault>
-    ensures { Gives (λ x. (x.0, x.1.now)) result (tagged_in pool.now tag bytes.now) }
+) -> Result<(EntryType, &'a [u8]), FormatFault>
+    ensures { Gives (λ x. (named pool.now x.0, x.1.now)) result (tagged_in pool.now tag bytes.now) }
 {
     match tag {
-        0 => Ok((VarType::Top, bytes)),
-        1 => Ok((VarType::Integer, bytes)),
-        4 => Ok((VarType::Long, bytes)),
-        5 => Ok((VarType::Null, bytes)),
-        6 => Ok((VarType::UninitializedThis, bytes)),
-        7 => object_at(alloc, pool, bytes),
-        8 => uninitialized_at(bytes),
+        0 => Ok((EntryType::Top, bytes)),
+        1 => Ok((EntryType::Integer, bytes)),
+        4 => Ok((EntryType::Long, bytes)),
+        5 => Ok((EntryType::Null, bytes)),
+        6 => Ok((EntryType::UninitializedThis, bytes)),
+        7 => object_at(pool, bytes),
+        8 => uninitialized_at(pool, bytes),
         _ => Err(FormatFault::Bad),
     }
 }
 
 #[tactic(auto, unfolding(crate::specs::Table::type_in))]
-fn type_at<'a>(
-    alloc: Global,
-    pool: &Pool,
-    bytes: &'a [u8],
-) -> Result<(VarType, &'a [u8]), FormatFault>
-    ensures { Gives (λ x. (x.0, x.1.now)) result (type_in pool.now bytes.now) }
+fn type_at<'a>(pool: &Pool, bytes: &'a [u8]) -> Result<(EntryType, &'a [u8]), FormatFault>
+    ensures { Gives (λ x. (named pool.now x.0, x.1.now)) result (type_in pool.now bytes.now) }
 {
     let (tag, rest) = u8_at(bytes)?;
-    tagged_at(alloc, pool, tag, rest)
+    tagged_at(pool, tag, rest)
 }
 
 fn many_types<'a>(
@@ -98,13 +98,13 @@ fn many_types<'a>(
     pool: &Pool,
     count: u16,
     bytes: &'a [u8],
-) -> Result<(Vec<VarType>, &'a [u8]), FormatFault>
-    ensures { Gives (λ x. (x.0.items, x.1.now)) result (many_in (type_in pool.now) count bytes.now) }
+) -> Result<(Vec<EntryType>, &'a [u8]), FormatFault>
+    ensures { Gives (λ x. (map (named pool.now) x.0.items, x.1.now)) result (many_in (type_in pool.now) count bytes.now) }
 {
     let mut types = Vec::new(alloc);
     let mut rest = bytes;
     for _ in 0..count {
-        let (found, after) = type_at(alloc, pool, rest)?;
+        let (found, after) = type_at(pool, rest)?;
         types.push(found)?;
         rest = after;
     }
@@ -116,8 +116,8 @@ fn types_at<'a>(
     alloc: Global,
     pool: &Pool,
     bytes: &'a [u8],
-) -> Result<(Items<VarType>, &'a [u8]), FormatFault>
-    ensures { Gives (λ x. (x.0, x.1.now)) result (counted_in (type_in pool.now) bytes.now) }
+) -> Result<(Items<EntryType>, &'a [u8]), FormatFault>
+    ensures { Gives (λ x. (map (named pool.now) x.0, x.1.now)) result (counted_in (type_in pool.now) bytes.now) }
 {
     let (count, rest) = u16_at(bytes)?;
     let (types, rest) = many_types(alloc, pool, count, rest)?;
@@ -125,15 +125,11 @@ fn types_at<'a>(
 }
 
 #[tactic(auto, unfolding(crate::specs::Table::one_item_in))]
-fn one_item_at<'a>(
-    alloc: Global,
-    pool: &Pool,
-    bytes: &'a [u8],
-) -> Result<(Change, &'a [u8]), FormatFault>
-    ensures { Gives (λ x. (x.0, x.1.now)) result (one_item_in pool.now bytes.now) }
+fn one_item_at<'a>(pool: &Pool, bytes: &'a [u8]) -> Result<(StepChange, &'a [u8]), FormatFault>
+    ensures { Gives (λ x. (change_named pool.now x.0, x.1.now)) result (one_item_in pool.now bytes.now) }
 {
-    let (item, rest) = type_at(alloc, pool, bytes)?;
-    Ok((Change::OneItem(item), rest))
+    let (item, rest) = type_at(pool, bytes)?;
+    Ok((StepChange::OneItem(item), rest))
 }
 
 #[tactic(auto, unfolding(crate::specs::Table::append_in))]
@@ -142,11 +138,11 @@ fn append_at<'a>(
     pool: &Pool,
     count: u8,
     bytes: &'a [u8],
-) -> Result<(Change, &'a [u8]), FormatFault>
-    ensures { Gives (λ x. (x.0, x.1.now)) result (append_in pool.now count bytes.now) }
+) -> Result<(StepChange, &'a [u8]), FormatFault>
+    ensures { Gives (λ x. (change_named pool.now x.0, x.1.now)) result (append_in pool.now count bytes.now) }
 {
     let (locals, rest) = many_types(alloc, pool, u16::from(count), bytes)?;
-    Ok((Change::Append(Items::new(locals)), rest))
+    Ok((StepChange::Append(Items::new(locals)), rest))
 }
 
 #[tactic(auto, unfolding(crate::specs::Table::full_in))]
@@ -154,12 +150,12 @@ fn full_at<'a>(
     alloc: Global,
     pool: &Pool,
     bytes: &'a [u8],
-) -> Result<(Change, &'a [u8]), FormatFault>
-    ensures { Gives (λ x. (x.0, x.1.now)) result (full_in pool.now bytes.now) }
+) -> Result<(StepChange, &'a [u8]), FormatFault>
+    ensures { Gives (λ x. (change_named pool.now x.0, x.1.now)) result (full_in pool.now bytes.now) }
 {
     let (locals, rest) = types_at(alloc, pool, bytes)?;
     let (stack, rest) = types_at(alloc, pool, rest)?;
-    Ok((Change::Full(locals, stack), rest))
+    Ok((StepChange::Full(locals, stack), rest))
 }
 
 // What stands behind the offset of a frame that has one of two bytes.
@@ -169,14 +165,14 @@ fn change_at<'a>(
     pool: &Pool,
     tag: u8,
     bytes: &'a [u8],
-) -> Result<(Change, &'a [u8]), FormatFault>
+) -> Result<(StepChange, &'a [u8]), FormatFault>
     requires { 247 ≤ tag }
-    ensures { Gives (λ x. (x.0, x.1.now)) result (change_in pool.now tag bytes.now) }
+    ensures { Gives (λ x. (change_named pool.now x.0, x.1.now)) result (change_in pool.now tag bytes.now) }
 {
     match tag {
-        247 => one_item_at(alloc, pool, bytes),
-        248..=250 => Ok((Change::Chop(251 - tag), bytes)),
-        251 => Ok((Change::Same, bytes)),
+        247 => one_item_at(pool, bytes),
+        248..=250 => Ok((StepChange::Chop(251 - tag), bytes)),
+        251 => Ok((StepChange::Same, bytes)),
         252..=254 => append_at(alloc, pool, tag - 251, bytes),
         _ => full_at(alloc, pool, bytes),
     }
@@ -189,19 +185,19 @@ fn frame_at<'a>(
     pool: &Pool,
     tag: u8,
     bytes: &'a [u8],
-) -> Result<(MapEntry, &'a [u8]), FormatFault>
-    ensures { Gives (λ x. (x.0, x.1.now)) result (frame_in pool.now tag bytes.now) }
+) -> Result<(StepEntry, &'a [u8]), FormatFault>
+    ensures { Gives (λ x. (entry_named pool.now x.0, x.1.now)) result (frame_in pool.now tag bytes.now) }
 {
     let (offset, (change, rest)) = match tag {
-        0..=63 => (u16::from(tag), (Change::Same, bytes)),
-        64..=127 => (u16::from(tag - 64), one_item_at(alloc, pool, bytes)?),
+        0..=63 => (u16::from(tag), (StepChange::Same, bytes)),
+        64..=127 => (u16::from(tag - 64), one_item_at(pool, bytes)?),
         128..=246 => return Err(FormatFault::Bad),
         _ => {
             let (offset, rest) = u16_at(bytes)?;
             (offset, change_at(alloc, pool, tag, rest)?)
         }
     };
-    Ok((MapEntry { offset, change }, rest))
+    Ok((StepEntry { offset, change }, rest))
 }
 
 #[tactic(auto, unfolding(crate::specs::Table::map_entry_in))]
@@ -209,8 +205,8 @@ fn map_entry_at<'a>(
     alloc: Global,
     pool: &Pool,
     bytes: &'a [u8],
-) -> Result<(MapEntry, &'a [u8]), FormatFault>
-    ensures { Gives (λ x. (x.0, x.1.now)) result (map_entry_in pool.now bytes.now) }
+) -> Result<(StepEntry, &'a [u8]), FormatFault>
+    ensures { Gives (λ x. (entry_named pool.now x.0, x.1.now)) result (map_entry_in pool.now bytes.now) }
 {
     let (tag, rest) = u8_at(bytes)?;
     frame_at(alloc, pool, tag, rest)
@@ -221,8 +217,8 @@ fn many_entries<'a>(
     pool: &Pool,
     count: u16,
     bytes: &'a [u8],
-) -> Result<(Vec<MapEntry>, &'a [u8]), FormatFault>
-    ensures { Gives (λ x. (x.0.items, x.1.now)) result (many_in (map_entry_in pool.now) count bytes.now) }
+) -> Result<(Vec<StepEntry>, &'a [u8]), FormatFault>
+    ensures { Gives (λ x. (map (entry_named pool.now) x.0.items, x.1.now)) result (many_in (map_entry_in pool.now) count bytes.now) }
 {
     let mut entries = Vec::new(alloc);
     let mut rest = bytes;
@@ -235,8 +231,8 @@ fn many_entries<'a>(
 }
 
 #[tactic(auto, unfolding(crate::specs::Table::table_in, class_reader::specs::Reading::counted_in))]
-fn table_of(alloc: Global, pool: &Pool, bytes: &[u8]) -> Result<Vec<MapEntry>, FormatFault>
-    ensures { Gives (λ x. x.items) result (table_in pool.now bytes.now) }
+fn table_of(alloc: Global, pool: &Pool, bytes: &[u8]) -> Result<Vec<StepEntry>, FormatFault>
+    ensures { Gives (λ x. map (entry_named pool.now) x.items) result (table_in pool.now bytes.now) }
 {
     let (count, rest) = u16_at(bytes)?;
     let (entries, rest) = many_entries(alloc, pool, count, rest)?;
@@ -251,8 +247,8 @@ pub(crate) fn entries_of(
     alloc: Global,
     pool: &Pool,
     code: &Code,
-) -> Result<Vec<MapEntry>, FormatFault>
-    ensures { Gives (λ x. x.items) result (entries_of pool.now code.now) }
+) -> Result<Vec<StepEntry>, FormatFault>
+    ensures { Gives (λ x. map (entry_named pool.now) x.items) result (entries_of pool.now code.now) }
 {
     match code.stack_map(pool) {
         Some(bytes) => table_of(alloc, pool, bytes),

@@ -1,10 +1,9 @@
-ghost use Rattle.std.specs.Prelude.{◌≡◌, IfOk, map, sum_by};
-ghost use Rattle.std.specs.List.{list_any};
-ghost use Rattle.frame_types.specs.Types.{is_long, words_of, is_this};
+ghost use Rattle.std.specs.Prelude.{◌≡◌};
+ghost use Rattle.frame_types.specs.Types.{words_of, is_this};
 
 use items::Items;
 use jop_base::{FormatFault, NoMemory};
-use std::alloc::{AllocError, AllocFailed, Global};
+use std::alloc::{AllocError, AllocFailed};
 
 /// A verification type (JVM Specification SE 8, 4.10.1.2). Of the numbers, `int` and `long`.
 #[derive(Drop)]
@@ -101,50 +100,20 @@ impl From<FormatFault> for MapFault {
 }
 
 impl VarType {
-    /// The same type once more.
-    pub(crate) fn copied(&self, alloc: Global) -> Result<VarType, NoMemory>
-        ensures { IfOk result (λ copy. copy ≡ self.now) }
+    /// The words that a value takes.
+    pub(crate) fn words(&self) -> u16
+        ensures { result ≡ words_of self.now }
     {
-        Ok(match self {
-            VarType::Top => VarType::Top,
-            VarType::Integer => VarType::Integer,
-            VarType::Null => VarType::Null,
-            VarType::UninitializedThis => VarType::UninitializedThis,
-            VarType::Object(name) => {
-                VarType::Object(Items::new(Vec::from_slice(alloc, name.as_slice())?))
-            }
-            VarType::Uninitialized(place) => VarType::Uninitialized(*place),
-            VarType::Long => VarType::Long,
-        })
+        match self {
+            VarType::Long => 2,
+            _ => 1,
+        }
     }
 
-    pub(crate) fn is_long(&self) -> bool
-        ensures { result ≡ is_long self.now }
-    {
-        matches!(self, VarType::Long)
-    }
-
+    /// Whether it is that of an uninitialised `this`.
     pub(crate) fn is_this(&self) -> bool
         ensures { result ≡ is_this self.now }
     {
         matches!(self, VarType::UninitializedThis)
     }
-}
-
-/// The same types once more.
-pub(crate) fn copy_of(alloc: Global, types: &[VarType]) -> Result<Vec<VarType>, NoMemory>
-    ensures { IfOk result (λ copy. copy.items ≡ types.now) }
-{
-    let mut copy = Vec::new(alloc);
-    for t in types {
-        copy.push(t.copied(alloc)?)?;
-    }
-    Ok(copy)
-}
-
-/// Whether one of them is the type of an uninitialised `this`.
-pub(crate) fn has_this(types: &[VarType]) -> bool
-    ensures { result ≡ list_any is_this types.now }
-{
-    types.iter().any(|t| t.is_this())
 }

@@ -3,4 +3,13 @@ pub mod ListLemmas
 pub mod TakingLemmas
 pub mod OperandLemmas
 pub mod SlotLemmas
+pub mod OverlayLemmas
+pub mod WrittenLemmas
+pub mod EntryLemmas
+pub mod ComparedLemmas
+pub mod SelfLemmas
+pub mod SubstitutedLemmas
+pub mod NumberLemmas
+pub mod PositionLemmas
 pub mod RowLemmas
+pub mod ApartLemmas

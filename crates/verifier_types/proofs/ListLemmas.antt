@@ -1,5 +1,5 @@
 -- Lists side by side, from their ends.
-use Rattle.std.proofs.Common.{◌≡◌, ℕ, suc, Bool, true, false, ◌&&◌, List, [], ◌∷◌, ◌++◌, ◌<◌, length, map, get_or, inl, inr, drop, reverse, drop-cons, add-one, ◌+◌, refl, sym, ap, ◌∙◌, arith}
+use Rattle.std.proofs.Common.{◌≡◌, suc, Bool, true, false, ◌&&◌, List, [], ◌∷◌, ◌++◌, length, map, inl, inr, reverse, refl, sym, ap, ◌∙◌, arith}
 use Rattle.std.proofs.lemmas.Bool.{cases_eq}
 use Rattle.std.proofs.lemmas.List.{length-reverse, length-map, map-append}
 use Rattle.std.proofs.lemmas.Grind.{reverse_onto}
@@ -70,21 +70,3 @@ all_two_reversed f test xs ys = elim (cases_eq (length xs) (length ys)) [
   | inl e ↦ all_two_seen f test xs ys e
   | inr h ↦ seen_unequal f test (reverse xs) (reverse ys) (λ e. h (omega (arith, e, length-reverse xs, length-reverse ys))) ∙ sym (seen_unequal f test xs ys h)
 ]
-
--- ---- from a place on
-
-pub side_step : {X A : Type 0} (f : X → A) (test : A → A → Bool) (xs ys : List X) (i : ℕ) (x y : X) → i < length xs → i < length ys
-    → all_two test (map f (drop i xs)) (map f (drop i ys)) ≡ (test (f (get_or xs i x)) (f (get_or ys i y)) && all_two test (map f (drop (suc i) xs)) (map f (drop (suc i) ys)))
-side_step f test xs ys i x y h k =
-    ap (λ l. all_two test (map f l) (map f (drop i ys))) (drop-cons xs i x h)
-    ∙ ap (λ l. all_two test (map f (get_or xs i x ∷ drop (suc i) xs)) (map f l)) (drop-cons ys i y k)
-
-pub side_step_plus : {X A : Type 0} (f : X → A) (test : A → A → Bool) (xs ys : List X) (i : ℕ) (x y : X) → i < length xs → i < length ys
-    → all_two test (map f (drop i xs)) (map f (drop i ys)) ≡ (test (f (get_or xs i x)) (f (get_or ys i y)) && all_two test (map f (drop (i + 1) xs)) (map f (drop (i + 1) ys)))
-side_step_plus f test xs ys i x y h k =
-    side_step f test xs ys i x y h k ∙ ap (λ n. test (f (get_or xs i x)) (f (get_or ys i y)) && all_two test (map f (drop n xs)) (map f (drop n ys))) (sym (add-one i))
-
-pub side_kept : {X A : Type 0} (f : X → A) (test : A → A → Bool) (xs ys : List X) (i : ℕ) (x y : X) → i < length xs → i < length ys → test (f (get_or xs i x)) (f (get_or ys i y)) ≡ true
-    → all_two test (map f (drop (i + 1) xs)) (map f (drop (i + 1) ys)) ≡ all_two test (map f (drop i xs)) (map f (drop i ys))
-side_kept f test xs ys i x y h k t =
-    sym (side_step_plus f test xs ys i x y h k ∙ ap (λ b. b && all_two test (map f (drop (i + 1) xs)) (map f (drop (i + 1) ys))) t)

@@ -1,9 +1,9 @@
 -- Operand stacks as the code has them, whose top is last.
-use Rattle.std.proofs.Common.{◌≡◌, ℕ, suc, ◌+◌, ◌*◌, ◌<◌, ◌≤◌, Bool, true, false, List, [], ◌∷◌, ◌++◌, length, map, reverse, get_or, take, drop, length-drop, drop-cons, add-one, Some, None, refl, sym, ap, ◌∙◌, arith}
+use Rattle.std.proofs.Common.{◌≡◌, ℕ, suc, ◌+◌, ◌*◌, ◌<◌, ◌≤◌, Bool, true, false, List, [], ◌∷◌, ◌++◌, length, map, reverse, get_or, take, drop, length-drop, drop-cons, add-one, None, refl, sym, ap, ◌∙◌, arith}
 use Rattle.std.specs.Prelude.{if◌then◌else◌, ◌==◌}
 use Rattle.std.proofs.Math.Seq.{take-length}
 use Rattle.std.proofs.Math.ListN.{set, drop_of_length-le}
-use Rattle.std.proofs.lemmas.List.{reverse-append, length-reverse, length-map, map-append, map-set, get_or-map, length-take-le}
+use Rattle.std.proofs.lemmas.List.{length-reverse, length-map, map-append, map-set, get_or-map, length-take-le}
 use Rattle.std.proofs.lemmas.List.Edits.{map_over_more}
 use Rattle.std.proofs.lemmas.Grind.{take_at_read}
 use Rattle.std.proofs.lemmas.List.Sums.{sum_by-cons, sum_by-append}
@@ -15,21 +15,6 @@ use Rattle.verifier_types.specs.declared.types.NumberType.{NumberType}
 use Rattle.verifier_types.specs.Seen.{number_seen, type_seen, types_seen, stack_seen}
 use Rattle.verifier_types.proofs.ListLemmas.{reverse_cons, map_reverse}
 use Rattle.verifier_types.specs.Taken.{item_taken, numbers_taken, is_made}
-
--- ---- one on top
-
-pub stack_push : (xs : List VarType) (x : VarType) → stack_seen (xs ++ x ∷ []) ≡ type_seen x ∷ stack_seen xs
-stack_push xs x = ap (map type_seen) (reverse-append xs (x ∷ []))
-
-pub words_push : (xs : List VarType) (x : VarType) → stack_words (stack_seen (xs ++ x ∷ [])) ≡ type_words (type_seen x) + stack_words (stack_seen xs)
-words_push xs x = ap stack_words (stack_push xs x) ∙ sum_by-cons type_words (type_seen x) (stack_seen xs)
-
-pub top_taken : (xs ys : List VarType) (x : VarType) → ys ≡ xs ++ x ∷ [] → item_taken (stack_seen ys) ≡ Some (type_seen x, stack_seen xs)
-top_taken xs ys x e = ap (λ l. item_taken (stack_seen l)) e ∙ ap item_taken (stack_push xs x)
-
-pub none_taken : (ys : List VarType) → length ys ≡ 0 → item_taken (stack_seen ys) ≡ None
-none_taken [] e = refl
-none_taken (y ∷ ys) e = absurd (omega (arith, e))
 
 -- ---- words
 

@@ -1,6 +1,12 @@
+pub mod Codes
 pub mod Seen
+pub mod Locals
+pub mod Numbered
+pub mod Written
+pub mod Compared
 pub mod Frame
 pub mod Uses
 pub mod Site
 pub mod Taken
 pub mod Laws
+pub mod Apart

@@ -1,5 +1,5 @@
 -- What the rules say of an instruction at a place of a method: JVM Specification SE 8, 4.10.1.9.
-use Rattle.std.specs.Prelude.{◌≡◌, ℕ, if◌then◌else◌, Option, Some, None, ℤ, pos, ◌+ℤ◌}
+use Rattle.std.specs.Prelude.{◌≡◌, ℕ, if◌then◌else◌, List, Option, Some, None, ℤ, pos, ◌+ℤ◌}
 use Rattle.bytecode_model.specs.Lists.{natural}
 use Rattle.bytecode_model.specs.Program.{Program, Method, Body}
 use Rattle.bytecode_model.specs.Rows.{Row}
@@ -45,6 +45,10 @@ check_at s f r = checks.row_check s.program s.number s.method s.body s.maps s.pl
 abbrev pub target_at : Site → typing.TypeFrame → ℤ → Option typing.TypeFrame
 target_at s f offset = checks.frame_at s.program s.number s.method s.body s.maps s.place f (natural (pos s.place +ℤ offset))
 
--- the code's answer and the frame that it leaves are what the rules say of the row, with the frame that it was given
+-- the code's answer and the frame that it leaves are what the rules say of the row, with the frame that it was given, the lists of types of local variables being these
+abbrev pub ChecksIn : List (List typing.VarType) → Site → Row → (old : TypeFrame) → Checked → (new : TypeFrame) → Type 0
+ChecksIn ls s row old checked new = checked_seen checked (frame_seen ls new) ≡ check_at s (frame_seen ls old) row
+
+-- the same whatever the lists are
 abbrev pub Checks : Site → Row → (old : TypeFrame) → Checked → (new : TypeFrame) → Type 0
-Checks s row old checked new = checked_seen checked (frame_seen new) ≡ check_at s (frame_seen old) row
+Checks s row old checked new = (ls : List (List typing.VarType)) → ChecksIn ls s row old checked new

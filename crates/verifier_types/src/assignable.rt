@@ -112,21 +112,6 @@ pub fn is_assignable_item(classes: &Hierarchy, from: VarType, to: VarType) -> bo
     is_assignable(classes, from, to) && from.is_long() == to.is_long()
 }
 
-/// Whether local variables of the first types may stand for as many of the second.
-pub(crate) fn are_assignable(classes: &Hierarchy, from: &[VarType], to: &[VarType]) -> bool
-    ensures { result ≡ all_two (typing.is_assignable (resolved classes.now)) (types_seen from.now) (types_seen to.now) }
-{
-    if from.len() != to.len() {
-        return false;
-    }
-    for i in 0..from.len() {
-        if !is_assignable(classes, from[i], to[i]) {
-            return false;
-        }
-    }
-    true
-}
-
 /// Whether items of the operand stack of the first types may stand for as many of the second.
 pub(crate) fn are_assignable_items(classes: &Hierarchy, from: &[VarType], to: &[VarType]) -> bool
     ensures { result ≡ all_two (typing.is_assignable_item (resolved classes.now)) (types_seen from.now) (types_seen to.now) }

@@ -6,19 +6,26 @@ ghost use Rattle.program_tables.specs.Resolved.{resolved};
 ghost use Rattle.bytecode_typing.specs.Assignable.{flows_to};
 ghost use Rattle.verifier_types.specs.Frame.{frame_seen, frame_at_seen};
 ghost use Rattle.verifier_types.specs.Seen.{number_seen};
-ghost use Rattle.verifier_types.specs.Site.{Site, Checks, target_at};
+ghost use Rattle.verifier_types.specs.Locals.{lists_seen};
+ghost use Rattle.verifier_types.specs.Site.{Site, ChecksIn, target_at};
 
 use crate::checked::{Checked, Left, Rule};
 use crate::frame::TypeFrame;
+use crate::local_lists::LocalLists;
 use crate::types::{NumberType, are_initialized};
 use class_hierarchy::Hierarchy;
 
 /// Whether a frame stands at the target, and takes this one.
-fn reaches(classes: &Hierarchy, frame: &TypeFrame, target: Option<&TypeFrame>) -> bool
-    ensures { result ≡ flows_to (resolved classes.now) (frame_seen frame.now) (frame_at_seen target.entry) }
+fn reaches(
+    classes: &Hierarchy,
+    lists: &LocalLists,
+    frame: &TypeFrame,
+    target: Option<&TypeFrame>,
+) -> bool
+    ensures { let ls = lists_seen lists.now in result ≡ flows_to (resolved classes.now) (frame_seen ls frame.now) (frame_at_seen ls target.entry) }
 {
     match target {
-        Some(other) => frame.flows_to(classes, other),
+        Some(other) => frame.flows_to(classes, lists, other),
         None => false,
     }
 }
@@ -26,11 +33,12 @@ fn reaches(classes: &Hierarchy, frame: &TypeFrame, target: Option<&TypeFrame>) -
 /// A branch on numbers, which are taken off the stack, to where the frame `target` stands.
 pub fn check_branch(
     classes: &Hierarchy,
+    lists: &LocalLists,
     frame: &mut TypeFrame,
     taken: &[NumberType],
     target: Option<&TypeFrame>,
 ) -> Checked
-    ensures { (s : Site) (test : rows.Takes (map number_seen taken.now) Bool) (offset : ℤ) → s.program ≡ resolved classes.now → target_at s (frame_seen frame.old) offset ≡ frame_at_seen target.entry → Checks s (rows.Branch (map number_seen taken.now) test offset) frame.old result frame.new }
+    ensures { let ls = lists_seen lists.now in (s : Site) (test : rows.Takes (map number_seen taken.now) Bool) (offset : ℤ) → s.program ≡ resolved classes.now → target_at s (frame_seen ls frame.old) offset ≡ frame_at_seen ls target.entry → ChecksIn ls s (rows.Branch (map number_seen taken.now) test offset) frame.old result frame.new }
 {
     if !frame.operands.pop_numbers(taken) {
         return Checked::Fails(Rule::Stack);
@@ -39,13 +47,18 @@ pub fn check_branch(
         falls: true,
         access: true,
         init: true,
-        target: reaches(classes, frame, target),
+        target: reaches(classes, lists, frame, target),
     })
 }
 
 /// A branch on whether two references are the same.
-pub fn check_same(classes: &Hierarchy, frame: &mut TypeFrame, target: Option<&TypeFrame>) -> Checked
-    ensures { (s : Site) (wanted : Bool) (offset : ℤ) → s.program ≡ resolved classes.now → target_at s (frame_seen frame.old) offset ≡ frame_at_seen target.entry → Checks s (rows.BranchSame wanted offset) frame.old result frame.new }
+pub fn check_same(
+    classes: &Hierarchy,
+    lists: &LocalLists,
+    frame: &mut TypeFrame,
+    target: Option<&TypeFrame>,
+) -> Checked
+    ensures { let ls = lists_seen lists.now in (s : Site) (wanted : Bool) (offset : ℤ) → s.program ≡ resolved classes.now → target_at s (frame_seen ls frame.old) offset ≡ frame_at_seen ls target.entry → ChecksIn ls s (rows.BranchSame wanted offset) frame.old result frame.new }
 {
     let first = match frame.operands.pop_reference() {
         Some(item) => item,
@@ -59,13 +72,18 @@ pub fn check_same(classes: &Hierarchy, frame: &mut TypeFrame, target: Option<&Ty
         falls: true,
         access: true,
         init: are_initialized(first, second),
-        target: reaches(classes, frame, target),
+        target: reaches(classes, lists, frame, target),
     })
 }
 
 /// A branch on whether a reference is null.
-pub fn check_null(classes: &Hierarchy, frame: &mut TypeFrame, target: Option<&TypeFrame>) -> Checked
-    ensures { (s : Site) (wanted : Bool) (offset : ℤ) → s.program ≡ resolved classes.now → target_at s (frame_seen frame.old) offset ≡ frame_at_seen target.entry → Checks s (rows.BranchNull wanted offset) frame.old result frame.new }
+pub fn check_null(
+    classes: &Hierarchy,
+    lists: &LocalLists,
+    frame: &mut TypeFrame,
+    target: Option<&TypeFrame>,
+) -> Checked
+    ensures { let ls = lists_seen lists.now in (s : Site) (wanted : Bool) (offset : ℤ) → s.program ≡ resolved classes.now → target_at s (frame_seen ls frame.old) offset ≡ frame_at_seen ls target.entry → ChecksIn ls s (rows.BranchNull wanted offset) frame.old result frame.new }
 {
     let item = match frame.operands.pop_reference() {
         Some(item) => item,
@@ -75,18 +93,23 @@ pub fn check_null(classes: &Hierarchy, frame: &mut TypeFrame, target: Option<&Ty
         falls: true,
         access: true,
         init: item.is_initialized(),
-        target: reaches(classes, frame, target),
+        target: reaches(classes, lists, frame, target),
     })
 }
 
 /// `goto`.
-pub fn check_jump(classes: &Hierarchy, frame: &TypeFrame, target: Option<&TypeFrame>) -> Checked
-    ensures { (s : Site) (offset : ℤ) → s.program ≡ resolved classes.now → target_at s (frame_seen frame.now) offset ≡ frame_at_seen target.entry → Checks s (rows.Jump offset) frame.now result frame.now }
+pub fn check_jump(
+    classes: &Hierarchy,
+    lists: &LocalLists,
+    frame: &TypeFrame,
+    target: Option<&TypeFrame>,
+) -> Checked
+    ensures { let ls = lists_seen lists.now in (s : Site) (offset : ℤ) → s.program ≡ resolved classes.now → target_at s (frame_seen ls frame.now) offset ≡ frame_at_seen ls target.entry → ChecksIn ls s (rows.Jump offset) frame.now result frame.now }
 {
     Checked::Leaves(Left {
         falls: false,
         access: true,
         init: true,
-        target: reaches(classes, frame, target),
+        target: reaches(classes, lists, frame, target),
     })
 }

@@ -7,8 +7,11 @@ mod arrays;
 mod assignable;
 mod branches;
 mod checked;
+mod compared;
 mod frame;
 pub mod laws;
+mod local_lists;
+mod locals;
 mod operands;
 mod references;
 mod slices;
@@ -26,10 +29,12 @@ pub use assignable::{
 };
 pub use branches::{check_branch, check_jump, check_null, check_same};
 pub use checked::{Checked, GOES, Left, Rule, uses};
+pub use compared::has_same_locals;
 pub use frame::TypeFrame;
+pub use local_lists::LocalLists;
+pub use locals::Locals;
 pub use operands::Operands;
 pub use references::{check_cast, check_monitor, check_test};
-pub use slices::{local, store, substitute};
 pub use types::{Moved, NumberType, VarType, are_initialized};
 pub use values::{
     check_compute, check_increment, check_load, check_push, check_shuffle, check_store,

@@ -48,7 +48,7 @@ impl Moved {
 }
 
 /// What is known of a value. Of the numbers, `int` and `long`.
-#[derive(Clone, Copy)]
+#[derive(Clone, Copy, PartialEq, Eq, Hash)]
 pub enum VarType {
     /// Any value.
     Top,

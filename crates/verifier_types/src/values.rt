@@ -5,11 +5,12 @@ ghost use Rattle.bytecode_model.specs.Rows as rows;
 ghost use Rattle.bytecode_model.specs.Types as model;
 ghost use Rattle.bytecode_typing.specs.Checks.{constant_type};
 ghost use Rattle.verifier_types.specs.Seen.{number_seen, moved_seen, type_seen, width_seen, form_seen};
-ghost use Rattle.verifier_types.specs.Site.{Site, Checks};
+ghost use Rattle.verifier_types.specs.Locals.{lists_seen};
+ghost use Rattle.verifier_types.specs.Site.{Site, Checks, ChecksIn};
 
 use crate::checked::{Checked, GOES, Rule};
 use crate::frame::TypeFrame;
-use crate::slices::{local, store};
+use crate::local_lists::LocalLists;
 use crate::types::{Moved, NumberType, VarType};
 use crate::words::{Form, Width};
 use jop_base::NoMemory;
@@ -39,17 +40,18 @@ pub fn check_compute(
 
 /// A local variable is put on the stack.
 pub fn check_load(
+    lists: &LocalLists,
     frame: &mut TypeFrame,
     max_locals: u16,
     sort: Moved,
     index: u32,
 ) -> Result<Checked, NoMemory>
-    ensures { IfOk result (λ c. (s : Site) → s.body.max_locals ≡ max_locals → Checks s (rows.Load (moved_seen sort) index) frame.old c frame.new) }
+    ensures { IfOk result (λ c. (s : Site) → s.body.max_locals ≡ max_locals → ChecksIn (lists_seen lists.now) s (rows.Load (moved_seen sort) index) frame.old c frame.new) }
 {
     if !sort.is_within(index, max_locals) {
         return Ok(Checked::Fails(Rule::Operand));
     }
-    let item = match local(&frame.locals, index) {
+    let item = match frame.locals.local(lists, index) {
         Some(item) => item,
         None => return Ok(Checked::Fails(Rule::Operand)),
     };
@@ -61,33 +63,44 @@ pub fn check_load(
 }
 
 /// A local variable is written from the top of the stack.
-pub fn check_store(frame: &mut TypeFrame, max_locals: u16, sort: Moved, index: u32) -> Checked
-    ensures { (s : Site) → s.body.max_locals ≡ max_locals → Checks s (rows.Store (moved_seen sort) index) frame.old result frame.new }
+pub fn check_store(
+    lists: &LocalLists,
+    frame: &mut TypeFrame,
+    max_locals: u16,
+    sort: Moved,
+    index: u32,
+) -> Result<Checked, NoMemory>
+    ensures { IfOk result (λ c. (s : Site) → s.body.max_locals ≡ max_locals → ChecksIn (lists_seen lists.now) s (rows.Store (moved_seen sort) index) frame.old c frame.new) }
 {
     if !sort.is_within(index, max_locals) {
-        return Checked::Fails(Rule::Operand);
+        return Ok(Checked::Fails(Rule::Operand));
     }
     let item = match frame.operands.pop() {
         Some(item) => item,
-        None => return Checked::Fails(Rule::Stack),
+        None => return Ok(Checked::Fails(Rule::Stack)),
     };
     if !item.is_moved(sort) {
-        return Checked::Fails(Rule::Stack);
+        return Ok(Checked::Fails(Rule::Stack));
     }
-    if !store(&mut frame.locals, index, item) {
-        return Checked::Fails(Rule::Operand);
+    if !frame.locals.store(lists, index, item)? {
+        return Ok(Checked::Fails(Rule::Operand));
     }
-    GOES
+    Ok(GOES)
 }
 
 /// A number is added to a local variable.
-pub fn check_increment(frame: &TypeFrame, max_locals: u16, index: u32) -> Checked
-    ensures { (s : Site) (n : ℤ) → s.body.max_locals ≡ max_locals → Checks s (rows.Increment index n) frame.now result frame.now }
+pub fn check_increment(
+    lists: &LocalLists,
+    frame: &TypeFrame,
+    max_locals: u16,
+    index: u32,
+) -> Checked
+    ensures { (s : Site) (n : ℤ) → s.body.max_locals ≡ max_locals → ChecksIn (lists_seen lists.now) s (rows.Increment index n) frame.now result frame.now }
 {
     if !Moved::Ints.is_within(index, max_locals) {
         return Checked::Fails(Rule::Operand);
     }
-    match local(&frame.locals, index) {
+    match frame.locals.local(lists, index) {
         Some(VarType::Integer) => GOES,
         Some(_) => Checked::Fails(Rule::Stack),
         None => Checked::Fails(Rule::Operand),

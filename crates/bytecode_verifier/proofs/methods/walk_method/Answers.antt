@@ -10,6 +10,8 @@ use Rattle.program_tables.specs.Resolved.{handler_of, resolved}
 use Rattle.bytecode_typing.specs.Types.{TypeFrame}
 use Rattle.bytecode_typing.specs.Walk as walk
 use Rattle.bytecode_typing.specs.Walk.{handlers_hold}
+use Rattle.bytecode_verifier.specs.declared.maps.MapFrames.{MapFrames}
+use Rattle.bytecode_verifier.specs.Maps.{lists_in}
 use Rattle.verifier_types.specs.Frame.{frame_seen}
 use Rattle.bytecode_verifier.specs.Failure.{walk_failure}
 use Rattle.bytecode_verifier.specs.Handled.{HoldAlike}
@@ -34,7 +36,7 @@ returns-in-Some c = λ h given first same.
     let starts : c.deref.result.now ≡ starts_of k.code = c.deref.ensures.value ∙ (c.in_ok-starts.ensures ∙ ap starts_of c.as_slice.ensures) in
     let whole = ap₂ (λ (l : List ℕ) (o : Option TypeFrame). walk_failure (walk.walk (resolved cs) n m b given l o)) starts (sym first) in
     ap (option_map walk_failed) (sym c.in-Some.is)
-    ∙ (walked ∙ (ap (λ (l : List ClassFile). walk_failure (walk.walk (resolved l) n m b given c.deref.result.now (Some (frame_seen c.args.first)))) c.checking_of-checking.ensures.program ∙ whole))
+    ∙ (walked ∙ (ap₂ (λ (l : List ClassFile) (x : MapFrames). walk_failure (walk.walk (resolved l) n m b given c.deref.result.now (Some (frame_seen (lists_in x) c.args.first)))) c.checking_of-checking.ensures.program c.checking_of-checking.ensures.maps ∙ whole))
 
 pub returns : goal.returns
 returns c = λ h given first same.
@@ -51,4 +53,4 @@ returns c = λ h given first same.
     let starts : c.deref.result.now ≡ starts_of k.code = c.deref.ensures.value ∙ (c.in_ok-starts.ensures ∙ ap starts_of c.as_slice.ensures) in
     let whole = ap₂ (λ (l : List ℕ) (o : Option TypeFrame). walk_failure (walk.walk (resolved cs) n m b given l o)) starts (sym first) in
     ap (option_map walk_failed) (sym c.in-None.is)
-    ∙ (walked ∙ (ap (λ (l : List ClassFile). walk_failure (walk.walk (resolved l) n m b given c.deref.result.now (Some (frame_seen c.args.first)))) c.checking_of-checking.ensures.program ∙ whole))
+    ∙ (walked ∙ (ap₂ (λ (l : List ClassFile) (x : MapFrames). walk_failure (walk.walk (resolved l) n m b given c.deref.result.now (Some (frame_seen (lists_in x) c.args.first)))) c.checking_of-checking.ensures.program c.checking_of-checking.ensures.maps ∙ whole))

@@ -6,7 +6,7 @@ use Rattle.bytecode_typing.specs.Walk.{is_formed, handlers_hold, settled}
 use Rattle.program_tables.specs.Meanings.{operand_seen, handler_seen}
 use Rattle.program_tables.specs.Resolved.{resolved}
 use Rattle.verifier_types.specs.Frame.{frame_seen}
-use Rattle.bytecode_verifier.specs.Maps.{frames_at}
+use Rattle.bytecode_verifier.specs.Maps.{lists_in, frames_at}
 use Rattle.bytecode_verifier.specs.Place.{site_at}
 use Rattle.bytecode_verifier.proofs.HeldLemmas.{held_here}
 use Rattle.bytecode_verifier.proofs.PlaceLemmas.{stands_at, same_handlers, not_formed, formed, by_code}
@@ -18,7 +18,7 @@ returns-then-not-is_formed c = λ n m b maps h k held.
     let code = c.args.checking.now.code.now in
     let i = c.args.x.now.instr in
     let row = row_of code i (operand_seen c.args.x.now.operand) in
-    not_formed P n m b maps c.args.place (frame_seen c.args.frame.now) i row
+    not_formed P n m b maps c.args.place (frame_seen (lists_in c.args.checking.now.maps.now) c.args.frame.now) i row
     (by_code P b.code code c.args.place i row false h.code (subst (λ x. IfSome row (λ r. x ≡ is_formed P code c.args.place i r)) c.if-not-is_formed.true c.is_formed.ensures))
 
 pub returns : goal.returns
@@ -27,7 +27,7 @@ returns c = λ n m b maps h k held.
     let P = resolved x.program.now in
     let code = x.code.now in
     let i = c.args.x.now.instr in
-    let f = frame_seen c.args.frame.now in
+    let f = frame_seen (lists_in c.args.checking.now.maps.now) c.args.frame.now in
     let row = row_of code i (operand_seen c.args.x.now.operand) in
     let s = site_at x n m b maps c.args.place in
     let at = stands_at x n m b maps c.args.place c.args.x.now c.is_resolved.ensures h k in
@@ -37,7 +37,7 @@ returns c = λ n m b maps h k held.
     h.handlers P maps c.args.place f
     ∙ (same_handlers P maps (frames_at x.maps.now) c.args.place f items h.maps
     ∙ (ap (λ (Q : Program). handlers_hold Q (frames_at x.maps.now) c.args.place f items) (sym h.classes) ∙ sym (c.are_handled-handled.ensures here))) in
-    c.settle.ensures s f h.stack handled
+    c.settle.ensures s f (lists_in x.maps.now) h.stack handled
     ∙ (ap (settled P n m b maps c.args.place f) (c.in_ok-checked.ensures s at)
     ∙ formed x n m b maps c.args.place f i row
     (by_code P b.code code c.args.place i row true h.code (subst (λ y. IfSome row (λ r. y ≡ is_formed P code c.args.place i r)) c.if-not-is_formed.false c.is_formed.ensures)))

@@ -4,6 +4,7 @@ use Rattle.bytecode_model.specs.Lists.{onto}
 use Rattle.bytecode_model.specs.declared.Value.TheVariants as values
 use Rattle.bytecode_model.specs.Rows as rows
 use Rattle.std.specs.Prelude.{pos}
+use Rattle.verifier_types.specs.Locals.{lists_seen}
 use Rattle.verifier_types.specs.Frame.{frame_seen}
 use Rattle.verifier_types.specs.Seen.{number_seen}
 use Rattle.bytecode_verifier.specs.Plain.{any_of, check_found}
@@ -12,23 +13,23 @@ use Rattle.bytecode_verifier.proofs.rows.check_value.Goals as goal
 
 pub returns-in-PushNull : goal.returns-in-PushNull
 returns-in-PushNull c = IfOk-weaker c.check_push.result _ _ (λ x p s code o h.
-    p s values.Null refl ∙ by_value s (frame_seen c.args.frame.now) code c.args.instr.now o c.args.family _ c.in-PushNull.is) c.check_push.ensures.constant
+    p s values.Null refl (lists_seen c.args.lists.now) ∙ by_value s (frame_seen (lists_seen c.args.lists.now) c.args.frame.now) code c.args.instr.now o c.args.family _ c.in-PushNull.is) c.check_push.ensures.constant
 
 pub returns-in-PushInt : goal.returns-in-PushInt
 returns-in-PushInt c = IfOk-weaker c.check_push-in-PushInt.result _ _ (λ x p s code o h.
-    p s (values.Int (pos 0)) refl ∙ by_value s (frame_seen c.args.frame.now) code c.args.instr.now o c.args.family _ c.in-PushInt.is) c.check_push-in-PushInt.ensures.constant
+    p s (values.Int (pos 0)) refl (lists_seen c.args.lists.now) ∙ by_value s (frame_seen (lists_seen c.args.lists.now) c.args.frame.now) code c.args.instr.now o c.args.family _ c.in-PushInt.is) c.check_push-in-PushInt.ensures.constant
 
 pub returns-in-PushLong : goal.returns-in-PushLong
 returns-in-PushLong c = IfOk-weaker c.check_push-in-PushLong.result _ _ (λ x p s code o h.
-    p s (values.Long (pos 0)) refl ∙ by_value s (frame_seen c.args.frame.now) code c.args.instr.now o c.args.family _ c.in-PushLong.is) c.check_push-in-PushLong.ensures.constant
+    p s (values.Long (pos 0)) refl (lists_seen c.args.lists.now) ∙ by_value s (frame_seen (lists_seen c.args.lists.now) c.args.frame.now) code c.args.instr.now o c.args.family _ c.in-PushLong.is) c.check_push-in-PushLong.ensures.constant
 
 pub returns-in-Compute : goal.returns-in-Compute
 returns-in-Compute c = IfOk-weaker c.check_compute.result _ _ (λ x p s code o h.
-    p s (any_of (map number_seen c.in-Compute.taken.now) None) ∙ by_value s (frame_seen c.args.frame.now) code c.args.instr.now o c.args.family _ c.in-Compute.is) c.check_compute.ensures
+    p s (any_of (map number_seen c.in-Compute.taken.now) None) (lists_seen c.args.lists.now) ∙ by_value s (frame_seen (lists_seen c.args.lists.now) c.args.frame.now) code c.args.instr.now o c.args.family _ c.in-Compute.is) c.check_compute.ensures
 
 pub returns-in-Some-local_of-2 : goal.returns-in-Some-local_of-2
 returns-in-Some-local_of-2 c = λ s code o h.
-    let f = frame_seen c.args.frame.now in
+    let f = frame_seen (lists_seen c.args.lists.now) c.args.frame.now in
     let n = c.args.instr.now.second in
     c.check_increment.ensures s n h
     ∙ (ap (λ k. check_found s f (onto k (λ k. Some (rows.Increment k n)))) c.in-Some-local_of-2.ensures
@@ -36,8 +37,8 @@ returns-in-Some-local_of-2 c = λ s code o h.
 
 pub returns-in-Shuffle : goal.returns-in-Shuffle
 returns-in-Shuffle c = IfOk-weaker c.check_shuffle.result _ _ (λ x p s code o h.
-    p s ∙ by_value s (frame_seen c.args.frame.now) code c.args.instr.now o c.args.family _ c.in-Shuffle.is) c.check_shuffle.ensures
+    p s (lists_seen c.args.lists.now) ∙ by_value s (frame_seen (lists_seen c.args.lists.now) c.args.frame.now) code c.args.instr.now o c.args.family _ c.in-Shuffle.is) c.check_shuffle.ensures
 
 pub returns-in-Write : goal.returns-in-Write
 returns-in-Write c = λ s code o h.
-    c.check_write.ensures s ∙ by_value s (frame_seen c.args.frame.now) code c.args.instr.now o c.args.family _ c.in-Write.is
+    c.check_write.ensures s (lists_seen c.args.lists.now) ∙ by_value s (frame_seen (lists_seen c.args.lists.now) c.args.frame.now) code c.args.instr.now o c.args.family _ c.in-Write.is

@@ -3,6 +3,7 @@ use Rattle.program_tables.specs.Resolved.{resolved}
 use Rattle.bytecode_typing.specs.Rules.{Leaves}
 use Rattle.verifier_types.specs.Frame.{frame_seen, frame_at_seen, operands_seen}
 use Rattle.verifier_types.specs.Seen.{number_seen}
+use Rattle.verifier_types.specs.Locals.{lists_seen}
 use Rattle.verifier_types.proofs.RowLemmas.{reached, numbers_found, numbers_lost}
 use Rattle.verifier_types.proofs.branches.check_branch.Goals as goal
 
@@ -12,7 +13,8 @@ returns-then-not-pop_numbers c = λ s test offset p t.
 
 pub returns : goal.returns
 returns c = λ s test offset p t.
-    let f = frame_seen c.args.frame.now in
+    let ls = lists_seen c.args.lists.now in
+    let f = frame_seen ls c.args.frame.now in
     let rest = operands_seen c.pop_numbers.new.self in
-    ap (Leaves (Some (record f { stack = rest })) true true) (c.reaches.ensures ∙ reached s (resolved c.args.classes.now) f rest offset (frame_at_seen c.args.target) p t)
+    ap (Leaves (Some (record f { stack = rest })) true true) (c.reaches.ensures ∙ reached s (resolved c.args.classes.now) f rest offset (frame_at_seen ls c.args.target) p t)
     ∙ sym (numbers_found (map number_seen c.args.taken.now) (operands_seen c.args.frame.now.operands) rest _ c.if-not-pop_numbers.ensures)
