@@ -1,9 +1,9 @@
 -- Frames by names that are given as changes, as frames of types.
 use Rattle.std.proofs.Common.{◌≡◌, ℕ, zero, suc, ◌-◌, ◌≤◌, Bool, true, false, ◌&&◌, List, [], ◌∷◌, ◌++◌, length, map, take, append_assoc, Option, Some, None, refl, sym, ap, ap₂, ◌∙◌, inl, inr, arith}
-use Rattle.std.specs.Prelude.{if◌then◌else◌, nat_le}
+use Rattle.std.specs.Prelude.{if◌then◌else◌, nat_le, ◌==◌}
 use Rattle.std.specs.Option.{option_map}
 use Rattle.std.specs.List.{list_all, list_any}
-use Rattle.std.proofs.lemmas.Bool.{cases_lt, leb-true}
+use Rattle.std.proofs.lemmas.Bool.{cases_lt, leb-true, eqb-true}
 use Rattle.std.proofs.lemmas.List.{append-nil, length-map, map-append}
 use Rattle.class_pool.specs.declared.class.ClassFile.{ClassFile}
 use Rattle.class_pool.specs.declared.class.Code.{Code}
@@ -187,3 +187,14 @@ last_step cs pool k t now [] found xs e h = none_left h.rest h.steps (h.frames [
     none_left [] a f = ap (λ ls. frames_seen ls found) (sym (append-nil t.lists)) ∙ (sym (append-nil (frames_seen (t.lists ++ []) found)) ∙ f)
     none_left (x ∷ xs2) a f = absurd a
 last_step cs pool k t now (s ∷ ss) found xs e h = cc
+
+-- ---- no step at all
+
+pub none_stepped : (cs : List ClassFile) (pool : List Entry) (k : Code) (ls : List (List VarType)) (locals : List names.VarType) (at : List MapStep) (xs : List (ℕ × frames.TypeFrame)) → (length at == 0) ≡ true → AreSteps pool k locals at xs → frames_seen ls [] ≡ frames_by cs xs
+none_stepped cs pool k ls locals [] [] e h = refl
+none_stepped cs pool k ls locals [] (x ∷ xs) e h = absurd h
+none_stepped cs pool k ls locals (s ∷ ss) xs e h = absurd (omega (arith, eqb-true (suc (length ss)) 0 e))
+
+pub no_place : (at : List MapStep) → (length at == 0) ≡ true → map (λ s. s.place) at ≡ []
+no_place [] e = refl
+no_place (s ∷ ss) e = absurd (omega (arith, eqb-true (suc (length ss)) 0 e))

@@ -360,6 +360,25 @@ fn placed_frames(
     Ok(found)
 }
 
+/// The same; where there is no entry, the first local variables aren't looked up.
+fn frames_with_places(
+    alloc: Global,
+    of: &Owner<'_>,
+    lists: &mut LocalLists,
+    steps: &MapSteps,
+    max_locals: u16,
+) -> Result<Vec<(u32, TypeFrame)>, NoMemory>
+    requires { lists.old.max_locals ≡ max_locals }
+    ensures lists { OnOk result (HasListsOf lists.old lists.new) }
+    ensures frames { IfOk result (λ found. (c : ClassFile) (k : Code) (first : named_frames.TypeFrame) (xs : List (ℕ × named_frames.TypeFrame)) → slice_get of.now.program.now of.now.class ≡ Some c → k.max_locals ≡ max_locals → frame_of k steps.now.first [] ≡ Some first → AreSteps c.pool k steps.now.first steps.now.at xs → frames_seen (lists_seen lists.new) found.items ≡ frames_by of.now.program.now xs) }
+    ensures places { IfOk result (λ found. map (λ x. x.0) found.items ≡ map (λ s. s.place) steps.now.at) }
+{
+    if steps.at.as_slice().is_empty() {
+        return Ok(Vec::new(alloc));
+    }
+    placed_frames(alloc, of, lists, steps, max_locals)
+}
+
 /// No frame at any of so many places.
 fn no_frames(alloc: Global, length: u32) -> Result<Vec<Option<TypeFrame>>, NoMemory>
     ensures { IfOk result (λ frames. frames.items ≡ replicate length None) }
@@ -401,7 +420,7 @@ pub fn map_frames(
     ensures lists { IfOk result (λ maps. HasListsOf lists maps.lists) }
     ensures frames { IfOk result (λ maps. (c : ClassFile) (k : Code) (first : named_frames.TypeFrame) (xs : List (ℕ × named_frames.TypeFrame)) (place : ℕ) → slice_get of.now.program.now of.now.class ≡ Some c → k.max_locals ≡ max_locals → frame_of k steps.now.first [] ≡ Some first → AreSteps c.pool k steps.now.first steps.now.at xs → frames_at maps place ≡ frame_among (frames_by of.now.program.now xs) place) }
 {
-    let frames = placed_frames(alloc, of, &mut lists, steps, max_locals)?;
+    let frames = frames_with_places(alloc, of, &mut lists, steps, max_locals)?;
     let by_place = by_place(alloc, frames, length)?;
     Ok(MapFrames { lists, by_place })
 }

@@ -39,6 +39,9 @@ impl Locals {
     fn written(&self, index: u32) -> Option<VarType>
         ensures { result ≡ get nat_eq self.now.changed index }
     {
+        if self.changed.is_empty() {
+            return None;
+        }
         match self.changed.get(&index) {
             Some(written) => Some(*written),
             None => None,

@@ -8,4 +8,4 @@ by_place-requires c = places_within c.args.length c.in_ok-frames.frames.items c.
 
 pub returns-clause-frames : goal.returns-clause-frames
 returns-clause-frames c = λ k code first xs place at room f steps.
-    c.in_ok-by_place.ensures c.placed_frames.new.lists.lists place ∙ ap (λ l. frame_among l place) (c.in_ok-frames.ensures.frames k code first xs at room f steps)
+    c.in_ok-by_place.ensures c.frames_with_places.new.lists.lists place ∙ ap (λ l. frame_among l place) (c.in_ok-frames.ensures.frames k code first xs at room f steps)
