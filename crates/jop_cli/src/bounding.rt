@@ -71,7 +71,12 @@ fn bound_linked_bytes(
     ensures fault { IfErr result (LinkedBoundFault settings.now bytes.now bounds.now name.now) }
 {
     match linked_of(alloc, bytes) {
-        Ok(linked) => bound_linked(alloc, &linked, settings, name, bounds),
+        Ok(linked) => {
+            let bounded = bound_linked(alloc, &linked, settings, name, bounds);
+            // By a call: what its parts' destructors do is proved there.
+            drop(linked);
+            bounded
+        }
         Err(ending) => Err(ending),
     }
 }

@@ -77,7 +77,12 @@ fn check_linked_bytes(
     ensures { ChecksLinkedBytes settings.now bytes.now bounds.now certificate.now result }
 {
     match linked_of(alloc, bytes) {
-        Ok(linked) => check_linked(alloc, &linked, settings, bounds, certificate),
+        Ok(linked) => {
+            let ending = check_linked(alloc, &linked, settings, bounds, certificate);
+            // By a call: what its parts' destructors do is proved there.
+            drop(linked);
+            ending
+        }
         Err(ending) => ending,
     }
 }

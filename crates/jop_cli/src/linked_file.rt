@@ -157,7 +157,12 @@ pub(crate) fn run_linked_bytes<S: Source, O: Sink, V: Watch>(
     ensures watch { IsTrace show → watch.new ≡ watch.old }
 {
     match linked_of(alloc, bytes) {
-        Ok(linked) => run_program(alloc, &linked, settings, show, input, out, watch),
+        Ok(linked) => {
+            let ending = run_program(alloc, &linked, settings, show, input, out, watch);
+            // By a call: what its parts' destructors do is proved there.
+            drop(linked);
+            ending
+        }
         Err(ending) => ending,
     }
 }

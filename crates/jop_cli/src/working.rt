@@ -163,7 +163,12 @@ fn line_of(alloc: Global, n: u32) -> Result<Vec<u8>, Ending>
     ensures fault { IfErr result (NotWorked n) }
 {
     match linked_work(alloc, n) {
-        Ok(linked) => linked_line(alloc, &linked, n),
+        Ok(linked) => {
+            let line = linked_line(alloc, &linked, n);
+            // By a call: what its parts' destructors do is proved there.
+            drop(linked);
+            line
+        }
         Err(ending) => Err(ending),
     }
 }
