@@ -1,8 +1,9 @@
 -- Texts with their numbers.
-use Rattle.std.proofs.Common.{◌≡◌, ℕ, zero, suc, ◌<◌, get_or, Bool, true, false, ◌||◌, List, [], ◌∷◌, ◌++◌, ◌⊎◌, inl, inr, ⊎_elim, map, Option, Some, None, Vec, Global, length, refl, sym, ap, ap₂, ◌∙◌, subst, arith}
-use Rattle.std.specs.Prelude.{is_some, if◌then◌else◌, slice_get}
+use Rattle.std.proofs.Common.{◌≡◌, ℕ, zero, suc, ◌<◌, ◌≤◌, get_or, Bool, true, false, ◌||◌, List, [], ◌∷◌, ◌++◌, ◌⊎◌, inl, inr, ⊎_elim, map, Option, Some, None, Vec, Global, length, refl, sym, ap, ap₂, ◌∙◌, subst, arith}
+use Rattle.std.specs.Prelude.{is_some, if◌then◌else◌, slice_get, unwrap_or, Result, Ok, Err, OnOk}
 use Rattle.std.specs.Option.{option_or}
 use Rattle.std.specs.List.{list_any}
+use Rattle.std.specs.Result.{result_ok}
 use Rattle.std.specs.Map.{KeepsOthers}
 use Rattle.std.specs.Ordering.{is_eq, nat_cmp}
 use Rattle.std.specs.Cmp.{eq_by_cmp_equiv}
@@ -11,6 +12,7 @@ use Rattle.std.specs.BTreeMap.{BTreeMap, UpdatesBy}
 use Rattle.std.proofs.lemmas.List.{map-append}
 use Rattle.std.proofs.lemmas.Bool.{true≢false, cases_Bool}
 use Rattle.std.proofs.lemmas.Map.Text.{is_eq-slice_cmp}
+use Rattle.std.proofs.lemmas.Option.{slice_get_within}
 use Rattle.lists.specs.Lists.{onto, index_of}
 use Rattle.lists.specs.Lemmas.{none≢some, some_same, index_append, index_found}
 use Rattle.class_lookup.specs.Parts.{same_text}
@@ -47,6 +49,11 @@ with_new texts text h = ap (λ b. if b then texts else texts ++ text ∷ []) (sy
 
 pub with_old : (texts : List (List ℕ)) (text : List ℕ) (n : ℕ) → number_in texts text ≡ Some n → with_item same_text texts text ≡ texts
 with_old texts text n h = ap (λ b. if b then texts else texts ++ text ∷ []) (sym (found_any (same_text text) texts) ∙ ap is_some h)
+
+-- the number that an answer gives is that of a text that is there
+pub with_answer : {E : Type 0} (texts : List (List ℕ)) (text : List ℕ) (r : Result ℕ E) → number_in texts text ≡ result_ok r → OnOk r (texts ≡ with_item same_text texts text)
+with_answer texts text (Ok n) h = sym (with_old texts text n h)
+with_answer texts text (Err e) h = tt
 
 pub new_number : (texts : List (List ℕ)) (text : List ℕ) → number_in texts text ≡ None → number_in (texts ++ text ∷ []) text ≡ Some (length texts)
 new_number texts text h =
@@ -100,16 +107,56 @@ option_or-none : (o : Option ℕ) → option_or o None ≡ o
 option_or-none None = refl
 option_or-none (Some n) = refl
 
+-- each text's number, once one text has a number
+pub written : (numbers after : BTreeMap (Vec ℕ Global) ℕ) (k : Vec ℕ Global) (n : ℕ)
+    → UpdatesBy (λ x y. slice_cmp nat_cmp x.items y.items) (λ y. slice_cmp nat_cmp k.items y.items) numbers after (Some n)
+    → (u : List ℕ) → number_of after u ≡ (if same_text u k.items then Some n else number_of numbers u)
+written numbers after k n h u =
+    ⊎_elim
+    (λ y. ap (number_of after) (text_same u k.items y) ∙ (h.1 ∙ ap (λ (b : Bool). if b then Some n else number_of numbers u) (sym y)))
+    (λ a. updated numbers after k n k.items u h refl a ∙ ap (λ (b : Bool). if b then Some n else number_of numbers u) (sym a))
+    (cases_Bool (same_text u k.items))
+
 -- one more text, with the number of its place
+pub put_new : (texts : List (List ℕ)) (numbers after : BTreeMap (Vec ℕ Global) ℕ) (t : List ℕ) (n : ℕ)
+    → ((u : List ℕ) → number_of after u ≡ (if same_text u t then Some n else number_of numbers u)) → n ≡ length texts → number_in texts t ≡ None
+    → HasNumbers texts numbers → HasNumbers (texts ++ t ∷ []) after
+put_new texts numbers after t n h place none has u =
+    ⊎_elim
+    (λ y. h u ∙ (ap (λ (b : Bool). if b then Some n else number_of numbers u) y ∙ (ap Some place ∙ (sym (new_number texts t none) ∙ ap (number_in (texts ++ t ∷ [])) (sym (text_same u t y))))))
+    (λ a. h u ∙ (ap (λ (b : Bool). if b then Some n else number_of numbers u) a ∙ (has u ∙ (sym (option_or-none (number_in texts u))
+    ∙ (ap (λ (b : Bool). option_or (number_in texts u) (if b then Some (length texts) else None)) (sym a) ∙ sym (index_append (same_text u) texts t))))))
+    (cases_Bool (same_text u t))
+
+-- a number found is below the next one, exactly where the text is there
+or_some : (o : Option ℕ) (n next : ℕ) → n ≡ unwrap_or o next → n < next → o ≡ Some n
+or_some None n next h lt = absurd (omega (arith, lt, h))
+or_some (Some k) n next h lt = ap Some (sym h)
+
+or_none : (texts : List (List ℕ)) (text : List ℕ) (o : Option ℕ) (n next : ℕ) → number_in texts text ≡ o → n ≡ unwrap_or o next → next ≡ length texts → next ≤ n → o ≡ None
+or_none texts text None n next e h place above = refl
+or_none texts text (Some k) n next e h place above =
+    let f = index_found (same_text text) texts k e in
+    let below = slice_get_within texts k f.0 f.1 in
+    absurd (omega (arith, below, h, place, above))
+
+found_in : (texts : List (List ℕ)) (numbers : BTreeMap (Vec ℕ Global) ℕ) (t k : List ℕ) (n next : ℕ) → HasNumbers texts numbers → t ≡ k → n ≡ unwrap_or (number_of numbers k) next → n ≡ unwrap_or (number_in texts t) next
+found_in texts numbers t k n next has same h = h ∙ ap (λ (o : Option ℕ). unwrap_or o next) (has k ∙ ap (number_in texts) (sym same))
+
+pub there_below : (texts : List (List ℕ)) (numbers : BTreeMap (Vec ℕ Global) ℕ) (t k : List ℕ) (n next : ℕ) → HasNumbers texts numbers → t ≡ k → n ≡ unwrap_or (number_of numbers k) next → n < next → number_in texts t ≡ Some n
+there_below texts numbers t k n next has same h lt = or_some (number_in texts t) n next (found_in texts numbers t k n next has same h) lt
+
+pub none_above : (texts : List (List ℕ)) (numbers : BTreeMap (Vec ℕ Global) ℕ) (t k : List ℕ) (n next : ℕ) → HasNumbers texts numbers → t ≡ k → n ≡ unwrap_or (number_of numbers k) next → next ≡ length texts → next ≤ n → (number_in texts t ≡ None) × (n ≡ length texts)
+none_above texts numbers t k n next has same h place above =
+    let found = found_in texts numbers t k n next has same h in
+    let none = or_none texts t (number_in texts t) n next refl found place above in
+    (none, found ∙ (ap (λ (o : Option ℕ). unwrap_or o next) none ∙ place))
+
 pub put_more : (texts : List (List ℕ)) (numbers after : BTreeMap (Vec ℕ Global) ℕ) (k : Vec ℕ Global) (n : ℕ) (t : List ℕ)
     → UpdatesBy (λ x y. slice_cmp nat_cmp x.items y.items) (λ y. slice_cmp nat_cmp k.items y.items) numbers after (Some n) → k.items ≡ t → n ≡ length texts → number_in texts t ≡ None
     → HasNumbers texts numbers → HasNumbers (texts ++ t ∷ []) after
-put_more texts numbers after k n t h e place none has u =
-    ⊎_elim
-    (λ y. ap (number_of after) (text_same u t y ∙ sym e) ∙ (h.1 ∙ (ap Some place ∙ (sym (new_number texts t none) ∙ ap (number_in (texts ++ t ∷ [])) (sym (text_same u t y))))))
-    (λ a. updated numbers after k n t u h e a ∙ (has u ∙ (sym (option_or-none (number_in texts u))
-    ∙ (ap (λ (b : Bool). option_or (number_in texts u) (if b then Some (length texts) else None)) (sym a) ∙ sym (index_append (same_text u) texts t)))))
-    (cases_Bool (same_text u t))
+put_more texts numbers after k n t h e place none has =
+    put_new texts numbers after t n (subst (λ t. (u : List ℕ) → number_of after u ≡ (if same_text u t then Some n else number_of numbers u)) e (written numbers after k n h)) place none has
 
 pub put_first : (numbers after : BTreeMap (Vec ℕ Global) ℕ) (k : Vec ℕ Global) → numbers.entries ≡ []
     → UpdatesBy (λ x y. slice_cmp nat_cmp x.items y.items) (λ y. slice_cmp nat_cmp k.items y.items) numbers after (Some 0) → k.items ≡ [] → HasNumbers ([] ∷ []) after

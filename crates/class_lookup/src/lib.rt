@@ -3,6 +3,7 @@
 #![tactic(auto)]
 
 mod classes;
+mod guesses;
 pub mod laws;
 mod members;
 mod names;

@@ -1,8 +1,9 @@
-ghost use Rattle.std.specs.Prelude.{◌≡◌, ◌+◌, ◌<◌, ◌^◌, List, [], ◌∷◌, ◌++◌, length, None, Some, slice_get, IfOk, OnOk};
+ghost use Rattle.std.specs.Prelude.{◌≡◌, ℕ, ◌+◌, ◌<◌, ◌^◌, List, [], ◌∷◌, ◌++◌, length, None, Some, slice_get, IfOk, OnOk, OnErr, IfSome, IsTrue, unwrap_or, if◌then◌else◌};
 ghost use Rattle.class_lookup.specs.Parts.{same_text};
 ghost use Rattle.class_lookup.specs.Lists.{with_item};
-ghost use Rattle.class_lookup.specs.Numbered.{number_in};
+ghost use Rattle.class_lookup.specs.Numbered.{number_in, number_of};
 
+use crate::guesses::Guesses;
 use jop_base::NoMemory;
 use std::alloc::Global;
 use std::collections::BTreeMap;
@@ -14,11 +15,12 @@ const MOST_TEXTS: usize = 4_294_967_295;
 /// Texts, each once, with a number for each: its place in the order in which they came. Contracts see them as their list.
 ///
 /// Each text is in memory twice: by number, and in the order of texts, where it is looked up. So a look-up among n texts
-/// compares at most some multiple of log n of them, whichever texts they are.
+/// compares at most some multiple of log n of them, whichever texts they are; where the guess is right, one.
 #[derive(Drop)]
 pub(crate) struct Texts {
     texts: Vec<Vec<u16>>,
     numbers: BTreeMap<Vec<u16>, u32>,
+    guesses: Guesses,
 }
 
 impl Model for Texts {
@@ -43,7 +45,12 @@ impl Texts {
         texts.push(Vec::new(alloc))?;
         let mut numbers = BTreeMap::new(alloc);
         numbers.insert(Vec::new(alloc), 0)?;
-        Ok(Texts { texts, numbers })
+        let guesses = Guesses::new(alloc)?;
+        Ok(Texts {
+            texts,
+            numbers,
+            guesses,
+        })
     }
 
     /// How many there are.
@@ -66,6 +73,33 @@ impl Texts {
     pub(crate) fn number(&self, text: &[u16]) -> Option<u32>
         ensures { result ≡ number_in self.now text.now }
     {
+        match self.guessed(text) {
+            Some(number) => Some(number),
+            None => self.searched(text),
+        }
+    }
+
+    /// The guess at the number of a text, if it is right.
+    fn guessed(&self, text: &[u16]) -> Option<u32>
+        ensures { IfSome result (λ number. number_in self.now text.now ≡ Some number) }
+    {
+        match self.guesses.get(text) {
+            Some(guess) if self.is_text(guess, text) => Some(guess),
+            _ => None,
+        }
+    }
+
+    /// Whether the text has this number.
+    fn is_text(&self, number: u32, text: &[u16]) -> bool
+        ensures { IsTrue result → number_in self.now text.now ≡ Some number }
+    {
+        number < self.count() && self.text(number) == text
+    }
+
+    /// The number of a text, if it is among them, without a guess.
+    fn searched(&self, text: &[u16]) -> Option<u32>
+        ensures { result ≡ number_in self.now text.now }
+    {
         self.numbers.get(text).copied()
     }
 
@@ -74,30 +108,55 @@ impl Texts {
         ensures texts { OnOk result (self.new ≡ with_item same_text self.old text.now) }
         ensures number { IfOk result (λ number. number_in self.new text.now ≡ Some number) }
     {
-        if let Some(number) = self.number(text) {
+        if let Some(number) = self.guessed(text) {
             return Ok(number);
         }
-        let number = self.texts.len();
-        if number >= MOST_TEXTS {
-            return Err(NoMemory);
+        let number = self.insert_searched(alloc, text)?;
+        self.guesses.put(text, number)?;
+        Ok(number)
+    }
+
+    /// Adds the text, unless it is among them, and answers its number, without a guess.
+    fn insert_searched(&mut self, alloc: Global, text: &[u16]) -> Result<u32, NoMemory>
+        ensures texts { OnOk result (self.new ≡ with_item same_text self.old text.now) }
+        ensures number { IfOk result (λ number. number_in self.new text.now ≡ Some number) }
+    {
+        let next = self.texts.len();
+        if next >= MOST_TEXTS {
+            return self.searched(text).ok_or(NoMemory);
         }
         let by_number = Vec::from_slice(alloc, text)?;
         let in_order = Vec::from_slice(alloc, text)?;
-        self.add(number as u32, by_number, in_order)?;
-        Ok(number as u32)
+        self.add(next as u32, by_number, in_order)
     }
 
-    /// Adds a new text, of which two copies are given.
-    fn add(&mut self, number: u32, by_number: Vec<u16>, in_order: Vec<u16>) -> Result<(), NoMemory>
+    /// Adds the text, of which two copies are given, unless it is among them, and answers its number.
+    fn add(&mut self, next: u32, by_number: Vec<u16>, in_order: Vec<u16>) -> Result<u32, NoMemory>
         requires same { by_number.items ≡ in_order.items }
-        requires new { number_in self.old by_number.items ≡ None }
-        requires number { number ≡ length self.old }
-        requires few { number + 1 < 2 ^ 32 }
-        ensures { OnOk result (self.new ≡ self.old ++ by_number.items ∷ []) }
+        requires next { next ≡ length self.old }
+        requires few { next + 1 < 2 ^ 32 }
+        ensures texts { OnOk result (self.new ≡ with_item same_text self.old by_number.items) }
+        ensures number { IfOk result (λ number. number_in self.new by_number.items ≡ Some number) }
     {
         self.texts.reserve(1)?;
-        self.numbers.insert(in_order, number)?;
+        let number = number_or(&mut self.numbers, in_order, next)?;
+        if number < next {
+            return Ok(number);
+        }
         self.texts.push_reserved(by_number);
-        Ok(())
+        Ok(number)
     }
+}
+
+/// The number that a text has, or else this one, which it gets.
+fn number_or(
+    numbers: &mut BTreeMap<Vec<u16>, u32>,
+    text: Vec<u16>,
+    number: u32,
+) -> Result<u32, NoMemory>
+    ensures found { IfOk result (λ found. found ≡ unwrap_or (number_of numbers.old text.items) number) }
+    ensures written { IfOk result (λ found. (t : List ℕ) → number_of numbers.new t ≡ (if same_text t text.items then Some found else number_of numbers.old t)) }
+    ensures kept { OnErr result ((t : List ℕ) → number_of numbers.new t ≡ number_of numbers.old t) }
+{
+    Ok(*numbers.entry(text)?.or_insert(number))
 }
