@@ -1,5 +1,5 @@
 //! Class files from plans.
-ghost use Rattle.std.specs.Prelude.{◌≡◌, ◌<◌, ◌≤◌, length, map, IfOk, OnOk, Err};
+ghost use Rattle.std.specs.Prelude.{◌≡◌, ◌<◌, ◌≤◌, [], length, map, IfOk, OnOk, Err};
 ghost use Rattle.class_making.specs.Plans.{class_index, superclass_index, class_in, items_of, class_of};
 
 use crate::maker::{MOST_ENTRIES, PoolMaker};
@@ -73,8 +73,22 @@ fn class_in(maker: &PoolMaker, alloc: Global, plan: &ClassPlan) -> Result<ClassF
     })
 }
 
-/// The class file that says what the plan says.
+// The same, with a pool of no entries.
 #[tactic(auto, unfolding(crate::specs::Plans::items_of, crate::specs::Plans::class_of))]
+fn make_with(maker: &mut PoolMaker, alloc: Global, plan: &ClassPlan) -> Result<ClassFile, MakeFault>
+    requires { maker.old ≡ [] }
+    ensures made { IfOk result (λ class. class ≡ class_of plan.now) }
+    ensures full { result ≡ Err MakeFault.Full → 65534 < length (items_of plan.now) }
+    ensures room { OnOk result (length (items_of plan.now) ≤ 65534) }
+{
+    mention_plan(maker, alloc, plan)?;
+    if maker.len() > MOST_ENTRIES {
+        return Err(MakeFault::Full);
+    }
+    Ok(class_in(maker, alloc, plan)?)
+}
+
+/// The class file that says what the plan says.
 pub fn make(alloc: Global, plan: &ClassPlan) -> Result<ClassFile, MakeFault>
     ensures made { IfOk result (λ class. class ≡ class_of plan.now) }
     // The pool is full exactly where more than 65,534 items are mentioned.
@@ -82,9 +96,5 @@ pub fn make(alloc: Global, plan: &ClassPlan) -> Result<ClassFile, MakeFault>
     ensures room { OnOk result (length (items_of plan.now) ≤ 65534) }
 {
     let mut maker = PoolMaker::new(alloc);
-    mention_plan(&mut maker, alloc, plan)?;
-    if maker.len() > MOST_ENTRIES {
-        return Err(MakeFault::Full);
-    }
-    Ok(class_in(&maker, alloc, plan)?)
+    make_with(&mut maker, alloc, plan)
 }

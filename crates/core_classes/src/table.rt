@@ -1,5 +1,5 @@
 //! The core classes, which stand before all others.
-ghost use Rattle.std.specs.Prelude.{◌≡◌, ◌≤◌, length, map, IfOk};
+ghost use Rattle.std.specs.Prelude.{◌≡◌, ◌≤◌, ◌++◌, length, map, IfOk, OnOk};
 ghost use Rattle.class_making.specs.Plans.{items_of, class_of};
 ghost use Rattle.core_classes.specs.Core.{serializable_class, empty_init, object_plan, interface_plan, length_method, char_at_method, string_plan, plain_init, keeping_init, get_message_method, throwable_plan, handing_init, error_of, read_method, write_method, io_plan, first_plans, core_plans, core};
 
@@ -272,9 +272,10 @@ fn interface_plan(alloc: Global, name: &str) -> Result<ClassPlan, NoMemory>
 fn string_plan(alloc: Global) -> Result<ClassPlan, NoMemory>
     ensures { IfOk result (λ plan. plan ≡ string_plan) }
 {
+    let mut methods = Vec::new(alloc);
+    methods.push(length(alloc)?)?;
+    methods.push(char_at(alloc)?)?;
     let chars = field(alloc, PRIVATE_FINAL, "chars", "[C")?;
-    let (length, char_at) = (length(alloc)?, char_at(alloc)?);
-    let methods = vec![in alloc; length, char_at]?;
     serializable_class(alloc, FINAL_CLASS, STRING, chars, methods)
 }
 
@@ -293,12 +294,10 @@ fn throwable_plan(alloc: Global) -> Result<ClassPlan, NoMemory>
 fn error_plan(alloc: Global, error: &ErrorClass) -> Result<ClassPlan, NoMemory>
     ensures { IfOk result (λ plan. plan ≡ error_of error.now) }
 {
-    let (plain, handing) = (
-        plain_init(alloc, error.superclass)?,
-        handing_init(alloc, error.superclass)?,
-    );
+    let mut methods = Vec::new(alloc);
+    methods.push(plain_init(alloc, error.superclass)?)?;
+    methods.push(handing_init(alloc, error.superclass)?)?;
     let superclass = text(alloc, error.superclass)?;
-    let methods = vec![in alloc; plain, handing]?;
     class(alloc, error.flags, error.name, Some(superclass), methods)
 }
 
@@ -306,22 +305,23 @@ fn error_plan(alloc: Global, error: &ErrorClass) -> Result<ClassPlan, NoMemory>
 fn io_plan(alloc: Global) -> Result<ClassPlan, NoMemory>
     ensures { IfOk result (λ plan. plan ≡ io_plan) }
 {
-    let (read, write) = (read(alloc)?, write(alloc)?);
+    let mut methods = Vec::new(alloc);
+    methods.push(read(alloc)?)?;
+    methods.push(write(alloc)?)?;
     let object = text(alloc, OBJECT)?;
-    let methods = vec![in alloc; read, write]?;
     class(alloc, FINAL_CLASS, "jop/Io", Some(object), methods)
 }
 
-// The classes before the exceptions.
-#[tactic(auto, unfolding(crate::specs::Core::first_plans))]
-fn first_plans(alloc: Global) -> Result<Vec<ClassPlan>, NoMemory>
-    ensures { IfOk result (λ plans. plans.items ≡ first_plans) }
+// Adds the classes before the exceptions.
+fn add_first_plans(plans: &mut Vec<ClassPlan>, alloc: Global) -> Result<(), NoMemory>
+    ensures { OnOk result (plans.new.items ≡ plans.old.items ++ first_plans) }
 {
-    let object = object_plan(alloc)?;
-    let serializable = interface_plan(alloc, SERIALIZABLE)?;
-    let cloneable = interface_plan(alloc, "java/lang/Cloneable")?;
-    let (string, throwable) = (string_plan(alloc)?, throwable_plan(alloc)?);
-    Ok(vec![in alloc; object, serializable, cloneable, string, throwable]?)
+    plans.push(object_plan(alloc)?)?;
+    plans.push(interface_plan(alloc, SERIALIZABLE)?)?;
+    plans.push(interface_plan(alloc, "java/lang/Cloneable")?)?;
+    plans.push(string_plan(alloc)?)?;
+    plans.push(throwable_plan(alloc)?)?;
+    Ok(())
 }
 
 // The classes of a table.
@@ -335,13 +335,28 @@ fn plans_of(alloc: Global, errors: &[ErrorClass]) -> Result<Vec<ClassPlan>, NoMe
     Ok(plans)
 }
 
+// Adds the plans of the core classes.
+fn add_core_plans(plans: &mut Vec<ClassPlan>, alloc: Global) -> Result<(), NoMemory>
+    ensures { OnOk result (plans.new.items ≡ plans.old.items ++ core_plans) }
+{
+    add_first_plans(plans, alloc)?;
+    plans.append(&mut plans_of(alloc, &ERRORS)?)?;
+    plans.push(io_plan(alloc)?)?;
+    Ok(())
+}
+
 fn core_plans(alloc: Global) -> Result<Vec<ClassPlan>, NoMemory>
     ensures { IfOk result (λ plans. plans.items ≡ core_plans) }
 {
-    let mut plans = first_plans(alloc)?;
-    plans.append(&mut plans_of(alloc, &ERRORS)?)?;
-    plans.push(io_plan(alloc)?)?;
-    Ok(plans)
+    let mut plans = Vec::new(alloc);
+    match add_core_plans(&mut plans, alloc) {
+        Ok(()) => Ok(plans),
+        Err(NoMemory) => {
+            // By a call: what the destructors of their parts do is proved there.
+            drop(plans);
+            Err(NoMemory)
+        }
+    }
 }
 
 /// The class file of a plan of which it is known that its pool has room.
@@ -356,17 +371,28 @@ pub(crate) fn made(alloc: Global, plan: &ClassPlan) -> Result<ClassFile, NoMemor
     }
 }
 
+// The class files of the plans of the core classes.
+fn classes_of(alloc: Global, plans: &[ClassPlan]) -> Result<Vec<ClassFile>, NoMemory>
+    requires { plans.now ≡ core_plans }
+    ensures { IfOk result (λ classes. classes.items ≡ map class_of plans.now) }
+{
+    items_are_few();
+    let mut classes = Vec::new(alloc);
+    for plan in plans {
+        classes.push(made(alloc, plan)?)?;
+    }
+    Ok(classes)
+}
+
 /// The core classes, in order: `java/lang/Object`, the interfaces of arrays, `java/lang/String`, `java/lang/Throwable`
 /// and the exceptions and errors that a program may raise, and `jop/Io`.
 #[tactic(auto, unfolding(crate::specs::Core::core))]
 pub fn core_classes(alloc: Global) -> Result<Vec<ClassFile>, NoMemory>
     ensures { IfOk result (λ classes. classes.items ≡ core) }
 {
-    items_are_few();
     let plans = core_plans(alloc)?;
-    let mut classes = Vec::new(alloc);
-    for plan in &plans {
-        classes.push(made(alloc, plan)?)?;
-    }
-    Ok(classes)
+    let classes = classes_of(alloc, &plans);
+    // By a call: what the destructors of their parts do is proved there.
+    drop(plans);
+    classes
 }
