@@ -19,6 +19,9 @@ pub mod ListedLemmas
 pub mod SteppedLemmas
 pub mod NameLemmas
 pub mod FirstLemmas
+pub mod BeginLemmas
+pub mod AlikeLemmas
+pub mod BegunLemmas
 pub mod FindLemmas
 pub mod MemberLemmas
 pub mod LeadsLemmas

@@ -1,9 +1,9 @@
 -- Frames by names that are given as changes, as frames of types.
 use Rattle.std.proofs.Common.{◌≡◌, ℕ, zero, suc, ◌-◌, ◌≤◌, Bool, true, false, ◌&&◌, List, [], ◌∷◌, ◌++◌, length, map, take, append_assoc, Option, Some, None, refl, sym, ap, ap₂, ◌∙◌, inl, inr, arith}
-use Rattle.std.specs.Prelude.{if◌then◌else◌, nat_le, ◌==◌}
+use Rattle.std.specs.Prelude.{if◌then◌else◌, nat_le}
 use Rattle.std.specs.Option.{option_map}
 use Rattle.std.specs.List.{list_all, list_any}
-use Rattle.std.proofs.lemmas.Bool.{cases_lt, leb-true, eqb-true}
+use Rattle.std.proofs.lemmas.Bool.{cases_lt, leb-true}
 use Rattle.std.proofs.lemmas.List.{append-nil, length-map, map-append}
 use Rattle.class_pool.specs.declared.class.ClassFile.{ClassFile}
 use Rattle.class_pool.specs.declared.class.Code.{Code}
@@ -22,7 +22,7 @@ use Rattle.frame_types.specs.Frames.{changed, frame_of}
 use Rattle.frame_types.specs.Steps.{named, change_named, AreSteps}
 use Rattle.frame_types.proofs.LocalLemmas.{padded_past}
 use Rattle.bytecode_model.specs.Slots.{spread, padded}
-use Rattle.bytecode_typing.specs.Types.{VarType, Top, is_long_type}
+use Rattle.bytecode_typing.specs.Types.{VarType, Top, is_long_type, is_this}
 use Rattle.bytecode_typing.specs.Checks.{reference_or_top}
 use Rattle.verifier_types.specs.declared.frame.TypeFrame as codes
 use Rattle.verifier_types.specs.Frame.{frame_seen}
@@ -39,7 +39,7 @@ reference_short : (k : Option Kind) → is_long_type (reference_or_top k) ≡ fa
 reference_short None = refl
 reference_short (Some k) = refl
 
-long_by : (cs : List ClassFile) (t : names.VarType) → is_long_type (type_by cs t) ≡ by_name.is_long t
+pub long_by : (cs : List ClassFile) (t : names.VarType) → is_long_type (type_by cs t) ≡ by_name.is_long t
 long_by cs name.Top = refl
 long_by cs name.Integer = refl
 long_by cs name.Null = refl
@@ -47,6 +47,21 @@ long_by cs name.UninitializedThis = refl
 long_by cs (name.Object n) = reference_short _
 long_by cs (name.Uninitialized place) = refl
 long_by cs name.Long = refl
+
+-- ---- which types are that of an uninitialised `this`
+
+reference_begun : (k : Option Kind) → is_this (reference_or_top k) ≡ false
+reference_begun None = refl
+reference_begun (Some k) = refl
+
+pub this_by : (cs : List ClassFile) (t : names.VarType) → is_this (type_by cs t) ≡ by_name.is_this t
+this_by cs name.Top = refl
+this_by cs name.Integer = refl
+this_by cs name.Null = refl
+this_by cs name.UninitializedThis = refl
+this_by cs (name.Object n) = reference_begun _
+this_by cs (name.Uninitialized place) = refl
+this_by cs name.Long = refl
 
 -- ---- local variables by words
 
@@ -97,7 +112,7 @@ mapped_case : (cs : List ClassFile) (x : names.VarType) (o : Option (List names.
 mapped_case cs x None = refl
 mapped_case cs x (Some ws) = refl
 
-padded_by : (cs : List ClassFile) (n : ℕ) (xs : List names.VarType) → padded Top n (map (type_by cs) xs) ≡ option_map (map (type_by cs)) (padded name.Top n xs)
+pub padded_by : (cs : List ClassFile) (n : ℕ) (xs : List names.VarType) → padded Top n (map (type_by cs) xs) ≡ option_map (map (type_by cs)) (padded name.Top n xs)
 padded_by cs zero [] = refl
 padded_by cs zero (x ∷ xs) = refl
 padded_by cs (suc n) [] = ap (λ o. onto o (λ ws. Some (Top ∷ ws))) (padded_by cs n []) ∙ mapped_case cs name.Top (padded name.Top n [])
@@ -187,14 +202,3 @@ last_step cs pool k t now [] found xs e h = none_left h.rest h.steps (h.frames [
     none_left [] a f = ap (λ ls. frames_seen ls found) (sym (append-nil t.lists)) ∙ (sym (append-nil (frames_seen (t.lists ++ []) found)) ∙ f)
     none_left (x ∷ xs2) a f = absurd a
 last_step cs pool k t now (s ∷ ss) found xs e h = cc
-
--- ---- no step at all
-
-pub none_stepped : (cs : List ClassFile) (pool : List Entry) (k : Code) (ls : List (List VarType)) (locals : List names.VarType) (at : List MapStep) (xs : List (ℕ × frames.TypeFrame)) → (length at == 0) ≡ true → AreSteps pool k locals at xs → frames_seen ls [] ≡ frames_by cs xs
-none_stepped cs pool k ls locals [] [] e h = refl
-none_stepped cs pool k ls locals [] (x ∷ xs) e h = absurd h
-none_stepped cs pool k ls locals (s ∷ ss) xs e h = absurd (omega (arith, eqb-true (suc (length ss)) 0 e))
-
-pub no_place : (at : List MapStep) → (length at == 0) ≡ true → map (λ s. s.place) at ≡ []
-no_place [] e = refl
-no_place (s ∷ ss) e = absurd (omega (arith, eqb-true (suc (length ss)) 0 e))

@@ -3,6 +3,7 @@ pub mod Arguments
 pub mod Calls
 pub mod Maps
 pub mod Listed
+pub mod Begun
 pub mod Settled
 pub mod Handled
 pub mod Switched
@@ -14,5 +15,6 @@ pub mod Family
 pub mod Checking
 pub mod Place
 pub mod Methods
+pub mod Beginnings
 pub mod CoreLaws
 pub mod Laws

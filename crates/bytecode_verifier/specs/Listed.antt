@@ -1,7 +1,7 @@
 -- The local variables of the frames of a StackMapTable, as lists of types that the frames share: JVM Specification SE 8, 4.7.4 and 4.10.1.4.
 -- For contracts within this crate alone: no public contract's meaning rests on this file.
 use Rattle.std.specs.Prelude.{◌≡◌, ℕ, ◌+◌, ◌≤◌, List, [], ◌∷◌, ◌++◌, length, map, Option, Some, None, slice_get}
-use Rattle.bytecode_model.specs.Slots.{spread}
+use Rattle.bytecode_model.specs.Slots.{spread, padded}
 use Rattle.class_pool.specs.declared.class.ClassFile.{ClassFile}
 use Rattle.frame_types.specs.declared.types.VarType as names
 use Rattle.bytecode_typing.specs.Types.{VarType, Top, is_long_type}
@@ -39,6 +39,11 @@ pub record HasLocals (t : LocalTable) (c : Current) (types : List VarType) : Typ
   pub words : c.words ≡ length (words_of types)
   pub fits : length (words_of types) ≤ t.max_locals
   pub list : IsListed t c.list (filled t.max_locals (words_of types))
+
+-- if they have room
+abbrev pub HasLocalsIfRoom : LocalTable → Option Current → List VarType → Type 0
+HasLocalsIfRoom t None types = padded Top t.max_locals (words_of types) ≡ None
+HasLocalsIfRoom t (Some c) types = HasLocals t c types
 
 -- the types by names as the code has them
 abbrev pub types_by : List ClassFile → List names.VarType → List VarType

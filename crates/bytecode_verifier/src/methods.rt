@@ -13,6 +13,7 @@ ghost use Rattle.program_tables.specs.Meanings.{handler_seen};
 ghost use Rattle.program_tables.specs.Numbers.{methods_by_number};
 ghost use Rattle.program_tables.specs.Resolved.{handler_of, resolved};
 ghost use Rattle.verifier_types.specs.Frame.{frame_seen};
+ghost use Rattle.bytecode_verifier.specs.Begun.{first_kinds, BeginsIfRoom};
 ghost use Rattle.bytecode_verifier.specs.Failure.{is_bad_entry, lesser, least, types_failure, code_failure, method_failure, walk_failure};
 ghost use Rattle.bytecode_verifier.specs.Handled.{HoldAlike};
 ghost use Rattle.bytecode_verifier.specs.Listed.{HasListsOf};
@@ -23,8 +24,9 @@ ghost use Rattle.bytecode_verifier.specs.Place.{HasCode, IsMethodOf};
 
 use crate::around::Around;
 use crate::fault::MethodRule;
-use crate::first::first_frame;
+use crate::first::{Beginning, begin, first_frame};
 use crate::handlers::{Handlers, by_start};
+use crate::laws::first_frames_agree;
 use crate::maps::MapFrames;
 use crate::names::{Owner, map_frames};
 use crate::place::{Step, verdict_at};
@@ -214,36 +216,42 @@ fn walk_method(
     }
 }
 
-/// The frames of the StackMapTable of the method of this number, behind the lists of types of local variables that there are.
+/// The frames of the StackMapTable of the method of this number, which begins so, behind the lists of types of local variables that
+/// there are.
 fn maps_of(
     alloc: Global,
     program: &Program,
     number: u32,
     code: &Code,
     lists: LocalLists,
+    first: Beginning,
 ) -> Result<MapFrames, MapFault>
     requires method { number < length (methods_by_number program.now) }
     requires code { IsCodeOf program.now number code.now }
     requires small { length code.now.code ≤ 33554432 }
     requires room { lists.max_locals ≡ code.now.max_locals }
+    requires begins { (h : IsCodeOf program.now number code.now) → BeginsIfRoom lists (Some first) (first_kinds (method_of program.now number code.now h)) }
     ensures maps { (h : IsCodeOf program.now number code.now) → AreMaps program.now (found_in program.now number code.now h) result }
     ensures lists { IfOk result (λ maps. HasListsOf lists maps.lists) }
 {
     members_are_there();
     frames_stand_at_instructions();
     starts_follow_one_another();
+    first_frames_agree();
+    program.is_resolved();
     let place = program.method(number);
     let Ok(index) = u32::try_from(place.index) else {
         return Err(MapFault::NoMemory);
     };
     let class = program.class(place.class);
-    let steps = map_steps(alloc, class, index)?;
+    let steps = map_steps(alloc, class, index, &first.types)?;
     let of = Owner {
         program,
         class: place.class,
     };
     let length = code.code.as_slice().len() as u32;
-    let maps = map_frames(alloc, &of, lists, &steps, code.max_locals, length)?;
+    let at = steps.as_slice();
+    let maps = map_frames(alloc, &of, lists, first.locals, at, code.max_locals, length)?;
     Ok(maps)
 }
 
@@ -261,11 +269,13 @@ fn types_failure(
 {
     methods_stand_by_number();
     let mut lists = LocalLists::new(alloc, code.max_locals)?;
-    let first = match first_frame(alloc, &mut lists, program.shape(number), code.max_locals)? {
-        Some(frame) => frame,
+    let shape = program.shape(number);
+    let begun = match begin(alloc, &mut lists, shape, code.max_locals)? {
+        Some(begun) => begun,
         None => return Ok(Some((0, MethodRule::Map))),
     };
-    match maps_of(alloc, program, number, code, lists) {
+    let first = first_frame(alloc, &begun.locals, shape);
+    match maps_of(alloc, program, number, code, lists, begun) {
         Ok(maps) => walk_method(alloc, program, number, code, first, &maps),
         Err(fault) => match fault {
             MapFault::Bad(place) => Ok(Some((place, MethodRule::Map))),

@@ -6,7 +6,6 @@ ghost use Rattle.class_pool.specs.declared.class.Code.{Code};
 ghost use Rattle.class_lookup.specs.Parts.{class_text};
 ghost use Rattle.bytecode_model.specs.Slots.{padded};
 ghost use Rattle.bytecode_typing.specs.Types as typing;
-ghost use Rattle.bytecode_typing.specs.Types.{is_long_type};
 ghost use Rattle.bytecode_typing.specs.Typings.{frame_among};
 ghost use Rattle.frame_types.specs.declared.types.VarType as named_types;
 ghost use Rattle.frame_types.specs.declared.types.TypeFrame as named_frames;
@@ -16,17 +15,13 @@ ghost use Rattle.frame_types.specs.Steps.{named as type_named, change_named, Are
 ghost use Rattle.verifier_types.specs.Frame.{frame_seen};
 ghost use Rattle.verifier_types.specs.Locals.{LocalTable, lists_seen, filled};
 ghost use Rattle.verifier_types.specs.Seen.{type_seen, types_seen};
-ghost use Rattle.bytecode_verifier.specs.Listed.{HasListsOf, IsListed, words_of, starts_from, HasLocals, types_by};
+ghost use Rattle.bytecode_verifier.specs.Listed.{HasListsOf, IsListed, IsListOf, words_of, starts_from, HasLocals, HasLocalsIfRoom, types_by};
 ghost use Rattle.bytecode_verifier.specs.Maps.{seen_at, frames_seen, frames_at};
 ghost use Rattle.bytecode_verifier.specs.Named.{type_by, frame_by, frames_by};
 
-use crate::first::{list_of, push_spread};
 use crate::maps::MapFrames;
-use class_lookup::Classes;
-use frame_types as named;
-use frame_types::{EntryType, MapStep, MapSteps, StepChange};
+use frame_types::{EntryType, MapStep, StepChange};
 use jop_base::NoMemory;
-use program_tables::kind_named;
 use resolved_program::Program;
 use std::alloc::Global;
 use verifier_types::laws::what_has_room_is_filled;
@@ -47,46 +42,6 @@ pub struct Owner<'a> {
     pub program: &'a Program,
     pub class: u32,
     ghost there: { class < length program.now },
-}
-
-/// The type of an object by the name of its class; of what no class is found for, nothing is known.
-fn object_type(alloc: Global, classes: &Classes, name: &[u16]) -> Result<VarType, NoMemory>
-    ensures { IfOk result (λ t. type_seen t ≡ type_by classes.now (Object name.now)) }
-{
-    match kind_named(alloc, classes, name)? {
-        Some(kind) => Ok(VarType::Reference(kind)),
-        None => Ok(VarType::Top),
-    }
-}
-
-/// A type that has its class by name.
-fn type_of_named(alloc: Global, classes: &Classes, of: &named::VarType) -> Result<VarType, NoMemory>
-    ensures { IfOk result (λ t. type_seen t ≡ type_by classes.now of.now) }
-{
-    match of {
-        named::VarType::Top => Ok(VarType::Top),
-        named::VarType::Integer => Ok(VarType::Integer),
-        named::VarType::Null => Ok(VarType::Null),
-        named::VarType::UninitializedThis => Ok(VarType::UninitializedThis),
-        named::VarType::Object(name) => object_type(alloc, classes, name.as_slice()),
-        named::VarType::Uninitialized(place) => Ok(VarType::Uninitialized(*place)),
-        named::VarType::Long => Ok(VarType::LongInteger),
-    }
-}
-
-/// Types one after another.
-fn types_of_named(
-    alloc: Global,
-    classes: &Classes,
-    types: &[named::VarType],
-) -> Result<Vec<VarType>, NoMemory>
-    ensures { IfOk result (λ found. types_seen found.items ≡ map (type_by classes.now) types.now) }
-{
-    let mut found = Vec::new(alloc);
-    for of in types {
-        found.push(type_of_named(alloc, classes, of)?)?;
-    }
-    Ok(found)
 }
 
 /// The type of an object by a Class entry.
@@ -221,6 +176,17 @@ fn starts_of(alloc: Global, types: &[VarType]) -> Result<(Vec<u32>, u32), NoMemo
     Ok((starts, words))
 }
 
+/// Adds a type to the local variables, and Top behind a long one.
+fn push_spread(locals: &mut Vec<VarType>, item: VarType) -> Result<(), NoMemory>
+    ensures { OnOk result (types_seen locals.new.items ≡ types_seen locals.old.items ++ words_of (type_seen item ∷ [])) }
+{
+    locals.push(item)?;
+    if item.is_long() {
+        locals.push(VarType::Top)?;
+    }
+    Ok(())
+}
+
 /// The words of these types: a long one is followed by Top.
 fn spread(alloc: Global, types: &[VarType]) -> Result<Vec<VarType>, NoMemory>
     ensures { IfOk result (λ words. types_seen words.items ≡ words_of (types_seen types.now)) }
@@ -232,27 +198,47 @@ fn spread(alloc: Global, types: &[VarType]) -> Result<Vec<VarType>, NoMemory>
     Ok(words)
 }
 
-/// All local variables, which have their room.
-fn all_locals(
+/// The number of the list of these types and then Top; nothing where they are more than the local variables.
+fn list_of(
     alloc: Global,
     lists: &mut LocalLists,
     types: &[VarType],
     max_locals: u16,
-) -> Result<Current, NoMemory>
+) -> Result<Option<u32>, NoMemory>
     requires { lists.old.max_locals ≡ max_locals }
     ensures lists { OnOk result (HasListsOf lists.old lists.new) }
-    ensures locals { IfOk result (λ current. length (words_of (types_seen types.now)) ≤ lists.old.max_locals → HasLocals lists.new current (types_seen types.now)) }
+    ensures list { IfOk result (λ list. IsListOf lists.new list (padded typing.Top max_locals (types_seen types.now))) }
+{
+    what_has_room_is_filled();
+    let count = usize::from(max_locals);
+    if types.len() > count {
+        return Ok(None);
+    }
+    let list = lists.push(alloc, types)?;
+    Ok(Some(list))
+}
+
+/// All local variables, if they have room.
+pub fn all_locals(
+    alloc: Global,
+    lists: &mut LocalLists,
+    types: &[VarType],
+    max_locals: u16,
+) -> Result<Option<Current>, NoMemory>
+    requires { lists.old.max_locals ≡ max_locals }
+    ensures lists { OnOk result (HasListsOf lists.old lists.new) }
+    ensures locals { IfOk result (λ found. HasLocalsIfRoom lists.new found (types_seen types.now)) }
 {
     what_has_room_is_filled();
     let found = starts_of(alloc, types)?;
     let all = spread(alloc, types)?;
     match list_of(alloc, lists, &all, max_locals)? {
-        Some(list) => Ok(Current {
+        Some(list) => Ok(Some(Current {
             list,
             starts: found.0,
             words: found.1,
-        }),
-        None => Err(NoMemory),
+        })),
+        None => Ok(None),
     }
 }
 
@@ -270,9 +256,13 @@ fn full_locals(
     ensures locals { OnOk result ((c : ClassFile) → slice_get of.now.program.now of.now.class ≡ Some c → length (words_of (types_by of.now.program.now (map (type_named c.pool) entries.now))) ≤ lists.old.max_locals → HasLocals lists.new current.new (types_by of.now.program.now (map (type_named c.pool) entries.now))) }
 {
     let types = types_of_entries(alloc, of, entries)?;
-    let all = all_locals(alloc, lists, &types, max_locals)?;
-    *current = all;
-    Ok(())
+    match all_locals(alloc, lists, &types, max_locals)? {
+        Some(all) => {
+            *current = all;
+            Ok(())
+        }
+        None => Err(NoMemory),
+    }
 }
 
 /// The local variables behind an entry, which have their room.
@@ -336,47 +326,27 @@ fn frame_behind(
     })
 }
 
-/// The frames of a StackMapTable with their places, one after another.
+/// The frames of a StackMapTable with their places, one after another, behind these local variables.
 fn placed_frames(
     alloc: Global,
     of: &Owner<'_>,
     lists: &mut LocalLists,
-    steps: &MapSteps,
+    first: Current,
+    steps: &[MapStep],
     max_locals: u16,
 ) -> Result<Vec<(u32, TypeFrame)>, NoMemory>
     requires { lists.old.max_locals ≡ max_locals }
     ensures lists { OnOk result (HasListsOf lists.old lists.new) }
-    ensures frames { IfOk result (λ found. (c : ClassFile) (k : Code) (first : named_frames.TypeFrame) (xs : List (ℕ × named_frames.TypeFrame)) → slice_get of.now.program.now of.now.class ≡ Some c → k.max_locals ≡ max_locals → frame_of k steps.now.first [] ≡ Some first → AreSteps c.pool k steps.now.first steps.now.at xs → frames_seen (lists_seen lists.new) found.items ≡ frames_by of.now.program.now xs) }
-    ensures places { IfOk result (λ found. map (λ x. x.0) found.items ≡ map (λ s. s.place) steps.now.at) }
+    ensures frames { IfOk result (λ found. (c : ClassFile) (k : Code) (locals : List named_types.VarType) (xs : List (ℕ × named_frames.TypeFrame)) → slice_get of.now.program.now of.now.class ≡ Some c → k.max_locals ≡ max_locals → HasLocals lists.old first (types_by of.now.program.now locals) → AreSteps c.pool k locals steps.now xs → frames_seen (lists_seen lists.new) found.items ≡ frames_by of.now.program.now xs) }
+    ensures places { IfOk result (λ found. map (λ x. x.0) found.items ≡ map (λ s. s.place) steps.now) }
 {
-    let classes = of.program.hierarchy().classes();
-    let first = types_of_named(alloc, classes, steps.first.as_slice())?;
-    let mut current = all_locals(alloc, lists, &first, max_locals)?;
+    let mut current = first;
     let mut found = Vec::new(alloc);
-    for step in steps.at.as_slice() {
+    for step in steps {
         let frame = frame_behind(alloc, of, lists, &mut current, step, max_locals)?;
         found.push((step.place, frame))?;
     }
     Ok(found)
-}
-
-/// The same; where there is no entry, the first local variables aren't looked up.
-fn frames_with_places(
-    alloc: Global,
-    of: &Owner<'_>,
-    lists: &mut LocalLists,
-    steps: &MapSteps,
-    max_locals: u16,
-) -> Result<Vec<(u32, TypeFrame)>, NoMemory>
-    requires { lists.old.max_locals ≡ max_locals }
-    ensures lists { OnOk result (HasListsOf lists.old lists.new) }
-    ensures frames { IfOk result (λ found. (c : ClassFile) (k : Code) (first : named_frames.TypeFrame) (xs : List (ℕ × named_frames.TypeFrame)) → slice_get of.now.program.now of.now.class ≡ Some c → k.max_locals ≡ max_locals → frame_of k steps.now.first [] ≡ Some first → AreSteps c.pool k steps.now.first steps.now.at xs → frames_seen (lists_seen lists.new) found.items ≡ frames_by of.now.program.now xs) }
-    ensures places { IfOk result (λ found. map (λ x. x.0) found.items ≡ map (λ s. s.place) steps.now.at) }
-{
-    if steps.at.as_slice().is_empty() {
-        return Ok(Vec::new(alloc));
-    }
-    placed_frames(alloc, of, lists, steps, max_locals)
 }
 
 /// No frame at any of so many places.
@@ -406,21 +376,23 @@ fn by_place(
     Ok(places)
 }
 
-/// The frames of a StackMapTable, whose places are within a code of so many bytes, behind the lists that there are.
+/// The frames of a StackMapTable, whose places are within a code of so many bytes, behind the local variables with which the method
+/// begins, and the lists that there are.
 pub fn map_frames(
     alloc: Global,
     of: &Owner<'_>,
     mut lists: LocalLists,
-    steps: &MapSteps,
+    first: Current,
+    steps: &[MapStep],
     max_locals: u16,
     length: u32,
 ) -> Result<MapFrames, NoMemory>
     requires room { lists.max_locals ≡ max_locals }
-    requires within { AllByRecursion (λ s. s.place < length) steps.now.at }
+    requires within { AllByRecursion (λ s. s.place < length) steps.now }
     ensures lists { IfOk result (λ maps. HasListsOf lists maps.lists) }
-    ensures frames { IfOk result (λ maps. (c : ClassFile) (k : Code) (first : named_frames.TypeFrame) (xs : List (ℕ × named_frames.TypeFrame)) (place : ℕ) → slice_get of.now.program.now of.now.class ≡ Some c → k.max_locals ≡ max_locals → frame_of k steps.now.first [] ≡ Some first → AreSteps c.pool k steps.now.first steps.now.at xs → frames_at maps place ≡ frame_among (frames_by of.now.program.now xs) place) }
+    ensures frames { IfOk result (λ maps. (c : ClassFile) (k : Code) (locals : List named_types.VarType) (xs : List (ℕ × named_frames.TypeFrame)) (place : ℕ) → slice_get of.now.program.now of.now.class ≡ Some c → k.max_locals ≡ max_locals → HasLocals lists first (types_by of.now.program.now locals) → AreSteps c.pool k locals steps.now xs → frames_at maps place ≡ frame_among (frames_by of.now.program.now xs) place) }
 {
-    let frames = frames_with_places(alloc, of, &mut lists, steps, max_locals)?;
+    let frames = placed_frames(alloc, of, &mut lists, first, steps, max_locals)?;
     let by_place = by_place(alloc, frames, length)?;
     Ok(MapFrames { lists, by_place })
 }

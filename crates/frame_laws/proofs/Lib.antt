@@ -1,3 +1,1 @@
 mod Alike
-mod Begin
-mod Placed

@@ -12,10 +12,11 @@ use Rattle.class_pool.specs.declared.entry.Entry.{Entry}
 use Rattle.frame_types.specs.declared.types.VarType.{VarType}
 use Rattle.frame_types.specs.declared.steps.EntryType.{EntryType}
 use Rattle.frame_types.specs.declared.steps.EntryType.TheVariants.{Top, Integer, Long, Null, UninitializedThis, Object, Uninitialized}
+use Rattle.frame_types.specs.declared.steps.FirstLocal.{FirstLocal}
 use Rattle.frame_types.specs.declared.extents.Extent.{Extent}
 use Rattle.frame_types.specs.Types.{words_of, stack_words, is_this, names_new}
-use Rattle.frame_types.specs.Steps.{named}
-use Rattle.frame_types.specs.Extents.{shape, extent_behind, extents_behind, last_extent, fit}
+use Rattle.frame_types.specs.Steps.{named, first_local}
+use Rattle.frame_types.specs.Extents.{shape, extent_behind, extents_behind, last_extent, first_words, first_extents, fit}
 use Rattle.frame_types.proofs.GivenLemmas.{all_append, nat_cases}
 
 -- ---- types without the names of classes
@@ -103,6 +104,19 @@ last_left x (t ∷ ts) =
     let a = last_left (extent_behind x t) ts in
     let b = sum_by-cons words_of t ts in
     omega (arith, a, b)
+
+-- of the local variables with which a method begins
+pub firsts_behind : (x : Extent) (ts : List VarType) → first_extents x (map first_local ts) ≡ extents_behind x ts
+firsts_behind x [] = refl
+firsts_behind x (t ∷ ts) = ap (λ (l : List Extent). extent_behind x t ∷ l) (firsts_behind (extent_behind x t) ts)
+
+pub firsts_words : (ts : List VarType) → first_words (map first_local ts) ≡ stack_words ts
+firsts_words [] = refl
+firsts_words (t ∷ ts) =
+    let a = sum_by-cons (λ (f : FirstLocal). f.words) (first_local t) (map first_local ts) in
+    let b = sum_by-cons words_of t ts in
+    let c = firsts_words ts in
+    omega (arith, a, b, c)
 
 or_none : (a : Bool) → a ≡ (a || false)
 or_none true = refl

@@ -1,5 +1,5 @@
 -- The steps of a StackMapTable, one after the other, as a loop makes them.
-use Rattle.std.proofs.Common.{◌≡◌, ℕ, suc, ◌+◌, ◌<◌, ◌≤◌, Bool, true, false, ◌&&◌, List, [], ◌∷◌, ◌++◌, length, get_or, drop, Option, Some, None, Result, Ok, Err, refl, sym, ap, subst, ◌∙◌, append_assoc, arith}
+use Rattle.std.proofs.Common.{◌≡◌, ℕ, suc, ◌+◌, ◌<◌, ◌≤◌, Bool, true, false, ◌&&◌, List, [], ◌∷◌, ◌++◌, length, get_or, drop, Option, Some, None, Result, Ok, Err, refl, sym, ap, ap₂, subst, ◌∙◌, append_assoc, arith}
 use Rattle.std.specs.Prelude.{if◌then◌else◌, nat_le, map, IfOk}
 use Rattle.std.specs.List.{list_all}
 use Rattle.std.proofs.lemmas.List.{append-nil, drop_all, length-map, get_or-map}
@@ -17,16 +17,17 @@ use Rattle.frame_types.specs.declared.types.MapFault.TheVariants as faults
 use Rattle.frame_types.specs.declared.read.Change.{Change}
 use Rattle.frame_types.specs.declared.read.MapEntry.{MapEntry}
 use Rattle.frame_types.specs.declared.read.StepEntry.{StepEntry}
+use Rattle.frame_types.specs.declared.steps.FirstLocal.{FirstLocal}
 use Rattle.frame_types.specs.declared.steps.MapStep.{MapStep}
 use Rattle.frame_types.specs.declared.extents.Extent.{Extent}
 use Rattle.frame_types.specs.Types.{is_start, stack_words, names_new}
 use Rattle.frame_types.specs.Locals.{first_locals}
-use Rattle.frame_types.specs.Frames.{changed, frame_of, mapped, or_fails_at, with_frames, with_first, frames_from, IsMapFault}
-use Rattle.frame_types.specs.Steps.{AreSteps, IsStepwise, change_named}
-use Rattle.frame_types.specs.Extents.{whole_extent, last_extent, fit, entry_named, AreLocals, Makes, MakesAt, StepsGive, frames_with}
+use Rattle.frame_types.specs.Frames.{changed, frame_of, mapped, or_fails_at, with_frames, with_first, frames_from}
+use Rattle.frame_types.specs.Steps.{AreSteps, IsStepwise, change_named, first_local}
+use Rattle.frame_types.specs.Extents.{whole_extent, extents_behind, last_extent, first_words, first_extents, fit, entry_named, AreLocals, Makes, MakesAt, StepsGive, frames_with}
 use Rattle.frame_types.proofs.GivenLemmas.{the_frame}
 use Rattle.frame_types.proofs.CauseLemmas.{first_news, with_none}
-use Rattle.frame_types.proofs.ExtentLemmas.{last_this}
+use Rattle.frame_types.proofs.ExtentLemmas.{last_this, firsts_behind, firsts_words}
 use Rattle.frame_types.proofs.MakesLemmas.{frame_is}
 use Rattle.frame_types.proofs.WalkLemmas.{next_entry, walk_goes_on_at}
 
@@ -165,12 +166,18 @@ module _ (c : ClassFile) (m : Member) (k : Code) (es : List MapEntry) where
   pub no_room : (ls : List VarType) → first_locals c m ≡ Some ls → nat_le (stack_words ls) k.max_locals ≡ false → frames_with c m k es ≡ Err 0
   no_room ls e room = frames_are ls None e (first_is ls false room e)
 
-  pub steps_fail : (ls : List VarType) (fault : MapFault) → first_locals c m ≡ Some ls → nat_le (stack_words ls) k.max_locals ≡ true → IsMapFault fault (frames_from k 0 ls es) → IsMapFault fault (frames_with c m k es)
-  steps_fail ls (faults.Bad place) e room h = frames_are ls (Some (the_frame k ls [])) e (first_is ls true room e) ∙ ap (with_first (the_frame k ls [])) h
-  steps_fail ls faults.NoMemory e room h = tt
-
-  pub steps_are : (ls : List VarType) (at : List MapStep) → first_locals c m ≡ Some ls → nat_le (stack_words ls) k.max_locals ≡ true → StepsGive c.pool k ls (Ok at) (frames_from k 0 ls es)
-      → IsStepwise c m k (Ok (record { first = ls; at = at })) (frames_with c m k es)
-  steps_are ls at e room h =
+  -- the steps of a method that begins with these local variables, which have room
+  pub steps_are : (ls : List VarType) (r : Result (List MapStep) MapFault) → first_locals c m ≡ Some ls → nat_le (stack_words ls) k.max_locals ≡ true → StepsGive c.pool k ls r (frames_from k 0 ls es) → IsStepwise c m k r (frames_with c m k es)
+  steps_are ls (Ok at) e room h =
       let first = first_is ls true room e in
-      (record { first = the_frame k ls []; at = h.0 }, frames_are ls (Some (the_frame k ls [])) e first ∙ ap (with_first (the_frame k ls [])) h.1, e, first, h.2)
+      (record { first = the_frame k ls []; at = h.0 }, ls, frames_are ls (Some (the_frame k ls [])) e first ∙ ap (with_first (the_frame k ls [])) h.1, e, first, h.2)
+  steps_are ls (Err (faults.Bad place)) e room h = frames_are ls (Some (the_frame k ls [])) e (first_is ls true room e) ∙ ap (with_first (the_frame k ls [])) h
+  steps_are ls (Err faults.NoMemory) e room h = tt
+
+  -- where it begins with these
+  pub begun_room : (first : List FirstLocal) (ls : List VarType) (o : Option (List Extent)) → map first_local ls ≡ first → o ≡ (if nat_le (first_words first) k.max_locals then Some (first_extents (whole_extent k.max_locals) first) else None)
+      → o ≡ (if nat_le (stack_words ls) k.max_locals then Some (extents_behind (whole_extent k.max_locals) ls) else None)
+  begun_room first ls o is e =
+      e
+      ∙ (ap (λ (l : List FirstLocal). if nat_le (first_words l) k.max_locals then Some (first_extents (whole_extent k.max_locals) l) else None) (sym is)
+      ∙ ap₂ (λ (n : ℕ) (x : List Extent). if nat_le n k.max_locals then Some x else None) (firsts_words ls) (firsts_behind (whole_extent k.max_locals) ls))

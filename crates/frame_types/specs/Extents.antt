@@ -1,5 +1,5 @@
 -- What the rules on frames ask of local variables, known behind each of their types; and what an entry makes of them.
-use Rattle.std.specs.Prelude.{◌≡◌, ℕ, ◌-◌, Bool, true, false, ◌&&◌, ◌||◌, nat_le, IsTrue, List, [], ◌∷◌, Some, None, Result, Ok, Err}
+use Rattle.std.specs.Prelude.{◌≡◌, ℕ, ◌-◌, Bool, true, false, ◌&&◌, ◌||◌, nat_le, IsTrue, sum_by, List, [], ◌∷◌, Some, None, Result, Ok, Err}
 use Rattle.std.specs.List.{list_all, list_any}
 use Rattle.lists.specs.Lists.{onto}
 use Rattle.class_pool.specs.declared.entry.Entry.{Entry}
@@ -13,6 +13,7 @@ use Rattle.frame_types.specs.declared.types.MapFault.{MapFault}
 use Rattle.frame_types.specs.declared.read.Change.{Change}
 use Rattle.frame_types.specs.declared.read.MapEntry.{MapEntry}
 use Rattle.frame_types.specs.declared.steps.EntryType.{EntryType}
+use Rattle.frame_types.specs.declared.steps.FirstLocal.{FirstLocal}
 use Rattle.frame_types.specs.declared.steps.MapStep.{MapStep}
 use Rattle.frame_types.specs.declared.read.StepEntry.{StepEntry}
 use Rattle.frame_types.specs.declared.extents.Extent.{Extent}
@@ -46,6 +47,15 @@ extents_behind x (t ∷ ts) = extent_behind x t ∷ extents_behind (extent_behin
 abbrev pub last_extent : Extent → List Extent → Extent
 last_extent x [] = x
 last_extent x (y ∷ ys) = last_extent y ys
+
+-- the words of the local variables with which a method begins
+abbrev pub first_words : List FirstLocal → ℕ
+first_words first = sum_by (λ t. t.words) first
+
+-- behind each of those
+abbrev pub first_extents : Extent → List FirstLocal → List Extent
+first_extents x [] = []
+first_extents x (t ∷ ts) = let y : Extent = record { left = x.left - t.words; this = x.this || t.this } in y ∷ first_extents y ts
 
 -- the types take at most so many words, and each `new` that is named is there
 abbrev pub fit : (code : List ℕ) → (most : ℕ) → List VarType → Bool

@@ -18,7 +18,8 @@ use Rattle.frame_types.specs.declared.steps.EntryType.TheVariants.{Top, Integer,
 use Rattle.frame_types.specs.declared.steps.StepChange.{StepChange}
 use Rattle.frame_types.specs.declared.steps.StepChange.TheVariants.{Same, OneItem, Chop, Append, Full}
 use Rattle.frame_types.specs.declared.steps.MapStep.{MapStep}
-use Rattle.frame_types.specs.declared.steps.MapSteps.{MapSteps}
+use Rattle.frame_types.specs.declared.steps.FirstLocal.{FirstLocal}
+use Rattle.frame_types.specs.Types.{words_of, is_this}
 use Rattle.frame_types.specs.Locals.{first_locals}
 use Rattle.frame_types.specs.Frames.{changed, frame_of, IsMapFault}
 
@@ -47,7 +48,15 @@ AreSteps pool k locals (s ∷ ss) (x ∷ xs) =
     × (x.0 ≡ s.place) × (x.1.flag ≡ s.flag) × AreSteps pool k after ss xs
 AreSteps pool k locals ss xs = ⊥
 
+-- what the rules on frames ask of the type of a local variable
+abbrev pub first_local : VarType → FirstLocal
+first_local t = record { words = words_of t; this = is_this t }
+
+-- these are the local variables with which the method begins
+abbrev pub BeginsWith : ClassFile → Member → List FirstLocal → Type 0
+BeginsWith c m first = (locals : List VarType) × (first_locals c m ≡ Some locals) × (map first_local locals ≡ first)
+
 -- the steps of a method give its frames, from the local variables with which it begins; or it has none
-abbrev pub IsStepwise : ClassFile → Member → Code → Result MapSteps MapFault → (found : Result Frames ℕ) → Type 0
-IsStepwise c m k (Ok s) found = (f : Frames) × (found ≡ Ok f) × (first_locals c m ≡ Some s.first) × (frame_of k s.first [] ≡ Some f.first) × AreSteps c.pool k s.first s.at f.at
+abbrev pub IsStepwise : ClassFile → Member → Code → Result (List MapStep) MapFault → (found : Result Frames ℕ) → Type 0
+IsStepwise c m k (Ok at) found = (f : Frames) × (locals : List VarType) × (found ≡ Ok f) × (first_locals c m ≡ Some locals) × (frame_of k locals [] ≡ Some f.first) × AreSteps c.pool k locals at f.at
 IsStepwise c m k (Err fault) found = IsMapFault fault found

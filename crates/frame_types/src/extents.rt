@@ -2,11 +2,9 @@
 //! what it changes, and never all local variables.
 ghost use Rattle.std.specs.Prelude.{◌≡◌, ◌++◌, ◌-◌, ◌||◌, OnOk, IfOk, map, nat_le, if◌then◌else◌, Some, None};
 ghost use Rattle.std.specs.Option.{option_map};
-ghost use Rattle.frame_types.specs.Types.{stack_words};
-ghost use Rattle.frame_types.specs.Extents.{shape, whole_extent, extents_behind, last_extent};
+ghost use Rattle.frame_types.specs.Extents.{shape, whole_extent, extents_behind, last_extent, first_words, first_extents};
 
-use crate::steps::EntryType;
-use crate::types::VarType;
+use crate::steps::{EntryType, FirstLocal};
 use jop_base::NoMemory;
 use std::alloc::Global;
 
@@ -72,17 +70,17 @@ pub(crate) fn push_all(
 pub(crate) fn first_extents(
     alloc: Global,
     most: u16,
-    types: &[VarType],
+    first: &[FirstLocal],
 ) -> Result<Option<Vec<Extent>>, NoMemory>
-    ensures { IfOk result (λ found. option_map (λ x. x.items) found ≡ (if nat_le (stack_words types.now) most then Some (extents_behind (whole_extent most) types.now) else None)) }
+    ensures { IfOk result (λ found. option_map (λ x. x.items) found ≡ (if nat_le (first_words first.now) most then Some (first_extents (whole_extent most) first.now) else None)) }
 {
     let mut extents = Vec::new(alloc);
     let mut last = Extent::whole(most);
-    for t in types {
-        if t.words() > last.left {
+    for t in first {
+        if t.words > last.left {
             return Ok(None);
         }
-        last = last.behind(t.words(), t.is_this());
+        last = last.behind(t.words, t.this);
         extents.push(last)?;
     }
     Ok(Some(extents))

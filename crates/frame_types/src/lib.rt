@@ -4,7 +4,6 @@
 
 mod code;
 mod extents;
-mod first;
 pub mod laws;
 mod mapping;
 mod read;
@@ -13,5 +12,5 @@ mod types;
 
 pub use mapping::map_steps;
 pub use read::{Change, MapEntry};
-pub use steps::{EntryType, MapStep, MapSteps, StepChange};
+pub use steps::{EntryType, FirstLocal, MapStep, StepChange};
 pub use types::{Frames, MapFault, TypeFrame, VarType};

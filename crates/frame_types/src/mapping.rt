@@ -2,6 +2,7 @@
 ghost use Rattle.std.specs.Prelude.{◌≡◌, ◌≤◌, ◌<◌, ◌-◌, ◌∷◌, [], List, length, take, map, IfOk, IsSomeAnd, IsTrue, Some, slice_get, nat_le, if◌then◌else◌};
 ghost use Rattle.class_pool.specs.declared.entry.Entry.{Entry};
 ghost use Rattle.class_pool.specs.declared.class.Code.{Code};
+ghost use Rattle.class_pool.specs.declared.class.ClassFile.{ClassFile};
 ghost use Rattle.class_pool.specs.declared.class.Member.{Member};
 ghost use Rattle.class_pool.specs.Found.{code_of};
 ghost use Rattle.jop_opcodes.specs.Start.{starts_of};
@@ -9,14 +10,13 @@ ghost use Rattle.frame_types.specs.declared.types.VarType.{VarType};
 ghost use Rattle.frame_types.specs.declared.read.Change.TheVariants.{Append, Full};
 ghost use Rattle.frame_types.specs.Types.{is_start};
 ghost use Rattle.frame_types.specs.Frames.{frames_from, frames_of};
-ghost use Rattle.frame_types.specs.Steps.{named, change_named, IsStepwise};
+ghost use Rattle.frame_types.specs.Steps.{named, change_named, BeginsWith, IsStepwise};
 ghost use Rattle.frame_types.specs.Extents.{entry_named, AreLocals, Makes, MakesAt, StepsGive, frames_with};
 
 use crate::code::{Placed, fit, is_start};
 use crate::extents::{Extent, first_extents, last_of, push_all};
-use crate::first::first_locals;
 use crate::read::{StepEntry, entries_of};
-use crate::steps::{EntryType, MapStep, MapSteps, StepChange};
+use crate::steps::{EntryType, FirstLocal, MapStep, StepChange};
 use crate::types::MapFault;
 use class_pool::{ClassFile, Code, Member};
 use items::Items;
@@ -149,41 +149,35 @@ fn steps_from(
     Ok(Items::new(at))
 }
 
-// The frames of a method whose StackMapTable has these entries.
+// The frames of a method whose StackMapTable has these entries, where it begins with these local variables.
 fn steps_with(
     alloc: Global,
-    class: &ClassFile,
-    member: &Member,
     code: &Code,
     placed: Placed<'_>,
+    first: &[FirstLocal],
     entries: Vec<StepEntry>,
-) -> Result<MapSteps, MapFault>
+) -> Result<Items<MapStep>, MapFault>
     requires code { placed.code.now ≡ code.now.code }
     requires starts { placed.starts.now ≡ starts_of placed.code.now }
     requires small { length code.now.code ≤ 33554432 }
-    ensures { IsStepwise class.now member.now code.now result (frames_with class.now member.now code.now (map (entry_named class.now.pool) entries.items)) }
+    ensures { (c : ClassFile) (m : Member) → BeginsWith c m first.now → IsStepwise c m code.now result (frames_with c m code.now (map (entry_named c.pool) entries.items)) }
 {
-    let first = first_locals(alloc, class, member)?;
-    let Some(extents) = first_extents(alloc, code.max_locals, &first)? else {
+    let Some(extents) = first_extents(alloc, code.max_locals, first)? else {
         return Err(MapFault::Bad(0));
     };
-    let at = steps_from(alloc, code, placed, extents, entries)?;
-    Ok(MapSteps {
-        first: Items::new(first),
-        at,
-    })
+    steps_from(alloc, code, placed, extents, entries)
 }
 
-// The frames of a method that has this code.
+// The frames of a method of the class that has this code and begins with these local variables.
 #[tactic(auto, unfolding(crate::specs::Frames::frames_of))]
 fn steps_of(
     alloc: Global,
     class: &ClassFile,
-    member: &Member,
     code: &Code,
-) -> Result<MapSteps, MapFault>
+    first: &[FirstLocal],
+) -> Result<Items<MapStep>, MapFault>
     requires { length code.now.code ≤ 33554432 }
-    ensures { IsStepwise class.now member.now code.now result (frames_of class.now member.now code.now) }
+    ensures { (m : Member) → BeginsWith class.now m first.now → IsStepwise class.now m code.now result (frames_of class.now m code.now) }
 {
     let bytes = code.code.as_slice();
     let starts = starts(alloc, bytes)?;
@@ -192,21 +186,27 @@ fn steps_of(
         starts: &starts,
     };
     let entries = entries_of(alloc, &class.pool, code)?;
-    steps_with(alloc, class, member, code, placed, entries)
+    steps_with(alloc, code, placed, first, entries)
 }
 
-/// The frames of the class's method of this number, which has code, each as the change of the one before it: in time linear
-/// in the length of its StackMapTable.
+/// The frames of the class's method of this number, which has code and begins with these local variables, each as the change of
+/// the one before it: in time linear in the length of its StackMapTable and the number of these local variables.
 ///
 /// # Errors
 ///
 /// [`MapFault::Bad`] exactly where the StackMapTable, or the first frame, breaks the rules first at that place.
-pub fn map_steps(alloc: Global, class: &ClassFile, method: u32) -> Result<MapSteps, MapFault>
+pub fn map_steps(
+    alloc: Global,
+    class: &ClassFile,
+    method: u32,
+    first: &[FirstLocal],
+) -> Result<Items<MapStep>, MapFault>
     requires there { method < length class.now.methods }
     requires coded { (m : Member) → slice_get class.now.methods method ≡ Some m → IsSomeAnd (code_of m) (λ k. length k.code ≤ 33554432) }
+    requires first { (m : Member) → slice_get class.now.methods method ≡ Some m → BeginsWith class.now m first.now }
     ensures { (m : Member) (k : Code) → slice_get class.now.methods method ≡ Some m → code_of m ≡ Some k → IsStepwise class.now m k result (frames_of class.now m k) }
 {
     let member = &class.methods.as_slice()[method as usize];
     let code = member.code().unwrap();
-    steps_of(alloc, class, member, code)
+    steps_of(alloc, class, code, first)
 }

@@ -3,7 +3,6 @@ ghost use Rattle.std.specs.Prelude.{◌≡◌};
 ghost use Rattle.frame_types.specs.Types.{words_of, is_this};
 ghost use Rattle.frame_types.specs.Extents.{shape};
 
-use crate::types::VarType;
 use items::Items;
 
 /// A verification type as a StackMapTable has it: a class is an index of the constant pool.
@@ -45,13 +44,13 @@ pub struct MapStep {
     pub flag: bool,
 }
 
-/// The frames of a method, each as the change of the one before it.
-#[derive(Drop)]
-pub struct MapSteps {
-    /// The local variables with which the method begins, a long one being one type.
-    pub first: Items<VarType>,
-    /// Those of its StackMapTable, whose places rise.
-    pub at: Items<MapStep>,
+/// A local variable with which a method begins, a long one being one: what the rules on frames ask of its type.
+#[derive(Clone, Copy)]
+pub struct FirstLocal {
+    /// The words that a value takes.
+    pub words: u16,
+    /// Whether it is an uninitialised `this`.
+    pub this: bool,
 }
 
 impl EntryType {

@@ -1,6 +1,3 @@
-ghost use Rattle.std.specs.Prelude.{◌≡◌};
-ghost use Rattle.frame_types.specs.Types.{words_of, is_this};
-
 use items::Items;
 use jop_base::{FormatFault, NoMemory};
 use std::alloc::{AllocError, AllocFailed};
@@ -96,24 +93,5 @@ impl From<FormatFault> for MapFault {
             FormatFault::Bad => MapFault::Bad(0),
             FormatFault::NoMemory => MapFault::NoMemory,
         }
-    }
-}
-
-impl VarType {
-    /// The words that a value takes.
-    pub(crate) fn words(&self) -> u16
-        ensures { result ≡ words_of self.now }
-    {
-        match self {
-            VarType::Long => 2,
-            _ => 1,
-        }
-    }
-
-    /// Whether it is that of an uninitialised `this`.
-    pub(crate) fn is_this(&self) -> bool
-        ensures { result ≡ is_this self.now }
-    {
-        matches!(self, VarType::UninitializedThis)
     }
 }

@@ -4,8 +4,8 @@ use Rattle.bytecode_verifier.proofs.NameLemmas.{places_within}
 use Rattle.bytecode_verifier.proofs.names.map_frames.Goals as goal
 
 pub by_place-requires : goal.by_place-requires
-by_place-requires c = places_within c.args.length c.in_ok-frames.frames.items c.args.steps.now.at c.in_ok-frames.ensures.places c.requires.within
+by_place-requires c = places_within c.args.length c.in_ok-frames.frames.items c.args.steps.now c.in_ok-frames.ensures.places c.requires.within
 
 pub returns-clause-frames : goal.returns-clause-frames
-returns-clause-frames c = λ k code first xs place at room f steps.
-    c.in_ok-by_place.ensures c.frames_with_places.new.lists.lists place ∙ ap (λ l. frame_among l place) (c.in_ok-frames.ensures.frames k code first xs at room f steps)
+returns-clause-frames c = λ k code locals xs place at room held steps.
+    c.in_ok-by_place.ensures c.placed_frames.new.lists.lists place ∙ ap (λ l. frame_among l place) (c.in_ok-frames.ensures.frames k code locals xs at room held steps)

@@ -45,8 +45,8 @@ use Rattle.bytecode_typing.specs.Types.{TypeFrame}
 use Rattle.bytecode_typing.specs.Walk.{first_types}
 use Rattle.bytecode_verifier.specs.Named.{frame_by}
 use Rattle.bytecode_verifier.specs.Methods.{method_of, body_of}
-use Rattle.frame_laws.specs.Beginnings.{FirstFramesAgree}
-use Rattle.frame_laws.proofs.Begin.{ReadFields, TypeFits, IsPlaced, has_first}
+use Rattle.bytecode_verifier.specs.Beginnings.{FirstFramesAgree}
+use Rattle.bytecode_verifier.proofs.BeginLemmas.{ReadFields, TypeFits, IsPlaced, has_first}
 
 -- ---- the first item that passes a test
 
@@ -220,6 +220,7 @@ begin_alike laws read methods cs r n k h =
     record {
       locals = first.locals;
       locals_are = first.locals_are;
+      types = first.types;
       same = first.same;
       first = λ f e. first_by cs h.class h.member k first.locals (entries_of h.class.pool k) typed f first.same (sym frames ∙ e);
       none = λ e. frames ∙ none_by cs h.class h.member k first.locals (entries_of h.class.pool k) (first.same ∙ e);

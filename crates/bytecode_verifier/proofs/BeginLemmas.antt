@@ -31,13 +31,14 @@ use Rattle.bytecode_typing.specs.Checks.{reference_or_top}
 use Rattle.bytecode_typing.specs.Walk as walk
 use Rattle.bytecode_typing.specs.Walk.{first_types}
 use Rattle.frame_types.specs.declared.types.VarType.{VarType}
-use Rattle.frame_types.specs.declared.types.VarType.TheVariants.{Top, Integer, Null, UninitializedThis, Object, Uninitialized, Long}
+use Rattle.frame_types.specs.declared.types.VarType.TheVariants.{Top, Integer, UninitializedThis, Object, Long}
 use Rattle.frame_types.specs.declared.types.TypeFrame.{TypeFrame}
 use Rattle.frame_types.specs.Types.{is_long, is_this, names_new}
 use Rattle.frame_types.specs.Frames.{frame_of}
 use Rattle.frame_types.specs.Locals as locals
 use Rattle.frame_types.specs.Locals.{types_of, first_locals}
 use Rattle.bytecode_verifier.specs.Named.{type_by, frame_by}
+use Rattle.bytecode_verifier.proofs.SteppedLemmas.{spread_by, padded_by}
 use Rattle.program_tables.specs.Kinds.{type_named, class_in_element, class_in_type, array_code, arrays_of, arrays_of_numbers, kind_by, kind_of_type, number_declared, reference_declared, declared_by, declared_of}
 use Rattle.program_tables.specs.Resolved.{method_in, body_in}
 use Rattle.program_tables.specs.Unresolved.{is_there, are_there}
@@ -66,44 +67,10 @@ pub record IsPlaced (cs : List ClassFile) (owner : ℕ) (c : ClassFile) (m : Mem
 pub record HasFirst (cs : List ClassFile) (owner : ℕ) (c : ClassFile) (m : Member) (k : Code) : Type 0 where
   pub locals : List VarType
   pub locals_are : first_locals c m ≡ Some locals
+  pub types : map (type_by cs) locals ≡ walk.this_types (method_in cs owner c m) ++ map typing.type_of (method_in cs owner c m).parameters
   pub same : option_map (frame_by cs) (frame_of k locals []) ≡ first_types (method_in cs owner c m) (body_in cs c k)
 
--- ---- what is mapped
-
-spread_case : {A B : Type 0} (f : A → B) (unset v : A) (vs : List A) (ws : List B) (b : Bool) → map f vs ≡ ws → map f (if b then v ∷ unset ∷ vs else v ∷ vs) ≡ (if b then f v ∷ f unset ∷ ws else f v ∷ ws)
-spread_case f unset v vs ws true h = ap (λ l. f v ∷ f unset ∷ l) h
-spread_case f unset v vs ws false h = ap (λ l. f v ∷ l) h
-
-spread_map : {A B : Type 0} (f : A → B) (long : A → Bool) (others : B → Bool) (unset : A) → ((x : A) → others (f x) ≡ long x) → (xs : List A) → map f (spread long unset xs) ≡ spread others (f unset) (map f xs)
-spread_map f long others unset same [] = refl
-spread_map f long others unset same (v ∷ vs) =
-    let rest = spread others (f unset) (map f vs) in
-    spread_case f unset v (spread long unset vs) rest (long v) (spread_map f long others unset same vs) ∙ ap (λ (b : Bool). if b then f v ∷ f unset ∷ rest else f v ∷ rest) (sym (same v))
-
-onto_map : {A B : Type 0} (f : A → B) (x : A) (o : Option (List A)) → option_map (map f) (onto o (λ ws. Some (x ∷ ws))) ≡ onto (option_map (map f) o) (λ ws. Some (f x ∷ ws))
-onto_map f x None = refl
-onto_map f x (Some ws) = refl
-
-padded_map : {A B : Type 0} (f : A → B) (unset : A) (n : ℕ) (xs : List A) → option_map (map f) (padded unset n xs) ≡ padded (f unset) n (map f xs)
-padded_map f unset zero [] = refl
-padded_map f unset zero (x ∷ xs) = refl
-padded_map f unset (suc n) [] = onto_map f unset (padded unset n []) ∙ ap (λ o. onto o (λ ws. Some (f unset ∷ ws))) (padded_map f unset n [])
-padded_map f unset (suc n) (x ∷ xs) = onto_map f x (padded unset n xs) ∙ ap (λ o. onto o (λ ws. Some (f x ∷ ws))) (padded_map f unset n xs)
-
 -- ---- kinds
-
-reference_short : (o : Option Kind) → is_long_type (reference_or_top o) ≡ false
-reference_short None = refl
-reference_short (Some k) = refl
-
-long_same : (cs : List ClassFile) (t : VarType) → is_long_type (type_by cs t) ≡ is_long t
-long_same cs Top = refl
-long_same cs Integer = refl
-long_same cs Null = refl
-long_same cs UninitializedThis = refl
-long_same cs (Object name) = reference_short (onto (type_named name) (kind_of_type cs))
-long_same cs (Uninitialized place) = refl
-long_same cs Long = refl
 
 -- the descriptor of an array is the name of no class
 array_no_class : (n : ℕ) (units : List ℕ) → (n == 0) ≡ false → is_class_name (replicate n 91 ++ units) ≡ false
@@ -325,8 +292,7 @@ module _ (cs : List ClassFile) (owner : ℕ) (c : ClassFile) (m : Member) (p : I
 
     padded_same : option_map (map (type_by cs)) (padded Top k.max_locals (spread is_long Top all)) ≡ padded typing.Top k.max_locals (spread is_long_type typing.Top (walk.this_types method ++ map typing.type_of method.parameters))
     padded_same =
-        padded_map (type_by cs) Top k.max_locals (spread is_long Top all)
-        ∙ ap (padded typing.Top k.max_locals) (spread_map (type_by cs) is_long is_long_type Top (long_same cs) all ∙ ap (spread is_long_type typing.Top) all_same)
+        sym (padded_by cs k.max_locals (spread is_long Top all)) ∙ ap (padded typing.Top k.max_locals) (spread_by cs all ∙ ap (spread is_long_type typing.Top) all_same)
 
     frame_same : option_map (frame_by cs) (frame_of k all []) ≡ first_types method (body_in cs c k)
     frame_same =
@@ -335,4 +301,4 @@ module _ (cs : List ClassFile) (owner : ℕ) (c : ClassFile) (m : Member) (p : I
         ∙ ap₂ (λ (o : Option (List typing.VarType)) (flag : Bool). onto o (λ ls. let f : Option typing.TypeFrame = Some (record { locals = ls; stack = []; flag = flag }) in f)) padded_same all_flag)
 
 pub has_first : ReadFields → (cs : List ClassFile) (owner : ℕ) (c : ClassFile) (m : Member) (k : Code) → IsPlaced cs owner c m → HasFirst cs owner c m k
-has_first read cs owner c m k p = record { locals = all cs owner c m p read k; locals_are = all_are cs owner c m p read k; same = frame_same cs owner c m p read k }
+has_first read cs owner c m k p = record { locals = all cs owner c m p read k; locals_are = all_are cs owner c m p read k; types = all_same cs owner c m p read k; same = frame_same cs owner c m p read k }

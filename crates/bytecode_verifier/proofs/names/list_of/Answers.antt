@@ -7,7 +7,7 @@ use Rattle.bytecode_typing.specs.Types.{Top}
 use Rattle.verifier_types.specs.Locals.{LocalTable, filled}
 use Rattle.verifier_types.specs.Seen.{type_seen, types_seen}
 use Rattle.bytecode_verifier.proofs.ListedLemmas.{lists_again, lists_with, listed_last}
-use Rattle.bytecode_verifier.proofs.first.list_of.Goals as goal
+use Rattle.bytecode_verifier.proofs.names.list_of.Goals as goal
 
 pub returns-then-types-count-clause-lists : goal.returns-then-types-count-clause-lists
 returns-then-types-count-clause-lists c = lists_again c.args.lists.now
