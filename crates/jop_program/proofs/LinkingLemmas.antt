@@ -24,7 +24,7 @@ use Rattle.jop_program.specs.declared.refusal.ProgramRefusal.TheVariants as answ
 use Rattle.jop_program.specs.Linked.{most_files, main_class, main_name, declares_main, main_signature, initialized, first_on_cycle, calls_of, linked_classes, files_in}
 use Rattle.jop_program.specs.Refusals.{Names, Support, Supertypes, Places, Mentions, passes, causes_in, too_many, without_main, refusals}
 use Rattle.jop_program.specs.Resolving.{AreClassesOf, IsFirstRefusal, IsProgramOf}
-use Rattle.jop_program.specs.Linking.{refusals_of, IsFirstOr, AreToLink, AreAccepted, IsLinked}
+use Rattle.jop_program.specs.Linking.{early_refusals, refusals_of, IsFirstOr, AreToLink, AreAccepted, IsLinked}
 use Rattle.jop_program.proofs.NameLemmas.{main_is_static}
 use Rattle.jop_program.proofs.ResolvedLemmas.{Laws, core_long, item_there, left_none, right_none, core_off_cycle, none_on_cycle, are_resolved}
 use Rattle.jop_program.proofs.RefusalLemmas.{in_files, few_calls, calls_are_initialized, first_early, NoneEarly, none_early, first_of_mentions, rest_alone}
@@ -80,7 +80,7 @@ none_at_all n s t p m a b h =
 
 module _ (cs : List ClassFile) (files : ℕ) (declares : Bool) where
   abbrev pub early : List ProgramRefusal
-  early = causes_in cs Names (files_in cs files) ++ (causes_in cs Support (files_in cs files) ++ (causes_in cs Supertypes (files_in cs files) ++ causes_in cs Places (files_in cs files)))
+  early = early_refusals cs files
 
   abbrev pub mentions : List ProgramRefusal
   mentions = causes_in cs Mentions (files_in cs files)

@@ -10,13 +10,19 @@ use Rattle.resolved_program.specs.Resolved.{AreResolved}
 use Rattle.jop_program.specs.declared.refusal.ProgramRefusal.{ProgramRefusal}
 use Rattle.jop_program.specs.declared.refusal.ProgramRefusal.TheVariants as answers
 use Rattle.jop_program.specs.Linked.{most_files, linked_classes, files_in}
-use Rattle.jop_program.specs.Refusals.{Names, Places, passes, causes_in, refusals}
+use Rattle.jop_program.specs.Refusals.{Names, Support, Supertypes, Places, passes, causes_in, refusals}
 
 -- everything that refuses these classes, of which so many behind the core classes are files', where the class that is run declares main or doesn't
 unfoldable pub refusals_of : List ClassFile → (files : ℕ) → (declares : Bool) → List ProgramRefusal
 refusals_of cs files declares =
     flat_map (λ pass. causes_in cs pass (files_in cs files)) passes
     ++ ((if nat_le files most_files then [] else answers.TooManyClasses files most_files ∷ []) ++ (if declares then [] else answers.NoMain ∷ []))
+
+-- what refuses them before what they name is looked at
+abbrev pub early_refusals : List ClassFile → (files : ℕ) → List ProgramRefusal
+early_refusals cs files =
+    let ks = files_in cs files in
+    causes_in cs Names ks ++ (causes_in cs Support ks ++ (causes_in cs Supertypes ks ++ causes_in cs Places ks))
 
 -- the first of what refuses, or there was no memory
 abbrev pub IsFirstOr : List ProgramRefusal → ProgramRefusal → Type 0

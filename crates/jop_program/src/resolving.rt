@@ -1,5 +1,5 @@
 //! The program of files, or what refuses them first.
-ghost use Rattle.std.specs.Prelude.{◌≡◌, ◌+◌, ◌<◌, ◌≤◌, ◌^◌, ◌++◌, ◌∷◌, [], length, map, Some, None, IfOk, IfErr, nat_le, if◌then◌else◌, find, false, ℕ};
+ghost use Rattle.std.specs.Prelude.{◌≡◌, ◌+◌, ◌<◌, ◌≤◌, ◌^◌, ◌++◌, ◌∷◌, [], length, map, Some, None, IfOk, IfErr, nat_le, if◌then◌else◌, find, false, ℕ, Bool};
 ghost use Rattle.std.specs.List.{AllByRecursion, range_with_len};
 ghost use Rattle.lists.specs.Lists.{first as first_of};
 ghost use Rattle.class_rules.specs.Grammar.{IsClass};
@@ -8,9 +8,10 @@ ghost use Rattle.core_classes.specs.Core.{core, boot};
 ghost use Rattle.core_classes.specs.Laws.{CoreClassesAreClasses, CoreHasBytes, CoreIsNamed, BootIsAClass, BootSaysPlan};
 ghost use Rattle.core_classes.specs.Linkage.{CoreIsLinkable, CoreStandsFirst, CoreIsSupported, BootIsLinkable, BootIsSupported, BootIsOnNoCycle};
 ghost use Rattle.jop_program.specs.Linked.{most_files, calls_of, files_in};
-ghost use Rattle.jop_program.specs.Refusals.{Names, Support, Supertypes, Places, causes_in, refusals};
-ghost use Rattle.jop_program.specs.Linking.{AreToLink, AreAccepted, IsLinked, IsFirstOr, refusals_of};
+ghost use Rattle.jop_program.specs.Refusals.{Names, Places, causes_in, refusals};
+ghost use Rattle.jop_program.specs.Linking.{AreToLink, AreAccepted, IsLinked, IsFirstOr, early_refusals, refusals_of};
 ghost use Rattle.program_tables.specs.Resolving.{HasBytes};
+ghost use Rattle.program_tables.specs.Tables.{HasBounds};
 ghost use Rattle.jop_program.specs.declared.refusal.ProgramRefusal.TheVariants.{NoMain, TooManyClasses};
 ghost use Rattle.jop_program.specs.Resolving.{IsFirstRefusal, IsProgramOf};
 
@@ -119,7 +120,7 @@ fn first_before_mentions(
     requires grammar { AllByRecursion IsClass (files_in classes.now files) }
     requires core { causes_in classes.now Names (files_in classes.now files) ≡ [] → (c : ℕ) → c < 23 → is_on_a_cycle classes.now c ≡ false }
     requires off { causes_in classes.now Names (files_in classes.now files) ≡ [] → causes_in classes.now Places (files_in classes.now files) ≡ [] → find (is_on_a_cycle classes.now) (range_with_len 0 (length classes.now)) ≡ None }
-    ensures first { IfOk result (λ found. found ≡ first_of (causes_in classes.now Names (files_in classes.now files) ++ (causes_in classes.now Support (files_in classes.now files) ++ (causes_in classes.now Supertypes (files_in classes.now files) ++ causes_in classes.now Places (files_in classes.now files))))) }
+    ensures first { IfOk result (λ found. found ≡ first_of (early_refusals classes.now files)) }
     ensures acyclic { IfOk result (λ found. found ≡ None → IsAcyclic classes.now) }
 {
     if let Some(refusal) = first_duplicate(classes, files) {
@@ -148,6 +149,44 @@ fn refusal_of_all(files: u32, declares_main: bool) -> Option<ProgramRefusal>
     }
 }
 
+/// That nothing refuses the classes before what they name is looked at, and no class is above itself; or what refuses them first.
+fn pass_places(alloc: Global, classes: &Classes, files: u32) -> Result<(), ProgramRefusal>
+    requires there { 23 + files ≤ length classes.now }
+    requires grammar { AllByRecursion IsClass (files_in classes.now files) }
+    requires core { causes_in classes.now Names (files_in classes.now files) ≡ [] → (c : ℕ) → c < 23 → is_on_a_cycle classes.now c ≡ false }
+    requires off { causes_in classes.now Names (files_in classes.now files) ≡ [] → causes_in classes.now Places (files_in classes.now files) ≡ [] → find (is_on_a_cycle classes.now) (range_with_len 0 (length classes.now)) ≡ None }
+    ensures passed { IfOk result (λ done. first_of (early_refusals classes.now files) ≡ None) }
+    ensures acyclic { IfOk result (λ done. IsAcyclic classes.now) }
+    ensures refused { IfErr result (λ refusal. (declares : Bool) → IsFirstOr (refusals_of classes.now files declares) refusal) }
+{
+    match first_before_mentions(alloc, classes, files)? {
+        Some(refusal) => Err(refusal),
+        None => Ok(()),
+    }
+}
+
+/// That nothing refuses the classes, of which nothing does before what they name is looked at; or what refuses them first.
+fn pass_mentions(
+    alloc: Global,
+    classes: &Hierarchy,
+    files: u32,
+    declares_main: bool,
+) -> Result<(), ProgramRefusal>
+    requires there { 23 + files ≤ length classes.now }
+    requires bounds { AllByRecursion HasBounds (files_in classes.now files) }
+    requires early { first_of (early_refusals classes.now files) ≡ None }
+    ensures passed { IfOk result (λ done. refusals_of classes.now files declares_main ≡ []) }
+    ensures refused { IfErr result (IsFirstOr (refusals_of classes.now files declares_main)) }
+{
+    if let Some(refusal) = first_mention(alloc, classes, files)? {
+        return Err(refusal);
+    }
+    match refusal_of_all(files, declares_main) {
+        Some(refusal) => Err(refusal),
+        None => Ok(()),
+    }
+}
+
 /// The program that these classes are, or what refuses them first.
 fn program_of(
     alloc: Global,
@@ -159,16 +198,9 @@ fn program_of(
     ensures linked { IfOk result (AreAccepted classes files declares_main) }
     ensures refused { IfErr result (IsFirstOr (refusals_of classes files declares_main)) }
 {
-    if let Some(refusal) = first_before_mentions(alloc, &classes, files)? {
-        return Err(refusal);
-    }
+    pass_places(alloc, &classes, files)?;
     let hierarchy = Hierarchy::new(alloc, classes)?;
-    if let Some(refusal) = first_mention(alloc, &hierarchy, files)? {
-        return Err(refusal);
-    }
-    if let Some(refusal) = refusal_of_all(files, declares_main) {
-        return Err(refusal);
-    }
+    pass_mentions(alloc, &hierarchy, files, declares_main)?;
     Ok(Program::from_hierarchy(alloc, hierarchy)?)
 }
 
