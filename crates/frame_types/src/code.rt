@@ -9,9 +9,7 @@ ghost use Rattle.frame_types.specs.Extents.{shape, fit};
 
 use crate::steps::EntryType;
 use jop_opcodes::laws::starts_follow_one_another;
-
-/// The opcode `new`.
-const NEW: u8 = 187;
+use jop_opcodes::mnemonics::NEW;
 
 /// A code with the places at which its instructions begin.
 #[derive(Clone, Copy)]
