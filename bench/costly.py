@@ -10,6 +10,9 @@ ranges           the same where each entry begins at another instruction
 targets          so many entries that cover as many instructions and lead to as many handlers
 guarded          so many instructions, as many local variables, and one entry
 stores           so many stores that change the type of a local variable, and as many entries that cover all of them
+handled          the same where each entry has a handler of its own, all with the same local variables
+handled-apart    the same where the local variables of each handler differ from those of the handler before it
+written          so many stores, at most 6,500, into as many local variables, and then as many branches as there is room for
 interfaces       so many interfaces, each of which extends all before it, and a class that implements all
 layers           a third of so many interfaces below one of the rest, which extends the others of the rest, and a third that each extend those
 descriptors      so many methods of one descriptor of 65,000 characters, and calls of them
@@ -17,6 +20,7 @@ framed-names     so many methods like these, with a frame each, and no calls
 named-frames     so many instructions of one such method, and a frame at each
 branches         so many branches, at most 8,191, to one frame with 65,535 local variables that hold objects
 apart            the same where the local variables hold objects of another class before the branches
+mixed-apart      the same where those at the frame are of one class or another, without any order
 cases            a switch of so many cases that lead to one such frame
 beginnings       so many objects that are made and initialised, and 65,535 local variables
 prefixes         so many fields, whose names have 2,000 characters and differ in the last eight
@@ -187,6 +191,15 @@ def apart(count):
     return [main_of(fill)]
 
 
+def mixed_apart(count):
+    names = ['p/A%d' % number for number in range(5)]
+    def fill(made):
+        code = RETURN * 2 + b''.join(b'\x01\xc7' + struct.pack('>h', -2 - 4 * n) for n in range(count)) + RETURN
+        mixed = [object_type(made, names[(n * 2654435761 >> 13) % 5]) for n in range(MOST)]
+        method(made, 'f', '()V', code, frames=[full_frame(1, [object_type(made)] * MOST), full_frame(0, mixed)], local=MOST)
+    return [main_of(fill)] + [ClassFile(0x21, name).data() for name in names]
+
+
 def cases(count):
     """behind a return: iconst_0, tableswitch, all of whose cases lead back to iconst_0"""
     def fill(made):
@@ -201,6 +214,39 @@ def stores(count):
         code = b'\x03\x3b\x01\x4b' * (count // 2) + RETURN + ATHROW
         end = len(code) - 1
         method(made, 'f', '()V', code, entry(0, end, end) * count, [caught_frame(made, end)])
+    return [main_of(fill)]
+
+
+def with_handlers(count, descriptor, frame_of, local):
+    """stores as above under entries that each have a handler, an athrow, before which a frame stands"""
+    def fill(made):
+        code = b'\x03\x3b\x01\x4b' * (count // 2) + RETURN
+        entries = b''.join(entry(0, len(code), len(code) + number) for number in range(count))
+        frames = [frame_of(made, number, len(code) if number == 0 else 0) for number in range(count)]
+        method(made, 'f', descriptor, code + ATHROW * count, entries, frames, local=local)
+    return fill
+
+
+def handled(count):
+    return [main_of(with_handlers(count, '()V', lambda made, number, offset: caught_frame(made, offset), 1))]
+
+
+def handled_apart(count):
+    """the third local variable is of a class and of its superclass in turn"""
+    def frame_of(made, number, offset):
+        held = object_type(made, ['p/A', MAIN][number % 2])
+        return full_frame(offset, [b'\0', b'\0', held], [object_type(made, THROWABLE)])
+    return [main_of(with_handlers(count, '(IILp/A;)V', frame_of, 3)), ClassFile(0x21, 'p/A', MAIN).data()]
+
+
+def written(count):
+    """iconst_0, wide istore; then iconst_0, ifeq to the return"""
+    def fill(made):
+        code = b''.join(b'\x03\xc4\x36' + u2(number) for number in range(count))
+        branches = min(8000, (65000 - len(code)) // 4)
+        end = len(code) + 4 * branches
+        code += b''.join(b'\x03\x99' + struct.pack('>h', 4 * (branches - number) - 1) for number in range(branches)) + RETURN
+        method(made, 'f', '()V', code, frames=[full_frame(end, [])], local=count)
     return [main_of(fill)]
 
 
@@ -271,7 +317,7 @@ def guarded(count):
 MADE = {
     'overrides': overrides, 'frames': frames, 'known-frames': known_frames, 'handlers': handlers, 'framed-handlers': framed_handlers,
     'interfaces': interfaces, 'descriptors': descriptors, 'branches': branches, 'cases': cases, 'stores': stores, 'beginnings': beginnings,
-    'apart': apart, 'layers': layers, 'framed-names': framed_names, 'named-frames': named_frames,
+    'apart': apart, 'mixed-apart': mixed_apart, 'written': written, 'handled': handled, 'handled-apart': handled_apart, 'layers': layers, 'framed-names': framed_names, 'named-frames': named_frames,
     'targets': targets, 'waves': waves, 'ranges': ranges, 'guarded': guarded, 'prefixes': prefixes,
     'colliding': colliding,
 }
