@@ -27,6 +27,7 @@ pub mod MemberLemmas
 pub mod LeadsLemmas
 pub mod PlaceLemmas
 pub mod HeldLemmas
+pub mod RangeLemmas
 pub mod KeptLemmas
 pub mod KeyLemmas
 pub mod FormLemmas

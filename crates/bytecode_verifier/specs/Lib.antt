@@ -6,6 +6,7 @@ pub mod Listed
 pub mod Begun
 pub mod Settled
 pub mod Handled
+pub mod Ranges
 pub mod Switched
 pub mod Plain
 pub mod Named

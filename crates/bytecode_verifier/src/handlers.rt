@@ -11,6 +11,7 @@ ghost use Rattle.bytecode_verifier.specs.Handled.{takes, WasAsked, IsHeld, HoldA
 
 use crate::maps::{MapFrames, frame_at};
 use crate::objects::THROWABLE;
+use crate::ranges::joined_ranges;
 use class_hierarchy::Hierarchy;
 use program_tables::{Base, Handler, ObjectKind};
 use verifier_types::{TypeFrame, VarType, is_assignable_kind};
@@ -22,10 +23,11 @@ pub struct Handlers {
     ghost rising: { IsNonDecreasingBy (λ h. h.start) items.items },
 }
 
-/// The same handlers in that order.
-pub fn by_start(mut handlers: Vec<Handler>) -> Handlers
+/// The same handlers in that order, where those that ask the same of instructions that follow one another are one.
+pub fn by_start(handlers: Vec<Handler>) -> Handlers
     ensures { HoldAlike (map handler_seen result.items.items) (map handler_seen handlers.items) }
 {
+    let mut handlers = joined_ranges(handlers);
     handlers.sort_unstable_by_key(|h| h.start);
     Handlers { items: handlers }
 }

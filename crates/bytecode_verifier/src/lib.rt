@@ -18,6 +18,7 @@ mod methods;
 mod names;
 mod objects;
 mod place;
+mod ranges;
 mod rows;
 mod seen;
 mod settle;
