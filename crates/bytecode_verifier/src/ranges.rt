@@ -5,18 +5,13 @@ ghost use Rattle.program_tables.specs.Meanings.{handler_seen};
 ghost use Rattle.bytecode_verifier.specs.Handled.{HoldAlike};
 ghost use Rattle.bytecode_verifier.specs.Ranges.{HoldsAsBoth};
 
-use program_tables::{Base, Handler, ObjectKind};
+use program_tables::{Base, Handler};
 
-/// The class that it catches, if it catches instances of one.
+/// The class of which it catches instances or arrays, if there is one.
 fn caught_class(handler: &Handler) -> Option<u32> {
-    match handler.caught {
-        Some(
-            ObjectKind {
-                dimensions: 0,
-                base: Base::Class(class),
-            },
-        ) => Some(class),
-        _ => None,
+    match handler.caught?.base {
+        Base::Class(class) => Some(class),
+        Base::Numbers(_) => None,
     }
 }
 
