@@ -8,9 +8,10 @@ use Rattle.program_tables.specs.Laws.{MethodsStandByNumber}
 use Rattle.program_tables.specs.Meanings.{handler_seen, declared_seen, HasShape}
 use Rattle.program_tables.specs.Resolved.{handler_of, resolved}
 use Rattle.bytecode_typing.specs.Types.{TypeFrame}
+use Rattle.verifier_types.specs.Locals.{LocalTable, lists_seen}
 use Rattle.bytecode_verifier.specs.declared.rows.Checking.{Checking}
 use Rattle.bytecode_verifier.specs.Handled.{HoldAlike}
-use Rattle.bytecode_verifier.specs.Maps.{frames_at}
+use Rattle.bytecode_verifier.specs.Maps.{AreGiven}
 use Rattle.bytecode_verifier.specs.Methods.{IsCodeOf, method_of, body_of}
 use Rattle.bytecode_verifier.specs.Place.{HasCode, IsMethodOf}
 use Rattle.bytecode_verifier.proofs.MethodLemmas.{method_is, body_there}
@@ -38,9 +39,10 @@ pub record HasParts (x : Checking) (n : ℕ) (k : Code) (h : IsCodeOf x.program.
   pub result : x.result ≡ s.result
 
 pub is_method : MethodsStandByNumber → (x : Checking) (n : ℕ) (k : Code) (h : IsCodeOf x.program.now n k) (shape : MethodShape) → HasParts x n k h shape
-    → (given : ℕ → Option TypeFrame) → ((place : ℕ) → given place ≡ frames_at x.maps.now place) → IsMethodOf x n (method_of x.program.now n k h) (body_of x.program.now n k h) given
-is_method law x n k h shape p given same = record {
-  classes = ap resolved p.classes;
+    → (given : ℕ → Option TypeFrame) (t : LocalTable) → t.classes ≡ x.program.now → AreGiven (lists_seen t) x.maps.now given → IsMethodOf t x n (method_of x.program.now n k h) (body_of x.program.now n k h) given
+is_method law x n k h shape p given t e same = record {
+  classes = e;
+  around = p.classes;
   owner = sym p.owner;
   init = (has_shape law x n k h shape p.shape).is_init ∙ sym p.init;
   stands = p.stands;

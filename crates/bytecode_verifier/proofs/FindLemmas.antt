@@ -1,5 +1,5 @@
 -- What the rules say of an instruction of a known family.
-use Rattle.std.proofs.Common.{◌≡◌, ℕ, suc, Bool, true, false, List, Option, Some, None, refl, sym, ap}
+use Rattle.std.proofs.Common.{◌≡◌, ℕ, suc, Bool, true, false, List, Option, Some, None, sym, ap}
 use Rattle.std.specs.Prelude.{if◌then◌else◌}
 use Rattle.lists.specs.Lists.{onto}
 use Rattle.lists.specs.Lemmas.{none≢some, some_same}
@@ -46,14 +46,6 @@ found_case false a k r e = absurd (none≢some k (sym e))
 pub code_found : (n : Option ℕ) (test : ℕ → Bool) (k : ℕ) (r : ℕ → Row) → Some k ≡ onto n (λ a. if test a then Some a else None) → onto n (λ a. if test a then Some (r a) else None) ≡ Some (r k)
 code_found None test k r e = absurd (none≢some k (sym e))
 code_found (Some a) test k r e = found_case (test a) a k r e
-
-lost_case : (b : Bool) (a : ℕ) (r : ℕ → Row) → None ≡ (if b then Some a else None) → (if b then Some (r a) else None) ≡ None
-lost_case true a r e = absurd (none≢some a e)
-lost_case false a r e = refl
-
-pub code_lost : (n : Option ℕ) (test : ℕ → Bool) (r : ℕ → Row) → None ≡ onto n (λ a. if test a then Some a else None) → onto n (λ a. if test a then Some (r a) else None) ≡ None
-code_lost None test r e = refl
-code_lost (Some a) test r e = lost_case (test a) a r e
 
 -- ---- arrays of one dimension more
 

@@ -1,5 +1,5 @@
 -- Handlers that were asked at an earlier place.
-use Rattle.std.proofs.Common.{◌≡◌, ℕ, ◌+◌, ◌<◌, ◌≤◌, Bool, true, false, ◌&&◌, List, [], length, map, get_or, Option, Some, None, refl, sym, ap, ap₂, ◌∙◌, subst, arith}
+use Rattle.std.proofs.Common.{◌≡◌, ℕ, ◌+◌, ◌<◌, ◌≤◌, Bool, true, false, ◌&&◌, List, [], length, map, get_or, Option, Some, None, refl, sym, ap, ap₂, ◌∙◌, arith}
 use Rattle.std.specs.Prelude.{if◌then◌else◌, nat_le, nat_lt}
 use Rattle.std.specs.Borrow.{Bor}
 use Rattle.std.specs.Option.{option_map, option_copied}
@@ -118,13 +118,6 @@ held_here P Q maps other None f hs others alike same e h = tt
 held_here P Q maps other (Some place) f hs others alike same e h =
     ap (λ (R : Program). handlers_hold R other place f others) e ∙ (sym (same_handlers P maps other place f others same) ∙ (sym (alike P maps place f) ∙ h))
 
-pub held_falling : (P : Program) (frames : ℕ → Option TypeFrame) (asked : Option ℕ) (falling : Option TypeFrame) (f : TypeFrame) (hs : List model.Handler) → Some f ≡ falling → IsHeld P frames asked falling hs → IsHeld P frames asked (Some f) hs
-held_falling P frames asked falling f hs e h = subst (λ o. IsHeld P frames asked o hs) (sym e) h
-
-pub held_alike : (P : Program) (frames : ℕ → Option TypeFrame) (asked : Option ℕ) (f g : TypeFrame) (hs : List model.Handler) → HaveSameLocals f g → IsHeld P frames asked (Some f) hs → IsHeld P frames asked (Some g) hs
-held_alike P frames None f g hs e h = tt
-held_alike P frames (Some place) f g hs e h = sym (same_held P frames place f g hs e) ∙ h
-
 -- ---- the frame that falls in, by reference
 
 pub referred_seen : (ls : List (List VarType)) (o : Option (Bor code.TypeFrame)) (x : Option code.TypeFrame) → option_copied o ≡ x → frame_at_seen ls o ≡ option_map (frame_seen ls) x
@@ -136,7 +129,3 @@ referred_seen ls (Some g) x e = ap (option_map (frame_seen ls)) e
 pub held_when : (ls : List (List VarType)) (P : Program) (frames : ℕ → Option TypeFrame) (place : ℕ) (frame : Option code.TypeFrame) (hs : List model.Handler) (kept : Bool) → (kept ≡ true → IsHeld P frames (Some place) (option_map (frame_seen ls) frame) hs) → IsHeldBehind ls P frames place (Goes frame kept) hs
 held_when ls P frames place frame hs true h = h refl
 held_when ls P frames place frame hs false h = tt
-
-pub held_next : (ls : List (List VarType)) (P : Program) (frames : ℕ → Option TypeFrame) (place : ℕ) (frame : Option code.TypeFrame) (hs : List model.Handler) (held : Bool) → IsHeldBehind ls P frames place (Goes frame held) hs → IsHeld P frames (if held then Some place else None) (option_map (frame_seen ls) frame) hs
-held_next ls P frames place frame hs true h = h
-held_next ls P frames place frame hs false h = tt

@@ -6,18 +6,27 @@ use Rattle.jop_opcodes.specs.declared.instruction.Instr.{Instr}
 use Rattle.bytecode_model.specs.Lists.{natural}
 use Rattle.bytecode_model.specs.Program.{Program, Method, Operand}
 use Rattle.bytecode_model.specs.Table.{row_of}
-use Rattle.bytecode_typing.specs.Types.{TypeFrame}
+use Rattle.program_tables.specs.declared.operand.Instruction.{Instruction}
+use Rattle.program_tables.specs.Resolved.{resolved}
+use Rattle.bytecode_typing.specs.Types.{VarType, TypeFrame}
+use Rattle.verifier_types.specs.Locals.{LocalTable}
 use Rattle.verifier_types.specs.Site.{Site, target_at}
 use Rattle.bytecode_verifier.specs.declared.family.Family.{Family}
 use Rattle.bytecode_verifier.specs.declared.maps.MapFrames.{MapFrames}
+use Rattle.bytecode_verifier.specs.declared.rows.Checking.{Checking}
+use Rattle.bytecode_verifier.specs.Checking.{IsAt}
 use Rattle.bytecode_verifier.specs.Family.{family_row, IsFamilyOf}
 use Rattle.bytecode_verifier.specs.Maps.{AreMapsOf, frame_over}
 use Rattle.bytecode_verifier.specs.Plain.{check_found}
 use Rattle.bytecode_verifier.proofs.PlainLemmas.{plain_found}
 use Rattle.bytecode_verifier.proofs.SwitchLemmas.{leads_to}
 
-pub target_is : (s : Site) (maps : MapFrames) (place : ℕ) (f : TypeFrame) (offset : ℤ) (t : Option TypeFrame) → s.place ≡ place → AreMapsOf maps s → t ≡ frame_over maps (natural (pos place +ℤ offset)) → target_at s f offset ≡ t
-target_is s maps place f offset t e h at = leads_to s maps f (natural (pos s.place +ℤ offset)) h ∙ (ap (λ n. frame_over maps (natural (pos n +ℤ offset))) e ∙ sym at)
+-- the classes are those of the lists
+pub same_classes : (t : LocalTable) (c : Checking) (place : ℕ) (x : Instruction) (s : Site) → IsAt t c place x s → s.program ≡ resolved t.classes
+same_classes t c place x s h = h.program ∙ ap resolved (sym h.classes)
+
+pub target_is : (s : Site) (ls : List (List VarType)) (maps : MapFrames) (place : ℕ) (f : TypeFrame) (offset : ℤ) (t : Option TypeFrame) → s.place ≡ place → AreMapsOf ls maps s → t ≡ frame_over ls maps (natural (pos place +ℤ offset)) → target_at s f offset ≡ t
+target_is s ls maps place f offset t e h at = leads_to s ls maps f (natural (pos s.place +ℤ offset)) h ∙ (ap (λ n. frame_over ls maps (natural (pos n +ℤ offset))) e ∙ sym at)
 
 -- one that is there, with what holds of it
 pub some_there : {A : Type 0} (o : Option A) (P : A → Type 0) → IsSomeAnd o P → (x : A) × (o ≡ Some x) × P x

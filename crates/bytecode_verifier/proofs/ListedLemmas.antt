@@ -1,6 +1,6 @@
 -- Lists of types of local variables: words that are written, and words that are forgotten.
-use Rattle.std.proofs.Common.{◌≡◌, ℕ, zero, suc, ◌+◌, ◌-◌, ◌<◌, ◌≤◌, Bool, true, false, List, [], ◌∷◌, ◌++◌, length, map, take, drop, drop-cons, get_or, replicate, append_assoc, add-zero, add-one, zero-add, Some, refl, sym, ap, ap₂, ◌∙◌, subst, arith}
-use Rattle.std.specs.Prelude.{slice_get, slice_set, if◌then◌else◌}
+use Rattle.std.proofs.Common.{◌≡◌, ℕ, zero, suc, ◌+◌, ◌-◌, ◌<◌, ◌≤◌, Bool, true, false, List, [], ◌∷◌, ◌++◌, length, map, take, drop, drop-cons, get_or, replicate, append_assoc, Result, Ok, Err, add-zero, add-one, zero-add, Some, refl, sym, ap, ap₂, ◌∙◌, subst, arith}
+use Rattle.std.specs.Prelude.{slice_get, slice_set, if◌then◌else◌, OnOk}
 use Rattle.std.specs.Option.{option_map_or}
 use Rattle.std.proofs.lemmas.List.{append-nil, length-append, map-append, take-append-drop, length-take-le}
 use Rattle.std.proofs.Math.ListN.{drop_of_length-le}
@@ -13,9 +13,9 @@ use Rattle.bytecode_typing.specs.Types.{VarType, Top, is_long_type}
 use Rattle.lists.specs.Lemmas.{some_same}
 use Rattle.verifier_types.specs.declared.types.VarType as codes
 use Rattle.verifier_types.specs.Seen.{type_seen, types_seen}
-use Rattle.verifier_types.specs.Locals.{LocalTable, filled, with_types, changed_types}
+use Rattle.verifier_types.specs.Locals.{HasListsOf, LocalTable, filled, with_types, changed_types}
 use Rattle.bytecode_verifier.specs.declared.names.Current.{Current}
-use Rattle.bytecode_verifier.specs.Listed.{HasListsOf, IsListed, IsListOf, words_of, starts_from, HasLocals, types_by}
+use Rattle.bytecode_verifier.specs.Listed.{IsListed, IsListOf, words_of, starts_from, HasLocals, types_by}
 use Rattle.bytecode_verifier.specs.Named.{type_by}
 use Rattle.bytecode_verifier.proofs.FirstLemmas.{spread_append}
 
@@ -111,10 +111,18 @@ forget_filled n ws i h fits =
 -- ---- lists and others behind them
 
 pub lists_again : (t : LocalTable) → HasListsOf t t
-lists_again t = record { room = refl; others = []; lists = sym (append-nil t.lists) }
+lists_again t = record { classes = refl; room = refl; others = []; lists = sym (append-nil t.lists) }
+
+pub lists_same : (t u : LocalTable) → u ≡ t → HasListsOf t u
+lists_same t u e = subst (HasListsOf t) (sym e) (lists_again t)
+
+pub lists_kept : {A E : Type 0} (r : Result A E) (t : LocalTable) → OnOk r (HasListsOf t t)
+lists_kept (Ok x) t = lists_again t
+lists_kept (Err e) t = tt
 
 pub lists_after : (t u v : LocalTable) → HasListsOf t u → HasListsOf u v → HasListsOf t v
 lists_after t u v h k = record {
+  classes = k.classes ∙ h.classes;
   room = k.room ∙ h.room;
   others = h.others ++ k.others;
   lists = k.lists ∙ (ap (λ ls. ls ++ k.others) h.lists ∙ append_assoc t.lists h.others k.others);
@@ -128,7 +136,7 @@ pub listed_last : (t : LocalTable) (n : ℕ) (types : List VarType) → n ≡ le
 listed_last t n types e = λ more. ap (λ i. slice_get ((t.lists ++ types ∷ []) ++ more) i) e ∙ last_got t.lists more types
 
 pub lists_with : (t u : LocalTable) (types : List VarType) → u ≡ with_types t types → HasListsOf t u
-lists_with t u types e = record { room = ap (λ (v : LocalTable). v.max_locals) e; others = types ∷ []; lists = ap (λ (v : LocalTable). v.lists) e }
+lists_with t u types e = record { classes = ap (λ (v : LocalTable). v.classes) e; room = ap (λ (v : LocalTable). v.max_locals) e; others = types ∷ []; lists = ap (λ (v : LocalTable). v.lists) e }
 
 -- a list that is another one with a type changed
 pub listed_changed : (t u : LocalTable) (n m i : ℕ) (x : VarType) (types : List VarType) → u ≡ with_types t (changed_types t n i x) → m ≡ length t.lists → IsListed t n types → IsListed u m (slice_set types i x)

@@ -1,4 +1,4 @@
--- Which rows the families have: behind which control goes on, which make objects, and of which more is asked than the rules on operands and stack.
+-- Which rows the families have: which make objects, and of which more is asked than the rules on operands and stack.
 use Rattle.std.proofs.Common.{◌≡◌, ℕ, Bool, true, false, List, Option, Some, None, refl, sym}
 use Rattle.std.specs.Prelude.{IfSome, if◌then◌else◌}
 use Rattle.jop_opcodes.specs.declared.instruction.Instr.{Instr}
@@ -9,7 +9,7 @@ use Rattle.bytecode_model.specs.Rows as rows
 use Rattle.bytecode_model.specs.Rows.{Row}
 use Rattle.bytecode_model.specs.Table.{constant, long_constant, by_static, by_field, by_method, by_type, by_class}
 use Rattle.bytecode_typing.specs.Checks.{class_made_by}
-use Rattle.bytecode_typing.specs.Walk.{falls_through, is_formed}
+use Rattle.bytecode_typing.specs.Walk.{is_formed}
 use Rattle.bytecode_verifier.specs.declared.family.Value.{Value}
 use Rattle.bytecode_verifier.specs.declared.family.Value.TheVariants as value
 use Rattle.bytecode_verifier.specs.declared.family.Array.{Array}
@@ -37,14 +37,6 @@ is_ordinary r = true
 abbrev pub IsOrdinary : Option Row → Type 0
 IsOrdinary None = Unit {0}
 IsOrdinary (Some r) = is_ordinary r ≡ true
-
-pub goes_on : (o : Option Row) → IsOrdinary o → falls_through o ≡ true
-goes_on None h = refl
-goes_on (Some (rows.Jump offset)) h = cc
-goes_on (Some (rows.Switch default cases)) h = cc
-goes_on (Some rows.Throw) h = cc
-goes_on (Some (rows.Return given)) h = cc
-goes_on (Some r) h = refl
 
 pub makes_none : (o : Option Row) → IsOrdinary o → onto o class_made_by ≡ None
 makes_none None h = refl
@@ -140,30 +132,6 @@ field_ordinary field.Get code i o = of_field rows.GetField code i o (λ n k j. r
 field_ordinary field.Put code i o = of_field rows.PutField code i o (λ n k j. refl)
 
 -- ---- those of which not all holds
-
-new_falls : (code : List ℕ) (i : Instr) (k : Kind) → falls_through (by_class rows.New code i (AType k)) ≡ true
-new_falls code i (OfClass c) = refl
-new_falls code i (OfNumbers a) = refl
-new_falls code i (OfReferences k) = refl
-
-pub named_falls : (f : Named) (code : List ℕ) (i : Instr) (o : Operand) → falls_through (named_row f code i o) ≡ true
-named_falls named.Constant code i o = goes_on (constant code i o) (of_constant code i o)
-named_falls named.LongConstant code i o = goes_on (long_constant code i o) (of_long code i o)
-named_falls named.New code i (AType k) = new_falls code i k
-named_falls named.New code i o = refl
-named_falls named.NewArray code i o = goes_on (by_type rows.NewReferences code i o) (of_type rows.NewReferences code i o (λ k. refl))
-named_falls named.Cast code i o = goes_on (by_type rows.Cast code i o) (of_type rows.Cast code i o (λ k. refl))
-named_falls named.Test code i o = goes_on (by_type rows.Test code i o) (of_type rows.Test code i o (λ k. refl))
-
-pub call_falls : (f : Call) (code : List ℕ) (i : Instr) (o : Operand) → falls_through (call_row f code i o) ≡ true
-call_falls call.Static code i (AMethod n k) = refl
-call_falls call.Static code i o = refl
-call_falls call.Special code i (AMethod n k) = refl
-call_falls call.Special code i o = refl
-call_falls call.Virtual code i (AMethod n k) = refl
-call_falls call.Virtual code i o = refl
-call_falls call.Interface code i (AMethod n k) = refl
-call_falls call.Interface code i o = refl
 
 pub call_makes_none : (f : Call) (code : List ℕ) (i : Instr) (o : Operand) → onto (call_row f code i o) class_made_by ≡ None
 call_makes_none call.Static code i (AMethod n k) = refl

@@ -27,9 +27,9 @@ use Rattle.bytecode_typing.specs.Checks.{reference_or_top}
 use Rattle.verifier_types.specs.declared.frame.TypeFrame as codes
 use Rattle.verifier_types.specs.Frame.{frame_seen}
 use Rattle.verifier_types.specs.Laws.{PaddingLaw}
-use Rattle.verifier_types.specs.Locals.{LocalTable, filled}
+use Rattle.verifier_types.specs.Locals.{HasListsOf, LocalTable, filled}
 use Rattle.bytecode_verifier.specs.declared.names.Current.{Current}
-use Rattle.bytecode_verifier.specs.Listed.{HasListsOf, HasLocals, words_of, types_by}
+use Rattle.bytecode_verifier.specs.Listed.{HasLocals, words_of, types_by}
 use Rattle.bytecode_verifier.specs.Maps.{frames_seen}
 use Rattle.bytecode_verifier.specs.Named.{type_by, frame_by, frames_by}
 
@@ -195,10 +195,10 @@ one_step cs pool k t u now later s ss found xs g l h n locals seen = record {
       ∙ (ap (λ x. frames_seen ls found ++ frames_by cs x) (sym n.are) ∙ (ap (λ x. frames_seen x found ++ frames_by cs h.rest) old ∙ h.frames (l.others ++ more)))));
 }
 
-pub last_step : (cs : List ClassFile) (pool : List Entry) (k : Code) (t : LocalTable) (now : Current) (left : List MapStep) (found : List (ℕ × codes.TypeFrame)) (xs : List (ℕ × frames.TypeFrame)) → left ≡ [] → (h : IsUpTo cs pool k t now left found xs) → frames_seen t.lists found ≡ frames_by cs xs
-last_step cs pool k t now [] found xs e h = none_left h.rest h.steps (h.frames [])
+pub last_step : (cs : List ClassFile) (pool : List Entry) (k : Code) (t : LocalTable) (now : Current) (left : List MapStep) (found : List (ℕ × codes.TypeFrame)) (xs : List (ℕ × frames.TypeFrame)) (more : List (List VarType)) → left ≡ [] → (h : IsUpTo cs pool k t now left found xs) → frames_seen (t.lists ++ more) found ≡ frames_by cs xs
+last_step cs pool k t now [] found xs more e h = none_left h.rest h.steps (h.frames more)
   where
-    none_left : (rest : List (ℕ × frames.TypeFrame)) → AreSteps pool k h.before [] rest → frames_seen (t.lists ++ []) found ++ frames_by cs rest ≡ frames_by cs xs → frames_seen t.lists found ≡ frames_by cs xs
-    none_left [] a f = ap (λ ls. frames_seen ls found) (sym (append-nil t.lists)) ∙ (sym (append-nil (frames_seen (t.lists ++ []) found)) ∙ f)
+    none_left : (rest : List (ℕ × frames.TypeFrame)) → AreSteps pool k h.before [] rest → frames_seen (t.lists ++ more) found ++ frames_by cs rest ≡ frames_by cs xs → frames_seen (t.lists ++ more) found ≡ frames_by cs xs
+    none_left [] a f = sym (append-nil (frames_seen (t.lists ++ more) found)) ∙ f
     none_left (x ∷ xs2) a f = absurd a
-last_step cs pool k t now (s ∷ ss) found xs e h = cc
+last_step cs pool k t now (s ∷ ss) found xs more e h = cc

@@ -44,15 +44,15 @@ cases_within code i = within (row_of i.op).form code i
 
 -- ---- where they lead
 
-pub leads_to : (s : Site) (maps : MapFrames) (f : TypeFrame) (o : Option ℕ) → AreMapsOf maps s → checks.frame_at s.program s.number s.method s.body s.maps s.place f o ≡ frame_over maps o
-leads_to s maps f None h = refl
-leads_to s maps f (Some place) h = h place
+pub leads_to : (s : Site) (ls : List (List VarType)) (maps : MapFrames) (f : TypeFrame) (o : Option ℕ) → AreMapsOf ls maps s → checks.frame_at s.program s.number s.method s.body s.maps s.place f o ≡ frame_over ls maps o
+leads_to s ls maps f None h = refl
+leads_to s ls maps f (Some place) h = h place
 
-pub reaches_is : (s : Site) (P : Program) (maps : MapFrames) (place : ℕ) (f : TypeFrame) (st : List VarType) (offset : ℤ) → s.program ≡ P → s.place ≡ place → AreMapsOf maps s
-    → checks.reaches s.program s.number s.method s.body s.maps s.place f st offset ≡ flows_to P (record f { stack = st }) (frame_over maps (natural (pos place +ℤ offset)))
-reaches_is s P maps place f st offset p e h =
-    ap (flows_to s.program (record f { stack = st })) (leads_to s maps f (natural (pos s.place +ℤ offset)) h)
-    ∙ ap₂ (λ Q n. flows_to Q (record f { stack = st }) (frame_over maps (natural (pos n +ℤ offset)))) p e
+pub reaches_is : (s : Site) (P : Program) (ls : List (List VarType)) (maps : MapFrames) (place : ℕ) (f : TypeFrame) (st : List VarType) (offset : ℤ) → s.program ≡ P → s.place ≡ place → AreMapsOf ls maps s
+    → checks.reaches s.program s.number s.method s.body s.maps s.place f st offset ≡ flows_to P (record f { stack = st }) (frame_over ls maps (natural (pos place +ℤ offset)))
+reaches_is s P ls maps place f st offset p e h =
+    ap (flows_to s.program (record f { stack = st })) (leads_to s ls maps f (natural (pos s.place +ℤ offset)) h)
+    ∙ ap₂ (λ Q n. flows_to Q (record f { stack = st }) (frame_over ls maps (natural (pos n +ℤ offset)))) p e
 
 pub same_tests : {A : Type 0} (test other : A → Bool) (xs : List A) → ((x : A) → test x ≡ other x) → list_all test xs ≡ list_all other xs
 same_tests test other [] h = refl

@@ -1,8 +1,7 @@
 -- The least start of the entries of an exception table that are out of their form.
-use Rattle.std.proofs.Common.{◌≡◌, ℕ, ◌+◌, ◌<◌, ◌≤◌, Bool, true, false, List, ◌∷◌, length, drop, get_or, drop-cons, add-one, map, Option, Some, None, refl, sym, ap, ◌∙◌, arith}
+use Rattle.std.proofs.Common.{◌≡◌, ℕ, ◌+◌, ◌<◌, Bool, true, List, ◌∷◌, length, drop, get_or, drop-cons, add-one, map, Option, Some, None, refl, sym, ap, ◌∙◌, arith}
 use Rattle.std.specs.Prelude.{min, if◌then◌else◌}
 use Rattle.std.specs.List.{filter}
-use Rattle.std.proofs.Math.ListN.{drop_of_length-le}
 use Rattle.bytecode_verifier.specs.Failure.{lesser, least}
 
 abbrev pub Entry : Type 0
@@ -29,15 +28,3 @@ pub bad_here : (bad : Entry → Bool) (xs : List Entry) (i : ℕ) (d : Entry) (f
 bad_here bad xs i d found h e =
     lesser_twice found (Some (get_or xs i d).0) (least_start bad (drop (i + 1) xs))
     ∙ ap (lesser found) (sym (step bad xs i d h ∙ ap (λ b. least (map (λ h. h.0) (if b then get_or xs i d ∷ filter bad (drop (i + 1) xs) else filter bad (drop (i + 1) xs)))) e))
-
-pub good_here : (bad : Entry → Bool) (xs : List Entry) (i : ℕ) (d : Entry) (found : Option ℕ) → i < length xs → bad (get_or xs i d) ≡ false
-    → lesser found (least_start bad (drop (i + 1) xs)) ≡ lesser found (least_start bad (drop i xs))
-good_here bad xs i d found h e =
-    ap (lesser found) (sym (step bad xs i d h ∙ ap (λ b. least (map (λ h. h.0) (if b then get_or xs i d ∷ filter bad (drop (i + 1) xs) else filter bad (drop (i + 1) xs)))) e))
-
-none_more : (found : Option ℕ) → lesser found None ≡ found
-none_more None = refl
-none_more (Some n) = refl
-
-pub bad_done : (bad : Entry → Bool) (xs : List Entry) (i : ℕ) (found : Option ℕ) → length xs ≤ i → lesser found (least_start bad (drop i xs)) ≡ found
-bad_done bad xs i found h = ap (λ l. lesser found (least_start bad l)) (drop_of_length-le xs h) ∙ none_more found

@@ -1,5 +1,5 @@
 -- A walk, one place after another.
-use Rattle.std.proofs.Common.{◌≡◌, ℕ, ◌+◌, ◌<◌, ◌≤◌, Bool, true, false, List, ◌∷◌, length, drop, get_or, drop-cons, add-one, Option, Some, None, Ok, Err, refl, sym, ap, ◌∙◌, find}
+use Rattle.std.proofs.Common.{◌≡◌, ℕ, ◌+◌, ◌<◌, ◌≤◌, Bool, true, List, ◌∷◌, length, drop, get_or, drop-cons, add-one, Option, Some, None, Ok, Err, refl, sym, ap, ◌∙◌, find}
 use Rattle.std.specs.Prelude.{if◌then◌else◌}
 use Rattle.std.proofs.Math.ListN.{drop_of_length-le}
 use Rattle.bytecode_model.specs.Program.{Program, Method, Body}
@@ -44,9 +44,6 @@ walk_ends P n m b maps xs i falling h = sym (ap (λ l. walk_failure (walk.walk P
 
 pub finds_here : (test : ℕ → Bool) (xs : List ℕ) (i d : ℕ) → i < length xs → test (get_or xs i d) ≡ true → find test (drop i xs) ≡ Some (get_or xs i d)
 finds_here test xs i d h e = ap (find test) (drop_step xs i d h) ∙ ap (λ b. if b then Some (get_or xs i d) else find test (drop (i + 1) xs)) e
-
-pub finds_later : (test : ℕ → Bool) (xs : List ℕ) (i d : ℕ) → i < length xs → test (get_or xs i d) ≡ false → find test (drop (i + 1) xs) ≡ find test (drop i xs)
-finds_later test xs i d h e = sym (ap (find test) (drop_step xs i d h) ∙ ap (λ b. if b then Some (get_or xs i d) else find test (drop (i + 1) xs)) e)
 
 pub finds_none : (test : ℕ → Bool) (xs : List ℕ) (i : ℕ) → length xs ≤ i → find test (drop i xs) ≡ None
 finds_none test xs i h = ap (find test) (drop_of_length-le xs h)

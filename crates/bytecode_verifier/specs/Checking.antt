@@ -16,6 +16,7 @@ use Rattle.bytecode_typing.specs.Checks.{constant_type}
 use Rattle.verifier_types.specs.declared.frame.TypeFrame.{TypeFrame}
 use Rattle.verifier_types.specs.declared.checked.Checked.{Checked}
 use Rattle.verifier_types.specs.Frame.{frame_seen}
+use Rattle.verifier_types.specs.Locals.{LocalTable, lists_seen}
 use Rattle.verifier_types.specs.Site.{Site, checked_seen}
 use Rattle.bytecode_verifier.specs.declared.rows.Checking.{Checking}
 use Rattle.bytecode_verifier.specs.Around.{StandsAt}
@@ -27,20 +28,25 @@ abbrev pub IsTyped : Program → Operand → Type 0
 IsTyped P (AString p) = constant_type P (Ref p) ≡ ReferenceTo (OfClass string_class)
 IsTyped P o = Unit {0}
 
--- the instruction x stands at the place of the method m, which is that of the site
-pub record IsAt (m : Checking) (pc : ℕ) (x : Instruction) (s : Site) : Type 0 where
+-- the instruction x stands at the place of the method m, which is that of the site, the lists of types of local variables being those of this table
+pub record IsAt (t : LocalTable) (m : Checking) (pc : ℕ) (x : Instruction) (s : Site) : Type 0 where
+  pub classes : t.classes ≡ m.program.now
   pub program : s.program ≡ resolved m.program.now
   pub around : StandsAt m.around s
   pub place : s.place ≡ pc
-  pub maps : AreMapsOf m.maps.now s
+  pub maps : AreMapsOf (lists_seen t) m.maps.now s
   pub locals : s.body.max_locals ≡ m.max_locals
   pub result : s.method.result ≡ option_map declared_seen m.result
   pub guarded : s.program.guarded s.number s.place ≡ x.guarded
   pub text : IsTyped s.program (operand_seen x.operand)
 
--- the code's answer and the frame that it leaves are what the rules say of the row, if there is one, the lists of types of local variables being these
+-- the code's answer and the frame that it leaves are what the rules say of the row, if there is one, with the lists of types of local variables before it and behind it
+abbrev pub ChecksRowOver : (before after : List (List VarType)) → Site → Option Row → (old : TypeFrame) → Checked → (new : TypeFrame) → Type 0
+ChecksRowOver before after s row old checked new = checked_seen checked (frame_seen after new) ≡ check_found s (frame_seen before old) row
+
+-- where the lists stay as they are
 abbrev pub ChecksRowIn : List (List VarType) → Site → Option Row → (old : TypeFrame) → Checked → (new : TypeFrame) → Type 0
-ChecksRowIn ls s row old checked new = checked_seen checked (frame_seen ls new) ≡ check_found s (frame_seen ls old) row
+ChecksRowIn ls s row old checked new = ChecksRowOver ls ls s row old checked new
 
 -- the same whatever the lists are
 abbrev pub ChecksRow : Site → Option Row → (old : TypeFrame) → Checked → (new : TypeFrame) → Type 0

@@ -9,12 +9,6 @@ use Rattle.verifier_types.specs.Locals.{LocalTable, filled}
 use Rattle.bytecode_verifier.specs.declared.names.Current.{Current}
 use Rattle.bytecode_verifier.specs.Named.{type_by}
 
--- the later table has the lists of the earlier one, each at its number, and perhaps others behind them
-pub record HasListsOf (earlier later : LocalTable) : Type 0 where
-  pub room : later.max_locals ≡ earlier.max_locals
-  pub others : List (List VarType)
-  pub lists : later.lists ≡ earlier.lists ++ others
-
 -- the list of this number is this one, and stays so where others are added behind
 abbrev pub IsListed : LocalTable → (number : ℕ) → List VarType → Type 0
 IsListed t n types = (more : List (List VarType)) → slice_get (t.lists ++ more) n ≡ Some types

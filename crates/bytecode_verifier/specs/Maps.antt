@@ -1,20 +1,15 @@
 -- The frames of a StackMapTable as the code has them.
 -- For contracts within this crate alone: no public contract's meaning rests on this file.
-use Rattle.std.specs.Prelude.{◌≡◌, ℕ, List, map, Option, Some, None, slice_get}
+use Rattle.std.specs.Prelude.{◌≡◌, ◌++◌, ℕ, List, map, Option, Some, None, slice_get}
 use Rattle.std.specs.Option.{option_map}
 use Rattle.bytecode_model.specs.Lists.{onto}
 use Rattle.bytecode_typing.specs.Types as typing
-use Rattle.verifier_types.specs.Locals.{lists_seen}
 use Rattle.verifier_types.specs.declared.frame.TypeFrame.{TypeFrame}
 use Rattle.verifier_types.specs.Frame.{frame_seen}
 use Rattle.verifier_types.specs.Site.{Site}
 use Rattle.bytecode_verifier.specs.declared.maps.MapFrames.{MapFrames}
 
--- the types of local variables to which its frames refer
-abbrev pub lists_in : MapFrames → List (List typing.VarType)
-lists_in maps = lists_seen maps.lists
-
--- the frame at a place among these, the lists being these
+-- the frame at a place among these, the lists of types of local variables being these
 abbrev pub seen_at : List (List typing.VarType) → List (Option TypeFrame) → (place : ℕ) → Option typing.TypeFrame
 seen_at ls frames place = onto (slice_get frames place) (option_map (frame_seen ls))
 
@@ -23,14 +18,18 @@ abbrev pub frames_seen : List (List typing.VarType) → List (ℕ × TypeFrame) 
 frames_seen ls frames = map (λ x. (x.0, frame_seen ls x.1)) frames
 
 -- the frame at a place
-abbrev pub frames_at : MapFrames → (place : ℕ) → Option typing.TypeFrame
-frames_at maps place = seen_at (lists_in maps) maps.by_place.items place
+abbrev pub frames_at : List (List typing.VarType) → MapFrames → (place : ℕ) → Option typing.TypeFrame
+frames_at ls maps place = seen_at ls maps.by_place.items place
 
 -- that at a place, if there is such a place
-abbrev pub frame_over : MapFrames → Option ℕ → Option typing.TypeFrame
-frame_over maps None = None
-frame_over maps (Some place) = frames_at maps place
+abbrev pub frame_over : List (List typing.VarType) → MapFrames → Option ℕ → Option typing.TypeFrame
+frame_over ls maps None = None
+frame_over ls maps (Some place) = frames_at ls maps place
 
 -- they are those of the method
-abbrev pub AreMapsOf : MapFrames → Site → Type 0
-AreMapsOf maps s = (place : ℕ) → s.maps place ≡ frames_at maps place
+abbrev pub AreMapsOf : List (List typing.VarType) → MapFrames → Site → Type 0
+AreMapsOf ls maps s = (place : ℕ) → s.maps place ≡ frames_at ls maps place
+
+-- they are these by place, and stay so where lists are added behind
+abbrev pub AreGiven : List (List typing.VarType) → MapFrames → (given : ℕ → Option typing.TypeFrame) → Type 0
+AreGiven ls maps given = (more : List (List typing.VarType)) (place : ℕ) → given place ≡ frames_at (ls ++ more) maps place

@@ -6,6 +6,7 @@ use Rattle.class_pool.specs.declared.class.ClassFile.{ClassFile}
 use Rattle.class_pool.specs.Found.{code_of}
 use Rattle.class_lookup.specs.Lookup.{Place}
 use Rattle.bytecode_model.specs.Program.{Method, Body}
+use Rattle.bytecode_typing.specs.Types.{VarType}
 use Rattle.frame_types.specs.declared.types.Frames.{Frames}
 use Rattle.frame_types.specs.declared.types.MapFault.{MapFault}
 use Rattle.frame_types.specs.declared.types.MapFault.TheVariants.{Bad, NoMemory}
@@ -17,7 +18,7 @@ use Rattle.verifier_types.specs.Site.{rule_seen}
 use Rattle.bytecode_verifier.specs.declared.fault.MethodRule.{MethodRule}
 use Rattle.bytecode_verifier.specs.declared.maps.MapFrames.{MapFrames}
 use Rattle.bytecode_verifier.specs.Failure.{Failure, Walk, broken_seen, maps_in}
-use Rattle.bytecode_verifier.specs.Maps.{frames_at}
+use Rattle.bytecode_verifier.specs.Maps.{AreGiven}
 
 -- where the code stands that the method of this number has
 pub record IsCodeOf (cs : List ClassFile) (number : ℕ) (k : Code) : Type 0 where
@@ -40,11 +41,11 @@ body_of cs n k h = body_in cs h.class k
 abbrev pub found_in : (cs : List ClassFile) (n : ℕ) (k : Code) → IsCodeOf cs n k → Result Frames ℕ
 found_in cs n k h = frames_of h.class h.member k
 
--- the frames by place are those, or the fault is the place at which they fail
-abbrev pub AreMaps : List ClassFile → Result Frames ℕ → Result MapFrames MapFault → Type 0
-AreMaps cs found (Ok maps) = (fs : Frames) × (found ≡ Ok fs) × ((place : ℕ) → maps_in cs (Ok fs) place ≡ frames_at maps place)
-AreMaps cs found (Err (Bad place)) = found ≡ Err place
-AreMaps cs found (Err NoMemory) = Unit {0}
+-- the frames by place are those, the lists of types of local variables being these and perhaps others behind them, or the fault is the place at which they fail
+abbrev pub AreMaps : List (List VarType) → List ClassFile → Result Frames ℕ → Result MapFrames MapFault → Type 0
+AreMaps ls cs found (Ok maps) = (fs : Frames) × (found ≡ Ok fs) × AreGiven ls maps (maps_in cs (Ok fs))
+AreMaps ls cs found (Err (Bad place)) = found ≡ Err place
+AreMaps ls cs found (Err NoMemory) = Unit {0}
 
 -- ---- what the code answers
 

@@ -12,12 +12,13 @@ use Rattle.bytecode_typing.specs.Types.{VarType, TypeFrame}
 use Rattle.bytecode_typing.specs.Rules as rules
 use Rattle.bytecode_typing.specs.Walk as walk
 use Rattle.verifier_types.specs.Frame.{frame_seen}
+use Rattle.verifier_types.specs.Locals.{LocalTable, lists_seen}
 use Rattle.verifier_types.specs.Site.{Site, rule_seen}
 use Rattle.bytecode_verifier.specs.declared.rows.Checking.{Checking}
 use Rattle.bytecode_verifier.specs.declared.place.Step.{Step}
 use Rattle.bytecode_verifier.specs.declared.place.Step.TheVariants.{Breaks, Goes}
 use Rattle.bytecode_verifier.specs.Handled.{HoldAlike, IsHeld}
-use Rattle.bytecode_verifier.specs.Maps.{frames_at}
+use Rattle.bytecode_verifier.specs.Maps.{AreGiven}
 
 -- the code of the method of this number is what is checked
 pub record HasCode (c : Checking) (number : ℕ) : Type 0 where
@@ -25,13 +26,14 @@ pub record HasCode (c : Checking) (number : ℕ) : Type 0 where
   pub there : body_of (resolved c.program.now) number ≡ Some body
   pub code : body.code ≡ c.code.now
 
--- what is checked is the method m of this number with its body b, and the frames of its StackMapTable by place
-pub record IsMethodOf (c : Checking) (number : ℕ) (m : Method) (b : Body) (given : ℕ → Option TypeFrame) : Type 0 where
-  pub classes : resolved c.around.classes.now ≡ resolved c.program.now
+-- what is checked is the method m of this number with its body b, and the frames of its StackMapTable by place, the lists of types of local variables being those of this table and perhaps others behind them
+pub record IsMethodOf (t : LocalTable) (c : Checking) (number : ℕ) (m : Method) (b : Body) (given : ℕ → Option TypeFrame) : Type 0 where
+  pub classes : t.classes ≡ c.program.now
+  pub around : c.around.classes.now ≡ c.program.now
   pub owner : m.owner ≡ c.around.owner
   pub init : m.is_init ≡ c.around.is_init
   pub stands : c.around.number ≡ number
-  pub maps : (place : ℕ) → given place ≡ frames_at c.maps.now place
+  pub maps : AreGiven (lists_seen t) c.maps.now given
   pub locals : b.max_locals ≡ c.max_locals
   pub stack : b.max_stack ≡ c.max_stack
   pub code : b.code ≡ c.code.now

@@ -1,18 +1,17 @@
 //! Calls (JVM Specification SE 8, 4.10.1.9).
-ghost use Rattle.std.specs.Prelude.{◌≡◌, ◌++◌, ◌&&◌, ◌||◌, ◌==◌, not, ℕ, List, map, reverse, true, Some, None, IfOk, OnOk, slice_get};
+ghost use Rattle.std.specs.Prelude.{◌≡◌, ◌++◌, ◌&&◌, not, ℕ, List, map, reverse, true, Some, None, IfOk, OnOk, slice_get};
 ghost use Rattle.std.specs.Option.{option_map};
-ghost use Rattle.std.specs.List.{list_all};
 ghost use Rattle.bytecode_model.specs.Program as model;
 ghost use Rattle.bytecode_model.specs.Rows as rows;
 ghost use Rattle.bytecode_typing.specs.Types as typing;
-ghost use Rattle.bytecode_typing.specs.Types.{is_initialized, result_types};
+ghost use Rattle.bytecode_typing.specs.Types.{result_types};
 ghost use Rattle.bytecode_typing.specs.Checks as checks;
 ghost use Rattle.bytecode_typing.specs.Rules.{Leaves};
 ghost use Rattle.program_tables.specs.Meanings.{declared_seen, HasShape};
 ghost use Rattle.verifier_types.specs.Frame.{frame_seen, operands_seen};
 ghost use Rattle.verifier_types.specs.Seen.{type_seen, moved_seen};
-ghost use Rattle.verifier_types.specs.Locals.{lists_seen};
-ghost use Rattle.verifier_types.specs.Site.{Site, Checks, ChecksIn, checked_seen};
+ghost use Rattle.verifier_types.specs.Locals.{HasListsOf, lists_seen};
+ghost use Rattle.verifier_types.specs.Site.{ChecksOver, Site, Checks, checked_seen};
 ghost use Rattle.bytecode_verifier.specs.Around.{StandsAt};
 ghost use Rattle.bytecode_verifier.specs.Arguments.{arguments_found};
 ghost use Rattle.bytecode_verifier.specs.Calls.{init_left, super_left, virtual_left};
@@ -88,14 +87,16 @@ pub fn check_static(
 }
 
 /// A call of an `<init>` once its arguments are taken.
+#[tactic(auto, using(crate::proofs::ListedLemmas::lists_again, crate::proofs::ListedLemmas::lists_kept))]
 fn check_begin(
     around: &Around<'_>,
-    lists: &LocalLists,
+    lists: &mut LocalLists<'_>,
     frame: &mut TypeFrame,
     named: u32,
     all: bool,
 ) -> Result<Checked, NoMemory>
-    ensures { let ls = lists_seen lists.now in IfOk result (λ c. (s : Site) (first : List typing.VarType) → StandsAt around.now s → checked_seen c (frame_seen ls frame.new) ≡ init_left s (record (frame_seen ls frame.old) { stack = first }) named all (operands_seen frame.old.operands)) }
+    ensures lists { OnOk result (HasListsOf lists.old lists.new) }
+    ensures checks { IfOk result (λ c. (s : Site) (first : List typing.VarType) → StandsAt around.now s → checked_seen c (frame_seen (lists_seen lists.new) frame.new) ≡ init_left s (record (frame_seen (lists_seen lists.old) frame.old) { stack = first }) named all (operands_seen frame.old.operands)) }
 {
     let object = match frame.operands.pop() {
         Some(item) => item,
@@ -154,15 +155,17 @@ fn check_super(
 }
 
 /// `invokespecial` of this method, named through the class `named`.
+#[tactic(auto, using(crate::proofs::ListedLemmas::lists_again, crate::proofs::ListedLemmas::lists_kept))]
 pub fn check_special(
     around: &Around<'_>,
-    lists: &LocalLists,
+    lists: &mut LocalLists<'_>,
     guarded: bool,
     frame: &mut TypeFrame,
     named: u32,
     callee: &MethodShape,
 ) -> Result<Checked, NoMemory>
-    ensures { IfOk result (λ c. (s : Site) (number : ℕ) (k : model.Method) → StandsAt around.now s → s.program.guarded s.number s.place ≡ guarded → slice_get s.program.methods number ≡ Some k → HasShape callee.now k → ChecksIn (lists_seen lists.now) s (rows.CallSpecial named number) frame.old c frame.new) }
+    ensures lists { OnOk result (HasListsOf lists.old lists.new) }
+    ensures checks { IfOk result (λ c. (s : Site) (number : ℕ) (k : model.Method) → StandsAt around.now s → s.program.guarded s.number s.place ≡ guarded → slice_get s.program.methods number ≡ Some k → HasShape callee.now k → ChecksOver (lists_seen lists.old) (lists_seen lists.new) s (rows.CallSpecial named number) frame.old c frame.new) }
 {
     what_is_taken_is_found();
     let all = match pop_arguments(around, &mut frame.operands, callee.parameters.as_slice()) {

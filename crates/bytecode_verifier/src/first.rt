@@ -5,10 +5,10 @@ ghost use Rattle.bytecode_typing.specs.Types as typing;
 ghost use Rattle.bytecode_typing.specs.Walk.{begins_uninitialized, this_types, first_types};
 ghost use Rattle.program_tables.specs.Meanings.{declared_seen, HasShape};
 ghost use Rattle.verifier_types.specs.Frame.{frame_seen};
-ghost use Rattle.verifier_types.specs.Locals.{LocalTable};
+ghost use Rattle.verifier_types.specs.Locals.{HasListsOf, LocalTable};
 ghost use Rattle.verifier_types.specs.Seen.{type_seen, types_seen};
 ghost use Rattle.bytecode_verifier.specs.Begun.{asked_of, first_kinds, BeginsIfRoom};
-ghost use Rattle.bytecode_verifier.specs.Listed.{HasListsOf, HasLocals};
+ghost use Rattle.bytecode_verifier.specs.Listed.{HasLocals};
 
 use crate::names::{Current, all_locals};
 use crate::seen::{of_class, type_of};
@@ -97,7 +97,7 @@ fn first_locals(alloc: Global, types: &[VarType]) -> Result<Vec<FirstLocal>, NoM
 /// How a method begins, if its local variables have room.
 pub fn begin(
     alloc: Global,
-    lists: &mut LocalLists,
+    lists: &mut LocalLists<'_>,
     shape: &MethodShape,
     max_locals: u16,
 ) -> Result<Option<Beginning>, NoMemory>
@@ -119,7 +119,7 @@ pub fn first_frame(alloc: Global, locals: &Current, shape: &MethodShape) -> Type
 {
     what_has_room_is_filled();
     let flag = begins_uninitialized(shape);
-    let locals = Locals::new(alloc, locals.list);
+    let locals = Locals::new(locals.list);
     let operands = Operands::new(Vec::new(alloc));
     TypeFrame {
         locals,

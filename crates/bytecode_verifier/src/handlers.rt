@@ -6,15 +6,15 @@ ghost use Rattle.bytecode_typing.specs.Walk as walk;
 ghost use Rattle.program_tables.specs.Meanings.{handler_seen};
 ghost use Rattle.program_tables.specs.Resolved.{resolved};
 ghost use Rattle.verifier_types.specs.Frame.{frame_seen};
-ghost use Rattle.bytecode_verifier.specs.Maps.{lists_in, frames_at};
+ghost use Rattle.verifier_types.specs.Locals.{lists_seen};
+ghost use Rattle.bytecode_verifier.specs.Maps.{frames_at};
 ghost use Rattle.bytecode_verifier.specs.Handled.{takes, WasAsked, IsHeld, HoldAlike};
 
 use crate::maps::{MapFrames, frame_at};
 use crate::objects::THROWABLE;
 use crate::ranges::joined_ranges;
-use class_hierarchy::Hierarchy;
 use program_tables::{Base, Handler, ObjectKind};
-use verifier_types::{TypeFrame, VarType, is_assignable_kind};
+use verifier_types::{LocalLists, TypeFrame, VarType, is_assignable_kind};
 
 /// An exception table in the order in which its ranges begin.
 #[derive(Drop)]
@@ -61,8 +61,14 @@ fn begun_before(handlers: &Handlers, asked: Option<u32>, place: u32) -> usize
 }
 
 /// Whether what the handler catches is a Throwable, and it takes the local variables with that alone on the stack.
-fn is_handled(classes: &Hierarchy, maps: &MapFrames, frame: &TypeFrame, handler: &Handler) -> bool
-    ensures { result ≡ walk.is_handled (resolved classes.now) (frames_at maps.now) (frame_seen (lists_in maps.now) frame.now) (handler_seen handler.now) }
+fn is_handled(
+    lists: &mut LocalLists<'_>,
+    maps: &MapFrames,
+    frame: &TypeFrame,
+    handler: &Handler,
+) -> bool
+    ensures handled { let ls = lists_seen lists.old in result ≡ walk.is_handled (resolved lists.old.classes) (frames_at ls maps.now) (frame_seen ls frame.now) (handler_seen handler.now) }
+    ensures kept { lists.new ≡ lists.old }
 {
     let throwable = ObjectKind {
         dimensions: 0,
@@ -70,7 +76,7 @@ fn is_handled(classes: &Hierarchy, maps: &MapFrames, frame: &TypeFrame, handler:
     };
     let caught = match handler.caught {
         Some(kind) => {
-            if !is_assignable_kind(classes, kind, throwable) {
+            if !is_assignable_kind(lists.classes(), kind, throwable) {
                 return false;
             }
             kind
@@ -78,41 +84,43 @@ fn is_handled(classes: &Hierarchy, maps: &MapFrames, frame: &TypeFrame, handler:
         None => throwable,
     };
     match frame_at(maps, u64::from(handler.target)) {
-        Some(target) => frame.raises_to(classes, &maps.lists, VarType::Reference(caught), target),
+        Some(target) => frame.raises_to(lists, VarType::Reference(caught), target),
         None => false,
     }
 }
 
 /// Whether the handler takes the frame, if it covers the place.
 fn takes(
-    classes: &Hierarchy,
+    lists: &mut LocalLists<'_>,
     maps: &MapFrames,
     place: u32,
     frame: &TypeFrame,
     handler: &Handler,
 ) -> bool
-    ensures { result ≡ takes (resolved classes.now) (frames_at maps.now) place (frame_seen (lists_in maps.now) frame.now) (handler_seen handler.now) }
+    ensures taken { let ls = lists_seen lists.old in result ≡ takes (resolved lists.old.classes) (frames_at ls maps.now) place (frame_seen ls frame.now) (handler_seen handler.now) }
+    ensures kept { lists.new ≡ lists.old }
 {
     let covers = u32::from(handler.start) <= place && place < u32::from(handler.end);
-    !covers || is_handled(classes, maps, frame, handler)
+    !covers || is_handled(lists, maps, frame, handler)
 }
 
 /// Whether each handler that covers the place takes the frame. Where those that cover an earlier place do, only those are asked that
 /// begin behind it.
 pub fn are_handled(
-    classes: &Hierarchy,
+    lists: &mut LocalLists<'_>,
     maps: &MapFrames,
     asked: Option<u32>,
     place: u32,
     frame: &TypeFrame,
     handlers: &Handlers,
 ) -> bool
-    ensures { IsHeld (resolved classes.now) (frames_at maps.now) asked (Some (frame_seen (lists_in maps.now) frame.now)) (map handler_seen handlers.now.items.items) → result ≡ walk.handlers_hold (resolved classes.now) (frames_at maps.now) place (frame_seen (lists_in maps.now) frame.now) (map handler_seen handlers.now.items.items) }
+    ensures handled { let P = resolved lists.old.classes in let ls = lists_seen lists.old in IsHeld P (frames_at ls maps.now) asked (Some (frame_seen ls frame.now)) (map handler_seen handlers.now.items.items) → result ≡ walk.handlers_hold P (frames_at ls maps.now) place (frame_seen ls frame.now) (map handler_seen handlers.now.items.items) }
+    ensures kept { lists.new ≡ lists.old }
 {
     let first = begun_before(handlers, asked, place);
     let end = begun(handlers, place);
     for index in first..end {
-        if !takes(classes, maps, place, frame, &handlers.items[index]) {
+        if !takes(lists, maps, place, frame, &handlers.items[index]) {
             return false;
         }
     }

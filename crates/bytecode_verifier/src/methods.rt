@@ -1,8 +1,7 @@
 //! The rules of a method in their order, and what fails first in a program (JVM Specification SE 8, 4.7.3, 4.7.4, 4.9.1 and 4.10.1).
-ghost use Rattle.std.specs.Prelude.{◌≡◌, ◌<◌, ◌≤◌, ◌==◌, ◌&&◌, ◌||◌, ℕ, List, Option, Some, None, length, map, find, not, is_ok, IfOk, slice_get};
+ghost use Rattle.std.specs.Prelude.{◌≡◌, ◌<◌, ◌≤◌, ◌&&◌, ◌||◌, ℕ, List, Option, Some, length, map, IfOk, OnOk, slice_get};
 ghost use Rattle.std.specs.Option.{option_map};
 ghost use Rattle.std.specs.List.{filter};
-ghost use Rattle.jop_opcodes.specs.Instruction.{decoded};
 ghost use Rattle.jop_opcodes.specs.Start.{starts_of, first_bad};
 ghost use Rattle.class_pool.specs.declared.class.ClassFile.{ClassFile};
 ghost use Rattle.bytecode_model.specs.Program as model;
@@ -13,11 +12,11 @@ ghost use Rattle.program_tables.specs.Meanings.{handler_seen};
 ghost use Rattle.program_tables.specs.Numbers.{methods_by_number};
 ghost use Rattle.program_tables.specs.Resolved.{handler_of, resolved};
 ghost use Rattle.verifier_types.specs.Frame.{frame_seen};
+ghost use Rattle.verifier_types.specs.Locals.{HasListsOf, LocalTable, lists_seen};
 ghost use Rattle.bytecode_verifier.specs.Begun.{first_kinds, BeginsIfRoom};
 ghost use Rattle.bytecode_verifier.specs.Failure.{is_bad_entry, lesser, least, types_failure, code_failure, method_failure, walk_failure};
 ghost use Rattle.bytecode_verifier.specs.Handled.{HoldAlike};
-ghost use Rattle.bytecode_verifier.specs.Listed.{HasListsOf};
-ghost use Rattle.bytecode_verifier.specs.Maps.{lists_in, frames_at};
+ghost use Rattle.bytecode_verifier.specs.Maps.{AreGiven};
 ghost use Rattle.bytecode_verifier.specs.Verdict.{IsFirstFailure};
 ghost use Rattle.bytecode_verifier.specs.Methods.{IsCodeOf, method_of, body_of, found_in, AreMaps, failure_seen, walk_failed};
 ghost use Rattle.bytecode_verifier.specs.Place.{HasCode, IsMethodOf};
@@ -129,6 +128,7 @@ fn handlers_of(
 fn walk_places(
     alloc: Global,
     checking: &Checking<'_>,
+    lists: &mut LocalLists<'_>,
     number: u32,
     starts: &[u32],
     first: TypeFrame,
@@ -136,12 +136,12 @@ fn walk_places(
     requires method { number < length (methods_by_number checking.now.program.now) }
     requires code { HasCode checking.now number }
     requires small { length checking.now.code.now ≤ 33554432 }
-    ensures { IfOk result (λ failed. (m : model.Method) (b : model.Body) (maps : ℕ → Option typing.TypeFrame) → IsMethodOf checking.now number m b maps → option_map walk_failed failed ≡ walk_failure (walk.walk (resolved checking.now.program.now) number m b maps starts.now (Some (frame_seen (lists_in checking.now.maps.now) first)))) }
+    ensures { IfOk result (λ failed. (m : model.Method) (b : model.Body) (maps : ℕ → Option typing.TypeFrame) → IsMethodOf lists.old checking.now number m b maps → option_map walk_failed failed ≡ walk_failure (walk.walk (resolved checking.now.program.now) number m b maps starts.now (Some (frame_seen (lists_seen lists.old) first)))) }
 {
     let mut falling = Some(first);
     let mut asked = None;
     for place in starts {
-        match verdict_at(alloc, checking, number, *place, falling, asked)? {
+        match verdict_at(alloc, checking, lists, number, *place, falling, asked)? {
             Step::Breaks(rule) => return Ok(Some((*place, rule))),
             Step::Goes(frame, held) => {
                 falling = frame;
@@ -166,7 +166,7 @@ fn checking_of<'a>(
     ensures code { result.code.now ≡ code.now.code }
     ensures maps { result.maps.now ≡ maps.now }
     ensures there { HasCode result number }
-    ensures method { (h : IsCodeOf program.now number code.now) (given : ℕ → Option typing.TypeFrame) → ((place : ℕ) → given place ≡ frames_at maps.now place) → HoldAlike (map (handler_of program.now h.class) code.now.handlers) (map handler_seen handlers.now.items.items) → IsMethodOf result number (method_of program.now number code.now h) (body_of program.now number code.now h) given }
+    ensures method { (h : IsCodeOf program.now number code.now) (given : ℕ → Option typing.TypeFrame) (t : LocalTable) → t.classes ≡ program.now → AreGiven (lists_seen t) maps.now given → HoldAlike (map (handler_of program.now h.class) code.now.handlers) (map handler_seen handlers.now.items.items) → IsMethodOf t result number (method_of program.now number code.now h) (body_of program.now number code.now h) given }
 {
     members_are_there();
     methods_stand_by_number();
@@ -197,42 +197,44 @@ fn walk_method(
     program: &Program,
     number: u32,
     code: &Code,
+    starts: &[u32],
+    lists: &mut LocalLists<'_>,
     first: TypeFrame,
     maps: &MapFrames,
 ) -> Result<Option<Failure>, NoMemory>
     requires method { number < length (methods_by_number program.now) }
     requires code { IsCodeOf program.now number code.now }
+    requires starts { starts.now ≡ starts_of code.now.code }
     requires small { length code.now.code ≤ 33554432 }
-    ensures { IfOk result (λ failure. (h : IsCodeOf program.now number code.now) (given : ℕ → Option typing.TypeFrame) → walk.first_types (method_of program.now number code.now h) (body_of program.now number code.now h) ≡ Some (frame_seen (lists_in maps.now) first) → ((place : ℕ) → given place ≡ frames_at maps.now place) → option_map failure_seen failure ≡ walk_failure (walk.walked (resolved program.now) number (method_of program.now number code.now h) (body_of program.now number code.now h) given)) }
+    requires classes { lists.old.classes ≡ program.now }
+    ensures { IfOk result (λ failure. (h : IsCodeOf program.now number code.now) (given : ℕ → Option typing.TypeFrame) → walk.first_types (method_of program.now number code.now h) (body_of program.now number code.now h) ≡ Some (frame_seen (lists_seen lists.old) first) → AreGiven (lists_seen lists.old) maps.now given → option_map failure_seen failure ≡ walk_failure (walk.walked (resolved program.now) number (method_of program.now number code.now h) (body_of program.now number code.now h) given)) }
 {
     members_are_there();
     let class = program.method(number).class;
-    let starts = starts(alloc, code.code.as_slice())?;
     let handlers = by_start(handlers_of(alloc, program, class, code.handlers.as_slice())?);
     let checking = checking_of(program, number, code, maps, &handlers);
-    match walk_places(alloc, &checking, number, &starts, first)? {
+    match walk_places(alloc, &checking, lists, number, starts, first)? {
         Some((place, rule)) => Ok(Some((place, MethodRule::Walk(rule)))),
         None => Ok(None),
     }
 }
 
-/// The frames of the StackMapTable of the method of this number, which begins so, behind the lists of types of local variables that
-/// there are.
+/// The frames of the StackMapTable of the method of this number, which begins so. Their local variables refer to the lists.
 fn maps_of(
     alloc: Global,
     program: &Program,
     number: u32,
     code: &Code,
-    lists: LocalLists,
+    lists: &mut LocalLists<'_>,
     first: Beginning,
 ) -> Result<MapFrames, MapFault>
     requires method { number < length (methods_by_number program.now) }
     requires code { IsCodeOf program.now number code.now }
     requires small { length code.now.code ≤ 33554432 }
-    requires room { lists.max_locals ≡ code.now.max_locals }
-    requires begins { (h : IsCodeOf program.now number code.now) → BeginsIfRoom lists (Some first) (first_kinds (method_of program.now number code.now h)) }
-    ensures maps { (h : IsCodeOf program.now number code.now) → AreMaps program.now (found_in program.now number code.now h) result }
-    ensures lists { IfOk result (λ maps. HasListsOf lists maps.lists) }
+    requires room { lists.old.max_locals ≡ code.now.max_locals }
+    requires begins { (h : IsCodeOf program.now number code.now) → BeginsIfRoom lists.old (Some first) (first_kinds (method_of program.now number code.now h)) }
+    ensures maps { (h : IsCodeOf program.now number code.now) → AreMaps (lists_seen lists.new) program.now (found_in program.now number code.now h) result }
+    ensures lists { OnOk result (HasListsOf lists.old lists.new) }
 {
     members_are_there();
     frames_stand_at_instructions();
@@ -261,22 +263,28 @@ fn types_failure(
     program: &Program,
     number: u32,
     code: &Code,
+    starts: &[u32],
 ) -> Result<Option<Failure>, NoMemory>
     requires method { number < length (methods_by_number program.now) }
     requires code { IsCodeOf program.now number code.now }
+    requires starts { starts.now ≡ starts_of code.now.code }
     requires small { length code.now.code ≤ 33554432 }
     ensures { IfOk result (λ failure. (h : IsCodeOf program.now number code.now) → let m = method_of program.now number code.now h in let b = body_of program.now number code.now h in option_map failure_seen failure ≡ types_failure program.now number m b (walk.first_types m b) (found_in program.now number code.now h)) }
 {
     methods_stand_by_number();
-    let mut lists = LocalLists::new(alloc, code.max_locals)?;
+    let mut lists = LocalLists::new(alloc, program.hierarchy(), code.max_locals)?;
     let shape = program.shape(number);
     let begun = match begin(alloc, &mut lists, shape, code.max_locals)? {
         Some(begun) => begun,
         None => return Ok(Some((0, MethodRule::Map))),
     };
     let first = first_frame(alloc, &begun.locals, shape);
-    match maps_of(alloc, program, number, code, lists, begun) {
-        Ok(maps) => walk_method(alloc, program, number, code, first, &maps),
+    match maps_of(alloc, program, number, code, &mut lists, begun) {
+        Ok(maps) => {
+            walk_method(
+                alloc, program, number, code, starts, &mut lists, first, &maps,
+            )
+        }
         Err(fault) => match fault {
             MapFault::Bad(place) => Ok(Some((place, MethodRule::Map))),
             MapFault::NoMemory => Err(NoMemory),
@@ -304,7 +312,7 @@ fn code_failure(
     if let Some(place) = least_bad_start(bytes, &starts, code.handlers.as_slice()) {
         return Ok(Some((u32::from(place), MethodRule::Table)));
     }
-    types_failure(alloc, program, number, code)
+    types_failure(alloc, program, number, code, &starts)
 }
 
 /// What fails first in the method of this number.

@@ -1,5 +1,5 @@
 //! Frames that a StackMapTable gives as changes, as frames of types (JVM Specification SE 8, 4.7.4 and 4.10.1.2).
-ghost use Rattle.std.specs.Prelude.{◌≡◌, ◌≤◌, ◌<◌, ◌+◌, ◌-◌, ◌∷◌, [], ◌++◌, ℕ, List, length, map, take, drop, reverse, replicate, Some, None, IfOk, OnOk, slice_get};
+ghost use Rattle.std.specs.Prelude.{◌≡◌, ◌≤◌, ◌<◌, ◌+◌, ◌-◌, ◌∷◌, [], ◌++◌, ℕ, List, length, map, take, replicate, Some, None, IfOk, OnOk, slice_get};
 ghost use Rattle.std.specs.List.{AllByRecursion};
 ghost use Rattle.class_pool.specs.declared.class.ClassFile.{ClassFile};
 ghost use Rattle.class_pool.specs.declared.class.Code.{Code};
@@ -13,9 +13,9 @@ ghost use Rattle.frame_types.specs.declared.types.VarType.TheVariants.{Object};
 ghost use Rattle.frame_types.specs.Frames.{changed, frame_of};
 ghost use Rattle.frame_types.specs.Steps.{named as type_named, change_named, AreSteps};
 ghost use Rattle.verifier_types.specs.Frame.{frame_seen};
-ghost use Rattle.verifier_types.specs.Locals.{LocalTable, lists_seen, filled};
+ghost use Rattle.verifier_types.specs.Locals.{HasListsOf, LocalTable, lists_seen, filled};
 ghost use Rattle.verifier_types.specs.Seen.{type_seen, types_seen};
-ghost use Rattle.bytecode_verifier.specs.Listed.{HasListsOf, IsListed, IsListOf, words_of, starts_from, HasLocals, HasLocalsIfRoom, types_by};
+ghost use Rattle.bytecode_verifier.specs.Listed.{IsListed, IsListOf, words_of, starts_from, HasLocals, HasLocalsIfRoom, types_by};
 ghost use Rattle.bytecode_verifier.specs.Maps.{seen_at, frames_seen, frames_at};
 ghost use Rattle.bytecode_verifier.specs.Named.{type_by, frame_by, frames_by};
 
@@ -96,7 +96,11 @@ fn behind(index: u32, item: VarType) -> Result<u32, NoMemory>
 }
 
 /// Adds a local variable behind the others, which has its room.
-fn add_local(lists: &mut LocalLists, current: &mut Current, item: VarType) -> Result<(), NoMemory>
+fn add_local(
+    lists: &mut LocalLists<'_>,
+    current: &mut Current,
+    item: VarType,
+) -> Result<(), NoMemory>
     ensures lists { OnOk result (HasListsOf lists.old lists.new) }
     ensures locals { OnOk result ((types : List typing.VarType) → length (words_of (types ++ type_seen item ∷ [])) ≤ lists.old.max_locals → HasLocals lists.old current.old types → HasLocals lists.new current.new (types ++ type_seen item ∷ [])) }
 {
@@ -109,7 +113,7 @@ fn add_local(lists: &mut LocalLists, current: &mut Current, item: VarType) -> Re
 /// Adds local variables behind the others, which have their room.
 fn add_locals(
     of: &Owner<'_>,
-    lists: &mut LocalLists,
+    lists: &mut LocalLists<'_>,
     current: &mut Current,
     entries: &[EntryType],
 ) -> Result<(), NoMemory>
@@ -123,7 +127,7 @@ fn add_locals(
 }
 
 /// A list that is another one but for Top at the words from one index to another.
-fn forget_words(lists: &mut LocalLists, list: u32, from: u32, end: u32) -> Result<u32, NoMemory>
+fn forget_words(lists: &mut LocalLists<'_>, list: u32, from: u32, end: u32) -> Result<u32, NoMemory>
     ensures lists { OnOk result (HasListsOf lists.old lists.new) }
     ensures list { IfOk result (λ number. (words : List typing.VarType) → length words ≤ lists.old.max_locals → length words ≡ end → from ≤ end → IsListed lists.old list (filled lists.old.max_locals words) → IsListed lists.new number (filled lists.old.max_locals (take from words))) }
 {
@@ -148,7 +152,7 @@ fn start_of(current: &Current, index: usize) -> u32
 }
 
 /// Takes so many of the last local variables away, which are there.
-fn chop_locals(lists: &mut LocalLists, current: &mut Current, count: u8) -> Result<(), NoMemory>
+fn chop_locals(lists: &mut LocalLists<'_>, current: &mut Current, count: u8) -> Result<(), NoMemory>
     ensures lists { OnOk result (HasListsOf lists.old lists.new) }
     ensures locals { OnOk result ((types : List typing.VarType) → count ≤ length types → HasLocals lists.old current.old types → HasLocals lists.new current.new (take (length types - count) types)) }
 {
@@ -201,7 +205,7 @@ fn spread(alloc: Global, types: &[VarType]) -> Result<Vec<VarType>, NoMemory>
 /// The number of the list of these types and then Top; nothing where they are more than the local variables.
 fn list_of(
     alloc: Global,
-    lists: &mut LocalLists,
+    lists: &mut LocalLists<'_>,
     types: &[VarType],
     max_locals: u16,
 ) -> Result<Option<u32>, NoMemory>
@@ -221,7 +225,7 @@ fn list_of(
 /// All local variables, if they have room.
 pub fn all_locals(
     alloc: Global,
-    lists: &mut LocalLists,
+    lists: &mut LocalLists<'_>,
     types: &[VarType],
     max_locals: u16,
 ) -> Result<Option<Current>, NoMemory>
@@ -246,7 +250,7 @@ pub fn all_locals(
 fn full_locals(
     alloc: Global,
     of: &Owner<'_>,
-    lists: &mut LocalLists,
+    lists: &mut LocalLists<'_>,
     current: &mut Current,
     entries: &[EntryType],
     max_locals: u16,
@@ -269,7 +273,7 @@ fn full_locals(
 fn change_locals(
     alloc: Global,
     of: &Owner<'_>,
-    lists: &mut LocalLists,
+    lists: &mut LocalLists<'_>,
     current: &mut Current,
     change: &StepChange,
     max_locals: u16,
@@ -304,7 +308,7 @@ fn stack_of(alloc: Global, of: &Owner<'_>, change: &StepChange) -> Result<Vec<Va
 fn frame_behind(
     alloc: Global,
     of: &Owner<'_>,
-    lists: &mut LocalLists,
+    lists: &mut LocalLists<'_>,
     current: &mut Current,
     step: &MapStep,
     max_locals: u16,
@@ -317,7 +321,7 @@ fn frame_behind(
     what_has_room_is_filled();
     change_locals(alloc, of, lists, current, &step.change, max_locals)?;
     let stack = stack_of(alloc, of, &step.change)?;
-    let locals = Locals::new(alloc, current.list);
+    let locals = Locals::new(current.list);
     let operands = Operands::new(stack);
     Ok(TypeFrame {
         locals,
@@ -330,14 +334,14 @@ fn frame_behind(
 fn placed_frames(
     alloc: Global,
     of: &Owner<'_>,
-    lists: &mut LocalLists,
+    lists: &mut LocalLists<'_>,
     first: Current,
     steps: &[MapStep],
     max_locals: u16,
 ) -> Result<Vec<(u32, TypeFrame)>, NoMemory>
     requires { lists.old.max_locals ≡ max_locals }
     ensures lists { OnOk result (HasListsOf lists.old lists.new) }
-    ensures frames { IfOk result (λ found. (c : ClassFile) (k : Code) (locals : List named_types.VarType) (xs : List (ℕ × named_frames.TypeFrame)) → slice_get of.now.program.now of.now.class ≡ Some c → k.max_locals ≡ max_locals → HasLocals lists.old first (types_by of.now.program.now locals) → AreSteps c.pool k locals steps.now xs → frames_seen (lists_seen lists.new) found.items ≡ frames_by of.now.program.now xs) }
+    ensures frames { IfOk result (λ found. (c : ClassFile) (k : Code) (locals : List named_types.VarType) (xs : List (ℕ × named_frames.TypeFrame)) (more : List (List typing.VarType)) → slice_get of.now.program.now of.now.class ≡ Some c → k.max_locals ≡ max_locals → HasLocals lists.old first (types_by of.now.program.now locals) → AreSteps c.pool k locals steps.now xs → frames_seen (lists_seen lists.new ++ more) found.items ≡ frames_by of.now.program.now xs) }
     ensures places { IfOk result (λ found. map (λ x. x.0) found.items ≡ map (λ s. s.place) steps.now) }
 {
     let mut current = first;
@@ -377,22 +381,22 @@ fn by_place(
 }
 
 /// The frames of a StackMapTable, whose places are within a code of so many bytes, behind the local variables with which the method
-/// begins, and the lists that there are.
+/// begins. Their local variables refer to the lists.
 pub fn map_frames(
     alloc: Global,
     of: &Owner<'_>,
-    mut lists: LocalLists,
+    lists: &mut LocalLists<'_>,
     first: Current,
     steps: &[MapStep],
     max_locals: u16,
     length: u32,
 ) -> Result<MapFrames, NoMemory>
-    requires room { lists.max_locals ≡ max_locals }
+    requires room { lists.old.max_locals ≡ max_locals }
     requires within { AllByRecursion (λ s. s.place < length) steps.now }
-    ensures lists { IfOk result (λ maps. HasListsOf lists maps.lists) }
-    ensures frames { IfOk result (λ maps. (c : ClassFile) (k : Code) (locals : List named_types.VarType) (xs : List (ℕ × named_frames.TypeFrame)) (place : ℕ) → slice_get of.now.program.now of.now.class ≡ Some c → k.max_locals ≡ max_locals → HasLocals lists first (types_by of.now.program.now locals) → AreSteps c.pool k locals steps.now xs → frames_at maps place ≡ frame_among (frames_by of.now.program.now xs) place) }
+    ensures lists { OnOk result (HasListsOf lists.old lists.new) }
+    ensures frames { IfOk result (λ maps. (c : ClassFile) (k : Code) (locals : List named_types.VarType) (xs : List (ℕ × named_frames.TypeFrame)) (more : List (List typing.VarType)) (place : ℕ) → slice_get of.now.program.now of.now.class ≡ Some c → k.max_locals ≡ max_locals → HasLocals lists.old first (types_by of.now.program.now locals) → AreSteps c.pool k locals steps.now xs → frames_at (lists_seen lists.new ++ more) maps place ≡ frame_among (frames_by of.now.program.now xs) place) }
 {
-    let frames = placed_frames(alloc, of, &mut lists, first, steps, max_locals)?;
+    let frames = placed_frames(alloc, of, lists, first, steps, max_locals)?;
     let by_place = by_place(alloc, frames, length)?;
-    Ok(MapFrames { lists, by_place })
+    Ok(MapFrames { by_place })
 }

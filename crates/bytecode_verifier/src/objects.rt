@@ -1,8 +1,8 @@
 //! Objects that are made and thrown (JVM Specification SE 8, 4.10.1.9).
-ghost use Rattle.std.specs.Prelude.{◌≡◌, ℕ, IfOk};
+ghost use Rattle.std.specs.Prelude.{◌≡◌, ℕ, IfOk, OnOk};
 ghost use Rattle.bytecode_model.specs.Rows as rows;
-ghost use Rattle.verifier_types.specs.Locals.{lists_seen};
-ghost use Rattle.verifier_types.specs.Site.{Site, Checks, ChecksIn};
+ghost use Rattle.verifier_types.specs.Locals.{HasListsOf, lists_seen};
+ghost use Rattle.verifier_types.specs.Site.{ChecksOver, Site, Checks};
 ghost use Rattle.bytecode_verifier.specs.Around.{StandsAt};
 
 use crate::around::Around;
@@ -14,8 +14,14 @@ use verifier_types::{Checked, GOES, Left, LocalLists, Rule, TypeFrame, VarType};
 pub const THROWABLE: u32 = 4;
 
 /// `new` at this place.
-pub fn check_new(lists: &LocalLists, frame: &mut TypeFrame, place: u32) -> Result<Checked, NoMemory>
-    ensures { IfOk result (λ c. (s : Site) (class : ℕ) → s.place ≡ place → ChecksIn (lists_seen lists.now) s (rows.New class) frame.old c frame.new) }
+#[tactic(auto, using(crate::proofs::ListedLemmas::lists_again, crate::proofs::ListedLemmas::lists_kept))]
+pub fn check_new(
+    lists: &mut LocalLists<'_>,
+    frame: &mut TypeFrame,
+    place: u32,
+) -> Result<Checked, NoMemory>
+    ensures lists { OnOk result (HasListsOf lists.old lists.new) }
+    ensures checks { IfOk result (λ c. (s : Site) (class : ℕ) → s.place ≡ place → ChecksOver (lists_seen lists.old) (lists_seen lists.new) s (rows.New class) frame.old c frame.new) }
 {
     if frame.operands.holds_made(place) {
         return Ok(Checked::Fails(Rule::Stack));

@@ -1,5 +1,5 @@
 //! An instruction with the frame before it (JVM Specification SE 8, 4.10.1.6).
-ghost use Rattle.std.specs.Prelude.{◌≡◌, ◌<◌, ◌≤◌, ℕ, true, not, List, Option, Some, length, Ok, IfOk, IfSome};
+ghost use Rattle.std.specs.Prelude.{◌≡◌, ◌<◌, ◌≤◌, ℕ, true, not, List, Option, Some, length, Ok, IfOk, OnOk, IfSome};
 ghost use Rattle.std.specs.Option.{option_map};
 ghost use Rattle.jop_opcodes.specs.Instruction.{decoded};
 ghost use Rattle.jop_opcodes.specs.Target.{cases_of};
@@ -13,10 +13,9 @@ ghost use Rattle.program_tables.specs.Meanings.{operand_seen, HasShape};
 ghost use Rattle.program_tables.specs.Numbers.{methods_by_number};
 ghost use Rattle.program_tables.specs.Resolved.{resolved};
 ghost use Rattle.verifier_types.specs.Frame.{frame_seen, frame_at_seen};
-ghost use Rattle.verifier_types.specs.Locals.{lists_seen};
+ghost use Rattle.verifier_types.specs.Locals.{HasListsOf, lists_seen};
 ghost use Rattle.bytecode_verifier.specs.Family.{family_row};
 ghost use Rattle.bytecode_verifier.specs.Handled.{HaveSameLocals, IsHeld, keeps_locals};
-ghost use Rattle.bytecode_verifier.specs.Maps.{lists_in};
 ghost use Rattle.bytecode_verifier.specs.Place.{IsHeldBehind, HasCode, IsMethodOf, IsNamedAs, stays_within, behind, step_seen};
 ghost use Rattle.bytecode_verifier.specs.Settled.{verdict_seen};
 
@@ -28,7 +27,6 @@ use crate::rows::{Checking, check_row};
 use crate::seen::type_of;
 use crate::settle::{Verdict, settle};
 use crate::switches::keys_rise;
-use class_hierarchy::Hierarchy;
 use jop_base::NoMemory;
 use jop_opcodes::Instr;
 use program_tables::{Instruction, MethodShape, Operand};
@@ -177,8 +175,10 @@ fn stays_within(code: &[u8], place: u32, instr: &Instr) -> bool
 }
 
 /// What the rules say of an instruction in its form, from those on operands and stack on.
+#[tactic(auto, using(crate::proofs::ListedLemmas::lists_again, crate::proofs::ListedLemmas::lists_kept))]
 fn settle_row(
     checking: &Checking<'_>,
+    lists: &mut LocalLists<'_>,
     place: u32,
     frame: &mut TypeFrame,
     x: &Instruction,
@@ -186,27 +186,20 @@ fn settle_row(
 ) -> Result<Verdict, NoMemory>
     requires decoded { decoded checking.now.code.now place ≡ Ok x.now.instr }
     requires small { length checking.now.code.now ≤ 33554432 }
-    ensures { let ls = lists_in checking.now.maps.now in IfOk result (λ v. (n : ℕ) (m : model.Method) (b : model.Body) (maps : ℕ → Option typing.TypeFrame) → IsMethodOf checking.now n m b maps → IsNamedAs checking.now n place x.now → IsHeld (resolved checking.now.program.now) maps asked (Some (frame_seen ls frame.old)) b.handlers → verdict_seen v (frame_seen ls frame.old) (frame_seen ls frame.new) ≡ walk.on_row (resolved checking.now.program.now) n m b maps place (frame_seen ls frame.old) x.now.instr (row_of checking.now.code.now x.now.instr (operand_seen x.now.operand))) }
+    ensures lists { OnOk result (HasListsOf lists.old lists.new) }
+    ensures verdict { let before = frame_seen (lists_seen lists.old) frame.old in let after = frame_seen (lists_seen lists.new) frame.new in IfOk result (λ v. (n : ℕ) (m : model.Method) (b : model.Body) (maps : ℕ → Option typing.TypeFrame) → IsMethodOf lists.old checking.now n m b maps → IsNamedAs checking.now n place x.now → IsHeld (resolved checking.now.program.now) maps asked (Some before) b.handlers → verdict_seen v before after ≡ walk.on_row (resolved checking.now.program.now) n m b maps place before x.now.instr (row_of checking.now.code.now x.now.instr (operand_seen x.now.operand))) }
 {
     checking.program.is_resolved();
     if !is_formed(checking, place, x) {
         return Ok(Verdict::Breaks(Rule::Operand));
     }
-    let classes = checking.around.classes;
-    let handled = are_handled(
-        classes,
-        checking.maps,
-        asked,
-        place,
-        frame,
-        checking.handlers,
-    );
-    let checked = check_row(checking, place, frame, x)?;
+    let handled = are_handled(lists, checking.maps, asked, place, frame, checking.handlers);
+    let checked = check_row(checking, lists, place, frame, x)?;
     Ok(settle(checked, frame, checking.max_stack, handled))
 }
 
 /// Whether the local variables of both are known to be of the same types, and `this` isn't initialised in both or in neither.
-fn are_same(lists: &LocalLists, first: &TypeFrame, second: &TypeFrame) -> bool
+fn are_same(lists: &LocalLists<'_>, first: &TypeFrame, second: &TypeFrame) -> bool
     ensures { let ls = lists_seen lists.now in result ≡ true → HaveSameLocals (frame_seen ls first.now) (frame_seen ls second.now) }
 {
     first.flag == second.flag && has_same_locals(lists, &first.locals, &second.locals)
@@ -214,7 +207,7 @@ fn are_same(lists: &LocalLists, first: &TypeFrame, second: &TypeFrame) -> bool
 
 /// The place at which the handlers were asked, if the frame before an instruction has the local variables of the one that falls in.
 fn still_asked(
-    lists: &LocalLists,
+    lists: &LocalLists<'_>,
     asked: Option<u32>,
     map: Option<&TypeFrame>,
     falling: Option<&TypeFrame>,
@@ -236,13 +229,13 @@ fn still_asked(
 /// to the former.
 fn joined(
     alloc: Global,
-    classes: &Hierarchy,
-    lists: &LocalLists,
+    lists: &mut LocalLists<'_>,
     map: Option<&TypeFrame>,
     falling: Option<TypeFrame>,
 ) -> Result<Option<(TypeFrame, bool)>, NoMemory>
-    ensures frame { let ls = lists_seen lists.now in IfOk result (λ j. option_map (λ x. frame_seen ls x.0) j ≡ walk.incoming (frame_at_seen ls map.entry) (option_map (frame_seen ls) falling)) }
-    ensures merged { let ls = lists_seen lists.now in IfOk result (λ j. IfSome j (λ x. x.1 ≡ walk.merges (resolved classes.now) (frame_at_seen ls map.entry) (option_map (frame_seen ls) falling))) }
+    ensures frame { let ls = lists_seen lists.old in IfOk result (λ j. option_map (λ x. frame_seen ls x.0) j ≡ walk.incoming (frame_at_seen ls map.entry) (option_map (frame_seen ls) falling)) }
+    ensures merged { let ls = lists_seen lists.old in IfOk result (λ j. IfSome j (λ x. x.1 ≡ walk.merges (resolved lists.old.classes) (frame_at_seen ls map.entry) (option_map (frame_seen ls) falling))) }
+    ensures kept { lists.new ≡ lists.old }
 {
     match map {
         None => match falling {
@@ -251,7 +244,7 @@ fn joined(
         },
         Some(given) => {
             let merged = match &falling {
-                Some(frame) => frame.flows_to(classes, lists, given),
+                Some(frame) => frame.flows_to(lists, given),
                 None => true,
             };
             Ok(Some((given.copied(alloc)?, merged)))
@@ -261,9 +254,11 @@ fn joined(
 
 /// What is found at a place of the method of this number, into which the frame `falling` falls, if one does. The handlers that cover the
 /// place `asked`, if there is one, take that frame.
+#[tactic(auto, using(crate::proofs::ListedLemmas::lists_again, crate::proofs::ListedLemmas::lists_kept))]
 pub fn verdict_at(
     alloc: Global,
     checking: &Checking<'_>,
+    lists: &mut LocalLists<'_>,
     number: u32,
     place: u32,
     falling: Option<TypeFrame>,
@@ -272,13 +267,12 @@ pub fn verdict_at(
     requires method { number < length (methods_by_number checking.now.program.now) }
     requires code { HasCode checking.now number }
     requires small { length checking.now.code.now ≤ 33554432 }
-    ensures { let ls = lists_in checking.now.maps.now in IfOk result (λ step. (m : model.Method) (b : model.Body) (maps : ℕ → Option typing.TypeFrame) → IsMethodOf checking.now number m b maps → IsHeld (resolved checking.now.program.now) maps asked (option_map (frame_seen ls) falling) b.handlers → (step_seen ls step ≡ behind (walk.verdict_at (resolved checking.now.program.now) number m b maps place (option_map (frame_seen ls) falling))) × IsHeldBehind ls (resolved checking.now.program.now) maps place step b.handlers) }
+    ensures lists { OnOk result (HasListsOf lists.old lists.new) }
+    ensures step { let before = lists_seen lists.old in let after = lists_seen lists.new in IfOk result (λ step. (m : model.Method) (b : model.Body) (maps : ℕ → Option typing.TypeFrame) → IsMethodOf lists.old checking.now number m b maps → IsHeld (resolved checking.now.program.now) maps asked (option_map (frame_seen before) falling) b.handlers → (step_seen after step ≡ behind (walk.verdict_at (resolved checking.now.program.now) number m b maps place (option_map (frame_seen before) falling))) × IsHeldBehind after (resolved checking.now.program.now) maps place step b.handlers) }
 {
-    let classes = checking.around.classes;
-    let lists = &checking.maps.lists;
     let map = frame_at(checking.maps, u64::from(place));
     let asked = still_asked(lists, asked, map, falling.as_ref());
-    let (mut frame, merged) = match joined(alloc, classes, lists, map, falling)? {
+    let (mut frame, merged) = match joined(alloc, lists, map, falling)? {
         Some(found) => found,
         None => return Ok(Step::Breaks(Rule::Flow)),
     };
@@ -292,7 +286,7 @@ pub fn verdict_at(
     if !merged {
         return Ok(Step::Breaks(Rule::Merge));
     }
-    match settle_row(checking, place, &mut frame, &x, asked)? {
+    match settle_row(checking, lists, place, &mut frame, &x, asked)? {
         Verdict::Breaks(rule) => Ok(Step::Breaks(rule)),
         Verdict::Passes(true) => Ok(Step::Goes(Some(frame), is_kept(checking, x.instr.op))),
         Verdict::Passes(false) => Ok(Step::Goes(None, false)),

@@ -1,5 +1,5 @@
 //! The check of an instruction by its family (JVM Specification SE 8, 4.10.1.9).
-ghost use Rattle.std.specs.Prelude.{◌≡◌, ◌≤◌, ◌==◌, ℕ, ◌∷◌, [], List, length, Ok, Some, None, IfOk, if◌then◌else◌, pos, ◌+ℤ◌};
+ghost use Rattle.std.specs.Prelude.{◌≡◌, ◌≤◌, ◌==◌, ℕ, ◌∷◌, [], List, length, Ok, Some, None, IfOk, OnOk, if◌then◌else◌, pos, ◌+ℤ◌};
 ghost use Rattle.std.specs.List.{list_any};
 ghost use Rattle.jop_opcodes.specs.declared.instruction.Instr as model;
 ghost use Rattle.jop_opcodes.specs.Instruction.{decoded};
@@ -8,17 +8,18 @@ ghost use Rattle.bytecode_model.specs.Program as program;
 ghost use Rattle.bytecode_model.specs.Program.{AMethod};
 ghost use Rattle.bytecode_model.specs.Rows as rows;
 ghost use Rattle.bytecode_model.specs.Table.{row_of, constant, long_constant};
+ghost use Rattle.bytecode_typing.specs.Types as typing;
 ghost use Rattle.bytecode_model.specs.Types.{t_boolean, t_char, t_byte, t_short, t_int, t_long};
 ghost use Rattle.program_tables.specs.declared.operand.Instruction as tables;
 ghost use Rattle.program_tables.specs.Meanings.{operand_seen};
 ghost use Rattle.program_tables.specs.Resolved.{resolved};
 ghost use Rattle.program_tables.specs.Tables.{kind_seen};
 ghost use Rattle.verifier_types.specs.Frame.{frame_at_seen};
-ghost use Rattle.verifier_types.specs.Locals.{lists_seen};
+ghost use Rattle.verifier_types.specs.Locals.{HasListsOf, LocalTable, lists_seen};
 ghost use Rattle.verifier_types.specs.Site.{Site, Checks};
 ghost use Rattle.bytecode_verifier.specs.Around.{StandsAt};
-ghost use Rattle.bytecode_verifier.specs.Maps.{lists_in, frame_over};
-ghost use Rattle.bytecode_verifier.specs.Checking.{IsTyped, IsAt, ChecksRow, ChecksRowIn};
+ghost use Rattle.bytecode_verifier.specs.Maps.{frame_over};
+ghost use Rattle.bytecode_verifier.specs.Checking.{IsTyped, IsAt, ChecksRow, ChecksRowIn, ChecksRowOver};
 ghost use Rattle.bytecode_verifier.specs.Family.{value_row, array_row, named_row, field_row, call_row, leads_row};
 
 use crate::around::Around;
@@ -92,14 +93,16 @@ fn check_write(frame: &mut TypeFrame) -> Checked
 }
 
 /// Constants, numbers, local variables, words of the operand stack, input and output.
+#[tactic(auto, using(crate::proofs::ListedLemmas::lists_again, crate::proofs::ListedLemmas::lists_kept))]
 fn check_value(
-    lists: &LocalLists,
+    lists: &mut LocalLists<'_>,
     frame: &mut TypeFrame,
     max_locals: u16,
     instr: &Instr,
     family: Value,
 ) -> Result<Checked, NoMemory>
-    ensures { IfOk result (λ c. (s : Site) (code : List ℕ) (o : program.Operand) → s.body.max_locals ≡ max_locals → ChecksRowIn (lists_seen lists.now) s (value_row family code instr.now o) frame.old c frame.new) }
+    ensures lists { OnOk result (HasListsOf lists.old lists.new) }
+    ensures checks { IfOk result (λ c. (s : Site) (code : List ℕ) (o : program.Operand) → s.body.max_locals ≡ max_locals → ChecksRowOver (lists_seen lists.old) (lists_seen lists.new) s (value_row family code instr.now o) frame.old c frame.new) }
 {
     match family {
         Value::Nothing => Ok(GOES),
@@ -189,14 +192,16 @@ fn check_array_of(frame: &mut TypeFrame, component: ObjectKind) -> Result<Checke
 }
 
 /// Constants and types of the pool.
+#[tactic(auto, using(crate::proofs::ListedLemmas::lists_again, crate::proofs::ListedLemmas::lists_kept))]
 fn check_named(
-    lists: &LocalLists,
+    lists: &mut LocalLists<'_>,
     frame: &mut TypeFrame,
     place: u32,
     operand: Operand,
     family: Named,
 ) -> Result<Checked, NoMemory>
-    ensures { IfOk result (λ c. (s : Site) (code : List ℕ) (i : model.Instr) → s.place ≡ place → IsTyped s.program (operand_seen operand) → ChecksRowIn (lists_seen lists.now) s (named_row family code i (operand_seen operand)) frame.old c frame.new) }
+    ensures lists { OnOk result (HasListsOf lists.old lists.new) }
+    ensures checks { IfOk result (λ c. (s : Site) (code : List ℕ) (i : model.Instr) → s.place ≡ place → IsTyped s.program (operand_seen operand) → ChecksRowOver (lists_seen lists.old) (lists_seen lists.new) s (named_row family code i (operand_seen operand)) frame.old c frame.new) }
 {
     match family {
         Named::Constant => check_constant(frame, operand),
@@ -262,7 +267,7 @@ fn check_field(
     x: &Instruction,
     family: Field,
 ) -> Result<Checked, NoMemory>
-    ensures { IfOk result (λ c. (s : Site) (place : ℕ) (code : List ℕ) (i : model.Instr) → IsAt checking.now place x.now s → ChecksRow s (field_row family code i (operand_seen x.now.operand)) frame.old c frame.new) }
+    ensures { IfOk result (λ c. (s : Site) (place : ℕ) (code : List ℕ) (i : model.Instr) (t : LocalTable) → IsAt t checking.now place x.now s → ChecksRowIn (lists_seen t) s (field_row family code i (operand_seen x.now.operand)) frame.old c frame.new) }
 {
     match family {
         Field::GetStatic => match x.operand {
@@ -289,14 +294,17 @@ fn check_field(
 }
 
 /// A call of the method of this number, which is named through the class `named`.
+#[tactic(auto, using(crate::proofs::ListedLemmas::lists_again, crate::proofs::ListedLemmas::lists_kept))]
 fn check_callee(
     checking: &Checking<'_>,
+    lists: &mut LocalLists<'_>,
     frame: &mut TypeFrame,
     guarded: bool,
     method: (u32, u32),
     family: Call,
 ) -> Result<Checked, NoMemory>
-    ensures { IfOk result (λ c. (s : Site) (code : List ℕ) (i : model.Instr) → s.program ≡ resolved checking.now.program.now → StandsAt checking.now.around s → s.program.guarded s.number s.place ≡ guarded → ChecksRowIn (lists_in checking.now.maps.now) s (call_row family code i (AMethod method.0 method.1)) frame.old c frame.new) }
+    ensures lists { OnOk result (HasListsOf lists.old lists.new) }
+    ensures checks { IfOk result (λ c. (s : Site) (code : List ℕ) (i : model.Instr) → s.program ≡ resolved checking.now.program.now → StandsAt checking.now.around s → s.program.guarded s.number s.place ≡ guarded → ChecksRowOver (lists_seen lists.old) (lists_seen lists.new) s (call_row family code i (AMethod method.0 method.1)) frame.old c frame.new) }
 {
     let (named, number) = method;
     let around = &checking.around;
@@ -306,24 +314,27 @@ fn check_callee(
     };
     match family {
         Call::Static => check_static(around, frame, shape),
-        Call::Special => check_special(around, &checking.maps.lists, guarded, frame, named, shape),
+        Call::Special => check_special(around, lists, guarded, frame, named, shape),
         Call::Virtual => check_virtual(around, guarded, frame, named, shape),
         Call::Interface => check_virtual(around, guarded, frame, named, shape),
     }
 }
 
 /// Calls.
+#[tactic(auto, using(crate::proofs::ListedLemmas::lists_again, crate::proofs::ListedLemmas::lists_kept))]
 fn check_call(
     checking: &Checking<'_>,
+    lists: &mut LocalLists<'_>,
     frame: &mut TypeFrame,
     x: &Instruction,
     family: Call,
 ) -> Result<Checked, NoMemory>
-    ensures { IfOk result (λ c. (s : Site) (place : ℕ) (code : List ℕ) (i : model.Instr) → IsAt checking.now place x.now s → ChecksRowIn (lists_in checking.now.maps.now) s (call_row family code i (operand_seen x.now.operand)) frame.old c frame.new) }
+    ensures lists { OnOk result (HasListsOf lists.old lists.new) }
+    ensures checks { IfOk result (λ c. (s : Site) (place : ℕ) (code : List ℕ) (i : model.Instr) → IsAt lists.old checking.now place x.now s → ChecksRowOver (lists_seen lists.old) (lists_seen lists.new) s (call_row family code i (operand_seen x.now.operand)) frame.old c frame.new) }
 {
     match x.operand {
         Operand::Method(named, number) => {
-            check_callee(checking, frame, x.guarded, (named, number), family)
+            check_callee(checking, lists, frame, x.guarded, (named, number), family)
         }
         _ => Ok(OUT_OF_FORM),
     }
@@ -331,7 +342,7 @@ fn check_call(
 
 /// The frame at the target of a branch.
 fn branch_target(maps: &MapFrames, place: u32, instr: Instr) -> Option<&TypeFrame>
-    ensures { frame_at_seen (lists_in maps.now) result ≡ frame_over maps.now (natural (pos place +ℤ instr.first)) }
+    ensures { (ls : List (List typing.VarType)) → frame_at_seen ls result ≡ frame_over ls maps.now (natural (pos place +ℤ instr.first)) }
 {
     target_of(maps, place, instr.first)
 }
@@ -339,6 +350,7 @@ fn branch_target(maps: &MapFrames, place: u32, instr: Instr) -> Option<&TypeFram
 /// Branches, switches, `athrow` and returns.
 fn check_leads(
     checking: &Checking<'_>,
+    lists: &mut LocalLists<'_>,
     place: u32,
     frame: &mut TypeFrame,
     instr: &Instr,
@@ -346,52 +358,47 @@ fn check_leads(
 ) -> Checked
     requires decoded { decoded checking.now.code.now place ≡ Ok instr.now }
     requires small { length checking.now.code.now ≤ 33554432 }
-    ensures { (s : Site) (x : tables.Instruction) (o : program.Operand) → IsAt checking.now place x s → ChecksRowIn (lists_in checking.now.maps.now) s (leads_row family checking.now.code.now instr.now o) frame.old result frame.new }
+    ensures checks { (s : Site) (x : tables.Instruction) (o : program.Operand) → IsAt lists.old checking.now place x s → ChecksRowIn (lists_seen lists.old) s (leads_row family checking.now.code.now instr.now o) frame.old result frame.new }
+    ensures kept { lists.new ≡ lists.old }
 {
-    let classes = checking.around.classes;
     let maps = checking.maps;
-    let lists = &maps.lists;
     match family {
         Leads::Branch(taken) => {
-            check_branch(
-                classes,
-                lists,
-                frame,
-                taken,
-                branch_target(maps, place, *instr),
-            )
+            check_branch(lists, frame, taken, branch_target(maps, place, *instr))
         }
-        Leads::Same => check_same(classes, lists, frame, branch_target(maps, place, *instr)),
-        Leads::IsNull => check_null(classes, lists, frame, branch_target(maps, place, *instr)),
-        Leads::Jump => check_jump(classes, lists, frame, branch_target(maps, place, *instr)),
-        Leads::TableSwitch => check_switch(classes, maps, place, frame, checking.code, instr),
+        Leads::Same => check_same(lists, frame, branch_target(maps, place, *instr)),
+        Leads::IsNull => check_null(lists, frame, branch_target(maps, place, *instr)),
+        Leads::Jump => check_jump(lists, frame, branch_target(maps, place, *instr)),
+        Leads::TableSwitch => check_switch(lists, maps, place, frame, checking.code, instr),
         Leads::LookupSwitch if instr.second < 0 => OUT_OF_FORM,
-        Leads::LookupSwitch => check_switch(classes, maps, place, frame, checking.code, instr),
+        Leads::LookupSwitch => check_switch(lists, maps, place, frame, checking.code, instr),
         Leads::Throw => check_throw(&checking.around, frame),
         Leads::Return(given) => check_return(&checking.around, frame, checking.result, given),
     }
 }
 
 /// The rules on the row of an instruction, and the frame behind it.
+#[tactic(auto, using(crate::proofs::ListedLemmas::lists_again, crate::proofs::ListedLemmas::lists_kept))]
 pub fn check_row(
     checking: &Checking<'_>,
+    lists: &mut LocalLists<'_>,
     place: u32,
     frame: &mut TypeFrame,
     x: &Instruction,
 ) -> Result<Checked, NoMemory>
     requires decoded { decoded checking.now.code.now place ≡ Ok x.now.instr }
     requires small { length checking.now.code.now ≤ 33554432 }
-    ensures { IfOk result (λ c. (s : Site) → IsAt checking.now place x.now s → ChecksRowIn (lists_in checking.now.maps.now) s (row_of checking.now.code.now x.now.instr (operand_seen x.now.operand)) frame.old c frame.new) }
+    ensures lists { OnOk result (HasListsOf lists.old lists.new) }
+    ensures checks { IfOk result (λ c. (s : Site) → IsAt lists.old checking.now place x.now s → ChecksRowOver (lists_seen lists.old) (lists_seen lists.new) s (row_of checking.now.code.now x.now.instr (operand_seen x.now.operand)) frame.old c frame.new) }
 {
     let instr = &x.instr;
-    let lists = &checking.maps.lists;
     match family_of(instr.op) {
         Family::Unknown => Ok(OUT_OF_FORM),
         Family::Value(family) => check_value(lists, frame, checking.max_locals, instr, family),
         Family::Array(family) => check_array(frame, instr, family),
         Family::Named(family) => check_named(lists, frame, place, x.operand, family),
         Family::Field(family) => check_field(checking, frame, x, family),
-        Family::Call(family) => check_call(checking, frame, x, family),
-        Family::Leads(family) => Ok(check_leads(checking, place, frame, instr, family)),
+        Family::Call(family) => check_call(checking, lists, frame, x, family),
+        Family::Leads(family) => Ok(check_leads(checking, lists, place, frame, instr, family)),
     }
 }

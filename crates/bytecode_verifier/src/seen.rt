@@ -1,6 +1,5 @@
 //! What isn't initialised, as the rules on stack, access and initialisation see it (JVM Specification SE 8, 4.10.1.8 and 4.10.1.9).
-ghost use Rattle.std.specs.Prelude.{◌≡◌, Some, None, true, false};
-ghost use Rattle.std.specs.Option.{option_map};
+ghost use Rattle.std.specs.Prelude.{◌≡◌, true, false};
 ghost use Rattle.bytecode_model.specs.Types.{OfClass};
 ghost use Rattle.bytecode_typing.specs.Types as typing;
 ghost use Rattle.bytecode_typing.specs.Checks as checks;

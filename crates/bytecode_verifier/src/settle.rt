@@ -1,5 +1,5 @@
 //! The rules behind those on operands and stack, in their order (JVM Specification SE 8, 4.10.1.6).
-ghost use Rattle.std.specs.Prelude.{◌≡◌, List, Option, Some, None, if◌then◌else◌};
+ghost use Rattle.std.specs.Prelude.{◌≡◌, List};
 ghost use Rattle.bytecode_typing.specs.Types as typing;
 ghost use Rattle.bytecode_typing.specs.Walk as walk;
 ghost use Rattle.verifier_types.specs.Frame.{frame_seen};

@@ -1,5 +1,5 @@
 //! Switches (JVM Specification SE 8, 4.10.1.9).
-ghost use Rattle.std.specs.Prelude.{◌≡◌, ◌<◌, ◌≤◌, ℕ, ℤ, pos, ◌+ℤ◌, int_lt, Ok, length};
+ghost use Rattle.std.specs.Prelude.{◌≡◌, ◌<◌, ◌≤◌, ℤ, pos, ◌+ℤ◌, int_lt, Ok, length};
 ghost use Rattle.std.specs.List.{list_all};
 ghost use Rattle.jop_opcodes.specs.Instruction.{decoded};
 ghost use Rattle.jop_opcodes.specs.Target.{cases_of};
@@ -10,54 +10,63 @@ ghost use Rattle.bytecode_typing.specs.Assignable.{flows_to};
 ghost use Rattle.bytecode_typing.specs.Walk.{keys_rise};
 ghost use Rattle.verifier_types.specs.Frame.{frame_seen};
 ghost use Rattle.verifier_types.specs.Site.{Site, ChecksIn};
-ghost use Rattle.bytecode_verifier.specs.Maps.{lists_in, AreMapsOf, frame_over};
+ghost use Rattle.verifier_types.specs.Locals.{lists_seen};
+ghost use Rattle.bytecode_verifier.specs.Maps.{AreMapsOf, frame_over};
 ghost use Rattle.bytecode_verifier.specs.Switched.{is_case_taken};
 
 use crate::calls::both;
 use crate::maps::{MapFrames, target_of};
-use class_hierarchy::Hierarchy;
 use jop_opcodes::{Case, Instr, case};
-use verifier_types::{Checked, Left, NumberType, Rule, TypeFrame};
+use verifier_types::{Checked, Left, LocalLists, NumberType, Rule, TypeFrame};
 
 /// Whether a frame stands at the offset from the place, and takes this one.
 pub fn is_taken(
-    classes: &Hierarchy,
+    lists: &mut LocalLists<'_>,
     maps: &MapFrames,
     place: u32,
     frame: &TypeFrame,
     offset: i32,
 ) -> bool
-    ensures { result ≡ flows_to (resolved classes.now) (frame_seen (lists_in maps.now) frame.now) (frame_over maps.now (natural (pos place +ℤ offset))) }
+    ensures taken { let ls = lists_seen lists.old in result ≡ flows_to (resolved lists.old.classes) (frame_seen ls frame.now) (frame_over ls maps.now (natural (pos place +ℤ offset))) }
+    ensures kept { lists.new ≡ lists.old }
 {
     match target_of(maps, place, offset) {
-        Some(other) => frame.flows_to(classes, &maps.lists, other),
+        Some(other) => frame.flows_to(lists, other),
         None => false,
     }
 }
 
 /// Whether that holds of a case of a switch.
-fn leads(classes: &Hierarchy, maps: &MapFrames, place: u32, frame: &TypeFrame, case: Case) -> bool
-    ensures { result ≡ is_case_taken (resolved classes.now) maps.now place (frame_seen (lists_in maps.now) frame.now) case }
+fn leads(
+    lists: &mut LocalLists<'_>,
+    maps: &MapFrames,
+    place: u32,
+    frame: &TypeFrame,
+    case: Case,
+) -> bool
+    ensures taken { result ≡ is_case_taken lists.old maps.now place (frame_seen (lists_seen lists.old) frame.now) case }
+    ensures kept { lists.new ≡ lists.old }
 {
-    is_taken(classes, maps, place, frame, case.offset)
+    is_taken(lists, maps, place, frame, case.offset)
 }
 
 /// Whether that holds of the default offset of a switch.
 fn leads_default(
-    classes: &Hierarchy,
+    lists: &mut LocalLists<'_>,
     maps: &MapFrames,
     place: u32,
     frame: &TypeFrame,
     instr: Instr,
 ) -> bool
-    ensures { result ≡ flows_to (resolved classes.now) (frame_seen (lists_in maps.now) frame.now) (frame_over maps.now (natural (pos place +ℤ instr.first))) }
+    ensures taken { let ls = lists_seen lists.old in result ≡ flows_to (resolved lists.old.classes) (frame_seen ls frame.now) (frame_over ls maps.now (natural (pos place +ℤ instr.first))) }
+    ensures kept { lists.new ≡ lists.old }
 {
-    is_taken(classes, maps, place, frame, instr.first)
+    is_taken(lists, maps, place, frame, instr.first)
 }
 
 /// Whether that holds of the offsets of all cases of a switch.
 fn are_taken(
-    classes: &Hierarchy,
+    lists: &mut LocalLists<'_>,
     maps: &MapFrames,
     place: u32,
     frame: &TypeFrame,
@@ -66,10 +75,11 @@ fn are_taken(
 ) -> bool
     requires decoded { decoded code.now place ≡ Ok instr.now }
     requires small { length code.now ≤ 33554432 }
-    ensures { result ≡ list_all (is_case_taken (resolved classes.now) maps.now place (frame_seen (lists_in maps.now) frame.now)) (cases_of code.now instr.now) }
+    ensures taken { result ≡ list_all (is_case_taken lists.old maps.now place (frame_seen (lists_seen lists.old) frame.now)) (cases_of code.now instr.now) }
+    ensures kept { lists.new ≡ lists.old }
 {
     for index in 0..instr.count {
-        if !leads(classes, maps, place, frame, case(code, place, instr, index)) {
+        if !leads(lists, maps, place, frame, case(code, place, instr, index)) {
             return false;
         }
     }
@@ -78,7 +88,7 @@ fn are_taken(
 
 /// A switch at this place.
 pub fn check_switch(
-    classes: &Hierarchy,
+    lists: &mut LocalLists<'_>,
     maps: &MapFrames,
     place: u32,
     frame: &mut TypeFrame,
@@ -87,13 +97,14 @@ pub fn check_switch(
 ) -> Checked
     requires decoded { decoded code.now place ≡ Ok instr.now }
     requires small { length code.now ≤ 33554432 }
-    ensures { (s : Site) → s.program ≡ resolved classes.now → s.place ≡ place → AreMapsOf maps.now s → ChecksIn (lists_in maps.now) s (rows.Switch instr.now.first (cases_of code.now instr.now)) frame.old result frame.new }
+    ensures checks { let ls = lists_seen lists.old in (s : Site) → s.program ≡ resolved lists.old.classes → s.place ≡ place → AreMapsOf ls maps.now s → ChecksIn ls s (rows.Switch instr.now.first (cases_of code.now instr.now)) frame.old result frame.new }
+    ensures kept { lists.new ≡ lists.old }
 {
     if !frame.operands.pop_numbers(&[NumberType::Int]) {
         return Checked::Fails(Rule::Stack);
     }
-    let default = leads_default(classes, maps, place, frame, *instr);
-    let cases = are_taken(classes, maps, place, frame, code, instr);
+    let default = leads_default(lists, maps, place, frame, *instr);
+    let cases = are_taken(lists, maps, place, frame, code, instr);
     Checked::Leaves(Left {
         falls: false,
         access: true,

@@ -3,3 +3,4 @@ pub mod SearchLemmas
 pub mod FillLemmas
 pub mod TableLemmas
 pub mod AnswerLemmas
+pub mod KnownLemmas

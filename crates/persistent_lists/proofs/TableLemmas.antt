@@ -9,6 +9,8 @@ use Rattle.std.proofs.lemmas.List.Elements.{All-append}
 use Rattle.lists.specs.Lemmas.{none≢some, some_same}
 use Rattle.persistent_lists.specs.Tables.{ListTable, with_list, filled, changed_list, list_at, IsDifference}
 use Rattle.persistent_lists.specs.Trees.{items, IsTree, IsFilled, IsTreeOf, Extends, lists_of, below}
+use Rattle.persistent_lists.specs.Known.{all_items, AreTrees}
+use Rattle.persistent_lists.specs.declared.known.TreePair.{TreePair}
 use Rattle.persistent_lists.proofs.TreeLemmas.{length-items, items_kept, tree_kept, take_filled}
 
 -- ---- the table grows
@@ -20,6 +22,17 @@ pub lists_kept : (old new : List (ℕ × ℕ)) (w h : ℕ) (roots : List ℕ) �
 lists_kept old new w h [] more all = refl
 lists_kept old new w h (r ∷ rs) more all =
     ap₂ (λ a b. a ∷ b) (ap (take w) (items_kept old new h r more (all 0 r (omega arith)))) (lists_kept old new w h rs more (λ k d lt. all (suc k) d (omega (arith, lt))))
+
+pub pairs_kept : (old new : List (ℕ × ℕ)) (ks : List TreePair) → Extends old new → All (AreTrees old) ks → All (AreTrees new) ks
+pairs_kept old new ks more all = λ k d lt.
+    let t = all k d lt in (tree_kept old new (get_or ks k d).height (get_or ks k d).first more t.0, tree_kept old new (get_or ks k d).height (get_or ks k d).second more t.1)
+
+known_kept : (old new : List (ℕ × ℕ)) (ks : List TreePair) → Extends old new → All (AreTrees old) ks → all_items new ks ≡ all_items old ks
+known_kept old new [] more all = refl
+known_kept old new (k ∷ ks) more all =
+    let t = all 0 k (omega arith) in
+    ap₂ (λ a b. a ∷ b) (ap₂ (λ (xs ys : List ℕ). (xs, ys)) (items_kept old new k.height k.first more t.0) (items_kept old new k.height k.second more t.1))
+    (known_kept old new ks more (λ j d lt. all (suc j) d (omega (arith, lt))))
 
 one : (P : ℕ → Type 0) (x : ℕ) → P x → All P (x ∷ [])
 one P x h zero d lt = h
@@ -50,24 +63,27 @@ always_err (Ok x) P p = tt
 always_err (Err x) P p = p
 
 -- the table that is seen
-abbrev pub table : (w r h : ℕ) → List (ℕ × ℕ) → List ℕ → ListTable
-table w r h ps roots = record { width = w; rest = r; lists = lists_of w h ps roots }
+abbrev pub table : (w r h : ℕ) → List (ℕ × ℕ) → List ℕ → List (List ℕ × List ℕ) → ListTable
+table w r h ps roots known = record { width = w; rest = r; lists = lists_of w h ps roots; known = known }
 
-module _ (seen : ListTable) (w r h : ℕ) (old new : List (ℕ × ℕ)) (roots : List ℕ) (is : seen ≡ table w r h old roots) (more : Extends old new) (all : All (IsTree old h) roots) where
-  pub grown_view : (grown : List ℕ) (root : ℕ) (xs : List ℕ) → take w (items new h root) ≡ xs → grown ≡ roots ++ root ∷ [] → table w r h new grown ≡ with_list seen xs
+module _ (seen : ListTable) (w r h : ℕ) (old new : List (ℕ × ℕ)) (roots : List ℕ) (ks : List TreePair) (is : seen ≡ table w r h old roots (all_items old ks)) (more : Extends old new) (all : All (IsTree old h) roots)
+    (trees : All (AreTrees old) ks) where
+  pub grown_view : (grown : List ℕ) (root : ℕ) (xs : List ℕ) → take w (items new h root) ≡ xs → grown ≡ roots ++ root ∷ [] → table w r h new grown (all_items new ks) ≡ with_list seen xs
   grown_view grown root xs items_are e =
-      ap (λ l. table w r h new l) e
-      ∙ (ap (λ ls. let t : ListTable = record { width = w; rest = r; lists = ls } in t)
+      ap (λ l. table w r h new l (all_items new ks)) e
+      ∙ (ap₂ (λ ls known. let t : ListTable = record { width = w; rest = r; lists = ls; known = known } in t)
       (map-append (λ n. take w (items new h n)) roots (root ∷ []) ∙ ap₂ (λ a b. a ++ b ∷ []) (lists_kept old new w h roots more all) items_are)
+      (known_kept old new ks more trees)
       ∙ ap (λ t. with_list t xs) (sym is))
 
-  pub kept_view : (grown : List ℕ) → grown ≡ roots → table w r h new grown ≡ seen
+  pub kept_view : (grown : List ℕ) → grown ≡ roots → table w r h new grown (all_items new ks) ≡ seen
   kept_view grown e =
-      ap (λ l. table w r h new l) e ∙ (ap (λ ls. let t : ListTable = record { width = w; rest = r; lists = ls } in t) (lists_kept old new w h roots more all) ∙ sym is)
+      ap (λ l. table w r h new l (all_items new ks)) e
+      ∙ (ap₂ (λ ls known. let t : ListTable = record { width = w; rest = r; lists = ls; known = known } in t) (lists_kept old new w h roots more all) (known_kept old new ks more trees) ∙ sym is)
 
 -- ---- the list that is added
 
-pub filled_view : (seen : ListTable) (w r h : ℕ) (old new : List (ℕ × ℕ)) (roots given : List ℕ) (node rest_node : ℕ) → seen ≡ table w r h old roots → length given ≤ w → w ≤ 2 ^ h
+pub filled_view : {known : List (List ℕ × List ℕ)} (seen : ListTable) (w r h : ℕ) (old new : List (ℕ × ℕ)) (roots given : List ℕ) (node rest_node : ℕ) → seen ≡ table w r h old roots known → length given ≤ w → w ≤ 2 ^ h
     → IsFilled new h given r node rest_node → take w (items new h node) ≡ filled seen given
 filled_view seen w r h old new roots given node rest_node is room high made =
     ap (take w) made.filled ∙ (take_filled given w (2 ^ h) r room high ∙ ap (λ t. filled t given) (sym is))
@@ -87,18 +103,18 @@ set_beyond (y ∷ xs) (suc i) x le = ap (λ l. y ∷ l) (set_beyond xs i x (omeg
 pub list_there : (w h : ℕ) (ps : List (ℕ × ℕ)) (roots : List ℕ) (n root : ℕ) → slice_get roots n ≡ Some root → slice_get (lists_of w h ps roots) n ≡ Some (take w (items ps h root))
 list_there w h ps roots n root e = slice_get-map (λ k. take w (items ps h k)) roots n ∙ ap (option_map (λ k. take w (items ps h k))) e
 
-changed_there : (seen : ListTable) (w r h : ℕ) (ps : List (ℕ × ℕ)) (roots : List ℕ) (n root i x : ℕ) → seen ≡ table w r h ps roots → slice_get roots n ≡ Some root
+changed_there : {known : List (List ℕ × List ℕ)} (seen : ListTable) (w r h : ℕ) (ps : List (ℕ × ℕ)) (roots : List ℕ) (n root i x : ℕ) → seen ≡ table w r h ps roots known → slice_get roots n ≡ Some root
     → changed_list seen n i x ≡ set (take w (items ps h root)) i x
-changed_there seen w r h ps roots n root i x is at =
+changed_there {known = known} seen w r h ps roots n root i x is at =
     ap (λ t. changed_list t n i x) is
-    ∙ ap (λ o. option_map_or (λ xs. set xs i x) o (filled (table w r h ps roots) [])) (list_there w h ps roots n root at)
+    ∙ ap (λ o. option_map_or (λ xs. set xs i x) o (filled (table w r h ps roots known) [])) (list_there w h ps roots n root at)
 
-pub changed_view : (seen : ListTable) (w r h : ℕ) (ps new : List (ℕ × ℕ)) (roots : List ℕ) (n root made i x : ℕ) → seen ≡ table w r h ps roots → slice_get roots n ≡ Some root
+pub changed_view : {known : List (List ℕ × List ℕ)} (seen : ListTable) (w r h : ℕ) (ps new : List (ℕ × ℕ)) (roots : List ℕ) (n root made i x : ℕ) → seen ≡ table w r h ps roots known → slice_get roots n ≡ Some root
     → IsTreeOf new h made (set (items ps h root) i x) → take w (items new h made) ≡ changed_list seen n i x
 changed_view seen w r h ps new roots n root made i x is at t =
     ap (take w) t.holds ∙ (take_set w i (items ps h root) x ∙ sym (changed_there seen w r h ps roots n root i x is at))
 
-pub same_view : (seen : ListTable) (w r h : ℕ) (ps : List (ℕ × ℕ)) (roots : List ℕ) (n root i x : ℕ) → seen ≡ table w r h ps roots → slice_get roots n ≡ Some root → w ≤ i
+pub same_view : {known : List (List ℕ × List ℕ)} (seen : ListTable) (w r h : ℕ) (ps : List (ℕ × ℕ)) (roots : List ℕ) (n root i x : ℕ) → seen ≡ table w r h ps roots known → slice_get roots n ≡ Some root → w ≤ i
     → take w (items ps h root) ≡ changed_list seen n i x
 same_view seen w r h ps roots n root i x is at past =
     sym (changed_there seen w r h ps roots n root i x is at ∙ set_beyond (take w (items ps h root)) i x (omega (arith, past, length-take w (items ps h root))))
@@ -157,7 +173,7 @@ pub none_difference_from : (w : ℕ) (xs : List ℕ) (from : ℕ) → length xs 
 none_difference_from w xs from e = swapped xs [] from (below w (Some from)) (difference_from_none w xs from e)
 
 -- the lists of the table
-pub list_is : (seen : ListTable) (w r h : ℕ) (ps : List (ℕ × ℕ)) (roots : List ℕ) (n root : ℕ) → seen ≡ table w r h ps roots → slice_get roots n ≡ Some root → list_at seen n ≡ take w (items ps h root)
+pub list_is : {known : List (List ℕ × List ℕ)} (seen : ListTable) (w r h : ℕ) (ps : List (ℕ × ℕ)) (roots : List ℕ) (n root : ℕ) → seen ≡ table w r h ps roots known → slice_get roots n ≡ Some root → list_at seen n ≡ take w (items ps h root)
 list_is seen w r h ps roots n root is at = ap (λ t. list_at t n) is ∙ got (lists_of w h ps roots) n (take w (items ps h root)) (list_there w h ps roots n root at)
   where
     got : (ls : List (List ℕ)) (n : ℕ) (xs : List ℕ) → slice_get ls n ≡ Some xs → get_or ls n [] ≡ xs
@@ -165,7 +181,7 @@ list_is seen w r h ps roots n root is at = ap (λ t. list_at t n) is ∙ got (li
     got (l ∷ ls) zero xs e = some_same l xs e
     got (l ∷ ls) (suc n) xs e = got ls n xs e
 
-pub no_list : (seen : ListTable) (w r h : ℕ) (ps : List (ℕ × ℕ)) (roots : List ℕ) (n : ℕ) → seen ≡ table w r h ps roots → slice_get roots n ≡ None → list_at seen n ≡ []
+pub no_list : {known : List (List ℕ × List ℕ)} (seen : ListTable) (w r h : ℕ) (ps : List (ℕ × ℕ)) (roots : List ℕ) (n : ℕ) → seen ≡ table w r h ps roots known → slice_get roots n ≡ None → list_at seen n ≡ []
 no_list seen w r h ps roots n is at = ap (λ t. list_at t n) is ∙ lost (lists_of w h ps roots) n (slice_get-map (λ k. take w (items ps h k)) roots n ∙ ap (option_map (λ k. take w (items ps h k))) at)
   where
     lost : (ls : List (List ℕ)) (n : ℕ) → slice_get ls n ≡ None → get_or ls n [] ≡ []
@@ -180,13 +196,13 @@ pub between : (xs ys us vs : List ℕ) (from : ℕ) (o : Option ℕ) → xs ≡ 
 between xs ys us vs from o e f d = subst (λ l. IsDifference l ys from o) (sym e) (subst (λ l. IsDifference us l from o) (sym f) d)
 
 -- no list has an item from the width on
-beyond_at : (seen : ListTable) (w r h : ℕ) (ps : List (ℕ × ℕ)) (roots : List ℕ) (n i : ℕ) (o : Option ℕ) → seen ≡ table w r h ps roots → slice_get roots n ≡ o → w ≤ i → slice_get (list_at seen n) i ≡ None
+beyond_at : {known : List (List ℕ × List ℕ)} (seen : ListTable) (w r h : ℕ) (ps : List (ℕ × ℕ)) (roots : List ℕ) (n i : ℕ) (o : Option ℕ) → seen ≡ table w r h ps roots known → slice_get roots n ≡ o → w ≤ i → slice_get (list_at seen n) i ≡ None
 beyond_at seen w r h ps roots n i None is at le = ap (λ l. slice_get l i) (no_list seen w r h ps roots n is at)
 beyond_at seen w r h ps roots n i (Some root) is at le = ap (λ l. slice_get l i) (list_is seen w r h ps roots n root is at) ∙ get_beyond w (items ps h root) i le
 
-pub beyond_width : (seen : ListTable) (w r h : ℕ) (ps : List (ℕ × ℕ)) (roots : List ℕ) (n i : ℕ) → seen ≡ table w r h ps roots → w ≤ i → slice_get (list_at seen n) i ≡ None
+pub beyond_width : {known : List (List ℕ × List ℕ)} (seen : ListTable) (w r h : ℕ) (ps : List (ℕ × ℕ)) (roots : List ℕ) (n i : ℕ) → seen ≡ table w r h ps roots known → w ≤ i → slice_get (list_at seen n) i ≡ None
 beyond_width seen w r h ps roots n i is le = beyond_at seen w r h ps roots n i (slice_get roots n) is refl le
 
 -- a list without a node isn't there
-pub no_root : (seen : ListTable) (w r h : ℕ) (ps : List (ℕ × ℕ)) (roots : List ℕ) (n : ℕ) → seen ≡ table w r h ps roots → slice_get roots n ≡ None → n < length seen.lists → ⊥
+pub no_root : {known : List (List ℕ × List ℕ)} (seen : ListTable) (w r h : ℕ) (ps : List (ℕ × ℕ)) (roots : List ℕ) (n : ℕ) → seen ≡ table w r h ps roots known → slice_get roots n ≡ None → n < length seen.lists → ⊥
 no_root seen w r h ps roots n is at lt = there roots n (omega (arith, lt, ap (λ t. length t.lists) is, length-map roots (λ root. take w (items ps h root)))) at

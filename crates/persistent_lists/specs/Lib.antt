@@ -1,3 +1,4 @@
 pub mod Tables
 pub mod Trees
 pub mod Answers
+pub mod Known

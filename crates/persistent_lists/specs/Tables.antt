@@ -2,15 +2,20 @@
 use Rattle.std.specs.Prelude.{◌≡◌, ◌≢◌, ℕ, ◌-◌, ◌<◌, ◌≤◌, List, [], ◌∷◌, ◌++◌, length, get_or, replicate, slice_get, slice_set, Option, Some, None}
 use Rattle.std.specs.Option.{option_map_or}
 
--- the length of each list, the number behind the items that were given for one, and the lists, each at its number
+-- the length of each list, the number behind the items that were given for one, the lists, each at its number, and pairs of lists of which it is known that a test passes wherever they differ
 pub record ListTable : Type 0 where
   pub width : ℕ
   pub rest : ℕ
   pub lists : List (List ℕ)
+  pub known : List (List ℕ × List ℕ)
 
 -- with one list more, behind the others
 abbrev pub with_list : ListTable → List ℕ → ListTable
 with_list t xs = record t { lists = t.lists ++ xs ∷ [] }
+
+-- with these pairs known
+abbrev pub with_known : ListTable → List (List ℕ × List ℕ) → ListTable
+with_known t pairs = record t { known = pairs }
 
 -- these items, and the rest behind them
 abbrev pub filled : ListTable → List ℕ → List ℕ

@@ -2,6 +2,7 @@
 //! there is one.
 #![tactic(auto)]
 
+mod known;
 mod pairs;
 mod shared;
 mod trees;

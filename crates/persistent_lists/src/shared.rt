@@ -1,8 +1,9 @@
 ghost use Rattle.std.specs.Prelude.{◌≡◌, ℕ, ◌<◌, ◌≤◌, ◌^◌, [], ◌∷◌, ◌++◌, length, slice_get, None, IfOk, IfSome, IsSome, OnOk, OnErr};
-ghost use Rattle.persistent_lists.specs.Tables.{with_list, filled, list_at, changed_list, IsDifference, IsPosition};
-ghost use Rattle.persistent_lists.specs.Answers.{ArePassed};
+ghost use Rattle.persistent_lists.specs.Tables.{with_list, with_known, filled, list_at, changed_list, IsDifference, IsPosition};
+ghost use Rattle.persistent_lists.specs.Answers.{ArePassed, AreKnown};
 ghost use Rattle.persistent_lists.specs.Trees.{below};
 
+use crate::known::Known;
 use crate::pairs::Pairs;
 use crate::trees::{
     Difference, difference_in, height_of, item_at, passes_in, position_in, tree_of, tree_with,
@@ -18,13 +19,16 @@ const MOST_LISTS: usize = 4_294_967_295;
 /// that stands behind the items that were given for one (`ListTable`).
 ///
 /// A list costs the nodes of its tree that no earlier list has. Reading an item, and changing one, takes a step for each doubling of
-/// the length, and so does finding where two lists differ next. Finding an item may take a step for each node of the list.
+/// the length, and so does finding where two lists differ next, and asking a test about two lists each of which holds one item alone.
+/// Finding an item may take a step for each node of the list.
 #[derive(Drop)]
 pub struct SharedLists {
     /// The nodes above the items, by their two halves.
     pairs: Pairs,
     /// The node of each list.
     roots: Vec<u32>,
+    /// The pairs of trees that needn't be walked once more.
+    known: Known,
     /// How many nodes stand above each item. A tree has 2 to this power items, of which those from the length on don't count.
     height: u32,
     width: u32,
@@ -35,12 +39,13 @@ impl Model for SharedLists {
     ghost use Rattle.std.specs.Prelude.{ℕ, ◌<◌, ◌≤◌, ◌^◌, length, All};
     ghost use Rattle.persistent_lists.specs.Tables.{ListTable};
     ghost use Rattle.persistent_lists.specs.Trees.{lists_of, IsTree};
+    ghost use Rattle.persistent_lists.specs.Known.{all_items, AreTrees};
 
     ghost Value = { ListTable };
 
-    ghost view = { λ a. record { width = a.width; rest = a.rest; lists = lists_of a.width a.height a.pairs a.roots.items } };
+    ghost view = { λ a. record { width = a.width; rest = a.rest; lists = lists_of a.width a.height a.pairs a.roots.items; known = all_items a.pairs a.known } };
 
-    ghost invariant = { λ a. (a.width ≤ 2 ^ a.height) × (a.height ≤ 16) × (length a.roots.items < 2 ^ 32) × All (IsTree a.pairs a.height) a.roots.items };
+    ghost invariant = { λ a. (a.width ≤ 2 ^ a.height) × (a.height ≤ 16) × (length a.roots.items < 2 ^ 32) × All (IsTree a.pairs a.height) a.roots.items × All (AreTrees a.pairs) a.known };
 }
 
 /// Adds a node to those of the lists.
@@ -84,11 +89,12 @@ impl SharedLists {
     /// No list yet, of so many items each.
     pub fn new(alloc: Global, width: u32, rest: u32) -> Self
         requires { width < 2 ^ 16 }
-        ensures { result ≡ record { width = width; rest = rest; lists = [] } }
+        ensures { result ≡ record { width = width; rest = rest; lists = []; known = [] } }
     {
         SharedLists {
             pairs: Pairs::new(alloc),
             roots: Vec::new(alloc),
+            known: Known::new(alloc),
             height: height_of(width),
             width,
             rest,
@@ -101,13 +107,6 @@ impl SharedLists {
         ensures beyond { (n i : ℕ) → result ≤ i → slice_get (list_at self.now n) i ≡ None }
     {
         self.width
-    }
-
-    /// How many lists there are.
-    pub fn count(&self) -> u32
-        ensures { result ≡ length self.now.lists }
-    {
-        self.roots.len() as u32
     }
 
     /// Adds the list of these items, behind which the rest stands, and answers its number. Where memory is wanting no list is added.
@@ -167,25 +166,28 @@ impl SharedLists {
         }
     }
 
-    /// Whether a test passes at each index at which two lists differ; none where one of the lists isn't there. It is asked at no other index,
-    /// and nowhere behind one at which it doesn't pass.
+    /// Whether a test passes on the items at each index at which two lists differ; none where one of the lists isn't there. It is asked on no
+    /// other items, and on none of pairs of trees that are known to pass, to which those that pass now are added.
     pub fn passes_where_unlike<F: Fn(Difference) -> bool>(
-        &self,
+        &mut self,
         first: u32,
         second: u32,
         test: F,
     ) -> Option<bool>
-        requires { F.IsAlwaysCallable test }
-        ensures passed { IfSome result (λ passes. ArePassed (F.post test) (list_at self.now first) (list_at self.now second) passes) }
-        ensures there { first < length self.now.lists → second < length self.now.lists → IsSome result }
+        requires callable { F.IsAlwaysCallable test }
+        requires known { AreKnown (F.post test) self.old }
+        ensures passed { IfSome result (λ passes. ArePassed (F.post test) (list_at self.old first) (list_at self.old second) passes) }
+        ensures there { first < length self.old.lists → second < length self.old.lists → IsSome result }
+        ensures lists { self.new ≡ with_known self.old self.new.known }
+        ensures known { AreKnown (F.post test) self.new }
     {
         match (root_at(&self.roots, first), root_at(&self.roots, second)) {
             (Some(first), Some(second)) => Some(passes_in(
                 &self.pairs,
+                &mut self.known,
                 self.height,
                 first,
                 second,
-                0,
                 self.width,
                 &test,
             )),

@@ -2,15 +2,16 @@
 ghost use Rattle.std.specs.Prelude.{◌≡◌, ◌<◌, ◌≤◌, ◌-◌, ◌^◌, [], ◌∷◌, ◌++◌, length, replicate, set, slice_get, Some, IfOk, IfSome};
 ghost use Rattle.persistent_lists.specs.Tables.{IsDifference, IsPosition};
 ghost use Rattle.persistent_lists.specs.Answers.{AreAnswered};
+ghost use Rattle.persistent_lists.specs.Known.{AllPass, IsGrown};
 ghost use Rattle.persistent_lists.specs.Trees.{items, IsTree, IsNode, IsFilled, IsTreeOf, Extends};
 
+use crate::known::{Known, TreePair};
 use crate::pairs::Pairs;
 use jop_base::NoMemory;
 
-/// An index at which two lists differ, and the items there.
+/// The items of two lists at an index at which these differ.
 #[derive(Clone, Copy)]
 pub struct Difference {
-    pub index: u32,
     pub first: u32,
     pub second: u32,
 }
@@ -95,40 +96,65 @@ pub(crate) fn difference_in(
     }
 }
 
-/// Whether a test passes at each index below the width at which two trees differ, the first item of which has the index `at`. Halves that
-/// are the same node are passed over.
+/// Remembers a pair of trees of which a test passed at the indices below the width, if they have no others.
+fn remember(known: &mut Known, pair: TreePair, width: u32)
+    requires { pair.height ≤ 16 }
+    ensures { IsGrown known.old pair (2 ^ pair.height ≤ width) known.new }
+{
+    if size_of(pair.height) <= width {
+        known.insert(pair);
+    }
+}
+
+/// Whether a test passes on the items at each index below the width at which two trees differ. Halves that are the same node are passed
+/// over, and so are second halves that are the same nodes as the first, and trees that are known to pass. Trees all of whose items pass
+/// are known from then on.
+#[tactic(auto, using(crate::proofs::TreeLemmas::left_tree, crate::proofs::TreeLemmas::right_tree))]
 pub(crate) fn passes_in<F: Fn(Difference) -> bool>(
     pairs: &Pairs,
+    known: &mut Known,
     height: u32,
     first: u32,
     second: u32,
-    at: u32,
     width: u32,
     test: &F,
 ) -> bool
     requires height { height ≤ 16 }
-    requires at { at < 2 ^ 17 }
-    requires width { width ≤ 2 ^ 16 }
+    requires trees { IsTree pairs.now height first × IsTree pairs.now height second }
     requires callable { F.IsAlwaysCallable test.now }
-    ensures { AreAnswered (F.post test.now) at width (items pairs.now height first) (items pairs.now height second) result }
+    requires known { AllPass (F.post test.now) pairs.now known.old }
+    ensures answered { AreAnswered (F.post test.now) width (items pairs.now height first) (items pairs.now height second) result }
+    ensures known { AllPass (F.post test.now) pairs.now known.new }
 {
-    if first == second || at >= width {
+    if first == second || width == 0 {
         return true;
     }
     if height == 0 {
-        return test(Difference {
-            index: at,
-            first,
-            second,
-        });
+        return test(Difference { first, second });
+    }
+    let pair = TreePair {
+        height,
+        first,
+        second,
+    };
+    if known.contains(pair) {
+        return true;
     }
     let halves = pairs.get(first);
     let others = pairs.get(second);
-    if !passes_in(pairs, height - 1, halves.0, others.0, at, width, test) {
+    if !passes_in(pairs, known, height - 1, halves.0, others.0, width, test) {
         return false;
     }
-    let behind = at + size_of(height - 1);
-    passes_in(pairs, height - 1, halves.1, others.1, behind, width, test)
+    if halves.0 == halves.1 && others.0 == others.1 {
+        remember(known, pair, width);
+        return true;
+    }
+    let behind = width.saturating_sub(size_of(height - 1));
+    if !passes_in(pairs, known, height - 1, halves.1, others.1, behind, test) {
+        return false;
+    }
+    remember(known, pair, width);
+    true
 }
 
 /// The least index from `from` on that holds the item. Where both halves are the same node, the second is passed over.

@@ -1,99 +1,90 @@
 -- Local variables of two frames side by side.
-use Rattle.std.proofs.Common.{◌≡◌, ℕ, zero, suc, ◌+◌, ◌<◌, ◌⊎◌, Bool, true, false, ◌&&◌, List, [], ◌∷◌, Option, Some, None, refl, sym, ap, ap₂, ◌∙◌, subst, inl, inr, arith}
-use Rattle.std.specs.Prelude.{slice_get, IsSome, is_some}
+use Rattle.std.proofs.Common.{◌≡◌, ℕ, zero, suc, ◌<◌, ◌≤◌, Bool, true, false, ◌&&◌, List, [], ◌∷◌, length, Option, Some, None, refl, sym, ap, ap₂, ◌∙◌, inl, inr}
+use Rattle.std.specs.Prelude.{slice_get, IfSome}
+use Rattle.std.specs.Option.{option_map}
 use Rattle.std.proofs.lemmas.Bool.{cases_lt}
+use Rattle.lists.specs.Lemmas.{none≢some, some_same}
+use Rattle.persistent_lists.specs.Tables as tables
+use Rattle.persistent_lists.specs.Tables.{ListTable}
+use Rattle.persistent_lists.specs.Answers.{difference, ArePassed}
+use Rattle.persistent_lists.specs.declared.trees.Difference.{Difference}
+use Rattle.class_pool.specs.declared.class.ClassFile.{ClassFile}
+use Rattle.program_tables.specs.Resolved.{resolved}
 use Rattle.bytecode_model.specs.Program.{Program}
 use Rattle.bytecode_typing.specs.Tests.{all_two}
-use Rattle.bytecode_typing.specs.Types.{VarType}
+use Rattle.bytecode_typing.specs.Types as typing
 use Rattle.bytecode_typing.specs.Assignable.{is_assignable}
-use Rattle.verifier_types.specs.Locals.{locals_seen, written, types_at}
-use Rattle.verifier_types.specs.declared.locals.Locals.{Locals}
-use Rattle.verifier_types.specs.Compared.{stands, Stand, AreFound, ArePassedUpTo, AreFoundUnlike}
-use Rattle.verifier_types.proofs.OverlayLemmas.{overlaid_unwritten, alike_lists}
+use Rattle.verifier_types.specs.declared.types.VarType.{VarType}
+use Rattle.verifier_types.specs.Seen.{type_seen}
+use Rattle.verifier_types.specs.Locals.{types_at}
+use Rattle.verifier_types.specs.Numbered.{type_numbered, lists_numbered, AreNumbered}
+use Rattle.verifier_types.specs.Compared.{stands, is_assignable_at, AreAssignable}
+use Rattle.verifier_types.proofs.NumberLemmas.{item_seen, type_there}
+use Rattle.verifier_types.proofs.PositionLemmas.{list_fits, item_fits}
+use Rattle.verifier_types.proofs.SelfLemmas.{stand_self}
 
-all_stand : (P : Program) (ts us : List VarType) → ((k : ℕ) → true ≡ stands P (slice_get ts k) (slice_get us k)) → all_two (is_assignable P) ts us ≡ true
+-- lists that are alike at each index
+pub alike_lists : {A : Type 0} (xs ys : List A) → ((i : ℕ) → slice_get xs i ≡ slice_get ys i) → xs ≡ ys
+alike_lists [] [] h = refl
+alike_lists [] (y ∷ ys) h = absurd (none≢some y (h 0))
+alike_lists (x ∷ xs) [] h = absurd (none≢some x (sym (h 0)))
+alike_lists (x ∷ xs) (y ∷ ys) h = ap₂ (λ a b. a ∷ b) (some_same x y (h 0)) (alike_lists xs ys (λ i. h (suc i)))
+
+pub all_stand : (P : Program) (ts us : List typing.VarType) → ((k : ℕ) → true ≡ stands P (slice_get ts k) (slice_get us k)) → true ≡ all_two (is_assignable P) ts us
 all_stand P [] [] h = refl
 all_stand P [] (u ∷ us) h = absurd (let e : true ≡ false = h 0 in cc)
 all_stand P (t ∷ ts) [] h = absurd (let e : true ≡ false = h 0 in cc)
-all_stand P (t ∷ ts) (u ∷ us) h = ap₂ (λ a b. a && b) (sym (h 0)) (all_stand P ts us (λ k. h (suc k)))
+all_stand P (t ∷ ts) (u ∷ us) h = ap₂ (λ a b. a && b) (h 0) (all_stand P ts us (λ k. h (suc k)))
 
-and_false : (b : Bool) → (b && false) ≡ false
+and_false : (b : Bool) → false ≡ (b && false)
 and_false true = refl
 and_false false = refl
 
-not_all : (P : Program) (ts us : List VarType) (k : ℕ) → false ≡ stands P (slice_get ts k) (slice_get us k) → all_two (is_assignable P) ts us ≡ false
+pub not_all : (P : Program) (ts us : List typing.VarType) (k : ℕ) → false ≡ stands P (slice_get ts k) (slice_get us k) → false ≡ all_two (is_assignable P) ts us
 not_all P [] [] k h = absurd (let e : false ≡ true = h in cc)
 not_all P [] (u ∷ us) k h = refl
 not_all P (t ∷ ts) [] k h = refl
-not_all P (t ∷ ts) (u ∷ us) zero h = ap (λ b. b && all_two (is_assignable P) ts us) (sym h)
-not_all P (t ∷ ts) (u ∷ us) (suc k) h = ap (λ b. is_assignable P t u && b) (not_all P ts us k h) ∙ and_false (is_assignable P t u)
+not_all P (t ∷ ts) (u ∷ us) zero h = ap (λ b. b && all_two (is_assignable P) ts us) h
+not_all P (t ∷ ts) (u ∷ us) (suc k) h = and_false (is_assignable P t u) ∙ ap (λ b. is_assignable P t u && b) (not_all P ts us k h)
 
--- one doesn't stand
-pub found_false : (P : Program) (which : ℕ → Type 0) (answer : Bool) (ts us : List VarType) → answer ≡ false → AreFound (Some P) which answer ts us → false ≡ all_two (is_assignable P) ts us
-found_false P which true ts us e h = absurd (let f : true ≡ false = e in cc)
-found_false P which false ts us e h = sym (not_all P ts us h.0 h.1)
+-- all below a number of them stand, and none is there from it on
+pub stand_below : (P : Program) (ts us : List typing.VarType) (n : ℕ) → ((k : ℕ) → k < n → true ≡ stands P (slice_get ts k) (slice_get us k)) → ((k : ℕ) → n ≤ k → slice_get ts k ≡ None)
+    → ((k : ℕ) → n ≤ k → slice_get us k ≡ None) → true ≡ all_two (is_assignable P) ts us
+stand_below P ts us n h f g = all_stand P ts us (λ k. elim (cases_lt k n) [
+  | inl lt ↦ h k lt
+  | inr le ↦ ap₂ (λ t u. stands P t u) (sym (f k le)) (sym (g k le))
+])
 
-module _ (ls : List (List VarType)) (l : Locals) where
-  pub at_unwritten : (k : ℕ) → written l k ≡ None → slice_get (locals_seen ls l) k ≡ slice_get (types_at ls l.base) k
-  unfolding locals_seen
-  at_unwritten k e = overlaid_unwritten (written l) k (types_at ls l.base) e
+-- ---- where lists of numbers differ
 
--- all stand, where something was written and elsewhere
-every : (Q : Option Program) (ls : List (List VarType)) (f g : Locals) (k : ℕ) (o p : Option VarType) → written f k ≡ o → written g k ≡ p
-    → AreFound Q (λ i. IsSome (written f i)) true (locals_seen ls f) (locals_seen ls g)
-    → AreFound Q (λ i. IsSome (written g i)) true (locals_seen ls f) (locals_seen ls g)
-    → AreFoundUnlike Q (types_at ls f.base) (types_at ls g.base) true (locals_seen ls f) (locals_seen ls g)
-    → Stand Q true (slice_get (locals_seen ls f) k) (slice_get (locals_seen ls g) k)
-every Q ls f g k (Some t) p d e first second third = first k (ap is_some d)
-every Q ls f g k None (Some t) d e first second third = second k (ap is_some e)
-every Q ls f g k None None d e first second third =
-    elim (third k) [
-      | inl base ↦
-          subst (λ t. Stand Q true t (slice_get (locals_seen ls g) k)) (sym (at_unwritten ls f k d))
-          (subst (λ u. Stand Q true (slice_get (types_at ls f.base) k) u) (sym (at_unwritten ls g k e)) base)
-      | inr there ↦ there
-    ]
+module _ (cs : List ClassFile) (some : 0 < length cs) (answers : Difference → Bool → Type 0) (types : List VarType) (t : ListTable) (a b : ℕ) (are : AreNumbered types t)
+    (call : (d : Difference) (r : Bool) → answers d r → AreAssignable (resolved cs) types d r) where
+  at : (n i x : ℕ) → slice_get (tables.list_at t n) i ≡ Some x → slice_get (types_at (lists_numbered types t.lists) n) i ≡ Some (type_seen (type_numbered types x))
+  at n i x e = item_seen types t n i ∙ ap (option_map (λ m. type_seen (type_numbered types m))) e
 
-pub everywhere : (Q : Option Program) (ls : List (List VarType)) (f g : Locals)
-    → AreFound Q (λ i. IsSome (written f i)) true (locals_seen ls f) (locals_seen ls g)
-    → AreFound Q (λ i. IsSome (written g i)) true (locals_seen ls f) (locals_seen ls g)
-    → AreFoundUnlike Q (types_at ls f.base) (types_at ls g.base) true (locals_seen ls f) (locals_seen ls g)
-    → (k : ℕ) → Stand Q true (slice_get (locals_seen ls f) k) (slice_get (locals_seen ls g) k)
-everywhere Q ls f g first second third k = every Q ls f g k (written f k) (written g k) refl refl first second third
+  typed : (n i x : ℕ) → slice_get (tables.list_at t n) i ≡ Some x → slice_get types x ≡ Some (type_numbered types x)
+  typed n i x e = type_there types x (item_fits types (tables.list_at t n) i x (list_fits types t.lists n are.3) e)
 
--- whether all may stand
-pub assignable_all : (P : Program) (ls : List (List VarType)) (f g : Locals) (answer : Bool)
-    → AreFound (Some P) (λ i. IsSome (written f i)) true (locals_seen ls f) (locals_seen ls g)
-    → AreFound (Some P) (λ i. IsSome (written g i)) true (locals_seen ls f) (locals_seen ls g)
-    → AreFoundUnlike (Some P) (types_at ls f.base) (types_at ls g.base) answer (locals_seen ls f) (locals_seen ls g)
-    → answer ≡ all_two (is_assignable P) (locals_seen ls f) (locals_seen ls g)
-assignable_all P ls f g true first second third = sym (all_stand P (locals_seen ls f) (locals_seen ls g) (everywhere (Some P) ls f g first second third))
-assignable_all P ls f g false first second third = sym (not_all P (locals_seen ls f) (locals_seen ls g) third.0 third.1)
+  there : (r : Bool) (i x y : ℕ) → slice_get (tables.list_at t a) i ≡ Some x → slice_get (tables.list_at t b) i ≡ Some y → answers (difference x y) r
+      → r ≡ stands (resolved cs) (slice_get (types_at (lists_numbered types t.lists) a) i) (slice_get (types_at (lists_numbered types t.lists) b) i)
+  there r i x y e f h =
+      call (difference x y) r h
+      ∙ (ap₂ (λ t u. is_assignable_at (resolved cs) t u) (typed a i x e) (typed b i y f) ∙ ap₂ (λ t u. stands (resolved cs) t u) (sym (at a i x e)) (sym (at b i y f)))
 
-pub same_all : (ls : List (List VarType)) (f g : Locals) (answer : Bool)
-    → AreFound None (λ i. IsSome (written f i)) true (locals_seen ls f) (locals_seen ls g)
-    → AreFound None (λ i. IsSome (written g i)) true (locals_seen ls f) (locals_seen ls g)
-    → AreFoundUnlike None (types_at ls f.base) (types_at ls g.base) answer (locals_seen ls f) (locals_seen ls g)
-    → answer ≡ true → locals_seen ls f ≡ locals_seen ls g
-same_all ls f g true first second third e = alike_lists (locals_seen ls f) (locals_seen ls g) (everywhere None ls f g first second third)
-same_all ls f g false first second third e = absurd (let h : false ≡ true = e in cc)
+  alike : (i : ℕ) → slice_get (tables.list_at t a) i ≡ slice_get (tables.list_at t b) i → true ≡ stands (resolved cs) (slice_get (types_at (lists_numbered types t.lists) a) i) (slice_get (types_at (lists_numbered types t.lists) b) i)
+  alike i e =
+      let same : slice_get (types_at (lists_numbered types t.lists) a) i ≡ slice_get (types_at (lists_numbered types t.lists) b) i =
+      item_seen types t a i ∙ (ap (option_map (λ m. type_seen (type_numbered types m))) e ∙ sym (item_seen types t b i)) in
+      stand_self cs some (slice_get (types_at (lists_numbered types t.lists) a) i) ∙ ap (stands (resolved cs) (slice_get (types_at (lists_numbered types t.lists) a) i)) same
 
--- ---- up to an index
+  passed : (r : Bool) → ArePassed answers (tables.list_at t a) (tables.list_at t b) r → r ≡ all_two (is_assignable (resolved cs)) (types_at (lists_numbered types t.lists) a) (types_at (lists_numbered types t.lists) b)
+  passed true h = all_stand (resolved cs) _ _ (λ k. elim (h.found k) [
+    | inl e ↦ alike k e
+    | inr w ↦ there true k w.0 w.1 w.2 w.3 w.4
+  ])
+  passed false h = let w = h.found in not_all (resolved cs) _ _ w.0 (there false w.0 w.1 w.2 w.3 w.4 w.5)
 
-pub passed_more : (Q : Option Program) (bs cs ts us : List VarType) (next index : ℕ) → ((k : ℕ) → k < next → Stand Q true (slice_get bs k) (slice_get cs k) ⊎ Stand Q true (slice_get ts k) (slice_get us k))
-    → ArePassedUpTo Q bs cs next (Some index) → Stand Q true (slice_get ts index) (slice_get us index)
-    → (k : ℕ) → k < index + 1 → Stand Q true (slice_get bs k) (slice_get cs k) ⊎ Stand Q true (slice_get ts k) (slice_get us k)
-passed_more Q bs cs ts us next index so_far passed here k lt = elim (cases_lt k next) [
-  | inl before ↦ so_far k before
-  | inr from ↦ elim (cases_lt k index) [
-    | inl under ↦ inl (passed.1 k from under)
-    | inr past ↦ let same : index ≡ k = omega (arith, lt, past) in inr (subst (λ (j : ℕ). Stand Q true (slice_get ts j) (slice_get us j)) same here)
-  ]
-]
-
-pub passed_all : (Q : Option Program) (bs cs ts us : List VarType) (next : ℕ) → ((k : ℕ) → k < next → Stand Q true (slice_get bs k) (slice_get cs k) ⊎ Stand Q true (slice_get ts k) (slice_get us k))
-    → ArePassedUpTo Q bs cs next None → (k : ℕ) → Stand Q true (slice_get bs k) (slice_get cs k) ⊎ Stand Q true (slice_get ts k) (slice_get us k)
-passed_all Q bs cs ts us next so_far passed k = elim (cases_lt k next) [
-  | inl before ↦ so_far k before
-  | inr from ↦ inl (passed k from)
-]
+  pub all_passed : (o : Option Bool) → IfSome o (λ r. ArePassed answers (tables.list_at t a) (tables.list_at t b) r)
+      → IfSome o (λ r. r ≡ all_two (is_assignable (resolved cs)) (types_at (lists_numbered types t.lists) a) (types_at (lists_numbered types t.lists) b))
+  all_passed None h = tt
+  all_passed (Some r) h = passed r h

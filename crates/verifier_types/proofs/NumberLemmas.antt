@@ -1,5 +1,5 @@
 -- Types that have numbers, and lists of these numbers.
-use Rattle.std.proofs.Common.{◌≡◌, ℕ, zero, suc, ◌+◌, ◌-◌, ◌<◌, ◌≤◌, ◌^◌, List, [], ◌∷◌, ◌++◌, length, map, set, take, get_or, replicate, All, Option, Some, None, append_assoc, length-append, refl, sym, ap, ap₂, ◌∙◌, subst, arith}
+use Rattle.std.proofs.Common.{◌≡◌, ℕ, zero, suc, ◌+◌, ◌-◌, ◌<◌, ◌≤◌, ◌^◌, true, false, List, [], ◌∷◌, ◌++◌, length, map, set, take, get_or, replicate, All, Option, Some, None, append_assoc, length-append, refl, sym, ap, ap₂, ◌∙◌, subst, arith}
 use Rattle.std.specs.Prelude.{slice_get, IfSome, Result, Ok, Err, OnOk, OnErr, ◌⊎◌}
 use Rattle.std.proofs.Common.{inl, inr}
 use Rattle.std.proofs.lemmas.Grind.{take_at_read}
@@ -11,6 +11,9 @@ use Rattle.std.proofs.lemmas.List.Elements.{All-append, All-replicate}
 use Rattle.lists.specs.Lemmas.{none≢some, some_same}
 use Rattle.persistent_lists.specs.Tables as tables
 use Rattle.persistent_lists.specs.Tables.{ListTable, with_list, changed_list}
+use Rattle.persistent_lists.specs.Answers.{AreKnown}
+use Rattle.class_pool.specs.declared.class.ClassFile.{ClassFile}
+use Rattle.bytecode_model.specs.Program.{Program}
 use Rattle.bytecode_model.specs.Slots.{padded}
 use Rattle.bytecode_model.specs.Lists.{onto}
 use Rattle.bytecode_typing.specs.Types as typing
@@ -18,7 +21,8 @@ use Rattle.verifier_types.specs.declared.types.VarType.{VarType}
 use Rattle.verifier_types.specs.declared.types.VarType.TheVariants.{Top}
 use Rattle.verifier_types.specs.Seen.{type_seen, types_seen}
 use Rattle.verifier_types.specs.Locals.{LocalTable, with_types, filled, types_at, changed_types}
-use Rattle.verifier_types.specs.Numbered.{type_numbered, lists_numbered, AreNumbered, Grows, IsNumberOf, AreNumbersOf, AreAlikeUpTo}
+use Rattle.verifier_types.specs.Compared.{is_assignable_at, AreAssignable}
+use Rattle.verifier_types.specs.Numbered.{type_numbered, lists_numbered, AreNumbered, Grows, IsNumberOf, AreNumbersOf}
 
 -- ---- the types grow
 
@@ -70,16 +74,16 @@ numbered_more types t ns are all = (are.0, are.1, are.2, All-append (All (λ n. 
 
 -- ---- the table that is seen
 
-abbrev pub table : List VarType → ListTable → LocalTable
-table types t = record { max_locals = t.width; lists = lists_numbered types t.lists }
+abbrev pub table : List ClassFile → List VarType → ListTable → LocalTable
+table cs types t = record { classes = cs; max_locals = t.width; lists = lists_numbered types t.lists }
 
-pub kept_view : (old new : List VarType) (t u : ListTable) → Grows old new → AreNumbered old t → u ≡ t → table new u ≡ table old t
-kept_view old new t u more are e = ap (table new) e ∙ ap (λ ls. let l : LocalTable = record { max_locals = t.width; lists = ls } in l) (lists_kept old new t.lists more are.3)
+pub kept_view : (cs : List ClassFile) (old new : List VarType) (t u : ListTable) → Grows old new → AreNumbered old t → u ≡ t → table cs new u ≡ table cs old t
+kept_view cs old new t u more are e = ap (table cs new) e ∙ ap (λ ls. let l : LocalTable = record { classes = cs; max_locals = t.width; lists = ls } in l) (lists_kept old new t.lists more are.3)
 
-pub more_view : (old new : List VarType) (t u : ListTable) (ns : List ℕ) (ts : List typing.VarType) → Grows old new → AreNumbered old t → u ≡ with_list t ns → seen_of new ns ≡ ts → table new u ≡ with_types (table old t) ts
-more_view old new t u ns ts more are e is =
-    ap (table new) e
-    ∙ ap (λ ls. let l : LocalTable = record { max_locals = t.width; lists = ls } in l)
+pub more_view : (cs : List ClassFile) (old new : List VarType) (t u : ListTable) (ns : List ℕ) (ts : List typing.VarType) → Grows old new → AreNumbered old t → u ≡ with_list t ns → seen_of new ns ≡ ts → table cs new u ≡ with_types (table cs old t) ts
+more_view cs old new t u ns ts more are e is =
+    ap (table cs new) e
+    ∙ ap (λ ls. let l : LocalTable = record { classes = cs; max_locals = t.width; lists = ls } in l)
     (map-append (seen_of new) t.lists (ns ∷ []) ∙ ap₂ (λ a b. a ++ b ∷ []) (lists_kept old new t.lists more are.3) is)
 
 -- ---- the list that is added
@@ -136,9 +140,9 @@ list_fits types [] k all ns e = absurd (none≢some ns e)
 list_fits types (l ∷ ls) zero all ns e = subst (λ l. All (λ m. m < length types) l) (some_same l ns e) (all 0 l (omega arith))
 list_fits types (l ∷ ls) (suc k) all ns e = list_fits types ls k (λ j d lt. all (suc j) d (omega (arith, lt))) ns e
 
-pub changed_seen : (types : List VarType) (t : ListTable) (k i n : ℕ) (x : VarType) → AreNumbered types t → IsNumberOf types x n
-    → (seen_of types (changed_list t k i n) ≡ changed_types (table types t) k i (type_seen x)) × All (λ m. m < length types) (changed_list t k i n)
-changed_seen types t k i n x are is =
+pub changed_seen : (cs : List ClassFile) (types : List VarType) (t : ListTable) (k i n : ℕ) (x : VarType) → AreNumbered types t → IsNumberOf types x n
+    → (seen_of types (changed_list t k i n) ≡ changed_types (table cs types t) k i (type_seen x)) × All (λ m. m < length types) (changed_list t k i n)
+changed_seen cs types t k i n x are is =
     let c = changed_case types t i n x (slice_get t.lists k) (list_fits types t.lists k are.3) are is in
     (c.0 ∙ ap (λ o. option_map_or (λ ts. set ts i (type_seen x)) o (filled t.width [])) (sym (slice_get-map (seen_of types) t.lists k)), c.1)
 
@@ -163,12 +167,7 @@ padded_filled (suc n) (t ∷ ts) le =
     let count : n - length ts ≡ suc n - length (t ∷ ts) = omega arith in
     ap (λ o. onto o (λ ws. Some (t ∷ ws))) (padded_filled n ts (omega (arith, le))) ∙ ap (λ (k : ℕ). Some (t ∷ ts ++ replicate k typing.Top)) count
 
--- ---- where lists differ
-
-pub alike_seen : (types : List VarType) (t : ListTable) (a b from : ℕ) (o : Option ℕ) → tables.IsDifference (tables.list_at t a) (tables.list_at t b) from o
-    → AreAlikeUpTo (types_at (lists_numbered types t.lists) a) (types_at (lists_numbered types t.lists) b) from o
-alike_seen types t a b from None d = λ i le. item_seen types t a i ∙ (ap (option_map (λ n. type_seen (type_numbered types n))) (d i le) ∙ sym (item_seen types t b i))
-alike_seen types t a b from (Some k) d = (d.0, (λ i le lt. item_seen types t a i ∙ (ap (option_map (λ n. type_seen (type_numbered types n))) (d.2 i le lt) ∙ sym (item_seen types t b i))))
+-- ---- beyond the lists
 
 pub beyond_seen : (types : List VarType) (t : ListTable) (n i : ℕ) → slice_get (tables.list_at t n) i ≡ None → slice_get (types_at (lists_numbered types t.lists) n) i ≡ None
 beyond_seen types t n i e = item_seen types t n i ∙ ap (option_map (λ m. type_seen (type_numbered types m))) e
@@ -220,3 +219,33 @@ always_err (Err x) P p = p
 pub numbered_after : (types : List VarType) (t u : ListTable) (ns : List ℕ) → AreNumbered types t → All (λ n. n < length types) ns → (u ≡ with_list t ns) ⊎ (u ≡ t) → AreNumbered types u
 numbered_after types t u ns are all (inl e) = subst (λ v. AreNumbered types v) (sym e) (numbered_more types t ns are all)
 numbered_after types t u ns are all (inr e) = subst (λ v. AreNumbered types v) (sym e) are
+
+-- ---- what is known of types
+
+pub type_there : (types : List VarType) (n : ℕ) → n < length types → slice_get types n ≡ Some (type_numbered types n)
+type_there [] n lt = absurd (omega (arith, lt))
+type_there (t ∷ ts) zero lt = refl
+type_there (t ∷ ts) (suc n) lt = type_there ts n (omega (arith, lt))
+
+still_there : (xs ys : List VarType) (n : ℕ) (x : VarType) → slice_get xs n ≡ Some x → slice_get (xs ++ ys) n ≡ Some x
+still_there [] ys n x e = absurd (none≢some x e)
+still_there (y ∷ xs) ys zero x e = e
+still_there (y ∷ xs) ys (suc n) x e = still_there xs ys n x e
+
+-- a type of which it is known that it may stand for another has a number, and so it stays
+both_kept : (P : Program) (old more : List VarType) (a b : ℕ) (o p : Option VarType) → slice_get old a ≡ o → slice_get old b ≡ p → true ≡ is_assignable_at P o p → true ≡ is_assignable_at P (slice_get (old ++ more) a) (slice_get (old ++ more) b)
+both_kept P old more a b None None e f h = absurd (let g : true ≡ false = h in cc)
+both_kept P old more a b None (Some u) e f h = absurd (let g : true ≡ false = h in cc)
+both_kept P old more a b (Some t) None e f h = absurd (let g : true ≡ false = h in cc)
+both_kept P old more a b (Some t) (Some u) e f h = h ∙ ap₂ (λ x y. is_assignable_at P x y) (sym (still_there old more a t e)) (sym (still_there old more b u f))
+
+known_kept : (P : Program) (old new : List VarType) (t : ListTable) → Grows old new → AreKnown (AreAssignable P old) t → AreKnown (AreAssignable P new) t
+known_kept P old new t more known = λ k d lt i x y gx gy. elim (known k d lt i x y gx gy) [
+  | inl same ↦ inl same
+  | inr stands ↦ inr (both_kept P old more.0 x y (slice_get old x) (slice_get old y) refl refl stands ∙ ap (λ l. is_assignable_at P (slice_get l x) (slice_get l y)) (sym more.1))
+]
+
+-- the same after a list is added, or isn't
+pub known_after : (P : Program) (old new : List VarType) (t u : ListTable) (ns : List ℕ) → Grows old new → AreKnown (AreAssignable P old) t → (u ≡ with_list t ns) ⊎ (u ≡ t) → AreKnown (AreAssignable P new) u
+known_after P old new t u ns more known (inl e) = subst (λ v. AreKnown (AreAssignable P new) v) (sym e) (known_kept P old new t more known)
+known_after P old new t u ns more known (inr e) = subst (λ v. AreKnown (AreAssignable P new) v) (sym e) (known_kept P old new t more known)

@@ -1,4 +1,4 @@
--- Where a list of types of local variables has the type of what isn't initialised.
+-- Where a list of types of local variables has a type.
 use Rattle.std.proofs.Common.{◌≡◌, ℕ, zero, suc, ◌+◌, ◌<◌, ◌≤◌, Bool, true, false, not, cond, List, [], ◌∷◌, length, get_or, All, Option, Some, None, refl, sym, ap, ◌∙◌, subst, arith}
 use Rattle.std.specs.Prelude.{slice_get, nat_lt, if◌then◌else◌}
 use Rattle.std.specs.Option.{option_map}
@@ -9,14 +9,13 @@ use Rattle.std.proofs.lemmas.Map.Keys.{apart_from_distinct}
 use Rattle.lists.specs.Lemmas.{none≢some, some_same}
 use Rattle.persistent_lists.specs.Tables as tables
 use Rattle.persistent_lists.specs.Tables.{ListTable}
-use Rattle.bytecode_typing.specs.Types as typing
-use Rattle.bytecode_typing.specs.Types.{is_initialized, is_this}
 use Rattle.verifier_types.specs.declared.types.VarType.{VarType}
-use Rattle.verifier_types.specs.declared.types.VarType.TheVariants.{Top, Integer, LongInteger, Null, UninitializedThis, Uninitialized, Reference}
+use Rattle.verifier_types.specs.declared.types.VarType.TheVariants.{Top}
 use Rattle.verifier_types.specs.Seen.{type_seen}
 use Rattle.verifier_types.specs.Locals.{types_at}
 use Rattle.verifier_types.specs.Numbered.{type_numbered, lists_numbered, AreNumbered, IsOnlyNumber, HoldsUpTo}
 use Rattle.verifier_types.proofs.NumberLemmas.{item_seen, beyond_seen}
+use Rattle.verifier_types.proofs.SeenLemmas.{seen_as}
 
 -- ---- the number of a type
 
@@ -44,51 +43,24 @@ only_number eq decides types x apart = λ n lt is.
     let same : get_or types j Top ≡ get_or types n Top = sym ((decides x (get_or types j Top)).0 t) ∙ sym is in
     false≢true (sym (apart_from_distinct eq types j n Top apart below lt) ∙ (decides (get_or types j Top) (get_or types n Top)).1 same)))
 
--- ---- what isn't initialised is told by what is seen of it
-
-seen_as : (t x : VarType) → is_initialized (type_seen x) ≡ false → type_seen t ≡ type_seen x → t ≡ x
-seen_as t Top un e = absurd (let f : true ≡ false = un in cc)
-seen_as t Integer un e = absurd (let f : true ≡ false = un in cc)
-seen_as t LongInteger un e = absurd (let f : true ≡ false = un in cc)
-seen_as t Null un e = absurd (let f : true ≡ false = un in cc)
-seen_as t (Reference k) un e = absurd (let f : true ≡ false = un in cc)
-seen_as Top UninitializedThis un e = absurd (let f : true ≡ false = ap is_initialized e in cc)
-seen_as Integer UninitializedThis un e = absurd (let f : true ≡ false = ap is_initialized e in cc)
-seen_as LongInteger UninitializedThis un e = absurd (let f : true ≡ false = ap is_initialized e in cc)
-seen_as Null UninitializedThis un e = absurd (let f : true ≡ false = ap is_initialized e in cc)
-seen_as (Reference k) UninitializedThis un e = absurd (let f : true ≡ false = ap is_initialized e in cc)
-seen_as UninitializedThis UninitializedThis un e = refl
-seen_as (Uninitialized p) UninitializedThis un e = absurd (let f : false ≡ true = ap is_this e in cc)
-seen_as Top (Uninitialized q) un e = absurd (let f : true ≡ false = ap is_initialized e in cc)
-seen_as Integer (Uninitialized q) un e = absurd (let f : true ≡ false = ap is_initialized e in cc)
-seen_as LongInteger (Uninitialized q) un e = absurd (let f : true ≡ false = ap is_initialized e in cc)
-seen_as Null (Uninitialized q) un e = absurd (let f : true ≡ false = ap is_initialized e in cc)
-seen_as (Reference k) (Uninitialized q) un e = absurd (let f : true ≡ false = ap is_initialized e in cc)
-seen_as UninitializedThis (Uninitialized q) un e = absurd (let f : true ≡ false = ap is_this e in cc)
-seen_as (Uninitialized p) (Uninitialized q) un e = let f : typing.Uninitialized p ≡ typing.Uninitialized q = e in ap Uninitialized (ap place_of f)
-  where
-    place_of : typing.VarType → ℕ
-    place_of (typing.Uninitialized p) = p
-    place_of t = 0
-
 -- ---- where a list has it
 
-list_fits : (types : List VarType) (ls : List (List ℕ)) (k : ℕ) → All (All (λ m. m < length types)) ls → All (λ m. m < length types) (get_or ls k [])
+pub list_fits : (types : List VarType) (ls : List (List ℕ)) (k : ℕ) → All (All (λ m. m < length types)) ls → All (λ m. m < length types) (get_or ls k [])
 list_fits types [] k all = λ j d lt. absurd (omega (arith, lt))
 list_fits types (l ∷ ls) zero all = all 0 [] (omega arith)
 list_fits types (l ∷ ls) (suc k) all = list_fits types ls k (λ j d lt. all (suc j) d (omega (arith, lt)))
 
-item_fits : (types : List VarType) (ns : List ℕ) (i n : ℕ) → All (λ m. m < length types) ns → slice_get ns i ≡ Some n → n < length types
+pub item_fits : (types : List VarType) (ns : List ℕ) (i n : ℕ) → All (λ m. m < length types) ns → slice_get ns i ≡ Some n → n < length types
 item_fits types [] i n all e = absurd (none≢some n e)
 item_fits types (m ∷ ns) zero n all e = subst (λ (j : ℕ). j < length types) (some_same m n e) (all 0 m (omega arith))
 item_fits types (m ∷ ns) (suc i) n all e = item_fits types ns i n (λ j d lt. all (suc j) d (omega (arith, lt))) e
 
-module _ (types : List VarType) (t : ListTable) (k : ℕ) (x : VarType) (found : Option ℕ) (are : AreNumbered types t) (un : is_initialized (type_seen x) ≡ false) (only : IsOnlyNumber types x found) where
+module _ (types : List VarType) (t : ListTable) (k : ℕ) (x : VarType) (found : Option ℕ) (are : AreNumbered types t) (only : IsOnlyNumber types x found) where
   number_there : (i : ℕ) (o : Option ℕ) → slice_get (tables.list_at t k) i ≡ o → option_map (λ n. type_seen (type_numbered types n)) o ≡ Some (type_seen x) → slice_get (tables.list_at t k) i ≡ found
   number_there i None at e = absurd (none≢some (type_seen x) e)
   number_there i (Some n) at e =
       let fits : n < length types = item_fits types (tables.list_at t k) i n (list_fits types t.lists k are.3) at in
-      at ∙ sym (only n fits (seen_as (type_numbered types n) x un (some_same (type_seen (type_numbered types n)) (type_seen x) e)))
+      at ∙ sym (only n fits (seen_as (type_numbered types n) x (some_same (type_seen (type_numbered types n)) (type_seen x) e)))
 
   number_at : (i : ℕ) → slice_get (types_at (lists_numbered types t.lists) k) i ≡ Some (type_seen x) → slice_get (tables.list_at t k) i ≡ found
   number_at i e = number_there i (slice_get (tables.list_at t k) i) refl (sym (item_seen types t k i) ∙ e)

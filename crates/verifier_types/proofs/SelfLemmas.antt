@@ -1,6 +1,5 @@
 -- Each type may stand for itself, where there is a class at all.
-use Rattle.std.proofs.Common.{◌≡◌, ℕ, ◌<◌, Bool, true, false, ◌||◌, ◌==◌, List, [], ◌∷◌, length, Option, Some, None, refl, sym, ap, ◌∙◌, subst, arith}
-use Rattle.std.specs.Prelude.{slice_get}
+use Rattle.std.proofs.Common.{◌≡◌, ℕ, ◌<◌, Bool, true, false, ◌||◌, ◌==◌, List, [], ◌∷◌, length, Option, Some, None, refl, sym, ap, ◌∙◌, arith}
 use Rattle.std.specs.List.{flat_map, list_any}
 use Rattle.std.proofs.lemmas.Bool.{eq-eqb}
 use Rattle.lists.specs.Numbers.{reached}
@@ -11,8 +10,7 @@ use Rattle.bytecode_model.specs.Program.{object_class}
 use Rattle.program_tables.specs.Resolved.{resolved}
 use Rattle.bytecode_typing.specs.Types.{VarType, Top, Integer, LongInteger, NullReference, UninitializedThis, Uninitialized, ReferenceTo}
 use Rattle.bytecode_typing.specs.Assignable.{is_assignable, is_assignable_kind}
-use Rattle.verifier_types.specs.Compared.{Stand, ArePassedUpTo}
-use Rattle.verifier_types.specs.Numbered.{AreAlikeUpTo}
+use Rattle.verifier_types.specs.Compared.{stands}
 
 extends_self : (cs : List ClassFile) (c : ℕ) → 0 < length cs → extends cs c c ≡ true
 unfolding supertypes
@@ -39,13 +37,6 @@ type_self cs h UninitializedThis = refl
 type_self cs h (Uninitialized p) = eq-eqb p p refl
 type_self cs h (ReferenceTo k) = kind_self cs h k
 
-pub stand_self : (cs : List ClassFile) → 0 < length cs → (o : Option VarType) → Stand (Some (resolved cs)) true o o
+pub stand_self : (cs : List ClassFile) → 0 < length cs → (o : Option VarType) → true ≡ stands (resolved cs) o o
 stand_self cs h None = refl
 stand_self cs h (Some t) = sym (type_self cs h t)
-
-stand_alike : (cs : List ClassFile) → 0 < length cs → (o p : Option VarType) → o ≡ p → Stand (Some (resolved cs)) true o p
-stand_alike cs h o p e = subst (λ q. Stand (Some (resolved cs)) true o q) e (stand_self cs h o)
-
-pub passed_alike : (cs : List ClassFile) → 0 < length cs → (ts us : List VarType) (from : ℕ) (o : Option ℕ) → AreAlikeUpTo ts us from o → ArePassedUpTo (Some (resolved cs)) ts us from o
-passed_alike cs h ts us from None d = λ i le. stand_alike cs h (slice_get ts i) (slice_get us i) (d i le)
-passed_alike cs h ts us from (Some k) d = (d.0, (λ i le lt. stand_alike cs h (slice_get ts i) (slice_get us i) (d.1 i le lt)))

@@ -1,9 +1,12 @@
 -- Local variables of two frames side by side, index by index.
 -- For contracts within this crate alone: no public contract's meaning rests on this file.
-use Rattle.std.specs.Prelude.{◌≡◌, ℕ, ◌<◌, ◌≤◌, ◌⊎◌, Bool, true, false, List, slice_get, Option, Some, None}
+use Rattle.std.specs.Prelude.{◌≡◌, Bool, true, false, List, Option, Some, None, slice_get}
+use Rattle.persistent_lists.specs.declared.trees.Difference.{Difference}
 use Rattle.bytecode_model.specs.Program.{Program}
 use Rattle.bytecode_typing.specs.Types.{VarType}
 use Rattle.bytecode_typing.specs.Assignable.{is_assignable}
+use Rattle.verifier_types.specs.declared.types.VarType as types
+use Rattle.verifier_types.specs.Seen.{type_seen}
 
 -- a local variable may stand for another, or neither is there
 abbrev pub stands : Program → Option VarType → Option VarType → Bool
@@ -11,32 +14,15 @@ stands P None None = true
 stands P (Some t) (Some u) = is_assignable P t u
 stands P t u = false
 
--- what is found of two local variables: whether the first may stand for the second, or, where there is no program, whether they are known to be alike
-abbrev pub Stand : Option Program → Bool → Option VarType → Option VarType → Type 0
-Stand (Some P) answer t u = answer ≡ stands P t u
-Stand None true t u = t ≡ u
-Stand None false t u = Unit {0}
+-- both types are there, and the first may stand for the second
+abbrev pub is_assignable_at : Program → Option types.VarType → Option types.VarType → Bool
+is_assignable_at P (Some t) (Some u) = is_assignable P (type_seen t) (type_seen u)
+is_assignable_at P t u = false
 
--- what is found of those of some indices: of each of them that they stand, or of one local variable that they don't
-abbrev pub AreFound : Option Program → (which : ℕ → Type 0) → Bool → (from to : List VarType) → Type 0
-AreFound P which true ts us = (k : ℕ) → which k → Stand P true (slice_get ts k) (slice_get us k)
-AreFound P which false ts us = (k : ℕ) × Stand P false (slice_get ts k) (slice_get us k)
+-- both numbers have types, and the first of these may stand for the second
+abbrev pub are_assignable_numbers : Program → List types.VarType → Difference → Bool
+are_assignable_numbers P types d = is_assignable_at P (slice_get types d.first) (slice_get types d.second)
 
--- each of the first list, from an index on and up to the second one if there is one, may stand for that of the other list
-abbrev pub ArePassedUpTo : Option Program → (from to : List VarType) → (index : ℕ) → Option ℕ → Type 0
-ArePassedUpTo P ts us n None = (i : ℕ) → n ≤ i → Stand P true (slice_get ts i) (slice_get us i)
-ArePassedUpTo P ts us n (Some k) = (n ≤ k) × ((i : ℕ) → n ≤ i → i < k → Stand P true (slice_get ts i) (slice_get us i))
-
--- what is found where two lists aren't alike: of each index that the types of the lists stand there, or the local variables; or one of these that doesn't
-abbrev pub AreFoundUnlike : Option Program → (first second : List VarType) → Bool → (from to : List VarType) → Type 0
-AreFoundUnlike P xs ys true ts us = (k : ℕ) → Stand P true (slice_get xs k) (slice_get ys k) ⊎ Stand P true (slice_get ts k) (slice_get us k)
-AreFoundUnlike P xs ys false ts us = (k : ℕ) × Stand P false (slice_get ts k) (slice_get us k)
-
--- each local variable may stand for one of the same type
-abbrev pub StandsForItself : Option Program → Type 0
-StandsForItself P = (t : Option VarType) → Stand P true t t
-
--- what is found where two lists aren't alike: of each index that the lists are alike there, or that the local variables stand; or one of these that doesn't
-abbrev pub AreFoundApart : Option Program → (first second : List VarType) → Bool → (from to : List VarType) → Type 0
-AreFoundApart P xs ys true ts us = (k : ℕ) → (slice_get xs k ≡ slice_get ys k) ⊎ Stand P true (slice_get ts k) (slice_get us k)
-AreFoundApart P xs ys false ts us = (k : ℕ) × Stand P false (slice_get ts k) (slice_get us k)
+-- the same as a relation
+abbrev pub AreAssignable : Program → List types.VarType → Difference → Bool → Type 0
+AreAssignable P types d answer = answer ≡ are_assignable_numbers P types d

@@ -9,4 +9,3 @@ pub mod Uses
 pub mod Site
 pub mod Taken
 pub mod Laws
-pub mod Apart

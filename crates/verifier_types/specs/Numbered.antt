@@ -33,11 +33,6 @@ IsOnlyNumber types t number = (n : ℕ) → n < length types → type_numbered t
 abbrev pub AreNumbersOf : List VarType → (locals : List VarType) → (numbers : List ℕ) → Type 0
 AreNumbersOf types locals numbers = All (λ n. n < length types) numbers × (map (type_numbered types) numbers ≡ locals)
 
--- the lists are alike from an index on, up to the second one if there is one
-abbrev pub AreAlikeUpTo : (xs ys : List typing.VarType) → (from : ℕ) → Option ℕ → Type 0
-AreAlikeUpTo xs ys from None = (i : ℕ) → from ≤ i → slice_get xs i ≡ slice_get ys i
-AreAlikeUpTo xs ys from (Some k) = (from ≤ k) × ((i : ℕ) → from ≤ i → i < k → slice_get xs i ≡ slice_get ys i)
-
 -- the list has the item nowhere from an index on, up to the second one if there is one
 abbrev pub HoldsUpTo : {A : Type 0} → List A → A → (from : ℕ) → Option ℕ → Type 0
 HoldsUpTo xs t from None = (i : ℕ) → from ≤ i → slice_get xs i ≢ Some t

@@ -45,9 +45,13 @@ check_at s f r = checks.row_check s.program s.number s.method s.body s.maps s.pl
 abbrev pub target_at : Site → typing.TypeFrame → ℤ → Option typing.TypeFrame
 target_at s f offset = checks.frame_at s.program s.number s.method s.body s.maps s.place f (natural (pos s.place +ℤ offset))
 
--- the code's answer and the frame that it leaves are what the rules say of the row, with the frame that it was given, the lists of types of local variables being these
+-- the code's answer and the frame that it leaves are what the rules say of the row, with the frame that it was given, the lists of types of local variables being the first ones before and the second ones after
+abbrev pub ChecksOver : (before after : List (List typing.VarType)) → Site → Row → (old : TypeFrame) → Checked → (new : TypeFrame) → Type 0
+ChecksOver before after s row old checked new = checked_seen checked (frame_seen after new) ≡ check_at s (frame_seen before old) row
+
+-- the same where no list is added
 abbrev pub ChecksIn : List (List typing.VarType) → Site → Row → (old : TypeFrame) → Checked → (new : TypeFrame) → Type 0
-ChecksIn ls s row old checked new = checked_seen checked (frame_seen ls new) ≡ check_at s (frame_seen ls old) row
+ChecksIn ls s row old checked new = ChecksOver ls ls s row old checked new
 
 -- the same whatever the lists are
 abbrev pub Checks : Site → Row → (old : TypeFrame) → Checked → (new : TypeFrame) → Type 0

@@ -13,32 +13,27 @@ use crate::checked::{Checked, Left, Rule};
 use crate::frame::TypeFrame;
 use crate::local_lists::LocalLists;
 use crate::types::{NumberType, are_initialized};
-use class_hierarchy::Hierarchy;
 
 /// Whether a frame stands at the target, and takes this one.
-fn reaches(
-    classes: &Hierarchy,
-    lists: &LocalLists,
-    frame: &TypeFrame,
-    target: Option<&TypeFrame>,
-) -> bool
-    ensures { let ls = lists_seen lists.now in result ≡ flows_to (resolved classes.now) (frame_seen ls frame.now) (frame_at_seen ls target.entry) }
+fn reaches(lists: &mut LocalLists<'_>, frame: &TypeFrame, target: Option<&TypeFrame>) -> bool
+    ensures flows { let ls = lists_seen lists.old in result ≡ flows_to (resolved lists.old.classes) (frame_seen ls frame.now) (frame_at_seen ls target.entry) }
+    ensures kept { lists.new ≡ lists.old }
 {
     match target {
-        Some(other) => frame.flows_to(classes, lists, other),
+        Some(other) => frame.flows_to(lists, other),
         None => false,
     }
 }
 
 /// A branch on numbers, which are taken off the stack, to where the frame `target` stands.
 pub fn check_branch(
-    classes: &Hierarchy,
-    lists: &LocalLists,
+    lists: &mut LocalLists<'_>,
     frame: &mut TypeFrame,
     taken: &[NumberType],
     target: Option<&TypeFrame>,
 ) -> Checked
-    ensures { let ls = lists_seen lists.now in (s : Site) (test : rows.Takes (map number_seen taken.now) Bool) (offset : ℤ) → s.program ≡ resolved classes.now → target_at s (frame_seen ls frame.old) offset ≡ frame_at_seen ls target.entry → ChecksIn ls s (rows.Branch (map number_seen taken.now) test offset) frame.old result frame.new }
+    ensures checks { let ls = lists_seen lists.old in (s : Site) (test : rows.Takes (map number_seen taken.now) Bool) (offset : ℤ) → s.program ≡ resolved lists.old.classes → target_at s (frame_seen ls frame.old) offset ≡ frame_at_seen ls target.entry → ChecksIn ls s (rows.Branch (map number_seen taken.now) test offset) frame.old result frame.new }
+    ensures kept { lists.new ≡ lists.old }
 {
     if !frame.operands.pop_numbers(taken) {
         return Checked::Fails(Rule::Stack);
@@ -47,18 +42,18 @@ pub fn check_branch(
         falls: true,
         access: true,
         init: true,
-        target: reaches(classes, lists, frame, target),
+        target: reaches(lists, frame, target),
     })
 }
 
 /// A branch on whether two references are the same.
 pub fn check_same(
-    classes: &Hierarchy,
-    lists: &LocalLists,
+    lists: &mut LocalLists<'_>,
     frame: &mut TypeFrame,
     target: Option<&TypeFrame>,
 ) -> Checked
-    ensures { let ls = lists_seen lists.now in (s : Site) (wanted : Bool) (offset : ℤ) → s.program ≡ resolved classes.now → target_at s (frame_seen ls frame.old) offset ≡ frame_at_seen ls target.entry → ChecksIn ls s (rows.BranchSame wanted offset) frame.old result frame.new }
+    ensures checks { let ls = lists_seen lists.old in (s : Site) (wanted : Bool) (offset : ℤ) → s.program ≡ resolved lists.old.classes → target_at s (frame_seen ls frame.old) offset ≡ frame_at_seen ls target.entry → ChecksIn ls s (rows.BranchSame wanted offset) frame.old result frame.new }
+    ensures kept { lists.new ≡ lists.old }
 {
     let first = match frame.operands.pop_reference() {
         Some(item) => item,
@@ -72,18 +67,18 @@ pub fn check_same(
         falls: true,
         access: true,
         init: are_initialized(first, second),
-        target: reaches(classes, lists, frame, target),
+        target: reaches(lists, frame, target),
     })
 }
 
 /// A branch on whether a reference is null.
 pub fn check_null(
-    classes: &Hierarchy,
-    lists: &LocalLists,
+    lists: &mut LocalLists<'_>,
     frame: &mut TypeFrame,
     target: Option<&TypeFrame>,
 ) -> Checked
-    ensures { let ls = lists_seen lists.now in (s : Site) (wanted : Bool) (offset : ℤ) → s.program ≡ resolved classes.now → target_at s (frame_seen ls frame.old) offset ≡ frame_at_seen ls target.entry → ChecksIn ls s (rows.BranchNull wanted offset) frame.old result frame.new }
+    ensures checks { let ls = lists_seen lists.old in (s : Site) (wanted : Bool) (offset : ℤ) → s.program ≡ resolved lists.old.classes → target_at s (frame_seen ls frame.old) offset ≡ frame_at_seen ls target.entry → ChecksIn ls s (rows.BranchNull wanted offset) frame.old result frame.new }
+    ensures kept { lists.new ≡ lists.old }
 {
     let item = match frame.operands.pop_reference() {
         Some(item) => item,
@@ -93,23 +88,23 @@ pub fn check_null(
         falls: true,
         access: true,
         init: item.is_initialized(),
-        target: reaches(classes, lists, frame, target),
+        target: reaches(lists, frame, target),
     })
 }
 
 /// `goto`.
 pub fn check_jump(
-    classes: &Hierarchy,
-    lists: &LocalLists,
+    lists: &mut LocalLists<'_>,
     frame: &TypeFrame,
     target: Option<&TypeFrame>,
 ) -> Checked
-    ensures { let ls = lists_seen lists.now in (s : Site) (offset : ℤ) → s.program ≡ resolved classes.now → target_at s (frame_seen ls frame.now) offset ≡ frame_at_seen ls target.entry → ChecksIn ls s (rows.Jump offset) frame.now result frame.now }
+    ensures checks { let ls = lists_seen lists.old in (s : Site) (offset : ℤ) → s.program ≡ resolved lists.old.classes → target_at s (frame_seen ls frame.now) offset ≡ frame_at_seen ls target.entry → ChecksIn ls s (rows.Jump offset) frame.now result frame.now }
+    ensures kept { lists.new ≡ lists.old }
 {
     Checked::Leaves(Left {
         falls: false,
         access: true,
         init: true,
-        target: reaches(classes, lists, frame, target),
+        target: reaches(lists, frame, target),
     })
 }

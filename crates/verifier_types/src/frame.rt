@@ -2,17 +2,17 @@
 ghost use Rattle.std.specs.Prelude.{◌≡◌, List, ◌∷◌, [], IfOk};
 ghost use Rattle.program_tables.specs.Resolved.{resolved};
 ghost use Rattle.bytecode_typing.specs.Types as typing;
-ghost use Rattle.bytecode_typing.specs.Assignable.{is_assignable_frame};
+ghost use Rattle.bytecode_typing.specs.Assignable.{is_assignable_item, is_assignable_frame};
+ghost use Rattle.bytecode_typing.specs.Tests.{all_two};
 ghost use Rattle.verifier_types.specs.Seen.{type_seen};
 ghost use Rattle.verifier_types.specs.Locals.{lists_seen};
-ghost use Rattle.verifier_types.specs.Frame.{frame_seen};
+ghost use Rattle.verifier_types.specs.Frame.{frame_seen, operands_seen};
 
 use crate::compared::are_assignable_locals;
 use crate::local_lists::LocalLists;
 use crate::locals::Locals;
 use crate::operands::Operands;
 use crate::types::VarType;
-use class_hierarchy::Hierarchy;
 use jop_base::NoMemory;
 use std::alloc::Global;
 
@@ -27,28 +27,40 @@ pub struct TypeFrame {
     pub flag: bool,
 }
 
+/// Whether operands of the first types may stand for as many of the second.
+fn are_assignable_operands(lists: &LocalLists<'_>, from: &Operands, to: &Operands) -> bool
+    ensures { result ≡ all_two (is_assignable_item (resolved lists.now.classes)) (operands_seen from.now) (operands_seen to.now) }
+{
+    from.are_assignable(lists.classes(), to)
+}
+
+/// Whether one operand may stand for all those of the frame that control goes on with.
+fn takes_one(lists: &LocalLists<'_>, operands: &Operands, item: VarType) -> bool
+    ensures { result ≡ all_two (is_assignable_item (resolved lists.now.classes)) (type_seen item ∷ []) (operands_seen operands.now) }
+{
+    operands.takes_one(lists.classes(), item)
+}
+
 impl TypeFrame {
     /// Whether control may go on with the other frame where this one stands.
-    pub fn flows_to(&self, classes: &Hierarchy, lists: &LocalLists, other: &TypeFrame) -> bool
-        ensures { let ls = lists_seen lists.now in result ≡ is_assignable_frame (resolved classes.now) (frame_seen ls self.now) (frame_seen ls other.now) }
+    pub fn flows_to(&self, lists: &mut LocalLists<'_>, other: &TypeFrame) -> bool
+        ensures flows { let ls = lists_seen lists.old in result ≡ is_assignable_frame (resolved lists.old.classes) (frame_seen ls self.now) (frame_seen ls other.now) }
+        ensures kept { lists.new ≡ lists.old }
     {
-        are_assignable_locals(classes, lists, &self.locals, &other.locals)
-            && self.operands.are_assignable(classes, &other.operands)
+        let operands = are_assignable_operands(lists, &self.operands, &other.operands);
+        are_assignable_locals(lists, self.locals, other.locals)
+            && operands
             && (!self.flag || other.flag)
     }
 
     /// Whether control may go on with the other frame where the local variables of this one stand with one operand alone.
-    pub fn raises_to(
-        &self,
-        classes: &Hierarchy,
-        lists: &LocalLists,
-        item: VarType,
-        other: &TypeFrame,
-    ) -> bool
-        ensures { let ls = lists_seen lists.now in result ≡ is_assignable_frame (resolved classes.now) (record (frame_seen ls self.now) { stack = type_seen item ∷ [] }) (frame_seen ls other.now) }
+    pub fn raises_to(&self, lists: &mut LocalLists<'_>, item: VarType, other: &TypeFrame) -> bool
+        ensures flows { let ls = lists_seen lists.old in result ≡ is_assignable_frame (resolved lists.old.classes) (record (frame_seen ls self.now) { stack = type_seen item ∷ [] }) (frame_seen ls other.now) }
+        ensures kept { lists.new ≡ lists.old }
     {
-        are_assignable_locals(classes, lists, &self.locals, &other.locals)
-            && other.operands.takes_one(classes, item)
+        let operand = takes_one(lists, &other.operands, item);
+        are_assignable_locals(lists, self.locals, other.locals)
+            && operand
             && (!self.flag || other.flag)
     }
 
@@ -56,10 +68,9 @@ impl TypeFrame {
     pub fn copied(&self, alloc: Global) -> Result<Self, NoMemory>
         ensures { IfOk result (λ copy. (ls : List (List typing.VarType)) → frame_seen ls copy ≡ frame_seen ls self.now) }
     {
-        let locals = self.locals.copied(alloc)?;
         let operands = self.operands.copied(alloc)?;
         Ok(TypeFrame {
-            locals,
+            locals: self.locals,
             operands,
             flag: self.flag,
         })

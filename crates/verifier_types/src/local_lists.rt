@@ -1,16 +1,15 @@
 //! Lists of types of local variables.
-ghost use Rattle.std.specs.Prelude.{◌≡◌, ◌<◌, ◌≤◌, ◌^◌, ℕ, false, nat_lt, if◌then◌else◌, [], length, option_map, slice_get, Some, None, IfOk, IfSome, OnOk, OnErr};
-ghost use Rattle.bytecode_typing.specs.Types.{is_initialized};
+ghost use Rattle.std.specs.Prelude.{◌≡◌, ◌↔◌, ◌<◌, ◌≤◌, ◌^◌, ℕ, nat_lt, if◌then◌else◌, [], length, option_map, slice_get, Some, None, IsTrue, IfOk, IfSome, OnOk, OnErr};
+ghost use Rattle.bytecode_typing.specs.Assignable as typing;
+ghost use Rattle.bytecode_typing.specs.Tests.{all_two};
 ghost use Rattle.persistent_lists.specs.Tables.{list_at};
 ghost use Rattle.verifier_types.specs.Seen.{type_seen, types_seen};
-ghost use Rattle.verifier_types.specs.Locals.{lists_seen, with_types, filled, types_at, changed_types, locals_seen};
+ghost use Rattle.verifier_types.specs.Locals.{lists_seen, with_types, filled, types_at, changed_types};
 ghost use Rattle.program_tables.specs.Resolved.{resolved};
-ghost use Rattle.verifier_types.specs.Compared.{AreFoundApart};
-ghost use Rattle.verifier_types.specs.Apart.{StandsThere};
-ghost use Rattle.verifier_types.specs.Numbered.{type_numbered, IsNumberOf, IsOnlyNumber, AreNumbersOf, Grows, AreAlikeUpTo, HoldsUpTo};
+ghost use Rattle.verifier_types.specs.Compared.{are_assignable_numbers, AreAssignable};
+ghost use Rattle.verifier_types.specs.Numbered.{type_numbered, IsNumberOf, IsOnlyNumber, AreNumbersOf, Grows, HoldsUpTo};
 
-use crate::compared::may_stand;
-use crate::locals::Locals;
+use crate::assignable::is_assignable;
 use crate::types::VarType;
 use class_hierarchy::Hierarchy;
 use indexmap::IndexSet;
@@ -20,17 +19,23 @@ use std::alloc::Global;
 use std::marker::Model;
 
 /// The lists of types of local variables that a method's frames refer to, each at its number, in the order in which they were made, and
-/// of as many types each as the method has local variables. Contracts see them (`LocalTable`). They share what they have alike.
+/// of as many types each as the method has local variables, with the classes that tell which type may stand for which. Contracts see
+/// them (`LocalTable`). They share what they have alike, and parts of two lists of which it was found that the types of one may stand
+/// for those of the other are not compared again.
 #[derive(Drop)]
-pub struct LocalLists {
+pub struct LocalLists<'a> {
+    classes: &'a Hierarchy,
     /// The types, each at its number. The first is Top.
     types: IndexSet<VarType>,
     /// The lists of their numbers.
     lists: SharedLists,
 }
 
-impl Model for LocalLists {
+impl<'a> Model for LocalLists<'a> {
     ghost use Rattle.verifier_types.specs.Locals.{LocalTable};
+    ghost use Rattle.persistent_lists.specs.Answers.{AreKnown};
+    ghost use Rattle.program_tables.specs.Resolved.{resolved};
+    ghost use Rattle.verifier_types.specs.Compared.{AreAssignable};
     ghost use Rattle.verifier_types.specs.Numbered.{lists_numbered, AreNumbered};
     ghost use Rattle.std.specs.Coded.{codes};
     ghost use Rattle.verifier_types.specs.Codes.{kind_code};
@@ -39,9 +44,9 @@ impl Model for LocalLists {
 
     ghost coded = { Prim.hlevel (codes, kind_code) };
 
-    ghost view = { λ a. record { max_locals = a.lists.width; lists = lists_numbered a.types.keys a.lists.lists } };
+    ghost view = { λ a. record { classes = a.classes.now; max_locals = a.lists.width; lists = lists_numbered a.types.keys a.lists.lists } };
 
-    ghost invariant = { λ a. AreNumbered a.types.keys a.lists };
+    ghost invariant = { λ a. AreNumbered a.types.keys a.lists × AreKnown (AreAssignable (resolved a.classes.now) a.types.keys) a.lists };
 }
 
 /// The type of a number; Top where there is none.
@@ -76,7 +81,7 @@ fn number_found(types: &IndexSet<VarType>, item: VarType) -> Option<usize>
 }
 
 /// The index, if there are local variables up to it.
-pub(crate) fn each_index(count: u32, from: u32) -> Option<u32>
+fn each_index(count: u32, from: u32) -> Option<u32>
     ensures { result ≡ (if nat_lt from count then Some from else None) }
 {
     if from < count { Some(from) } else { None }
@@ -93,19 +98,17 @@ fn position_in(lists: &SharedLists, list: u32, number: usize, from: u32) -> Opti
     }
 }
 
-/// Whether a local variable of the first may stand for that of the second, where the lists that they refer to have types of these numbers.
-fn stands_there(
-    classes: Option<&Hierarchy>,
-    types: &IndexSet<VarType>,
-    from: &Locals,
-    to: &Locals,
-    found: Difference,
-) -> bool
-    ensures { StandsThere (option_map (λ h. resolved h.now) classes.entry) types.now.keys from.now to.now found result }
+/// Whether the first of two types of these numbers may stand for the second. What has no type stands for nothing.
+fn stands_there(classes: &Hierarchy, types: &IndexSet<VarType>, found: Difference) -> bool
+    ensures { result ≡ are_assignable_numbers (resolved classes.now) types.now.keys found }
 {
-    let first = from.over(found.index, type_at(types, found.first));
-    let second = to.over(found.index, type_at(types, found.second));
-    may_stand(classes, first, second)
+    let from = types.get_index(found.first as usize);
+    let to = types.get_index(found.second as usize);
+    match (from, to) {
+        (Some(from), Some(to)) => is_assignable(classes, *from, *to),
+        (Some(_), None) => false,
+        (None, _) => false,
+    }
 }
 
 /// The numbers of types.
@@ -125,17 +128,25 @@ fn numbers_of(
     Ok(numbers)
 }
 
-impl LocalLists {
+impl<'a> LocalLists<'a> {
     /// No list yet, of so many types each.
-    pub fn new(alloc: Global, max_locals: u16) -> Result<Self, NoMemory>
-        ensures { IfOk result (λ made. made ≡ record { max_locals = max_locals; lists = [] }) }
+    pub fn new(alloc: Global, classes: &'a Hierarchy, max_locals: u16) -> Result<Self, NoMemory>
+        ensures { IfOk result (λ made. made ≡ record { classes = classes.now; max_locals = max_locals; lists = [] }) }
     {
         let mut types = IndexSet::new(alloc);
         types.insert(VarType::Top)?;
         Ok(LocalLists {
+            classes,
             types,
             lists: SharedLists::new(alloc, u32::from(max_locals), 0),
         })
+    }
+
+    /// The classes that tell which type may stand for which.
+    pub fn classes(&self) -> &'a Hierarchy
+        ensures { result.now ≡ self.now.classes }
+    {
+        self.classes
     }
 
     /// Adds the list of these types, behind which Top stands, and answers its number. Where memory is wanting no list is added.
@@ -169,36 +180,44 @@ impl LocalLists {
         self.lists.width()
     }
 
-    /// An index, from `from` on, before which two lists are alike from `from` on; none where they are alike from there on.
-    pub(crate) fn difference(&self, first: u32, second: u32, from: u32) -> Option<u32>
-        ensures alike { let ls = lists_seen self.now in AreAlikeUpTo (types_at ls first) (types_at ls second) from result }
-        ensures within { IfSome result (λ index. index < 2 ^ 16) }
+    /// Whether two lists are of the same types. One that isn't there is empty.
+    pub(crate) fn are_same(&self, first: u32, second: u32) -> bool
+        ensures { let ls = lists_seen self.now in IsTrue result ↔ (types_at ls first ≡ types_at ls second) }
     {
-        self.lists.difference(first, second, from)
+        // What `len` promises is that no type stands twice.
+        let _count = self.types.len();
+        self.lists.difference(first, second, 0).is_none()
     }
 
-    /// Whether local variables of the first may stand for those of the second where the lists that they refer to differ; none where one of the
-    /// lists isn't there.
-    pub(crate) fn stand_apart(
-        &self,
-        classes: Option<&Hierarchy>,
-        from: &Locals,
-        to: &Locals,
-    ) -> Option<bool>
-        ensures { let ls = lists_seen self.now in IfSome result (λ answer. AreFoundApart (option_map (λ h. resolved h.now) classes.entry) (types_at ls from.now.base) (types_at ls to.now.base) answer (locals_seen ls from.now) (locals_seen ls to.now)) }
+    /// Whether a local variable of the first type may stand for one of the second.
+    pub(crate) fn is_assignable(&self, from: VarType, to: VarType) -> bool
+        ensures { result ≡ typing.is_assignable (resolved self.now.classes) (type_seen from) (type_seen to) }
     {
+        is_assignable(self.classes, from, to)
+    }
+
+    /// Whether each type of the first list may stand for that of the second; none where one of the lists isn't there, or no class at all.
+    pub(crate) fn stand_apart(&mut self, first: u32, second: u32) -> Option<bool>
+        ensures answer { let ls = lists_seen self.old in IfSome result (λ answer. answer ≡ all_two (typing.is_assignable (resolved self.old.classes)) (types_at ls first) (types_at ls second)) }
+        ensures kept { self.new ≡ self.old }
+    {
+        let classes = self.classes;
+        // A type may stand for itself only where there is a class at all.
+        if classes.classes().class_count() == 0 {
+            return None;
+        }
         let types = &self.types;
         self.lists.passes_where_unlike(
-            from.base,
-            to.base,
-            |found| stands_there(classes, types, from, to, found),
+            first,
+            second,
+            |found|
+                ensures { AreAssignable (resolved classes.entry.now) types.entry.now.keys found result }
+            { stands_there(classes, types, found) },
         )
     }
 
-    /// An index, from `from` on, before which a list has this type of what isn't initialised nowhere from `from` on; none where it has it
-    /// nowhere from there on.
+    /// An index, from `from` on, before which a list has this type nowhere from `from` on; none where it has it nowhere from there on.
     pub(crate) fn position(&self, list: u32, item: VarType, from: u32) -> Option<u32>
-        requires { is_initialized (type_seen item) ≡ false }
         ensures found { HoldsUpTo (types_at (lists_seen self.now) list) (type_seen item) from result }
         ensures within { IfSome result (λ index. index < 2 ^ 16) }
     {

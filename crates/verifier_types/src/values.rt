@@ -1,12 +1,12 @@
 //! Constants, numbers, local variables and words of the operand stack (JVM Specification SE 8, 4.10.1.9).
-ghost use Rattle.std.specs.Prelude.{◌≡◌, List, ℕ, ℤ, [], map, IfOk, Option, Bool};
+ghost use Rattle.std.specs.Prelude.{◌≡◌, List, ℕ, ℤ, [], map, IfOk, OnOk, Option, Bool};
 ghost use Rattle.bytecode_model.specs.declared.Value.{Value};
 ghost use Rattle.bytecode_model.specs.Rows as rows;
 ghost use Rattle.bytecode_model.specs.Types as model;
 ghost use Rattle.bytecode_typing.specs.Checks.{constant_type};
 ghost use Rattle.verifier_types.specs.Seen.{number_seen, moved_seen, type_seen, width_seen, form_seen};
-ghost use Rattle.verifier_types.specs.Locals.{lists_seen};
-ghost use Rattle.verifier_types.specs.Site.{Site, Checks, ChecksIn};
+ghost use Rattle.verifier_types.specs.Locals.{HasListsOf, lists_seen};
+ghost use Rattle.verifier_types.specs.Site.{Site, Checks, ChecksIn, ChecksOver};
 
 use crate::checked::{Checked, GOES, Rule};
 use crate::frame::TypeFrame;
@@ -40,7 +40,7 @@ pub fn check_compute(
 
 /// A local variable is put on the stack.
 pub fn check_load(
-    lists: &LocalLists,
+    lists: &LocalLists<'_>,
     frame: &mut TypeFrame,
     max_locals: u16,
     sort: Moved,
@@ -62,15 +62,16 @@ pub fn check_load(
     Ok(GOES)
 }
 
-/// A local variable is written from the top of the stack.
+/// A local variable is written from the top of the stack. Where memory is wanting lists may have been added.
 pub fn check_store(
-    lists: &LocalLists,
+    lists: &mut LocalLists<'_>,
     frame: &mut TypeFrame,
     max_locals: u16,
     sort: Moved,
     index: u32,
 ) -> Result<Checked, NoMemory>
-    ensures { IfOk result (λ c. (s : Site) → s.body.max_locals ≡ max_locals → ChecksIn (lists_seen lists.now) s (rows.Store (moved_seen sort) index) frame.old c frame.new) }
+    ensures lists { OnOk result (HasListsOf lists.old lists.new) }
+    ensures checks { IfOk result (λ c. (s : Site) → s.body.max_locals ≡ max_locals → ChecksOver (lists_seen lists.old) (lists_seen lists.new) s (rows.Store (moved_seen sort) index) frame.old c frame.new) }
 {
     if !sort.is_within(index, max_locals) {
         return Ok(Checked::Fails(Rule::Operand));
@@ -90,7 +91,7 @@ pub fn check_store(
 
 /// A number is added to a local variable.
 pub fn check_increment(
-    lists: &LocalLists,
+    lists: &LocalLists<'_>,
     frame: &TypeFrame,
     max_locals: u16,
     index: u32,

@@ -7,7 +7,7 @@ pub returns-clause-there : goal.returns-clause-there
 returns-clause-there c = has_this_code c.methods_stand_by_number.ensures _ c.args.number c.args.code.now c.requires.code c.as_slice.ensures
 
 pub returns-clause-method : goal.returns-clause-method
-returns-clause-method c = λ h given same alike.
+returns-clause-method c = λ h given t classes same alike.
     let n = c.args.number in
     let k = c.args.code.now in
     let place : (c.class.inside.class, c.class.inside.index) ≡ h.place = c.class.view_is ∙ some_same c.method.result h.place (sym c.method.ensures ∙ h.by_number) in
@@ -22,4 +22,4 @@ returns-clause-method c = λ h given same alike.
       handlers = alike;
       shape = c.shape-shape.ensures;
       result = refl;
-    }) given same
+    }) given t classes same

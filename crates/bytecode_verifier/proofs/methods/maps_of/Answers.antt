@@ -63,9 +63,9 @@ returns-clause-maps c = λ h.
     let st = c.in_ok-steps.ensures h.member k member h.has_code in
     let alike = c.first_frames_agree.ensures cs c.is_resolved.ensures n k h in
     let locals : first_locals h.class h.member ≡ Some st.1 = ap (λ (f : ClassFile). first_locals f h.member) (sym class) ∙ st.3 in
-    let held : HasLocals c.args.lists c.args.first.locals (types_by cs st.1) = subst (λ ts. HasLocals c.args.lists c.args.first.locals ts) (kinds_by cs n k h alike st.1 locals) (c.requires.begins h).0 in
+    let held : HasLocals c.args.lists.now c.args.first.locals (types_by cs st.1) = subst (λ ts. HasLocals c.args.lists.now c.args.first.locals ts) (kinds_by cs n k h alike st.1 locals) (c.requires.begins h).0 in
     let steps : AreSteps c.class-class.result.now.pool k st.1 c.as_slice-at.result.now st.0.at = subst (λ (l : List MapStep). AreSteps c.class-class.result.now.pool k st.1 l st.0.at) (sym c.as_slice-at.ensures) st.5 in (
       st.0,
       ap (λ (f : ClassFile). frames_of f h.member k) (sym class) ∙ st.2,
-      λ at. sym (c.in_ok-maps.ensures.frames c.class-class.result.now k st.1 st.0.at at c.class-class.ensures refl held steps),
+      λ more at. sym (c.in_ok-maps.ensures.frames c.class-class.result.now k st.1 st.0.at more at c.class-class.ensures refl held steps),
     )

@@ -7,9 +7,8 @@ use Rattle.program_tables.specs.Meanings.{HasShape}
 use Rattle.bytecode_typing.specs.Types.{VarType, TypeFrame}
 use Rattle.bytecode_typing.specs.Walk.{first_types}
 use Rattle.verifier_types.specs.Frame.{frame_seen}
-use Rattle.verifier_types.specs.Locals.{LocalTable}
+use Rattle.verifier_types.specs.Locals.{LocalTable, lists_seen}
 use Rattle.bytecode_verifier.specs.Begun.{first_kinds, BeginsIfRoom}
-use Rattle.bytecode_verifier.specs.Maps.{lists_in}
 use Rattle.std.specs.Prelude.{slice_get, ℕ}
 use Rattle.bytecode_verifier.specs.Failure.{types_failure, maps_in}
 use Rattle.bytecode_verifier.specs.Methods.{method_of, body_of, found_in, AreMaps}
@@ -32,6 +31,9 @@ maps_of-requires-clause-begins c = λ h.
     let m = method_of cs n k h in
     let shaped = some_at (slice_get (resolved cs).methods n) (HasShape c.shape-shape.result.now) m (method_is c.methods_stand_by_number.ensures cs n k h) c.shape-shape.ensures in
     subst (λ o. BeginsIfRoom c.begin.new.lists o (first_kinds m)) c.in-Some.is (c.in_ok-begun.ensures.begins m shaped)
+
+pub walk_method-requires-clause-classes : goal.walk_method-requires-clause-classes
+walk_method-requires-clause-classes c = c.in-Ok.ensures.lists.classes ∙ (c.in_ok-begun.ensures.lists.classes ∙ (ap (λ (t : LocalTable). t.classes) c.in_ok-lists.ensures ∙ c.hierarchy.ensures))
 
 pub returns-in-None : goal.returns-in-None
 returns-in-None c = λ h.
@@ -59,7 +61,7 @@ returns-in-Ok c = IfOk-weaker c.walk_method.result _ _ (λ x p h.
     let begins : BeginsIfRoom t (Some c.in-Some.begun) (first_kinds m) = subst (λ o. BeginsIfRoom t o (first_kinds m)) c.in-Some.is (c.in_ok-begun.ensures.begins m shaped) in
     let kept = c.in-Ok.ensures.lists in
     let frame = c.first_frame-first.result in
-    let first : Some (frame_seen (lists_in c.in-Ok.maps) frame) ≡ first_types m b =
+    let first : Some (frame_seen (lists_seen c.maps_of.new.lists) frame) ≡ first_types m b =
     ap (λ (ls : List (List VarType)). Some (frame_seen ls frame)) kept.lists ∙ c.first_frame-first.ensures t m b kept.others shaped room begins.0 in
     let a = c.in-Ok.ensures.maps h in
     p h (maps_in cs (Ok a.0)) (sym first) a.2
@@ -77,4 +79,4 @@ returns-in-Bad c = λ h.
     let room : b.max_locals ≡ t.max_locals = sym (c.in_ok-begun.ensures.lists.room ∙ ap (λ (u : LocalTable). u.max_locals) c.in_ok-lists.ensures) in
     let begins : BeginsIfRoom t (Some c.in-Some.begun) (first_kinds m) = subst (λ o. BeginsIfRoom t o (first_kinds m)) c.in-Some.is (c.in_ok-begun.ensures.begins m shaped) in
     let first : Some (frame_seen (t.lists ++ []) c.first_frame-first.result) ≡ first_types m b = c.first_frame-first.ensures t m b [] shaped room begins.0 in
-    ap₂ (λ (o : Option TypeFrame) (r : Result Frames ℕ). types_failure cs n m b o r) first (sym (subst (λ (e : MapFault). AreMaps cs (found_in cs n k h) (Err e)) c.in-Bad.is (c.in-Err.ensures.maps h)))
+    ap₂ (λ (o : Option TypeFrame) (r : Result Frames ℕ). types_failure cs n m b o r) first (sym (subst (λ (e : MapFault). AreMaps (lists_seen c.maps_of.new.lists) cs (found_in cs n k h) (Err e)) c.in-Bad.is (c.in-Err.ensures.maps h)))

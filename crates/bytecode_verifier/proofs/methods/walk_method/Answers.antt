@@ -2,7 +2,6 @@ use Rattle.std.proofs.Common.{◌≡◌, ◌<◌, ℕ, List, length, map, Option
 use Rattle.std.specs.Prelude.{slice_get}
 use Rattle.std.specs.Option.{option_map}
 use Rattle.class_pool.specs.declared.class.ClassFile.{ClassFile}
-use Rattle.jop_opcodes.specs.Start.{starts_of}
 use Rattle.lists.specs.Lemmas.{some_same}
 use Rattle.program_tables.specs.Meanings.{handler_seen}
 use Rattle.program_tables.specs.Numbers.{methods_by_number}
@@ -10,9 +9,8 @@ use Rattle.program_tables.specs.Resolved.{handler_of, resolved}
 use Rattle.bytecode_typing.specs.Types.{TypeFrame}
 use Rattle.bytecode_typing.specs.Walk as walk
 use Rattle.bytecode_typing.specs.Walk.{handlers_hold}
-use Rattle.bytecode_verifier.specs.declared.maps.MapFrames.{MapFrames}
-use Rattle.bytecode_verifier.specs.Maps.{lists_in}
 use Rattle.verifier_types.specs.Frame.{frame_seen}
+use Rattle.verifier_types.specs.Locals.{lists_seen}
 use Rattle.bytecode_verifier.specs.Failure.{walk_failure}
 use Rattle.bytecode_verifier.specs.Handled.{HoldAlike}
 use Rattle.bytecode_verifier.specs.Methods.{method_of, body_of, walk_failed}
@@ -29,14 +27,13 @@ returns-in-Some c = λ h given first same.
     let place : (c.class.inside.class, c.class.inside.index) ≡ h.place = c.class.view_is ∙ some_same c.method.result h.place (sym c.method.ensures ∙ h.by_number) in
     let owner : c.class.inside.class ≡ h.place.0 = ap (λ (p : ℕ × ℕ). p.0) place in
     let alike : HoldAlike (map (handler_of cs h.class) k.handlers) (map handler_seen c.by_start-handlers.result.items.items) = λ P frames place f.
-    ap (handlers_hold P frames place f) (sym (c.in_ok-handlers_of.ensures h.class (ap (slice_get cs) owner ∙ h.in_classes) ∙ ap (map (handler_of cs h.class)) c.as_slice-2.ensures)) ∙ sym (c.by_start-handlers.ensures P frames place f) in
+    ap (handlers_hold P frames place f) (sym (c.in_ok-handlers_of.ensures h.class (ap (slice_get cs) owner ∙ h.in_classes) ∙ ap (map (handler_of cs h.class)) c.as_slice.ensures)) ∙ sym (c.by_start-handlers.ensures P frames place f) in
     let m = method_of cs n k h in
     let b = body_of cs n k h in
-    let walked = c.in_ok-place.ensures m b given (c.checking_of-checking.ensures.method h given same alike) in
-    let starts : c.deref.result.now ≡ starts_of k.code = c.deref.ensures.value ∙ (c.in_ok-starts.ensures ∙ ap starts_of c.as_slice.ensures) in
-    let whole = ap₂ (λ (l : List ℕ) (o : Option TypeFrame). walk_failure (walk.walk (resolved cs) n m b given l o)) starts (sym first) in
+    let walked = c.in_ok-place.ensures m b given (c.checking_of-checking.ensures.method h given c.args.lists.now c.requires.classes same alike) in
+    let whole = ap₂ (λ (l : List ℕ) (o : Option TypeFrame). walk_failure (walk.walk (resolved cs) n m b given l o)) c.requires.starts (sym first) in
     ap (option_map walk_failed) (sym c.in-Some.is)
-    ∙ (walked ∙ (ap₂ (λ (l : List ClassFile) (x : MapFrames). walk_failure (walk.walk (resolved l) n m b given c.deref.result.now (Some (frame_seen (lists_in x) c.args.first)))) c.checking_of-checking.ensures.program c.checking_of-checking.ensures.maps ∙ whole))
+    ∙ (walked ∙ (ap (λ (l : List ClassFile). walk_failure (walk.walk (resolved l) n m b given c.args.starts.now (Some (frame_seen (lists_seen c.args.lists.now) c.args.first)))) c.checking_of-checking.ensures.program ∙ whole))
 
 pub returns : goal.returns
 returns c = λ h given first same.
@@ -46,11 +43,10 @@ returns c = λ h given first same.
     let place : (c.class.inside.class, c.class.inside.index) ≡ h.place = c.class.view_is ∙ some_same c.method.result h.place (sym c.method.ensures ∙ h.by_number) in
     let owner : c.class.inside.class ≡ h.place.0 = ap (λ (p : ℕ × ℕ). p.0) place in
     let alike : HoldAlike (map (handler_of cs h.class) k.handlers) (map handler_seen c.by_start-handlers.result.items.items) = λ P frames place f.
-    ap (handlers_hold P frames place f) (sym (c.in_ok-handlers_of.ensures h.class (ap (slice_get cs) owner ∙ h.in_classes) ∙ ap (map (handler_of cs h.class)) c.as_slice-2.ensures)) ∙ sym (c.by_start-handlers.ensures P frames place f) in
+    ap (handlers_hold P frames place f) (sym (c.in_ok-handlers_of.ensures h.class (ap (slice_get cs) owner ∙ h.in_classes) ∙ ap (map (handler_of cs h.class)) c.as_slice.ensures)) ∙ sym (c.by_start-handlers.ensures P frames place f) in
     let m = method_of cs n k h in
     let b = body_of cs n k h in
-    let walked = c.in_ok-place.ensures m b given (c.checking_of-checking.ensures.method h given same alike) in
-    let starts : c.deref.result.now ≡ starts_of k.code = c.deref.ensures.value ∙ (c.in_ok-starts.ensures ∙ ap starts_of c.as_slice.ensures) in
-    let whole = ap₂ (λ (l : List ℕ) (o : Option TypeFrame). walk_failure (walk.walk (resolved cs) n m b given l o)) starts (sym first) in
+    let walked = c.in_ok-place.ensures m b given (c.checking_of-checking.ensures.method h given c.args.lists.now c.requires.classes same alike) in
+    let whole = ap₂ (λ (l : List ℕ) (o : Option TypeFrame). walk_failure (walk.walk (resolved cs) n m b given l o)) c.requires.starts (sym first) in
     ap (option_map walk_failed) (sym c.in-None.is)
-    ∙ (walked ∙ (ap₂ (λ (l : List ClassFile) (x : MapFrames). walk_failure (walk.walk (resolved l) n m b given c.deref.result.now (Some (frame_seen (lists_in x) c.args.first)))) c.checking_of-checking.ensures.program c.checking_of-checking.ensures.maps ∙ whole))
+    ∙ (walked ∙ (ap (λ (l : List ClassFile). walk_failure (walk.walk (resolved l) n m b given c.args.starts.now (Some (frame_seen (lists_seen c.args.lists.now) c.args.first)))) c.checking_of-checking.ensures.program ∙ whole))

@@ -3,7 +3,8 @@ use Rattle.std.specs.Prelude.{slice_get}
 use Rattle.class_pool.specs.declared.class.ClassFile.{ClassFile}
 use Rattle.frame_types.specs.Steps.{named}
 use Rattle.bytecode_typing.specs.Types.{VarType}
-use Rattle.bytecode_verifier.specs.Listed.{HasListsOf, HasLocals, words_of, types_by}
+use Rattle.verifier_types.specs.Locals.{HasListsOf}
+use Rattle.bytecode_verifier.specs.Listed.{HasLocals, words_of, types_by}
 use Rattle.bytecode_verifier.proofs.names.add_locals.Given as goal
 
 abbrev pub invariant-loop-entry : goal.invariant-loop-entry

@@ -1,7 +1,7 @@
 use Rattle.std.proofs.Common.{◌≡◌, ◌≤◌, List, length, take}
 use Rattle.bytecode_typing.specs.Types.{VarType}
-use Rattle.verifier_types.specs.Locals.{filled}
-use Rattle.bytecode_verifier.specs.Listed.{HasListsOf, IsListed}
+use Rattle.verifier_types.specs.Locals.{HasListsOf, filled}
+use Rattle.bytecode_verifier.specs.Listed.{IsListed}
 use Rattle.bytecode_verifier.proofs.names.forget_words.Given as goal
 
 abbrev pub invariant-loop-index : goal.invariant-loop-index

@@ -58,9 +58,9 @@ pub returns-clause-lists : goal.returns-clause-lists
 returns-clause-lists c = c.loop-step.invariant.0
 
 pub returns-clause-frames : goal.returns-clause-frames
-returns-clause-frames c = λ k code locals xs at room held steps.
+returns-clause-frames c = λ k code locals xs more at room held steps.
     let end : length c.args.steps.now ≤ c.loop-step.step-index = c.loop-step-test.false in
-    last_step c.args.of.now.program.now k.pool code c.loop-step.lists c.loop-step.current _ c.loop-step.found.items xs (drop_of_length-le c.args.steps.now end) (c.loop-step.invariant.2 k code locals xs at room held steps)
+    last_step c.args.of.now.program.now k.pool code c.loop-step.lists c.loop-step.current _ c.loop-step.found.items xs more (drop_of_length-le c.args.steps.now end) (c.loop-step.invariant.2 k code locals xs at room held steps)
 
 pub returns-clause-places : goal.returns-clause-places
 returns-clause-places c =

@@ -5,7 +5,8 @@ use Rattle.class_pool.specs.declared.class.Code.{Code}
 use Rattle.frame_types.specs.declared.types.TypeFrame as frames
 use Rattle.frame_types.specs.declared.types.VarType as names
 use Rattle.frame_types.specs.Steps.{AreSteps}
-use Rattle.bytecode_verifier.specs.Listed.{HasListsOf, HasLocals, types_by}
+use Rattle.verifier_types.specs.Locals.{HasListsOf}
+use Rattle.bytecode_verifier.specs.Listed.{HasLocals, types_by}
 use Rattle.bytecode_verifier.proofs.SteppedLemmas.{IsUpTo}
 use Rattle.bytecode_verifier.proofs.names.placed_frames.Given as goal
 

@@ -9,39 +9,39 @@ use Rattle.bytecode_verifier.specs.Plain.{check_found}
 use Rattle.bytecode_verifier.proofs.FindLemmas.{by_named}
 use Rattle.bytecode_verifier.proofs.rows.check_named.Goals as goal
 
-pub returns-in-Constant : goal.returns-in-Constant
-returns-in-Constant c = IfOk-weaker c.check_constant.result _ _ (λ x p s code i e t.
+pub returns-in-Constant-clause-checks : goal.returns-in-Constant-clause-checks
+returns-in-Constant-clause-checks c = IfOk-weaker c.check_constant.result _ _ (λ x p s code i e t.
     p s code i t (lists_seen c.args.lists.now) ∙ by_named s (frame_seen (lists_seen c.args.lists.now) c.args.frame.now) code i (operand_seen c.args.operand) c.args.family _ c.in-Constant.is) c.check_constant.ensures
 
-pub returns-in-LongConstant : goal.returns-in-LongConstant
-returns-in-LongConstant c = IfOk-weaker c.check_long.result _ _ (λ x p s code i e t.
+pub returns-in-LongConstant-clause-checks : goal.returns-in-LongConstant-clause-checks
+returns-in-LongConstant-clause-checks c = IfOk-weaker c.check_long.result _ _ (λ x p s code i e t.
     p s code i (lists_seen c.args.lists.now) ∙ by_named s (frame_seen (lists_seen c.args.lists.now) c.args.frame.now) code i (operand_seen c.args.operand) c.args.family _ c.in-LongConstant.is) c.check_long.ensures
 
-pub returns-in-Some : goal.returns-in-Some
-returns-in-Some c = IfOk-weaker c.check_new.result _ _ (λ x p s code i e t.
+pub returns-in-Some-clause-checks : goal.returns-in-Some-clause-checks
+returns-in-Some-clause-checks c = IfOk-weaker c.check_new.result _ _ (λ x p s code i e t.
     p s c.in-Some.field-0 e
     ∙ (ap (check_found s (frame_seen (lists_seen c.args.lists.now) c.args.frame.now)) (c.in-Some.ensures code i)
-    ∙ by_named s (frame_seen (lists_seen c.args.lists.now) c.args.frame.now) code i (operand_seen c.args.operand) c.args.family _ c.in-New.is)) c.check_new.ensures
+    ∙ by_named s (frame_seen (lists_seen c.args.lists.now) c.args.frame.now) code i (operand_seen c.args.operand) c.args.family _ c.in-New.is)) c.check_new.ensures.checks
 
-pub returns-in-None : goal.returns-in-None
-returns-in-None c = λ s code i e t.
+pub returns-in-None-clause-checks : goal.returns-in-None-clause-checks
+returns-in-None-clause-checks c = λ s code i e t.
     ap (check_found s (frame_seen (lists_seen c.args.lists.now) c.args.frame.now)) (c.in-None.ensures code i)
     ∙ by_named s (frame_seen (lists_seen c.args.lists.now) c.args.frame.now) code i (operand_seen c.args.operand) c.args.family _ c.in-New.is
 
-pub returns-in-Type : goal.returns-in-Type
-returns-in-Type c = IfOk-weaker c.check_array_of.result _ _ (λ x p s code i e t.
+pub returns-in-Type-clause-checks : goal.returns-in-Type-clause-checks
+returns-in-Type-clause-checks c = IfOk-weaker c.check_array_of.result _ _ (λ x p s code i e t.
     p s (lists_seen c.args.lists.now)
     ∙ (ap (λ o. check_found s (frame_seen (lists_seen c.args.lists.now) c.args.frame.now) (by_type rows.NewReferences code i (operand_seen o))) (sym c.in-Type.is)
     ∙ by_named s (frame_seen (lists_seen c.args.lists.now) c.args.frame.now) code i (operand_seen c.args.operand) c.args.family _ c.in-NewArray.is)) c.check_array_of.ensures
 
-pub returns-in-Type-operand : goal.returns-in-Type-operand
-returns-in-Type-operand c = IfOk-weaker c.check_cast.result _ _ (λ x p s code i e t.
+pub returns-in-Type-operand-clause-checks : goal.returns-in-Type-operand-clause-checks
+returns-in-Type-operand-clause-checks c = IfOk-weaker c.check_cast.result _ _ (λ x p s code i e t.
     p s (lists_seen c.args.lists.now)
     ∙ (ap (λ o. check_found s (frame_seen (lists_seen c.args.lists.now) c.args.frame.now) (by_type rows.Cast code i (operand_seen o))) (sym c.in-Type-operand.is)
     ∙ by_named s (frame_seen (lists_seen c.args.lists.now) c.args.frame.now) code i (operand_seen c.args.operand) c.args.family _ c.in-Cast.is)) c.check_cast.ensures
 
-pub returns-in-Type-operand-2 : goal.returns-in-Type-operand-2
-returns-in-Type-operand-2 c = IfOk-weaker c.check_test.result _ _ (λ x p s code i e t.
+pub returns-in-Type-operand-2-clause-checks : goal.returns-in-Type-operand-2-clause-checks
+returns-in-Type-operand-2-clause-checks c = IfOk-weaker c.check_test.result _ _ (λ x p s code i e t.
     p s (lists_seen c.args.lists.now)
     ∙ (ap (λ o. check_found s (frame_seen (lists_seen c.args.lists.now) c.args.frame.now) (by_type rows.Test code i (operand_seen o))) (sym c.in-Type-operand-2.is)
     ∙ by_named s (frame_seen (lists_seen c.args.lists.now) c.args.frame.now) code i (operand_seen c.args.operand) c.args.family _ c.in-Test.is)) c.check_test.ensures

@@ -1,17 +1,18 @@
-use Rattle.std.specs.Option.{option_map}
+use Rattle.std.proofs.Common.{below_more, arith}
 use Rattle.program_tables.specs.Resolved.{resolved}
-use Rattle.verifier_types.specs.Locals.{lists_seen, locals_seen, types_at}
-use Rattle.verifier_types.proofs.ComparedLemmas.{passed_more, passed_all}
+use Rattle.verifier_types.specs.Locals.{lists_seen, locals_seen}
+use Rattle.verifier_types.proofs.ComparedLemmas.{not_all, stand_below}
 use Rattle.verifier_types.proofs.compared.stand_in_turn.Goals as goal
 
+pub returns-then-not-stands_at : goal.returns-then-not-stands_at
+returns-then-not-stands_at c =
+    not_all (resolved c.args.lists.now.classes) (locals_seen (lists_seen c.args.lists.now) c.args.from) (locals_seen (lists_seen c.args.lists.now) c.args.to) c.loop-index.index c.if-not-stands_at.ensures
+
 pub loop-index-preserved : goal.loop-index-preserved
-loop-index-preserved c =
-    passed_more (option_map (λ h. resolved h.now) c.args.classes) (types_at (lists_seen c.args.lists.now) c.args.from.now.base) (types_at (lists_seen c.args.lists.now) c.args.to.now.base)
-    (locals_seen (lists_seen c.args.lists.now) c.args.from.now) (locals_seen (lists_seen c.args.lists.now) c.args.to.now) c.loop-index.next c.in-Some.index
-    c.loop-index.invariant c.in-Some.ensures.passed c.if-not-stands_at.ensures
+loop-index-preserved c = below_more _ _ c.loop-index.invariant c.if-not-stands_at.ensures
 
 pub returns : goal.returns
 returns c =
-    passed_all (option_map (λ h. resolved h.now) c.args.classes) (types_at (lists_seen c.args.lists.now) c.args.from.now.base) (types_at (lists_seen c.args.lists.now) c.args.to.now.base)
-    (locals_seen (lists_seen c.args.lists.now) c.args.from.now) (locals_seen (lists_seen c.args.lists.now) c.args.to.now) c.loop-index.next
-    c.loop-index.invariant c.in_default.ensures.passed
+    stand_below (resolved c.args.lists.now.classes) (locals_seen (lists_seen c.args.lists.now) c.args.from) (locals_seen (lists_seen c.args.lists.now) c.args.to) c.loop-index.index c.loop-index.invariant
+    (λ k le. c.max_locals-index-end.ensures.beyond c.args.from.list k (omega (arith, le, c.loop-index-test.false)))
+    (λ k le. c.max_locals-index-end.ensures.beyond c.args.to.list k (omega (arith, le, c.loop-index-test.false)))

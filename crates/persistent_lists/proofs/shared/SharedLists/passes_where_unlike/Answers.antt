@@ -13,7 +13,7 @@ returns-in-Some-Some-clause-passed g c =
     c.in-Some-Some.second c.passes_in.result c.self.invariant.0
     (list_is c.args.self.now c.self.inside.width c.self.inside.rest c.self.inside.height c.self.inside.pairs c.self.inside.roots.items c.args.first c.in-Some-Some.first (sym c.self.view_is) at)
     (list_is c.args.self.now c.self.inside.width c.self.inside.rest c.self.inside.height c.self.inside.pairs c.self.inside.roots.items c.args.second c.in-Some-Some.second (sym c.self.view_is) other)
-    c.passes_in.ensures
+    c.passes_in.ensures.answered
 
 pub returns-in-Some-None-clause-there : goal.returns-in-Some-None-clause-there
 returns-in-Some-None-clause-there g c = λ lt less.

@@ -1,7 +1,7 @@
 use Rattle.std.proofs.Common.{◌≡◌, refl, sym, ap, ◌∙◌, Some}
 use Rattle.std.specs.Prelude.{slice_get}
 use Rattle.persistent_lists.proofs.TreeLemmas.{same_table}
-use Rattle.persistent_lists.proofs.TableLemmas.{trees_kept, trees_grown, tree_at, either, on_ok, on_err, always_err, grown_view, kept_view, same_view, changed_view}
+use Rattle.persistent_lists.proofs.TableLemmas.{trees_kept, pairs_kept, trees_grown, tree_at, either, on_ok, on_err, always_err, grown_view, kept_view, same_view, changed_view}
 use Rattle.persistent_lists.proofs.shared.SharedLists.push_with.Goals as goal
 
 pub invariant_of-self : goal.invariant_of-self
@@ -12,13 +12,14 @@ invariant_of-self c =
       c.add_root.ensures.fits,
       trees_grown c.self.inside.pairs c.self.inside.height c.self.inside.roots.items c.add_root.new.roots.items c.in-Some.root c.self.invariant.3
           (tree_at c.self.inside.pairs c.self.inside.height c.self.inside.roots.items c.args.list c.in-Some.root c.self.invariant.3 at) (either c.add_root.result _ _ c.add_root.ensures.root c.add_root.ensures.unchanged),
+      c.self.invariant.4,
     )
 
 pub returns-then-index-self-clause-list : goal.returns-then-index-self-clause-list
 returns-then-index-self-clause-list c =
     let at : slice_get c.self.inside.roots.items c.args.list ≡ Some c.in-Some.root = ap (λ l. slice_get l c.args.list) (sym c.deref.ensures.value) ∙ (sym c.root_at.ensures ∙ c.in-Some.is) in
     on_ok c.add_root.result _ _
-    (grown_view c.args.self.now c.self.inside.width c.self.inside.rest c.self.inside.height c.self.inside.pairs c.self.inside.pairs c.self.inside.roots.items (sym c.self.view_is) (same_table c.self.inside.pairs) c.self.invariant.3
+    (grown_view c.args.self.now c.self.inside.width c.self.inside.rest c.self.inside.height c.self.inside.pairs c.self.inside.pairs c.self.inside.roots.items c.self.inside.known (sym c.self.view_is) (same_table c.self.inside.pairs) c.self.invariant.3 c.self.invariant.4
     c.add_root.new.roots.items c.in-Some.root _
     (same_view c.args.self.now c.self.inside.width c.self.inside.rest c.self.inside.height c.self.inside.pairs c.self.inside.roots.items c.args.list c.in-Some.root c.args.index c.args.item (sym c.self.view_is) at c.if-index-self.true))
     c.add_root.ensures.root
@@ -26,7 +27,7 @@ returns-then-index-self-clause-list c =
 pub returns-then-index-self-clause-unchanged : goal.returns-then-index-self-clause-unchanged
 returns-then-index-self-clause-unchanged c =
     on_err c.add_root.result _ _
-    (kept_view c.args.self.now c.self.inside.width c.self.inside.rest c.self.inside.height c.self.inside.pairs c.self.inside.pairs c.self.inside.roots.items (sym c.self.view_is) (same_table c.self.inside.pairs) c.self.invariant.3
+    (kept_view c.args.self.now c.self.inside.width c.self.inside.rest c.self.inside.height c.self.inside.pairs c.self.inside.pairs c.self.inside.roots.items c.self.inside.known (sym c.self.view_is) (same_table c.self.inside.pairs) c.self.invariant.3 c.self.invariant.4
     c.add_root.new.roots.items)
     c.add_root.ensures.unchanged
 
@@ -36,12 +37,13 @@ invariant_of-self-in_err-root c = (
   c.self.invariant.1,
   c.self.invariant.2,
   trees_kept c.self.inside.pairs c.tree_with.new.pairs c.self.inside.height c.self.inside.roots.items c.tree_with.ensures.more c.self.invariant.3,
+  pairs_kept c.self.inside.pairs c.tree_with.new.pairs c.self.inside.known c.tree_with.ensures.more c.self.invariant.4,
 )
 
 pub returns-in_err-root-clause-unchanged : goal.returns-in_err-root-clause-unchanged
 returns-in_err-root-clause-unchanged c =
     always_err c.from_residual.result _
-    (kept_view c.args.self.now c.self.inside.width c.self.inside.rest c.self.inside.height c.self.inside.pairs c.tree_with.new.pairs c.self.inside.roots.items (sym c.self.view_is) c.tree_with.ensures.more c.self.invariant.3
+    (kept_view c.args.self.now c.self.inside.width c.self.inside.rest c.self.inside.height c.self.inside.pairs c.tree_with.new.pairs c.self.inside.roots.items c.self.inside.known (sym c.self.view_is) c.tree_with.ensures.more c.self.invariant.3 c.self.invariant.4
     c.self.inside.roots.items refl)
 
 pub invariant_of-self-2 : goal.invariant_of-self-2
@@ -52,13 +54,14 @@ invariant_of-self-2 c = (
   trees_grown c.tree_with.new.pairs c.self.inside.height c.self.inside.roots.items c.add_root-2.new.roots.items c.in_ok-root.root
       (trees_kept c.self.inside.pairs c.tree_with.new.pairs c.self.inside.height c.self.inside.roots.items c.tree_with.ensures.more c.self.invariant.3)
       c.in_ok-root.ensures.made.tree (either c.add_root-2.result _ _ c.add_root-2.ensures.root c.add_root-2.ensures.unchanged),
+  pairs_kept c.self.inside.pairs c.tree_with.new.pairs c.self.inside.known c.tree_with.ensures.more c.self.invariant.4,
 )
 
 pub returns-clause-list : goal.returns-clause-list
 returns-clause-list c =
     let at : slice_get c.self.inside.roots.items c.args.list ≡ Some c.in-Some.root = ap (λ l. slice_get l c.args.list) (sym c.deref.ensures.value) ∙ (sym c.root_at.ensures ∙ c.in-Some.is) in
     on_ok c.add_root-2.result _ _
-    (grown_view c.args.self.now c.self.inside.width c.self.inside.rest c.self.inside.height c.self.inside.pairs c.tree_with.new.pairs c.self.inside.roots.items (sym c.self.view_is) c.tree_with.ensures.more c.self.invariant.3
+    (grown_view c.args.self.now c.self.inside.width c.self.inside.rest c.self.inside.height c.self.inside.pairs c.tree_with.new.pairs c.self.inside.roots.items c.self.inside.known (sym c.self.view_is) c.tree_with.ensures.more c.self.invariant.3 c.self.invariant.4
     c.add_root-2.new.roots.items c.in_ok-root.root _
     (changed_view c.args.self.now c.self.inside.width c.self.inside.rest c.self.inside.height c.self.inside.pairs c.tree_with.new.pairs c.self.inside.roots.items c.args.list c.in-Some.root c.in_ok-root.root c.args.index c.args.item (sym c.self.view_is) at c.in_ok-root.ensures.made))
     c.add_root-2.ensures.root
@@ -66,6 +69,6 @@ returns-clause-list c =
 pub returns-clause-unchanged : goal.returns-clause-unchanged
 returns-clause-unchanged c =
     on_err c.add_root-2.result _ _
-    (kept_view c.args.self.now c.self.inside.width c.self.inside.rest c.self.inside.height c.self.inside.pairs c.tree_with.new.pairs c.self.inside.roots.items (sym c.self.view_is) c.tree_with.ensures.more c.self.invariant.3
+    (kept_view c.args.self.now c.self.inside.width c.self.inside.rest c.self.inside.height c.self.inside.pairs c.tree_with.new.pairs c.self.inside.roots.items c.self.inside.known (sym c.self.view_is) c.tree_with.ensures.more c.self.invariant.3 c.self.invariant.4
     c.add_root-2.new.roots.items)
     c.add_root-2.ensures.unchanged

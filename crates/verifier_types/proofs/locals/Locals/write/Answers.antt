@@ -1,6 +1,7 @@
-use Rattle.std.proofs.Common.{refl}
-use Rattle.verifier_types.proofs.WrittenLemmas.{write_seen}
+use Rattle.verifier_types.specs.Seen.{type_seen}
+use Rattle.verifier_types.proofs.TableLemmas.{list_written}
 use Rattle.verifier_types.proofs.locals.Locals.write.Goals as goal
 
-pub returns : goal.returns
-returns c = λ ls. write_seen ls c.args.self.now (record { base = c.args.self.now.base; changed = c.insert.new.self }) c.args.index c.args.item refl c.in_ok-insert.ensures.updates.0
+pub returns-clause-written : goal.returns-clause-written
+returns-clause-written c =
+    list_written c.args.lists.now c.push_with.new.self c.args.self.now.list c.in_ok-self.field-0 c.args.index (type_seen c.args.item) c.in_ok-self.ensures.list c.in_ok-self.ensures.number c.requires
