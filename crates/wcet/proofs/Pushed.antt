@@ -1,8 +1,8 @@
 -- Lists that grow by one item, beside another list.
-use Rattle.std.proofs.Common.{◌≡◌, ℕ, ◌⊎◌, List, [], ◌∷◌, ◌++◌, length, Some, sym, ap, ◌∙◌, subst, inl, inr, arith}
+use Rattle.std.proofs.Common.{◌≡◌, ℕ, ◌⊎◌, List, [], ◌∷◌, ◌++◌, length, map, take, take_all, get_or, ◌<◌, ◌≤◌, ◌+◌, Some, sym, ap, ◌∙◌, subst, inl, inr, arith}
 use Rattle.std.specs.Prelude.{slice_get}
 use Rattle.std.proofs.lemmas.Bool.{cases_lt}
-use Rattle.std.proofs.lemmas.List.{get_or_append_left, get_or_push, length_push}
+use Rattle.std.proofs.lemmas.List.{get_or_append_left, get_or_push, length_push, map_more}
 use Rattle.std.proofs.lemmas.Option.{slice_get-get_or, slice_get_within, get_or_from_slice_get}
 use Rattle.lists.specs.Lemmas.{some_same}
 
@@ -34,3 +34,11 @@ agrees_more {X} {Y} R xs ys i x y long at agrees before = λ k u v ku kv.
           let S : ℕ → Type 0 = λ n. slice_get xs n ≡ Some x in
           subst P (some_same x u (sym (subst S same_place at) ∙ ku)) (subst Q new.1 agrees)
     ]
+
+-- ---- the images of the first items of a list
+
+pub images_more : {X Y : Type 0} (f : X → Y) (xs : List X) (i : ℕ) (d : X) (old new : List Y) → i < length xs → old ≡ map f (take i xs) → new ≡ old ++ f (get_or xs i d) ∷ [] → new ≡ map f (take (i + 1) xs)
+images_more f xs i d old new lt before is = is ∙ ap (λ ys. ys ++ f (get_or xs i d) ∷ []) before ∙ sym (map_more f xs i d lt)
+
+pub images_all : {X Y : Type 0} (f : X → Y) (xs : List X) (i : ℕ) (ys : List Y) → length xs ≤ i → ys ≡ map f (take i xs) → ys ≡ map f xs
+images_all f xs i ys past is = is ∙ ap (map f) (take_all i xs past)

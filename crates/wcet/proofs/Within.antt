@@ -1,10 +1,10 @@
 -- The nodes of a compact graph's loops, and how these lie around one another under the other numbers.
-use Rattle.std.proofs.Common.{◌≡◌, ℕ, ◌<◌, List, length, map, get_or, All, Contains, sym, ap, ◌∙◌, subst, arith}
-use Rattle.std.proofs.lemmas.List.{get_or-map, length-map}
+use Rattle.std.proofs.Common.{◌≡◌, ℕ, ◌+◌, ◌<◌, ◌≤◌, List, ◌∷◌, [], ◌++◌, length, map, take, take_all, get_or, All, Contains, sym, ap, ◌∙◌, subst, arith}
+use Rattle.std.proofs.lemmas.List.{get_or-map, length-map, map_more, map_push}
 use Rattle.std.proofs.lemmas.List.Elements.{Contains-get_or}
 use Rattle.lists.specs.Members.{map_contains}
 use Rattle.loop_nest.specs.Digraph.{Digraph, IsDigraph}
-use Rattle.loop_nest.specs.Nest.{NaturalLoop, header_at, members_at, IsLoopOf, IsAround, IsNest}
+use Rattle.loop_nest.specs.Nest.{NaturalLoop, headers_of, header_at, members_at, IsLoopOf, IsAround, IsNest}
 use Rattle.loop_nest.proofs.Ends.{ends_within}
 use Rattle.section_check.specs.Placing.{IsAt}
 use Rattle.walk_bounds.specs.Moving.{moved_natural, moved_nest}
@@ -61,3 +61,19 @@ moved_members node ls xs i item k same lt is at =
     let lt' : i < length ls = subst (λ (ys : List NaturalLoop). i < length ys) same lt in
     let is' : item ≡ get_or ls i item = subst (λ (ys : List NaturalLoop). item ≡ get_or ys i item) same is in
     ap (λ (l : NaturalLoop). map node l.members) is' ∙ ap (λ (l : NaturalLoop). l.members) (sym (get_or-map (moved_natural node) ls i item k lt') ∙ at.1)
+
+-- the headers of the first loops under the other numbers, with that of one loop more
+pub headers_more : (node : ℕ → ℕ) (ls xs : List NaturalLoop) (i : ℕ) (item : NaturalLoop) (old new : List ℕ) → xs ≡ ls → i < length xs → item ≡ get_or xs i item → old ≡ headers_of (moved_nest node (take i ls)) → new ≡ old ++ node item.header ∷ []
+    → new ≡ headers_of (moved_nest node (take (i + 1) ls))
+headers_more node ls xs i item old new same lt is before more =
+    let lt' : i < length ls = subst (λ (ys : List NaturalLoop). i < length ys) same lt in
+    let is' : item ≡ get_or ls i item = subst (λ (ys : List NaturalLoop). item ≡ get_or ys i item) same is in
+    more
+    ∙ ap (λ (hs : List ℕ). hs ++ node item.header ∷ []) before
+    ∙ ap (λ (l : NaturalLoop). headers_of (moved_nest node (take i ls)) ++ node l.header ∷ []) is'
+    ∙ sym (ap headers_of (map_more (moved_natural node) ls i item lt') ∙ map_push (λ (l : NaturalLoop). l.header) (moved_nest node (take i ls)) (moved_natural node (get_or ls i item)))
+
+pub headers_all : (node : ℕ → ℕ) (ls xs : List NaturalLoop) (i : ℕ) (hs : List ℕ) → xs ≡ ls → length xs ≤ i → hs ≡ headers_of (moved_nest node (take i ls)) → hs ≡ headers_of (moved_nest node ls)
+headers_all node ls xs i hs same past are =
+    let past' : length ls ≤ i = subst (λ (ys : List NaturalLoop). length ys ≤ i) same past in
+    are ∙ ap (λ (ks : List NaturalLoop). headers_of (moved_nest node ks)) (take_all i ls past')
