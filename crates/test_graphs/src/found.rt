@@ -11,7 +11,7 @@ use path_solver::regions::longest_with_regions;
 use path_solver::solved::{SolveFault, Solved};
 use path_solver::{check_section, greatest, longest};
 use std::alloc::{AllocError, Global};
-use std::{fmt, io};
+use std::io;
 
 /// What is printed of the greatest walk.
 #[derive(Clone, Copy)]
@@ -26,28 +26,19 @@ pub enum Asked<'a> {
     Walks,
 }
 
-/// Listed nodes with their potentials, each behind a blank.
-#[derive(Drop)]
-struct Potentials<'a>(&'a [(u32, i128)]);
-
-impl fmt::Display for Potentials<'_> {
-    fn fmt<W: fmt::Write>(&self, f: &mut fmt::Formatter<W>) -> fmt::Result {
-        for (u, p) in self.0 {
-            write!(f, " {u}:{p}")?;
-        }
-        Ok(())
+// Prints the value of the greatest walk, and the listed nodes with their potentials.
+fn show_potentials(rt: &HostRuntime, solved: &Solved) -> io::Result<()> {
+    print!(rt; "  value {}, potentials", solved.value())?;
+    for (u, p) in solved.section().nodes() {
+        print!(rt; " {u}:{p}")?;
     }
+    println!(rt; "")
 }
 
 // Prints the value of the greatest walk, and the section that shows it.
 fn show_section(rt: &HostRuntime, solved: &Solved) -> io::Result<()> {
-    let section = solved.section();
-    println!(rt;
-        "  value {}, potentials{}",
-        solved.value(),
-        Potentials(section.nodes())
-    )?;
-    for l in section.loops() {
+    show_potentials(rt, solved)?;
+    for l in solved.section().loops() {
         println!(rt;
             "  loop {}, an iteration costs {}",
             l.header(),
@@ -205,21 +196,26 @@ pub fn show_found(rt: &HostRuntime, problem: &Problem, asked: Asked<'_>) -> io::
     }
 }
 
+// What an entry of each loop loads: nothing for a region that doesn't fit.
+fn loads_of(alloc: Global, problem: &Problem) -> Result<Vec<u64>, AllocError> {
+    let mut loads = Vec::new(alloc);
+    for load in &problem.loads {
+        loads.push(load.unwrap_or(0))?;
+    }
+    Ok(loads)
+}
+
 // Prints what is asked of the greatest walk of a graph with these loops.
 fn show_asked(rt: &HostRuntime, problem: &Problem, nest: &Nest, asked: Asked<'_>) -> io::Result<()>
     requires nest { IsNest problem.now.graph nest.now }
     requires reducible { IsReducible problem.now.graph }
 {
+    let loads = loads_of(rt.alloc(), problem)?;
     let loops = nest.loops().len();
     let are_costs = problem.costs.len() == problem.graph.nodes() as usize;
-    if !are_costs || problem.bounds.len() != loops || problem.loads.len() != loops {
+    if !are_costs || problem.bounds.len() != loops || loads.len() != loops {
         return println!(rt; "  bad line");
     }
-    let loads: Vec<u64> = problem
-        .loads
-        .iter()
-        .map(|load| load.unwrap_or(0))
-        .collect(rt.alloc())?;
     match asked {
         Asked::Value => show_longest(rt, problem, nest, &loads, true),
         Asked::Section => show_longest(rt, problem, nest, &loads, false),
@@ -230,7 +226,10 @@ fn show_asked(rt: &HostRuntime, problem: &Problem, nest: &Nest, asked: Asked<'_>
 
 // So many nodes of cost 1, one after another, if there are any.
 fn chain(alloc: Global, nodes: u32) -> Result<Option<Problem>, AllocError> {
-    let edges: Vec<(u32, u32)> = (1..nodes).map(|u| (u - 1, u)).collect(alloc)?;
+    let mut edges = Vec::new(alloc);
+    for u in 1..nodes {
+        edges.push((u - 1, u))?;
+    }
     let exits = vec![in alloc; nodes.saturating_sub(1)]?;
     if !is_graph(nodes, &edges, &exits) {
         return Ok(None);
@@ -249,7 +248,10 @@ fn show_first_block(rt: &HostRuntime, g: &Graph) -> io::Result<()> {
         return Err(io::Error::from(AllocError));
     };
     let chains = blocks.chains();
-    let nodes = chains.first().map_or(0, |chain| chain.len());
+    let nodes = match chains {
+        [first, ..] => first.len(),
+        [] => 0,
+    };
     println!(rt; "  blocks {}, the first of {nodes} nodes", chains.len())
 }
 

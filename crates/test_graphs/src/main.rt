@@ -52,8 +52,7 @@ fn answer(rt: &HostRuntime, question: &Question) -> io::Result<()> {
         Question::Longest(problem) => show_found(rt, problem, Asked::Section),
         Question::Regions(problem, regions) => show_found(rt, problem, Asked::Regions(regions)),
         Question::Walks(problem) => show_found(rt, problem, Asked::Walks),
-        Question::Check(problem, section) => show_check(rt, problem, section, true),
-        Question::Index(problem, section) => show_check(rt, problem, section, false),
+        Question::Check(problem, section, both) => show_check(rt, problem, section, *both),
         Question::Chain(nodes) => show_chain(rt, *nodes),
     }
 }

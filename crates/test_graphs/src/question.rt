@@ -5,7 +5,7 @@ use path_solver::section::{CertLoop, Section};
 use std::alloc::Global;
 use std::num::ParseIntError;
 use std::str::FromStr;
-use test_rows::{RowFault, numbers};
+use test_rows::RowFault;
 
 /// A graph with the cost of each node, the bound of each loop and what an entry of it loads: nothing is
 /// said of a region that doesn't fit.
@@ -34,10 +34,8 @@ pub enum Question {
     Regions(Problem, Vec<bool>),
     /// The greatest walk, found in several ways.
     Walks(Problem),
-    /// The checks of a section, with an index of its loops and without.
-    Check(Problem, Section),
-    /// The check of a section with an index alone.
-    Index(Problem, Section),
+    /// The check of a section with an index of its loops, and whether the check without an index is asked, too.
+    Check(Problem, Section, bool),
     /// So many nodes, one after another.
     Chain(u32),
 }
@@ -47,8 +45,11 @@ fn numbers_of<N: FromStr<Err = ParseIntError> + Drop>(
     alloc: Global,
     field: &str,
 ) -> Result<Vec<N>, RowFault> {
-    let words: Vec<&str> = field.split_whitespace().collect(alloc)?;
-    numbers(alloc, &words)
+    let mut numbers = Vec::new(alloc);
+    for word in field.split_whitespace() {
+        numbers.push(word.parse::<N>()?)?;
+    }
+    Ok(numbers)
 }
 
 /// An edge such as `0-1`.
@@ -85,13 +86,25 @@ fn flags(alloc: Global, regions: &str) -> Result<Vec<bool>, RowFault> {
     regions.split_whitespace().map(flag).try_collect(alloc)
 }
 
+/// The members of a loop, such as `1,2`.
+fn members_of(alloc: Global, field: &str) -> Result<Vec<u32>, RowFault> {
+    let mut members = Vec::new(alloc);
+    for word in field.split(',') {
+        members.push(word.parse::<u32>()?)?;
+    }
+    Ok(members)
+}
+
 /// A loop, such as `1:7:1,2`.
 fn certified_loop(alloc: Global, word: &str) -> Result<CertLoop, RowFault> {
-    let (header, rest) = word.split_once(':').ok_or(RowFault::Malformed)?;
-    let (cost, members) = rest.split_once(':').ok_or(RowFault::Malformed)?;
+    let Some((header, rest)) = word.split_once(':') else {
+        return Err(RowFault::Malformed);
+    };
+    let Some((cost, members)) = rest.split_once(':') else {
+        return Err(RowFault::Malformed);
+    };
     let (header, cost) = (header.parse()?, cost.parse()?);
-    let members: Vec<&str> = members.split(',').collect(alloc)?;
-    Ok(CertLoop::new(header, cost, numbers(alloc, &members)?, false))
+    Ok(CertLoop::new(header, cost, members_of(alloc, members)?, false))
 }
 
 /// The graph of three fields: its nodes, edges and exits.
@@ -152,22 +165,21 @@ fn section(alloc: Global, fields: &[&str]) -> Result<Section, RowFault> {
 }
 
 /// A problem, and of each loop whether it is a region.
-fn regions(alloc: Global, fields: &[&str]) -> Result<(Problem, Vec<bool>), RowFault> {
+fn regions(alloc: Global, fields: &[&str]) -> Result<Question, RowFault> {
     if fields.len() != 7 {
         return Err(RowFault::Malformed);
     }
-    Ok((read_problem(alloc, &fields[..6])?, flags(alloc, fields[6])?))
+    let problem = read_problem(alloc, &fields[..6])?;
+    Ok(Question::Regions(problem, flags(alloc, fields[6])?))
 }
 
-/// A problem and a section.
-fn check(alloc: Global, fields: &[&str]) -> Result<(Problem, Section), RowFault> {
+/// A problem and a section, and whether both checks are asked.
+fn check(alloc: Global, fields: &[&str], both: bool) -> Result<Question, RowFault> {
     if fields.len() != 9 {
         return Err(RowFault::Malformed);
     }
-    Ok((
-        read_problem(alloc, &fields[..6])?,
-        section(alloc, &fields[6..])?,
-    ))
+    let problem = read_problem(alloc, &fields[..6])?;
+    Ok(Question::Check(problem, section(alloc, &fields[6..])?, both))
 }
 
 /// How many nodes follow one another.
@@ -191,9 +203,9 @@ impl Question {
             "value" => read_problem(alloc, rest).map(Question::Value),
             "longest" => read_problem(alloc, rest).map(Question::Longest),
             "walks" => read_problem(alloc, rest).map(Question::Walks),
-            "regions" => regions(alloc, rest).map(|asked| Question::Regions(asked.0, asked.1)),
-            "check" => check(alloc, rest).map(|asked| Question::Check(asked.0, asked.1)),
-            "index" => check(alloc, rest).map(|asked| Question::Index(asked.0, asked.1)),
+            "regions" => regions(alloc, rest),
+            "check" => check(alloc, rest, true),
+            "index" => check(alloc, rest, false),
             "chain" => chain(rest),
             _ => Err(RowFault::Malformed),
         }
@@ -201,7 +213,10 @@ impl Question {
 
     /// What a line asks.
     pub fn parse(alloc: Global, line: &str) -> Result<Question, RowFault> {
-        let fields: Vec<&str> = line.split('|').map(|field| field.trim()).collect(alloc)?;
+        let mut fields = Vec::new(alloc);
+        for field in line.split('|') {
+            fields.push(field.trim())?;
+        }
         Question::of_fields(alloc, &fields)
     }
 }

@@ -8,38 +8,51 @@ use path_solver::form::is_in_form;
 use path_solver::section::{Section, SectionFault};
 use section_index::check_with_index;
 use std::alloc::AllocError;
-use std::{fmt, io};
+use std::io;
 
-/// Nodes, each behind a blank.
-#[derive(Drop)]
-struct Nodes<'a>(&'a [u32]);
+// Prints nodes, each behind a blank.
+fn show_nodes(rt: &HostRuntime, nodes: &[u32]) -> io::Result<()> {
+    for u in nodes {
+        print!(rt; " {u}")?;
+    }
+    Ok(())
+}
 
-impl fmt::Display for Nodes<'_> {
-    fn fmt<W: fmt::Write>(&self, f: &mut fmt::Formatter<W>) -> fmt::Result {
-        for u in self.0 {
-            write!(f, " {u}")?;
-        }
-        Ok(())
+// The next loop around a loop.
+fn outer_of<'a>(loops: &'a [Loop], l: &Loop) -> Option<&'a Loop> {
+    loops.get(l.outer()? as usize)
+}
+
+// Prints a loop and the next loop around it.
+fn show_loop(rt: &HostRuntime, loops: &[Loop], l: &Loop) -> io::Result<()> {
+    print!(rt; "  loop {}:", l.header())?;
+    show_nodes(rt, l.members())?;
+    match outer_of(loops, l) {
+        Some(outer) => println!(rt; ", in loop {}", outer.header()),
+        None => println!(rt; ""),
     }
 }
 
-// Prints loops, each with the next loop around it.
+// Prints loops.
 fn show_loops(rt: &HostRuntime, loops: &[Loop]) -> io::Result<()> {
     for l in loops {
-        let (header, members) = (l.header(), Nodes(l.members()));
-        match l.outer().and_then(|number| loops.get(number as usize)) {
-            Some(outer) => println!(rt; "  loop {header}:{members}, in loop {}", outer.header())?,
-            None => println!(rt; "  loop {header}:{members}")?,
-        }
+        show_loop(rt, loops, l)?;
     }
     Ok(())
+}
+
+// Prints nodes behind a title, and ends the line.
+fn show_titled(rt: &HostRuntime, title: &str, nodes: &[u32]) -> io::Result<()> {
+    print!(rt; "  {title}")?;
+    show_nodes(rt, nodes)?;
+    println!(rt; "")
 }
 
 /// Prints the loops of a graph, or what its reduction leaves.
 pub fn show_nest(rt: &HostRuntime, g: &Graph) -> io::Result<()> {
     match nest(rt.alloc(), g) {
         Ok(nest) => show_loops(rt, nest.loops()),
-        Err(NestFault::Irreducible(left)) => println!(rt; "  irreducible:{}", Nodes(&left)),
+        Err(NestFault::Irreducible(left)) => show_titled(rt, "irreducible:", &left),
         Err(NestFault::NoMemory) => Err(io::Error::from(AllocError)),
     }
 }
@@ -47,7 +60,7 @@ pub fn show_nest(rt: &HostRuntime, g: &Graph) -> io::Result<()> {
 // Prints basic blocks.
 fn show_chains(rt: &HostRuntime, chains: &[Vec<u32>]) -> io::Result<()> {
     for chain in chains {
-        println!(rt; "  block{}", Nodes(chain))?;
+        show_titled(rt, "block", chain)?;
     }
     Ok(())
 }

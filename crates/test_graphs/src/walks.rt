@@ -32,22 +32,24 @@ fn bounded_loops<'a>(
     bounds: &[u32],
     loads: &[u64],
 ) -> Result<Vec<BoundedLoop<'a>>, AllocError> {
-    nest.loops()
-        .iter()
-        .zip(bounds)
-        .zip(loads)
-        .map(|((l, bound), load)| BoundedLoop {
+    let mut loops = Vec::new(alloc);
+    for ((l, bound), load) in nest.loops().iter().zip(bounds).zip(loads) {
+        loops.push(BoundedLoop {
             header: l.header(),
             members: l.members(),
             bound: *bound,
             load: *load,
-        })
-        .collect(alloc)
+        })?;
+    }
+    Ok(loops)
 }
 
 // What a node costs.
 fn cost_of(problem: &Problem, node: u32) -> u64 {
-    problem.costs.get(node as usize).copied().unwrap_or(0)
+    match problem.costs.get(node as usize) {
+        Some(cost) => *cost,
+        None => 0,
+    }
 }
 
 impl Walk {
@@ -113,7 +115,9 @@ fn go_on(
 ) -> Result<(), AllocError> {
     for (u, v) in problem.graph.edges() {
         if *u == walk.node {
-            unfinished.extend(walk.onward(alloc, problem, loops, *v)?)?;
+            if let Some(next) = walk.onward(alloc, problem, loops, *v)? {
+                unfinished.push(next)?;
+            }
         }
     }
     Ok(())
@@ -148,6 +152,8 @@ pub fn greatest_walk(
 ) -> Result<Greatest, AllocError> {
     let loops = bounded_loops(alloc, nest, &problem.bounds, loads)?;
     let mut unfinished = Vec::new(alloc);
-    unfinished.extend(Walk::new(alloc, &loops)?.onward(alloc, problem, &loops, 0)?)?;
+    if let Some(walk) = Walk::new(alloc, &loops)?.onward(alloc, problem, &loops, 0)? {
+        unfinished.push(walk)?;
+    }
     greatest_of(alloc, problem, &loops, &mut unfinished)
 }

@@ -61,12 +61,12 @@ fn go_on(machine: &mut Machine<1024>, device: &mut Keeper) {
 
 // Whether these are all bytes that a device was given.
 fn has_put(device: &Keeper, bytes: &[u32]) -> bool {
+    for (byte, number) in device.output.iter().zip(bytes) {
+        if u32::from(*byte) != *number {
+            return false;
+        }
+    }
     device.output.len() == bytes.len()
-        && device
-            .output
-            .iter()
-            .zip(bytes)
-            .all(|(byte, number)| u32::from(*byte) == *number)
 }
 
 // Whether an on-chip word is the only one that is written.

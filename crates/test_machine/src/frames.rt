@@ -21,22 +21,26 @@ impl Layout {
     /// The words of an image, with boot's method alone.
     pub fn new(alloc: Global, words: &[&str]) -> Result<Layout, RowFault> {
         let image: Vec<u32> = numbers(alloc, words)?;
-        let methods = image.get(1).copied().into_iter().collect(alloc)?;
+        let mut methods = Vec::new(alloc);
+        if let Some(place) = image.get(1) {
+            methods.push(*place)?;
+        }
         Ok(Layout { image, methods })
     }
 
     // How many local variables the method at a place has.
     fn max_locals(&self, place: u32) -> Option<usize> {
-        self.image
-            .get(place as usize)
-            .map(|word| *word as usize >> 16)
+        Some(*self.image.get(place as usize)? as usize >> 16)
     }
 
     // Whether the method with the number that is written stands at a place.
     fn is_method(&self, place: u32, number: &str) -> bool {
-        match number.parse::<u32>() {
-            Ok(number) => self.methods.get(number as usize) == Some(&place),
-            Err(_) => false,
+        let Ok(number) = number.parse::<u32>() else {
+            return false;
+        };
+        match self.methods.get(number as usize) {
+            Some(method) => *method == place,
+            None => false,
         }
     }
 }
@@ -51,17 +55,26 @@ struct Frame {
     end: usize,
 }
 
+// Whether a number is the one that is written.
+fn is_number(number: u32, written: &str) -> bool {
+    match written.parse::<u32>() {
+        Ok(parsed) => parsed == number,
+        Err(_) => false,
+    }
+}
+
 /// Whether a word is the one that is written, or any.
 pub fn is_word(word: u32, written: &str) -> bool {
-    written == "?" || written.parse::<u32>() == Ok(word)
+    written == "?" || is_number(word, written)
 }
 
 fn are_words(words: &[u32], written: &[&str]) -> bool {
+    for (word, text) in words.iter().zip(written) {
+        if !is_word(*word, text) {
+            return false;
+        }
+    }
     words.len() == written.len()
-        && words
-            .iter()
-            .zip(written)
-            .all(|(word, text)| is_word(*word, text))
 }
 
 // Whether the words of local variables and of operands are those that are written, with a `:` between them.
@@ -89,7 +102,7 @@ fn caller_if(layout: &Layout, words: &[u32], frame: Frame, written: &[&str]) -> 
     let [method, pc, values @ ..] = written else {
         return None;
     };
-    if !layout.is_method(frame.method, method) || pc.parse::<u32>() != Ok(frame.pc) {
+    if !layout.is_method(frame.method, method) || !is_number(frame.pc, pc) {
         return None;
     }
     let saved = frame.first.checked_add(layout.max_locals(frame.method)?)?;

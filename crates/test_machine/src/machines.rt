@@ -125,12 +125,19 @@ fn show_clocks(
 
 // Shows what a machine put out, and which of its states were seen.
 fn show_device(rt: &HostRuntime, device: &Keeper) -> io::Result<()> {
+    let last_byte = match device.output.last() {
+        Some(byte) => *byte,
+        None => 0,
+    };
+    let states = device.watch.held();
+    let last_clock = match states.last() {
+        Some(seen) => seen.clock,
+        None => 0,
+    };
     println!(*rt;
-        "{} bytes, the last {}; {} states, the last at {}",
+        "{} bytes, the last {last_byte}; {} states, the last at {last_clock}",
         device.output.len(),
-        device.output.last().copied().unwrap_or(0),
-        device.watch.held().len(),
-        device.watch.held().last().map_or(0, |seen| seen.clock)
+        states.len()
     )
 }
 
