@@ -1,7 +1,7 @@
 //! Graphs of methods, and what is shown of them.
 ghost use Rattle.std.specs.Prelude.{◌<◌, length};
 
-use crate::calls::show_calls;
+use crate::calls::{name_of, show_calls};
 use crate::regions::show_regions;
 use flow_graph::{MethodGraph, graph_of};
 use loop_nest::loops::{Loop, NestFault};
@@ -114,7 +114,7 @@ fn is_of_core(name: &str) -> bool {
 /// Prints what is found of the methods but those of the core classes, or of all.
 pub fn show_methods(rt: &HostRuntime, f: &FlowProgram, all: bool) -> Result<(), RowFault> {
     for m in 0..f.method_count() {
-        let name = std::str::from_utf8(f.method(m).name()).unwrap_or("no text");
+        let name = name_of(f, m);
         if all || !is_of_core(name) {
             let text = method_text(rt.alloc(), f, m)?;
             print!(*rt; "method {name}\n{text}")?;
