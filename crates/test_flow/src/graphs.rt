@@ -41,6 +41,11 @@ fn show_graph(alloc: Global, out: &mut String, graph: &MethodGraph) -> Result<()
     show_nodes(out, graph, graph.graph.exits())
 }
 
+// The next loop around a loop.
+fn outer_of<'a>(loops: &'a [Loop], l: &Loop) -> Option<&'a Loop> {
+    loops.get(l.outer()? as usize)
+}
+
 // Writes a loop of a method, and its region.
 fn show_loop(
     alloc: Global,
@@ -54,7 +59,7 @@ fn show_loop(
     requires { m < length f.now.methods }
 {
     show_node(out, graph, "  loop ", l.header())?;
-    if let Some(outer) = l.outer().and_then(|number| loops.get(number as usize)) {
+    if let Some(outer) = outer_of(loops, l) {
         show_node(out, graph, " in ", outer.header())?;
     }
     write!(out, ":")?;

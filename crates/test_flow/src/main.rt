@@ -20,7 +20,7 @@ use calls::order_text;
 use flow_program::flow_of;
 use graphs::show_methods;
 use program::verified;
-use std::io::{self, BufRead, BufReader};
+use std::io;
 use test_rows::RowFault;
 
 // Prints what a word asks of a program.
@@ -58,7 +58,7 @@ fn answer_line(rt: &HostRuntime, line: &str) -> Result<(), RowFault> {
 }
 
 fn main(rt: HostRuntime) -> io::Result<()> {
-    for line in BufReader::new(rt.alloc(), rt.reader())?.lines(rt.alloc()) {
+    for line in rt.lines(rt.alloc()) {
         if let Err(fault) = answer_line(&rt, line?.as_str()) {
             fault.told(&rt)?;
         }
