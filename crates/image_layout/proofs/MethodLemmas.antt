@@ -1,5 +1,5 @@
 -- The records of methods.
-use Rattle.std.proofs.Common.{◌≡◌, ℕ, ◌+◌, ◌*◌, ◌^◌, ◌<◌, ◌≤◌, List, [], ◌∷◌, ◌++◌, Bool, true, false, Option, Some, None, map, take, length, get_or, append_assoc, append-nil, refl, sym, ap, ap₂, ◌∙◌, subst, arith}
+use Rattle.std.proofs.Common.{◌≡◌, ℕ, ◌+◌, ◌*◌, ◌^◌, ◌<◌, ◌≤◌, List, [], ◌∷◌, ◌++◌, Bool, true, false, Option, Some, None, map, take, length, get_or, append_assoc, append-nil, refl, sym, ap, ◌∙◌, subst, arith}
 use Rattle.std.specs.Prelude.{slice_get, sum_by, if◌then◌else◌}
 use Rattle.std.specs.Option.{option_map, option_map_or, IsSomeAnd}
 use Rattle.std.specs.List.{flat_map}
@@ -67,24 +67,22 @@ joined old front table bytes = append_assoc (old ++ front) table bytes ∙ appen
 
 pub record_made : MethodsStandByNumber → MembersAreThere → (cs : List ClassFile) (n : ℕ) (p : Place) (code : Code) → slice_get (methods_by_number cs) n ≡ Some p
     → Some code ≡ onto (onto (slice_get (methods_by_number cs) n) (method_at cs)) code_of
-    → (old first second new : List ℕ) (limits sizes pool many arguments : ℕ) → first ≡ old ++ limits ∷ sizes ∷ pool ∷ many ∷ []
+    → (old first second new : List ℕ)
+    → ((k : Method) → slice_get (resolved_methods cs) n ≡ Some k
+    → first ≡ old ++ (code.max_locals * 2 ^ 16 + code.max_stack) ∷ (argument_words k * 2 ^ 16 + words_for (length code.code)) ∷ pool_place cs p.0 ∷ length code.handlers ∷ [])
     → ((k : ClassFile) → slice_get cs p.0 ≡ Some k → second ≡ first ++ flat_map (handler_words (resolved cs)) (map (handler_of cs k) code.handlers)) → new ≡ second ++ words_of_bytes code.code
-    → limits ≡ code.max_locals * 2 ^ 16 + code.max_stack → sizes ≡ arguments * 2 ^ 16 + words_for (length code.code) → ((k : Method) → slice_get (resolved_methods cs) n ≡ Some k → arguments ≡ argument_words k)
-    → pool ≡ pool_place cs p.0 → many ≡ length code.handlers → (k : Method) → slice_get (resolved_methods cs) n ≡ Some k → new ≡ old ++ method_image cs (outline_of cs) k
-record_made law there cs n p code h e old first second new limits sizes pool many arguments e1 e2 e3 hl hs ha hp hm k at =
+    → (k : Method) → slice_get (resolved_methods cs) n ≡ Some k → new ≡ old ++ method_image cs (outline_of cs) k
+record_made law there cs n p code h e old first second new e1 e2 e3 k at =
     let s = stands law there cs n p h in
     let own = method_in cs p.0 s.class s.member in
     let is = some_same own k (sym s.method ∙ at) in
     let table = flat_map (handler_words (resolved cs)) (map (handler_of cs s.class) code.handlers) in
     let bytes = words_of_bytes code.code in
-    let words : ℕ → ℕ → ℕ → ℕ → List ℕ = λ l z q m. old ++ (l ∷ z ∷ q ∷ m ∷ (table ++ bytes)) in
-    let size = hs ∙ ap (λ (a : ℕ). a * 2 ^ 16 + words_for (length code.code)) (ha own s.method) in
-    let counted = hm ∙ sym (length-map code.handlers (handler_of cs s.class)) in
+    let front : ℕ → List ℕ = λ many. (code.max_locals * 2 ^ 16 + code.max_stack) ∷ (argument_words own * 2 ^ 16 + words_for (length code.code)) ∷ pool_place cs p.0 ∷ many ∷ [] in
     let made : new ≡ old ++ method_words (resolved cs) (outline_of cs) own (body_in cs s.class code) =
-    e3 ∙ (ap (λ (ws : List ℕ). ws ++ bytes) (e2 s.class s.class_at ∙ ap (λ (ws : List ℕ). ws ++ table) e1)
-    ∙ (joined old (limits ∷ sizes ∷ pool ∷ many ∷ []) table bytes
-    ∙ (ap₂ (λ (x : ℕ) (y : ℕ). words x y pool many) hl size
-    ∙ ap₂ (λ (x : ℕ) (y : ℕ). words (code.max_locals * 2 ^ 16 + code.max_stack) (argument_words own * 2 ^ 16 + words_for (length code.code)) x y) hp counted))) in
+    e3 ∙ (ap (λ (ws : List ℕ). ws ++ bytes) (e2 s.class s.class_at ∙ ap (λ (ws : List ℕ). ws ++ table) (e1 own s.method))
+    ∙ (joined old (front (length code.handlers)) table bytes
+    ∙ ap (λ (many : ℕ). old ++ (front many ++ (table ++ bytes))) (sym (length-map code.handlers (handler_of cs s.class))))) in
     made ∙ (ap (λ (ws : List ℕ). old ++ ws) (sym (body_case cs (outline_of cs) p.0 s.class s.member (Some code) (code_here cs n p s (Some code) h e)))
     ∙ ap (λ (k : Method). old ++ method_image cs (outline_of cs) k) is)
 

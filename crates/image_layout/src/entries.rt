@@ -1,6 +1,7 @@
 //! The two words of each entry of a class's pool (JVM Specification SE 8, 4.4).
 ghost use Rattle.std.specs.Prelude.{◌≡◌, ◌++◌, ◌<◌, ◌+◌, ◌*◌, ◌^◌, ℕ, length, map, is_some, Some, IfOk, IsTrue, OnOk, option_map, unwrap_or, slice_get};
 ghost use Rattle.std.specs.Option.{option_map_or};
+ghost use Rattle.std.specs.List.{range_with_len};
 ghost use Rattle.class_pool.specs.declared.class.ClassFile.{ClassFile};
 ghost use Rattle.class_pool.specs.Grammar.{entry_at};
 ghost use Rattle.class_lookup.specs.Lookup.{method_at};
@@ -20,6 +21,7 @@ ghost use Rattle.image_words.specs.Outline.{IsOutline};
 ghost use Rattle.image_layout.specs.Uses.{instr_of, use_of};
 
 use crate::methods::argument_words;
+use crate::statics::long_words;
 use crate::uses::{Use, uses_of};
 use class_lookup::Place;
 use class_pool::Entry;
@@ -217,7 +219,7 @@ fn words_of_entry(
 {
     match entry {
         Entry::Integer(n) => Ok([*n, 0]),
-        Entry::Long(n) => Ok([(*n >> 32) as u32, (*n & 0xffff_ffff) as u32]),
+        Entry::Long(n) => Ok(long_words(*n)),
         Entry::Text(_) => Ok(string_words(program, outline, number, index)),
         Entry::Class(_) => class_words(program, outline, program.kind_of_entry(number, index)),
         Entry::Field(owner, member) => Ok(field_entry(program, outline, number, *owner, *member)),
@@ -263,7 +265,32 @@ fn entry_words(
     }
 }
 
-/// The words of a class's pool, put behind others: two for each index, 0 among them.
+/// The words of a class's pool, put behind others, by how instructions use its entries: two for each index, 0 among them.
+fn add_entries(
+    words: &mut Vec<u32>,
+    program: &Program,
+    outline: &Outline,
+    number: u32,
+    uses: &[Use],
+) -> Result<(), NoMemory>
+    requires outline { IsOutline program.now outline.now }
+    requires class { number < length program.now }
+    requires uses { (k : ClassFile) → slice_get program.now number ≡ Some k → uses.now ≡ map (use_of program.now number k (map instr_of (instructions_in k))) (range_with_len 0 (1 + length k.pool)) }
+    ensures { OnOk result ((k : ClassFile) → slice_get program.now number ≡ Some k → words.new.items ≡ words.old.items ++ pool_image program.now (outline_of program.now) number k) }
+{
+    program.is_within_bounds();
+    words.extend_from_slice(&[0, 0])?;
+    let entries = program.class(number).pool.entries();
+    for place in 0..entries.len() {
+        let index = (place + 1) as u16;
+        let entry = &entries[place];
+        let pair = entry_words(program, outline, number, index, entry, uses[place + 1])?;
+        words.extend_from_slice(&pair)?;
+    }
+    Ok(())
+}
+
+/// The words of a class's pool, put behind others.
 fn add_pool(
     words: &mut Vec<u32>,
     alloc: Global,
@@ -275,17 +302,8 @@ fn add_pool(
     requires class { number < length program.now }
     ensures { OnOk result ((k : ClassFile) → slice_get program.now number ≡ Some k → words.new.items ≡ words.old.items ++ pool_image program.now (outline_of program.now) number k) }
 {
-    program.is_within_bounds();
     let uses = uses_of(alloc, program, outline, number)?;
-    words.extend_from_slice(&[0, 0])?;
-    let entries = program.class(number).pool.entries();
-    for place in 0..entries.len() {
-        let index = (place + 1) as u16;
-        let entry = &entries[place];
-        let pair = entry_words(program, outline, number, index, entry, uses[place + 1])?;
-        words.extend_from_slice(&pair)?;
-    }
-    Ok(())
+    add_entries(words, program, outline, number, &uses)
 }
 
 /// The pools.

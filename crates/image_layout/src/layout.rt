@@ -5,7 +5,7 @@ ghost use Rattle.program_tables.specs.Numbers.{fields_by_number, strings_of, typ
 ghost use Rattle.program_tables.specs.Operands.{string_object};
 ghost use Rattle.image_builder.specs.declared.fault.Counted.{Counted};
 ghost use Rattle.image_builder.specs.declared.fault.LayFault.TheVariants.{TooLarge};
-ghost use Rattle.image_layout.specs.Layout.{IsLaidOut, first_passed};
+ghost use Rattle.image_layout.specs.Layout.{IsLaidOut, counts_passed, first_passed};
 ghost use Rattle.image_words.specs.Outline.{IsOutline};
 ghost use Rattle.image_words.specs.Layout.{type_place, outline_of};
 ghost use Rattle.image_words.specs.Pools.{static_word};
@@ -110,14 +110,18 @@ struct Written {
     strings: Vec<u32>,
 }
 
-/// What is written by an outline.
-fn write_image(alloc: Global, program: &Program, outline: &Outline) -> Result<Written, NoMemory>
-    requires { IsOutline program.now outline.now }
+/// What is written by an outline, unless it has too many words.
+fn write_image(alloc: Global, program: &Program, outline: &Outline) -> Result<Written, LayFault>
+    requires outline { IsOutline program.now outline.now }
+    requires counts { counts_passed program.now ≡ None }
     ensures words { IfOk result (λ made. made.words.items ≡ image_words_of program.now) }
     ensures types { IfOk result (λ made. made.types.items ≡ map (type_place program.now) (range_with_len 0 (length (types_of program.now)))) }
     ensures fields { IfOk result (λ made. made.fields.items ≡ map (static_word program.now (outline_of program.now)) (fields_by_number program.now)) }
     ensures strings { IfOk result (λ made. made.strings.items ≡ map (λ n. first_place program.now (outline_of program.now) (string_object n)) (range_with_len 0 (length (strings_of program.now)))) }
+    ensures within { OnOk result (first_passed program.now ≡ None) }
+    ensures too_large { (what : Counted) (count limit : ℕ) → result ≡ Err (TooLarge what count limit) → first_passed program.now ≡ Some (what, count, limit) }
 {
+    within_words(program, outline)?;
     let words = words_of(alloc, program, outline)?;
     let types = type_places(alloc, program, outline)?;
     let fields = field_places(alloc, program, outline)?;
@@ -130,6 +134,20 @@ fn write_image(alloc: Global, program: &Program, outline: &Outline) -> Result<Wr
     })
 }
 
+/// The layout of what is written by an outline.
+fn layout_of(outline: Outline, written: Written) -> Layout
+    ensures { result ≡ record { words = written.words.items; methods = outline.methods.places.items; types = written.types.items; pools = outline.pools.places.items; fields = written.fields.items; strings = written.strings.items } }
+{
+    Layout {
+        words: written.words,
+        methods: outline.methods.places,
+        types: written.types,
+        pools: outline.pools.places,
+        fields: written.fields,
+        strings: written.strings,
+    }
+}
+
 /// The image of a program. It has none where it passes a limit: the first of these is told.
 pub fn lay_out(alloc: Global, program: &Program) -> Result<Layout, LayFault>
     ensures made { IfOk result (IsLaidOut program.now) }
@@ -139,14 +157,6 @@ pub fn lay_out(alloc: Global, program: &Program) -> Result<Layout, LayFault>
     packed_has_words();
     within_counts(alloc, program)?;
     let outline = outline_of(alloc, program)?;
-    within_words(program, &outline)?;
     let written = write_image(alloc, program, &outline)?;
-    Ok(Layout {
-        words: written.words,
-        methods: outline.methods.places,
-        types: written.types,
-        pools: outline.pools.places,
-        fields: written.fields,
-        strings: written.strings,
-    })
+    Ok(layout_of(outline, written))
 }

@@ -1,17 +1,19 @@
 //! The records of methods with code (JVM Specification SE 8, 4.7.3).
-ghost use Rattle.std.specs.Prelude.{◌≡◌, ◌++◌, ◌+◌, ◌*◌, ◌^◌, ◌<◌, length, map, sum_by, Some, IfOk, OnOk, slice_get};
+ghost use Rattle.std.specs.Prelude.{◌≡◌, ◌++◌, ◌∷◌, [], ◌+◌, ◌*◌, ◌^◌, ◌<◌, length, map, sum_by, Some, IfOk, OnOk, slice_get};
 ghost use Rattle.std.specs.List.{flat_map};
 ghost use Rattle.bytecode_model.specs.Program.{Method};
 ghost use Rattle.class_pool.specs.declared.class.ClassFile.{ClassFile};
+ghost use Rattle.word32.specs.Packed.{words_for};
 ghost use Rattle.image_facts.specs.Says.{argument_words, handler_words};
 ghost use Rattle.image_facts.specs.Words.{declared_words};
 ghost use Rattle.program_tables.specs.Meanings.{declared_seen};
 ghost use Rattle.program_tables.specs.Numbers.{methods_by_number};
 ghost use Rattle.program_tables.specs.Resolved.{handler_of, resolved};
-ghost use Rattle.image_words.specs.Layout.{outline_of};
+ghost use Rattle.image_words.specs.Layout.{outline_of, pool_place};
 ghost use Rattle.image_words.specs.Regions.{method_image, methods_region};
 ghost use Rattle.image_words.specs.Outline.{IsOutline};
 
+use class_pool::Code;
 use image_builder::{add, add_bytes, count, halves, times};
 use image_words::{Outline, counted_type, declared_words};
 use jop_base::NoMemory;
@@ -83,6 +85,37 @@ fn add_handlers(
     Ok(())
 }
 
+/// The words of a method's arguments, in the upper half of a word, and those of its code.
+fn argument_and_code_words(program: &Program, method: u32, code: &[u8]) -> Result<u32, NoMemory>
+    requires { method < length (methods_by_number program.now) }
+    ensures { IfOk result (λ word. (k : Method) → slice_get (resolved program.now).methods method ≡ Some k → word ≡ argument_words k * 2 ^ 16 + words_for (length code.now)) }
+{
+    let arguments = times(argument_words(program, method)?, UPPER)?;
+    add(arguments, count(code.len().div_ceil(4))?)
+}
+
+/// The four words in front of a method's exception table and its code.
+fn add_sizes(
+    words: &mut Vec<u32>,
+    program: &Program,
+    outline: &Outline,
+    method: u32,
+    class: u32,
+    code: &Code,
+) -> Result<(), NoMemory>
+    requires outline { IsOutline program.now outline.now }
+    requires method { method < length (methods_by_number program.now) }
+    ensures { OnOk result ((k : Method) → slice_get (resolved program.now).methods method ≡ Some k
+        → words.new.items ≡ words.old.items ++ (code.now.max_locals * 2 ^ 16 + code.now.max_stack) ∷ (argument_words k * 2 ^ 16 + words_for (length code.now.code)) ∷ pool_place program.now class ∷ length code.now.handlers ∷ []) }
+{
+    let limits = halves(code.max_locals, code.max_stack);
+    let sizes = argument_and_code_words(program, method, code.code.as_slice())?;
+    let pool = outline.pool_place(class);
+    let entries = count(code.handlers.as_slice().len())?;
+    words.extend_from_slice(&[limits, sizes, pool, entries])?;
+    Ok(())
+}
+
 /// The record of a method; it has none without code.
 fn add_method(
     words: &mut Vec<u32>,
@@ -96,20 +129,13 @@ fn add_method(
 {
     methods_stand_by_number();
     members_are_there();
-    let owner = program.method(method).class;
+    let class = program.method(method).class;
     let Some(code) = program.code(method) else {
         return Ok(());
     };
-    let bytes = code.code.as_slice();
-    let entries = code.handlers.as_slice();
-    let limits = halves(code.max_locals, code.max_stack);
-    let arguments = times(argument_words(program, method)?, UPPER)?;
-    let sizes = add(arguments, count(bytes.len().div_ceil(4))?)?;
-    let pool = outline.pool_place(owner);
-    words.extend_from_slice(&[limits, sizes, pool, count(entries.len())?])?;
-    add_handlers(words, program, owner, entries)?;
-    add_bytes(words, bytes)?;
-    Ok(())
+    add_sizes(words, program, outline, method, class, code)?;
+    add_handlers(words, program, class, code.handlers.as_slice())?;
+    add_bytes(words, code.code.as_slice())
 }
 
 /// The methods with code.

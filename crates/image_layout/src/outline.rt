@@ -166,16 +166,46 @@ fn places_of_records(
     })
 }
 
+/// Where the parts of an image lie.
+#[derive(Drop)]
+struct Places {
+    tables: TablePlaces,
+    records: RecordPlaces,
+}
+
+/// The places of the parts, which the methods of interfaces, the slots and the instance fields determine.
+fn places_of(
+    alloc: Global,
+    program: &Program,
+    methods: &[Place],
+    slots: &Slots,
+    instances: &[Run],
+) -> Result<Places, NoMemory>
+    requires methods { methods.now ≡ interface_methods program.now }
+    requires slots { AreSlots program.now slots.now }
+    requires instances { AreInstances program.now instances.now }
+    ensures statics { IfOk result (λ made. IsRun front_size (map declared_words (resolved program.now).statics) made.tables.statics) }
+    ensures words { IfOk result (λ made. made.tables.type_words ≡ type_words program.now) }
+    ensures tables { IfOk result (λ made. IsRun (tables_place program.now) (map (table_words program.now) (classes_of program.now)) made.tables.tables) }
+    ensures interface_tables { IfOk result (λ made. IsRun (interfaces_place program.now + length (interface_methods program.now)) (map (interface_words program.now) (classes_of program.now)) made.tables.interface_tables) }
+    ensures pools { IfOk result (λ made. IsRun (pools_place program.now) (map pool_words program.now) made.records.pools) }
+    ensures methods { IfOk result (λ made. IsRun (methods_place program.now) (map method_size (resolved program.now).methods) made.records.methods) }
+    ensures objects { IfOk result (λ made. IsRun (methods_place program.now + methods_size program.now) (map (object_words (resolved program.now)) (resolved program.now).first_objects) made.records.objects) }
+{
+    let tables = places_of_tables(alloc, program, methods, slots)?;
+    let records = places_of_records(alloc, program, instances, tables.interface_tables.end)?;
+    Ok(Places { tables, records })
+}
+
 /// The outline of a program's image.
 pub(crate) fn outline_of(alloc: Global, program: &Program) -> Result<Outline, NoMemory>
     ensures { IfOk result (IsOutline program.now) }
 {
     let hierarchy = program.hierarchy();
+    let instances = instances_of(alloc, program)?;
     let numbered = interface_methods(alloc, hierarchy.classes())?;
     let slots = Slots::new(alloc, hierarchy, &numbered)?;
-    let instances = instances_of(alloc, program)?;
-    let tables = places_of_tables(alloc, program, &numbered, &slots)?;
-    let records = places_of_records(alloc, program, &instances, tables.interface_tables.end)?;
+    let Places { tables, records } = places_of(alloc, program, &numbered, &slots, &instances)?;
     Ok(Outline {
         interface_methods: numbered,
         slots,

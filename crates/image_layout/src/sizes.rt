@@ -2,6 +2,7 @@
 ghost use Rattle.std.specs.Prelude.{◌≡◌, ◌+◌, ◌++◌, ◌∷◌, ◌<◌, [], length, map, Some, IfOk, OnOk, slice_get};
 ghost use Rattle.std.specs.List.{cons_option};
 ghost use Rattle.std.specs.Option.{option_map};
+ghost use Rattle.image_builder.specs.Runs.{IsRun};
 ghost use Rattle.image_facts.specs.Words.{declared_words};
 ghost use Rattle.image_words.specs.Layout.{method_size};
 ghost use Rattle.image_words.specs.Outline.{AreInstances};
@@ -60,14 +61,22 @@ fn field_sizes(alloc: Global, program: &Program, class: u32) -> Result<Vec<u32>,
     Ok(sizes)
 }
 
+/// The words of the instance fields of a class, in its objects.
+fn instance_of(alloc: Global, program: &Program, class: u32) -> Result<Run, NoMemory>
+    requires { class < length program.now }
+    ensures { IfOk result (IsRun 1 (map declared_words ((resolved program.now).fields class))) }
+{
+    let sizes = field_sizes(alloc, program, class)?;
+    run_from(alloc, 1, &sizes)
+}
+
 /// The words of the instance fields of each class, in the objects of the class.
 pub(crate) fn instances_of(alloc: Global, program: &Program) -> Result<Vec<Run>, NoMemory>
     ensures { IfOk result (λ runs. AreInstances program.now runs.items) }
 {
     let mut runs = Vec::new(alloc);
     for class in 0..program.class_count() {
-        let sizes = field_sizes(alloc, program, class)?;
-        runs.push(run_from(alloc, 1, &sizes)?)?;
+        runs.push(instance_of(alloc, program, class)?)?;
     }
     Ok(runs)
 }

@@ -1,8 +1,10 @@
 //! The static fields with their first values (JVM Specification SE 8, 4.7.2 and 5.5).
-ghost use Rattle.std.specs.Prelude.{◌≡◌, ◌++◌, ◌<◌, ℕ, is_some, length, Some, IfOk, OnOk, slice_get};
+ghost use Rattle.std.specs.Prelude.{◌≡◌, ◌++◌, ◌∷◌, [], ◌/◌, ◌%◌, ◌^◌, ◌<◌, ℕ, is_some, length, true, Some, IfOk, OnOk, slice_get};
 ghost use Rattle.std.specs.Option.{option_to_list};
 ghost use Rattle.std.specs.List.{flat_map};
+ghost use Rattle.std.specs.Int.{w64, cast_signed};
 ghost use Rattle.bytecode_model.specs.Types.{default};
+ghost use Rattle.bytecode_model.specs.declared.Value.TheVariants.{Long};
 ghost use Rattle.class_pool.specs.declared.class.ClassFile.{ClassFile};
 ghost use Rattle.class_pool.specs.Grammar.{entry_at};
 ghost use Rattle.image_facts.specs.Words.{words_of};
@@ -20,6 +22,23 @@ use jop_base::NoMemory;
 use program_tables::{Declared, entry_of, field_at};
 use resolved_program::Program;
 
+/// The two words of a long, the upper one first.
+pub(crate) fn long_words(number: u64) -> [u32; 2]
+    ensures halves { result ≡ number / 2 ^ 32 ∷ number % 2 ^ 32 ∷ [] }
+    ensures long { (place : ℕ → ℕ) → result ≡ words_of place (Long (cast_signed w64 number)) }
+{
+    [(number >> 32) as u32, (number & 0xffff_ffff) as u32]
+}
+
+/// Puts the words of a constant behind others, and says that there is one.
+fn add_known(words: &mut Vec<u32>, constant: &[u32]) -> Result<bool, NoMemory>
+    ensures words { OnOk result (words.new.items ≡ words.old.items ++ constant.now) }
+    ensures is { IfOk result (λ is. is ≡ true) }
+{
+    words.extend_from_slice(constant)?;
+    Ok(true)
+}
+
 /// The words of a constant of a class, put behind others; whether the entry is one.
 fn add_constant(
     words: &mut Vec<u32>,
@@ -35,19 +54,10 @@ fn add_constant(
     ensures is { IfOk result (λ is. (c : ClassFile) → slice_get program.now class ≡ Some c → is ≡ is_some (onto (entry_at c.pool index) (constant_of program.now c.pool))) }
 {
     match entry_of(&program.class(class).pool, u32::from(index)) {
-        Some(Entry::Integer(n)) => {
-            words.push(*n)?;
-            Ok(true)
-        }
-        Some(Entry::Long(n)) => {
-            words.extend_from_slice(&[(*n >> 32) as u32, (*n & 0xffff_ffff) as u32])?;
-            Ok(true)
-        }
+        Some(Entry::Integer(n)) => add_known(words, &[*n]),
+        Some(Entry::Long(n)) => add_known(words, &long_words(*n)),
         Some(Entry::Text(_)) => match program.string_object(class, index) {
-            Some(object) => {
-                words.push(outline.object_place(object))?;
-                Ok(true)
-            }
+            Some(object) => add_known(words, &[outline.object_place(object)]),
             None => Ok(false),
         },
         _ => Ok(false),

@@ -1,7 +1,8 @@
 //! What the instructions of a class name in its pool.
-ghost use Rattle.std.specs.Prelude.{◌≡◌, ◌++◌, ◌∷◌, [], ◌+◌, ◌<◌, ◌≤◌, ◌^◌, ℕ, List, length, map, is_some, Some, IfOk, OnOk, slice_get};
+ghost use Rattle.std.specs.Prelude.{◌≡◌, ◌++◌, ◌∷◌, [], ◌+◌, ◌<◌, ◌≤◌, ◌^◌, ℕ, List, length, map, is_some, Some, IfOk, IfSome, OnOk, slice_get};
 ghost use Rattle.std.specs.List.{range_with_len};
 ghost use Rattle.class_pool.specs.declared.class.ClassFile.{ClassFile};
+ghost use Rattle.class_pool.specs.Found.{code_of};
 ghost use Rattle.jop_opcodes.specs.declared.instruction.Instr.{Instr};
 ghost use Rattle.program_tables.specs.Instructions as definitions;
 ghost use Rattle.program_tables.specs.Tables.{HasBounds};
@@ -9,7 +10,7 @@ ghost use Rattle.image_words.specs.Pools.{instructions_in};
 ghost use Rattle.image_words.specs.Outline.{IsOutline};
 ghost use Rattle.image_layout.specs.Uses.{instr_of, use_of, again, fixed_place};
 
-use class_pool::ClassFile;
+use class_pool::{ClassFile, Member};
 use image_words::Outline;
 use jop_base::NoMemory;
 use jop_opcodes::laws::starts_follow_one_another;
@@ -130,6 +131,27 @@ fn note_code(
     Ok(())
 }
 
+/// Notes what the instructions of a method of the class name.
+fn note_method(
+    uses: &mut Vec<Use>,
+    alloc: Global,
+    program: &Program,
+    outline: &Outline,
+    number: u32,
+    method: &Member,
+) -> Result<(), NoMemory>
+    requires outline { IsOutline program.now outline.now }
+    requires class { number < length program.now }
+    requires small { IfSome (code_of method.now) (λ k. length k.code ≤ 33554432) }
+    ensures { OnOk result ((k : ClassFile) (before : List Instr) (many : ℕ) → slice_get program.now number ≡ Some k → uses.old.items ≡ map (use_of program.now number k before) (range_with_len 0 many)
+        → uses.new.items ≡ map (use_of program.now number k (before ++ map instr_of (definitions.instructions_of method.now))) (range_with_len 0 many)) }
+{
+    match method.code() {
+        Some(code) => note_code(uses, alloc, program, outline, number, code.code.as_slice()),
+        None => Ok(()),
+    }
+}
+
 /// How the instructions of a class use the entries of its pool, by index, from 0 on.
 pub(crate) fn uses_of(
     alloc: Global,
@@ -145,16 +167,7 @@ pub(crate) fn uses_of(
     let class = program.class(number);
     let mut uses = unused(alloc, class.pool.entries().len() + 1)?;
     for method in class.methods.as_slice() {
-        if let Some(code) = method.code() {
-            note_code(
-                &mut uses,
-                alloc,
-                program,
-                outline,
-                number,
-                code.code.as_slice(),
-            )?;
-        }
+        note_method(&mut uses, alloc, program, outline, number, method)?;
     }
     Ok(uses)
 }

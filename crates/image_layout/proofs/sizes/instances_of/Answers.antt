@@ -1,5 +1,4 @@
-use Rattle.std.proofs.Common.{◌≡◌, ℕ, List, length, ◌∙◌, subst, arith}
-use Rattle.image_builder.specs.Runs.{IsRun}
+use Rattle.std.proofs.Common.{◌≡◌, length, ◌∙◌, arith}
 use Rattle.image_builder.proofs.ListLemmas.{all_none, all_more}
 use Rattle.image_layout.proofs.SizeLemmas.{HasFields}
 use Rattle.image_layout.proofs.sizes.instances_of.Goals as goal
@@ -9,10 +8,7 @@ loop-class-init c = all_none (HasFields c.args.program.now) c.new-runs.result.it
 
 pub loop-class-preserved : goal.loop-class-preserved
 loop-class-preserved c =
-    let run = c.in_ok-run_from.field-0 in
-    let sized = c.deref.ensures.value ∙ c.in_ok-sizes.ensures in
-    all_more (HasFields c.args.program.now) c.loop-class.class c.loop-class.runs.items c.push.new.self.items run c.loop-class.invariant c.in_ok-push.ensures.items
-    (subst (λ (sizes : List ℕ). IsRun 1 sizes run) sized c.in_ok-run_from.ensures)
+    all_more (HasFields c.args.program.now) c.loop-class.class c.loop-class.runs.items c.push.new.self.items c.in_ok-instance_of.field-0 c.loop-class.invariant c.in_ok-push.ensures.items c.in_ok-instance_of.ensures
 
 pub returns : goal.returns
 returns c =

@@ -1,4 +1,4 @@
-use Rattle.std.proofs.Common.{◌<◌, ◌++◌, List, ℕ, [], length, get_or, map, take_all, append-nil, sym, ap, ◌∙◌, subst}
+use Rattle.std.proofs.Common.{◌<◌, ◌++◌, List, ℕ, length, get_or, map, take_all, sym, ap, ◌∙◌, subst}
 use Rattle.std.specs.List.{filter_map, range_with_len}
 use Rattle.std.proofs.lemmas.Option.{slice_get-get_or}
 use Rattle.std.proofs.lemmas.List.Elements.{Contains-get_or}
@@ -6,7 +6,6 @@ use Rattle.program_tables.proofs.ListLemmas.{no_value}
 use Rattle.jop_opcodes.specs.declared.instruction.Instr.{Instr}
 use Rattle.jop_opcodes.specs.Start.{starts_of}
 use Rattle.program_tables.specs.Instructions.{placed_at, instructions_in}
-use Rattle.image_layout.specs.declared.uses.Use.{Use}
 use Rattle.image_layout.specs.Uses.{instr_of, use_of}
 use Rattle.image_layout.proofs.UseLemmas.{before_place, place_noted, place_passed}
 use Rattle.image_layout.proofs.uses.note_code.Goals as goal

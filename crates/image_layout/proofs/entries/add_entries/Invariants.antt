@@ -4,7 +4,7 @@ use Rattle.std.specs.List.{flat_map, range_with_len}
 use Rattle.class_pool.specs.declared.class.ClassFile.{ClassFile}
 use Rattle.image_words.specs.Layout.{outline_of}
 use Rattle.image_words.specs.Pools.{entry_words}
-use Rattle.image_layout.proofs.entries.add_pool.Given as goal
+use Rattle.image_layout.proofs.entries.add_entries.Given as goal
 
 abbrev pub invariant-loop-place : goal.invariant-loop-place
 invariant-loop-place l =
