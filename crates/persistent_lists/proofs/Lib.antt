@@ -4,3 +4,4 @@ pub mod FillLemmas
 pub mod TableLemmas
 pub mod AnswerLemmas
 pub mod KnownLemmas
+pub mod ResidueLemmas

@@ -10,13 +10,18 @@ use Rattle.lists.specs.Lemmas.{none≢some, some_same}
 use Rattle.persistent_lists.specs.Tables.{ListTable, with_list, filled, changed_list, list_at, IsDifference}
 use Rattle.persistent_lists.specs.Trees.{items, IsTree, IsFilled, IsTreeOf, Extends, lists_of, below}
 use Rattle.persistent_lists.specs.Known.{all_items, AreTrees}
+use Rattle.persistent_lists.specs.Residues.{HasResidues, HaveMore}
 use Rattle.persistent_lists.specs.declared.known.TreePair.{TreePair}
 use Rattle.persistent_lists.proofs.TreeLemmas.{length-items, items_kept, tree_kept, take_filled}
+use Rattle.persistent_lists.proofs.ResidueLemmas.{with_residues_kept}
 
 -- ---- the table grows
 
 pub trees_kept : (old new : List (ℕ × ℕ)) (h : ℕ) (roots : List ℕ) → Extends old new → All (IsTree old h) roots → All (IsTree new h) roots
 trees_kept old new h roots more all = λ k d lt. tree_kept old new h (get_or roots k d) more (all k d lt)
+
+pub residues_kept : (old new : List (ℕ × ℕ)) (bs cs : List ℕ) (h : ℕ) (roots : List ℕ) → Extends old new → HaveMore bs cs → All (IsTree old h) roots → All (HasResidues old bs h) roots → All (HasResidues new cs h) roots
+residues_kept old new bs cs h roots more grown all marked = λ k d lt. with_residues_kept old new bs cs h (get_or roots k d) more grown (all k d lt) (marked k d lt)
 
 pub lists_kept : (old new : List (ℕ × ℕ)) (w h : ℕ) (roots : List ℕ) → Extends old new → All (IsTree old h) roots → lists_of w h new roots ≡ lists_of w h old roots
 lists_kept old new w h [] more all = refl
@@ -38,13 +43,12 @@ one : (P : ℕ → Type 0) (x : ℕ) → P x → All P (x ∷ [])
 one P x h zero d lt = h
 one P x h (suc k) d lt = absurd (omega (arith, lt))
 
-pub trees_grown : (ps : List (ℕ × ℕ)) (h : ℕ) (roots grown : List ℕ) (root : ℕ) → All (IsTree ps h) roots → IsTree ps h root → (grown ≡ roots ++ root ∷ []) ⊎ (grown ≡ roots) → All (IsTree ps h) grown
-trees_grown ps h roots grown root all t (inl e) = subst (λ l. All (IsTree ps h) l) (sym e) (All-append (IsTree ps h) roots (root ∷ []) all (one (IsTree ps h) root t))
-trees_grown ps h roots grown root all t (inr e) = subst (λ l. All (IsTree ps h) l) (sym e) all
+pub all_grown : (P : ℕ → Type 0) (roots grown : List ℕ) (root : ℕ) → All P roots → P root → (grown ≡ roots ++ root ∷ []) ⊎ (grown ≡ roots) → All P grown
+all_grown P roots grown root all t (inl e) = subst (λ l. All P l) (sym e) (All-append P roots (root ∷ []) all (one P root t))
+all_grown P roots grown root all t (inr e) = subst (λ l. All P l) (sym e) all
 
-pub tree_at : (ps : List (ℕ × ℕ)) (h : ℕ) (roots : List ℕ) (n root : ℕ) → All (IsTree ps h) roots → slice_get roots n ≡ Some root → IsTree ps h root
-tree_at ps h roots n root all at =
-    subst (λ (k : ℕ). IsTree ps h k) (get_or_from_slice_get roots n root 0 at) (all n 0 (slice_get_within roots n root at))
+pub at_root : (P : ℕ → Type 0) (roots : List ℕ) (n root : ℕ) → All P roots → slice_get roots n ≡ Some root → P root
+at_root P roots n root all at = subst P (get_or_from_slice_get roots n root 0 at) (all n 0 (slice_get_within roots n root at))
 
 pub either : {T E : Type 0} (r : Result T E) (P Q : Type 0) → OnOk r P → OnErr r Q → P ⊎ Q
 either (Ok x) P Q p q = inl p

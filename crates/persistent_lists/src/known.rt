@@ -7,8 +7,8 @@ use indexmap::IndexSet;
 use std::alloc::Global;
 use std::marker::Model;
 
-/// The least height of trees that are remembered: to look for a pair of lower ones costs more than to walk them.
-const LEAST_HEIGHT: u32 = 3;
+/// Trees are remembered whose height is a multiple of this: to look for a pair of trees costs as much as to walk some levels of them.
+const SPACING: u32 = 3;
 
 /// How many pairs are remembered at most: they take some tens of megabytes.
 const MOST_PAIRS: usize = 1_000_000;
@@ -49,15 +49,15 @@ impl Known {
     pub(crate) fn contains(&self, pair: TreePair) -> bool
         ensures { IsTrue result → Contains self.now pair }
     {
-        pair.height >= LEAST_HEIGHT && self.set.contains(&pair)
+        pair.height % SPACING == 0 && self.set.contains(&pair)
     }
 
-    /// Remembers a pair, unless its trees are small. Where there are as many as there may be all are forgotten, and where memory is wanting
-    /// the pair isn't remembered: what isn't remembered is walked once more.
+    /// Remembers a pair, where trees of its height are remembered. Where there are as many as there may be all are forgotten, and where
+    /// memory is wanting the pair isn't remembered: what isn't remembered is walked once more.
     pub(crate) fn insert(&mut self, pair: TreePair)
         ensures { IsRemembered self.old pair self.new }
     {
-        if pair.height < LEAST_HEIGHT {
+        if pair.height % SPACING != 0 {
             return;
         }
         if self.set.len() < MOST_PAIRS {

@@ -4,6 +4,7 @@
 
 mod known;
 mod pairs;
+mod residues;
 mod shared;
 mod trees;
 

@@ -5,6 +5,7 @@ ghost use Rattle.persistent_lists.specs.Trees.{below};
 
 use crate::known::Known;
 use crate::pairs::Pairs;
+use crate::residues::Residues;
 use crate::trees::{
     Difference, difference_in, height_of, item_at, passes_in, position_in, tree_of, tree_with,
 };
@@ -20,11 +21,13 @@ const MOST_LISTS: usize = 4_294_967_295;
 ///
 /// A list costs the nodes of its tree that no earlier list has. Reading an item, and changing one, takes a step for each doubling of
 /// the length, and so does finding where two lists differ next, and asking a test about two lists each of which holds one item alone.
-/// Finding an item may take a step for each node of the list.
+/// Finding an item may take a step for each node of the list: trees none of whose items leaves the same remainder by 64 are passed over.
 #[derive(Drop)]
 pub struct SharedLists {
     /// The nodes above the items, by their two halves.
     pairs: Pairs,
+    /// For each pair the residues of the items of its trees.
+    residues: Residues,
     /// The node of each list.
     roots: Vec<u32>,
     /// The pairs of trees that needn't be walked once more.
@@ -40,12 +43,13 @@ impl Model for SharedLists {
     ghost use Rattle.persistent_lists.specs.Tables.{ListTable};
     ghost use Rattle.persistent_lists.specs.Trees.{lists_of, IsTree};
     ghost use Rattle.persistent_lists.specs.Known.{all_items, AreTrees};
+    ghost use Rattle.persistent_lists.specs.Residues.{HasResidues};
 
     ghost Value = { ListTable };
 
     ghost view = { λ a. record { width = a.width; rest = a.rest; lists = lists_of a.width a.height a.pairs a.roots.items; known = all_items a.pairs a.known } };
 
-    ghost invariant = { λ a. (a.width ≤ 2 ^ a.height) × (a.height ≤ 16) × (length a.roots.items < 2 ^ 32) × All (IsTree a.pairs a.height) a.roots.items × All (AreTrees a.pairs) a.known };
+    ghost invariant = { λ a. (a.width ≤ 2 ^ a.height) × (a.height ≤ 16) × (length a.roots.items < 2 ^ 32) × All (IsTree a.pairs a.height) a.roots.items × All (AreTrees a.pairs) a.known × All (HasResidues a.pairs a.residues a.height) a.roots.items };
 }
 
 /// Adds a node to those of the lists.
@@ -93,6 +97,7 @@ impl SharedLists {
     {
         SharedLists {
             pairs: Pairs::new(alloc),
+            residues: Residues::new(alloc),
             roots: Vec::new(alloc),
             known: Known::new(alloc),
             height: height_of(width),
@@ -116,7 +121,13 @@ impl SharedLists {
         ensures number { IfOk result (λ number. number ≡ length self.old.lists) }
         ensures unchanged { OnErr result (self.new ≡ self.old) }
     {
-        let tree = tree_of(&mut self.pairs, self.height, items, self.rest)?;
+        let tree = tree_of(
+            &mut self.pairs,
+            &mut self.residues,
+            self.height,
+            items,
+            self.rest,
+        )?;
         add_root(&mut self.roots, tree.node)
     }
 
@@ -134,7 +145,14 @@ impl SharedLists {
         if index >= self.width {
             return add_root(&mut self.roots, root);
         }
-        let root = tree_with(&mut self.pairs, self.height, root, index, item)?;
+        let root = tree_with(
+            &mut self.pairs,
+            &mut self.residues,
+            self.height,
+            root,
+            index,
+            item,
+        )?;
         add_root(&mut self.roots, root)
     }
 
@@ -204,7 +222,7 @@ impl SharedLists {
         match self.roots.get(list as usize) {
             Some(root) => below(
                 self.width,
-                position_in(&self.pairs, self.height, *root, item, from),
+                position_in(&self.pairs, &self.residues, self.height, *root, item, from),
             ),
             None => None,
         }

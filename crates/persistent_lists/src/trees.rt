@@ -1,12 +1,14 @@
 //! Binary trees over indices, of a height: a node of height 0 is an item, and any other is the number of the pair of its two halves.
-ghost use Rattle.std.specs.Prelude.{◌≡◌, ◌<◌, ◌≤◌, ◌-◌, ◌^◌, [], ◌∷◌, ◌++◌, length, replicate, set, slice_get, Some, IfOk, IfSome};
+ghost use Rattle.std.specs.Prelude.{◌≡◌, ℕ, List, ◌<◌, ◌≤◌, ◌-◌, ◌^◌, [], ◌∷◌, ◌++◌, length, replicate, set, slice_get, Some, IfOk, IfSome};
 ghost use Rattle.persistent_lists.specs.Tables.{IsDifference, IsPosition};
 ghost use Rattle.persistent_lists.specs.Answers.{AreAnswered};
 ghost use Rattle.persistent_lists.specs.Known.{AllPass, IsGrown};
 ghost use Rattle.persistent_lists.specs.Trees.{items, IsTree, IsNode, IsFilled, IsTreeOf, Extends};
+ghost use Rattle.persistent_lists.specs.Residues.{AreAmong, HasResidues, HaveMore};
 
 use crate::known::{Known, TreePair};
 use crate::pairs::Pairs;
+use crate::residues::{Residues, both, may_hold, residue_of};
 use jop_base::NoMemory;
 
 /// The items of two lists at an index at which these differ.
@@ -157,15 +159,18 @@ pub(crate) fn passes_in<F: Fn(Difference) -> bool>(
     true
 }
 
-/// The least index from `from` on that holds the item. Where both halves are the same node, the second is passed over.
+/// The least index from `from` on that holds the item. Trees that can't hold it are passed over, and where both halves are the same
+/// node, so is the second.
 pub(crate) fn position_in(
     pairs: &Pairs,
+    residues: &Residues,
     height: u32,
     node: u32,
     item: u32,
     from: u32,
 ) -> Option<u32>
-    requires { height ≤ 16 }
+    requires height { height ≤ 16 }
+    requires marked { HasResidues pairs.now residues.now height node }
     ensures found { IsPosition (items pairs.now height node) item from result }
     ensures within { IfSome result (λ index. index < 2 ^ height) }
 {
@@ -175,16 +180,19 @@ pub(crate) fn position_in(
     if height == 0 {
         return if node == item { Some(0) } else { None };
     }
+    if !may_hold(residues.at(node), item) {
+        return None;
+    }
     let half = size_of(height - 1);
     let halves = pairs.get(node);
-    if let Some(index) = position_in(pairs, height - 1, halves.0, item, from) {
+    if let Some(index) = position_in(pairs, residues, height - 1, halves.0, item, from) {
         return Some(index);
     }
     if from == 0 && halves.0 == halves.1 {
         return None;
     }
     let behind = from.saturating_sub(half);
-    match position_in(pairs, height - 1, halves.1, item, behind) {
+    match position_in(pairs, residues, height - 1, halves.1, item, behind) {
         Some(index) => Some(index + half),
         None => None,
     }
@@ -198,19 +206,72 @@ fn first_or(given: &[u32], rest: u32) -> u32
     if given.is_empty() { rest } else { given[0] }
 }
 
-/// A tree of these halves, and one of twice the rest.
-fn join(pairs: &mut Pairs, left: u32, right: u32, rest: u32) -> Result<Filled, NoMemory>
-    ensures more { Extends pairs.old pairs.new }
-    ensures nodes { IfOk result (λ made. IsNode pairs.new (left, right) made.node × IsNode pairs.new (rest, rest) made.rest) }
+/// The residues of the items of a tree, and perhaps others.
+fn residues_of(residues: &Residues, height: u32, node: u32) -> u64
+    ensures { (ps : List (ℕ × ℕ)) → HasResidues ps residues.now height node → AreAmong ps height node result }
 {
-    let node = pairs.insert((left, right))?;
-    let rest = pairs.insert((rest, rest))?;
+    if height == 0 {
+        residue_of(node)
+    } else {
+        residues.at(node)
+    }
+}
+
+/// The residues of the items of two trees, and perhaps others.
+fn residues_of_both(residues: &Residues, height: u32, halves: (u32, u32)) -> u64
+    ensures { (ps : List (ℕ × ℕ)) → HasResidues ps residues.now height halves.0 × HasResidues ps residues.now height halves.1 → AreAmong ps height halves.0 result × AreAmong ps height halves.1 result }
+{
+    let first = residues_of(residues, height, halves.0);
+    let second = residues_of(residues, height, halves.1);
+    both(first, second)
+}
+
+/// The tree of these halves, of this height, the residues of which are known from then on.
+fn insert_known(
+    pairs: &mut Pairs,
+    residues: &mut Residues,
+    height: u32,
+    halves: (u32, u32),
+) -> Result<u32, NoMemory>
+    requires height { 0 < height }
+    requires trees { IsTree pairs.old (height - 1) halves.0 × IsTree pairs.old (height - 1) halves.1 }
+    requires marked { HasResidues pairs.old residues.old (height - 1) halves.0 × HasResidues pairs.old residues.old (height - 1) halves.1 }
+    ensures more { Extends pairs.old pairs.new }
+    ensures grown { HaveMore residues.old residues.new }
+    ensures node { IfOk result (IsNode pairs.new halves) }
+    ensures marked { IfOk result (HasResidues pairs.new residues.new height) }
+{
+    let found = residues_of_both(residues, height - 1, halves);
+    let node = pairs.insert(halves)?;
+    residues.add(node, found)?;
+    Ok(node)
+}
+
+/// A tree of these halves, of this height, and one of twice the rest.
+fn join(
+    pairs: &mut Pairs,
+    residues: &mut Residues,
+    height: u32,
+    halves: (u32, u32),
+    rest: u32,
+) -> Result<Filled, NoMemory>
+    requires height { 0 < height }
+    requires trees { IsTree pairs.old (height - 1) halves.0 × IsTree pairs.old (height - 1) halves.1 × IsTree pairs.old (height - 1) rest }
+    requires marked { HasResidues pairs.old residues.old (height - 1) halves.0 × HasResidues pairs.old residues.old (height - 1) halves.1 × HasResidues pairs.old residues.old (height - 1) rest }
+    ensures more { Extends pairs.old pairs.new }
+    ensures grown { HaveMore residues.old residues.new }
+    ensures nodes { IfOk result (λ made. IsNode pairs.new halves made.node × IsNode pairs.new (rest, rest) made.rest) }
+    ensures marked { IfOk result (λ made. HasResidues pairs.new residues.new height made.node × HasResidues pairs.new residues.new height made.rest) }
+{
+    let node = insert_known(pairs, residues, height, halves)?;
+    let rest = insert_known(pairs, residues, height, (rest, rest))?;
     Ok(Filled { node, rest })
 }
 
 /// The tree of these items, behind which the rest stands.
 pub(crate) fn tree_of(
     pairs: &mut Pairs,
+    residues: &mut Residues,
     height: u32,
     given: &[u32],
     rest: u32,
@@ -218,6 +279,8 @@ pub(crate) fn tree_of(
     requires height { height ≤ 16 }
     requires room { length given.now ≤ 2 ^ height }
     ensures more { Extends pairs.old pairs.new }
+    ensures grown { HaveMore residues.old residues.new }
+    ensures marked { IfOk result (λ made. HasResidues pairs.new residues.new height made.node × HasResidues pairs.new residues.new height made.rest) }
     ensures filled { IfOk result (λ made. IsFilled pairs.new height given.now rest made.node made.rest) }
 {
     if height == 0 {
@@ -226,18 +289,19 @@ pub(crate) fn tree_of(
     }
     let half = size_of(height - 1) as usize;
     if given.len() <= half {
-        let left = tree_of(pairs, height - 1, given, rest)?;
-        return join(pairs, left.node, left.rest, left.rest);
+        let left = tree_of(pairs, residues, height - 1, given, rest)?;
+        return join(pairs, residues, height, (left.node, left.rest), left.rest);
     }
     let (front, back) = given.split_at(half);
-    let left = tree_of(pairs, height - 1, front, rest)?;
-    let right = tree_of(pairs, height - 1, back, rest)?;
-    join(pairs, left.node, right.node, left.rest)
+    let left = tree_of(pairs, residues, height - 1, front, rest)?;
+    let right = tree_of(pairs, residues, height - 1, back, rest)?;
+    join(pairs, residues, height, (left.node, right.node), left.rest)
 }
 
 /// A tree with another item at an index.
 pub(crate) fn tree_with(
     pairs: &mut Pairs,
+    residues: &mut Residues,
     height: u32,
     node: u32,
     index: u32,
@@ -246,7 +310,10 @@ pub(crate) fn tree_with(
     requires height { height ≤ 16 }
     requires within { index < 2 ^ height }
     requires tree { IsTree pairs.old height node }
+    requires marked { HasResidues pairs.old residues.old height node }
     ensures more { Extends pairs.old pairs.new }
+    ensures grown { HaveMore residues.old residues.new }
+    ensures marked { IfOk result (HasResidues pairs.new residues.new height) }
     ensures made { IfOk result (λ made. IsTreeOf pairs.new height made (set (items pairs.old height node) index item)) }
 {
     if height == 0 {
@@ -255,9 +322,9 @@ pub(crate) fn tree_with(
     let half = size_of(height - 1);
     let halves = pairs.get(node);
     if index < half {
-        let left = tree_with(pairs, height - 1, halves.0, index, item)?;
-        return pairs.insert((left, halves.1));
+        let left = tree_with(pairs, residues, height - 1, halves.0, index, item)?;
+        return insert_known(pairs, residues, height, (left, halves.1));
     }
-    let right = tree_with(pairs, height - 1, halves.1, index - half, item)?;
-    pairs.insert((halves.0, right))
+    let right = tree_with(pairs, residues, height - 1, halves.1, index - half, item)?;
+    insert_known(pairs, residues, height, (halves.0, right))
 }

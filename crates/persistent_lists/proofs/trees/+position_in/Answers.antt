@@ -1,5 +1,7 @@
-use Rattle.std.proofs.Common.{arith}
+use Rattle.std.proofs.Common.{false, arith, subst}
+use Rattle.std.specs.Prelude.{IsTrue}
 use Rattle.persistent_lists.proofs.SearchLemmas.{position_past, leaf_position, no_leaf_position, left_position, right_position, no_position, no_position_twice, index_left, index_right}
+use Rattle.persistent_lists.proofs.ResidueLemmas.{left_with_residues, right_with_residues, absent_item}
 use Rattle.persistent_lists.proofs.trees.+position_in.Goals as goal
 
 pub returns-then-from-size_of-clause-found : goal.returns-then-from-size_of-clause-found
@@ -11,6 +13,28 @@ returns-then-node-item-clause-found t c =
 
 pub returns-else-node-item-clause-found : goal.returns-else-node-item-clause-found
 returns-else-node-item-clause-found t c = no_leaf_position c.args.pairs.now c.args.height c.args.node c.args.item c.args.from c.if-height-eq0.true c.if-node-item.false
+
+pub returns-then-not-may_hold-clause-found : goal.returns-then-not-may_hold-clause-found
+returns-then-not-may_hold-clause-found t c =
+    absent_item c.args.pairs.now c.args.residues.now c.args.height c.args.node c.args.item c.args.from c.at.result (omega (arith, c.if-height-eq0.false)) c.at.ensures (λ holds. let no : IsTrue false = subst IsTrue c.if-not-may_hold.true (c.may_hold.ensures holds) in cc) c.requires.marked
+
+pub position_in-requires : goal.position_in-requires
+position_in-requires t c = (
+  omega (arith, c.decreases, c.if-height-eq0.false),
+  (
+    omega (arith, c.requires.height),
+    left_with_residues c.args.pairs.now c.args.residues.now c.args.height c.args.node c.get-halves.result c.get-halves.ensures (omega (arith, c.if-height-eq0.false)) c.requires.marked,
+  ),
+)
+
+pub position_in-requires-2 : goal.position_in-requires-2
+position_in-requires-2 t c = (
+  omega (arith, c.decreases, c.if-height-eq0.false),
+  (
+    omega (arith, c.requires.height),
+    right_with_residues c.args.pairs.now c.args.residues.now c.args.height c.args.node c.get-halves.result c.get-halves.ensures (omega (arith, c.if-height-eq0.false)) c.requires.marked,
+  ),
+)
 
 pub returns-in-Some-clause-found : goal.returns-in-Some-clause-found
 returns-in-Some-clause-found t c =

@@ -1,7 +1,9 @@
 use Rattle.std.proofs.Common.{◌≡◌, refl, sym, ap, ◌∙◌, Some}
 use Rattle.std.specs.Prelude.{slice_get}
+use Rattle.persistent_lists.specs.Trees.{IsTree}
+use Rattle.persistent_lists.specs.Residues.{HasResidues}
 use Rattle.persistent_lists.proofs.TreeLemmas.{same_table}
-use Rattle.persistent_lists.proofs.TableLemmas.{trees_kept, pairs_kept, trees_grown, tree_at, either, on_ok, on_err, always_err, grown_view, kept_view, same_view, changed_view}
+use Rattle.persistent_lists.proofs.TableLemmas.{trees_kept, residues_kept, pairs_kept, all_grown, at_root, either, on_ok, on_err, always_err, grown_view, kept_view, same_view, changed_view}
 use Rattle.persistent_lists.proofs.shared.SharedLists.push_with.Goals as goal
 
 pub invariant_of-self : goal.invariant_of-self
@@ -10,9 +12,12 @@ invariant_of-self c =
       c.self.invariant.0,
       c.self.invariant.1,
       c.add_root.ensures.fits,
-      trees_grown c.self.inside.pairs c.self.inside.height c.self.inside.roots.items c.add_root.new.roots.items c.in-Some.root c.self.invariant.3
-          (tree_at c.self.inside.pairs c.self.inside.height c.self.inside.roots.items c.args.list c.in-Some.root c.self.invariant.3 at) (either c.add_root.result _ _ c.add_root.ensures.root c.add_root.ensures.unchanged),
+      all_grown (IsTree c.self.inside.pairs c.self.inside.height) c.self.inside.roots.items c.add_root.new.roots.items c.in-Some.root c.self.invariant.3
+          (at_root (IsTree c.self.inside.pairs c.self.inside.height) c.self.inside.roots.items c.args.list c.in-Some.root c.self.invariant.3 at) (either c.add_root.result _ _ c.add_root.ensures.root c.add_root.ensures.unchanged),
       c.self.invariant.4,
+      all_grown (HasResidues c.self.inside.pairs c.self.inside.residues c.self.inside.height) c.self.inside.roots.items c.add_root.new.roots.items c.in-Some.root c.self.invariant.5
+          (at_root (HasResidues c.self.inside.pairs c.self.inside.residues c.self.inside.height) c.self.inside.roots.items c.args.list c.in-Some.root c.self.invariant.5 at)
+          (either c.add_root.result _ _ c.add_root.ensures.root c.add_root.ensures.unchanged),
     )
 
 pub returns-then-index-self-clause-list : goal.returns-then-index-self-clause-list
@@ -38,6 +43,7 @@ invariant_of-self-in_err-root c = (
   c.self.invariant.2,
   trees_kept c.self.inside.pairs c.tree_with.new.pairs c.self.inside.height c.self.inside.roots.items c.tree_with.ensures.more c.self.invariant.3,
   pairs_kept c.self.inside.pairs c.tree_with.new.pairs c.self.inside.known c.tree_with.ensures.more c.self.invariant.4,
+  residues_kept c.self.inside.pairs c.tree_with.new.pairs c.self.inside.residues c.tree_with.new.residues c.self.inside.height c.self.inside.roots.items c.tree_with.ensures.more c.tree_with.ensures.grown c.self.invariant.3 c.self.invariant.5,
 )
 
 pub returns-in_err-root-clause-unchanged : goal.returns-in_err-root-clause-unchanged
@@ -51,10 +57,13 @@ invariant_of-self-2 c = (
   c.self.invariant.0,
   c.self.invariant.1,
   c.add_root-2.ensures.fits,
-  trees_grown c.tree_with.new.pairs c.self.inside.height c.self.inside.roots.items c.add_root-2.new.roots.items c.in_ok-root.root
+  all_grown (IsTree c.tree_with.new.pairs c.self.inside.height) c.self.inside.roots.items c.add_root-2.new.roots.items c.in_ok-root.root
       (trees_kept c.self.inside.pairs c.tree_with.new.pairs c.self.inside.height c.self.inside.roots.items c.tree_with.ensures.more c.self.invariant.3)
       c.in_ok-root.ensures.made.tree (either c.add_root-2.result _ _ c.add_root-2.ensures.root c.add_root-2.ensures.unchanged),
   pairs_kept c.self.inside.pairs c.tree_with.new.pairs c.self.inside.known c.tree_with.ensures.more c.self.invariant.4,
+  all_grown (HasResidues c.tree_with.new.pairs c.tree_with.new.residues c.self.inside.height) c.self.inside.roots.items c.add_root-2.new.roots.items c.in_ok-root.root
+      (residues_kept c.self.inside.pairs c.tree_with.new.pairs c.self.inside.residues c.tree_with.new.residues c.self.inside.height c.self.inside.roots.items c.tree_with.ensures.more c.tree_with.ensures.grown c.self.invariant.3 c.self.invariant.5)
+      c.in_ok-root.ensures.marked (either c.add_root-2.result _ _ c.add_root-2.ensures.root c.add_root-2.ensures.unchanged),
 )
 
 pub returns-clause-list : goal.returns-clause-list
