@@ -12,6 +12,7 @@ guarded          so many instructions, as many local variables, and one entry
 stores           so many stores that change the type of a local variable, and as many entries that cover all of them
 handled          the same where each entry has a handler of its own, all with the same local variables
 handled-apart    the same where the local variables of each handler differ from those of the handler before it
+handled-new      so many objects that are made and stored, under as many entries that each lead to a handler with local variables of its own
 written          so many stores, at most 6,500, into as many local variables, and then as many branches as there is room for
 interfaces       so many interfaces, each of which extends all before it, and a class that implements all
 layers           a third of so many interfaces below one of the rest, which extends the others of the rest, and a third that each extend those
@@ -23,6 +24,8 @@ apart            the same where the local variables hold objects of another clas
 mixed-apart      the same where those at the frame are of one class or another, without any order
 cases            a switch of so many cases that lead to one such frame
 beginnings       so many objects that are made and initialised, and 65,535 local variables
+stored           the same where each object is stored before, beside local variables of one class or another, without any order
+uninitialized    the same where the local variables hold such objects that aren't initialised, without any order
 prefixes         so many fields, whose names have 2,000 characters and differ in the last eight
 colliding        so many fields, at most 60,000, whose names stand at one place of a hash table of the toolchain (colliding.c searches for them)
 """
@@ -195,7 +198,7 @@ def mixed_apart(count):
     names = ['p/A%d' % number for number in range(5)]
     def fill(made):
         code = RETURN * 2 + b''.join(b'\x01\xc7' + struct.pack('>h', -2 - 4 * n) for n in range(count)) + RETURN
-        mixed = [object_type(made, names[(n * 2654435761 >> 13) % 5]) for n in range(MOST)]
+        mixed = [object_type(made, names[without_order(n, 5)]) for n in range(MOST)]
         method(made, 'f', '()V', code, frames=[full_frame(1, [object_type(made)] * MOST), full_frame(0, mixed)], local=MOST)
     return [main_of(fill)] + [ClassFile(0x21, name).data() for name in names]
 
@@ -217,18 +220,19 @@ def stores(count):
     return [main_of(fill)]
 
 
-def with_handlers(count, descriptor, frame_of, local):
-    """stores as above under entries that each have a handler, an athrow, before which a frame stands"""
-    def fill(made):
-        code = b'\x03\x3b\x01\x4b' * (count // 2) + RETURN
-        entries = b''.join(entry(0, len(code), len(code) + number) for number in range(count))
-        frames = [frame_of(made, number, len(code) if number == 0 else 0) for number in range(count)]
-        method(made, 'f', descriptor, code + ATHROW * count, entries, frames, local=local)
-    return fill
+def under_handlers(made, code, count, descriptor, frame_of, local):
+    """a method whose code is covered by entries that each have a handler, an athrow, before which a frame stands"""
+    entries = b''.join(entry(0, len(code), len(code) + number) for number in range(count))
+    frames = [frame_of(made, number, len(code) if number == 0 else 0) for number in range(count)]
+    method(made, 'f', descriptor, code + ATHROW * count, entries, frames, local=local)
+
+
+def with_stores(count, descriptor, frame_of, local):
+    return main_of(lambda made: under_handlers(made, b'\x03\x3b\x01\x4b' * (count // 2) + RETURN, count, descriptor, frame_of, local))
 
 
 def handled(count):
-    return [main_of(with_handlers(count, '()V', lambda made, number, offset: caught_frame(made, offset), 1))]
+    return [with_stores(count, '()V', lambda made, number, offset: caught_frame(made, offset), 1)]
 
 
 def handled_apart(count):
@@ -236,7 +240,20 @@ def handled_apart(count):
     def frame_of(made, number, offset):
         held = object_type(made, ['p/A', MAIN][number % 2])
         return full_frame(offset, [b'\0', b'\0', held], [object_type(made, THROWABLE)])
-    return [main_of(with_handlers(count, '(IILp/A;)V', frame_of, 3)), ClassFile(0x21, 'p/A', MAIN).data()]
+    return [with_stores(count, '(IILp/A;)V', frame_of, 3), ClassFile(0x21, 'p/A', MAIN).data()]
+
+
+def handled_new(count):
+    """new, astore_0; of the local variables of a handler six are each of one of five classes, by the digits of its number"""
+    names = ['p/A%d' % number for number in range(5)]
+    def frame_of(made, number, offset):
+        held = [object_type(made, names[number // 5 ** digit % 5]) for digit in range(6)]
+        return full_frame(offset, [b'\0', b'\0'] + held, [object_type(made, THROWABLE)])
+    def fill(made):
+        code = (b'\xbb' + u2(made.cls(OBJECT)) + b'\x4b') * count + RETURN
+        under_handlers(made, code, count, '(II' + 'Lp/B;' * 6 + ')V', frame_of, 8)
+    above = [ClassFile(0x21, name, upper).data() for name, upper in zip(names, [OBJECT] + names)]
+    return [main_of(fill)] + above + [ClassFile(0x21, 'p/B', names[4]).data()]
 
 
 def written(count):
@@ -255,6 +272,33 @@ def beginnings(count):
     def fill(made):
         code = (b'\xbb' + u2(made.cls(OBJECT)) + b'\xb7' + called(made, 10, OBJECT, '<init>', '()V')) * count + RETURN
         method(made, 'f', '()V', code, local=MOST)
+    return [main_of(fill)]
+
+
+def stored_beginnings(made, count):
+    """behind a return: new, dup, astore_0, invokespecial; and the places of the `new`s"""
+    one = b'\xbb' + u2(made.cls(OBJECT)) + b'\x59\x4b\xb7' + called(made, 10, OBJECT, '<init>', '()V')
+    return RETURN + one * count + RETURN, [1 + len(one) * number for number in range(count)]
+
+
+def without_order(number, count):
+    return (number * 2654435761 >> 13) % count
+
+
+def stored(count):
+    names = ['p/A%d' % number for number in range(5)]
+    def fill(made):
+        code, _ = stored_beginnings(made, count)
+        held = [object_type(made, names[without_order(number, 5)]) for number in range(MOST)]
+        method(made, 'f', '()V', code, frames=[full_frame(1, held)], local=MOST)
+    return [main_of(fill)] + [ClassFile(0x21, name).data() for name in names]
+
+
+def uninitialized(count):
+    def fill(made):
+        code, places = stored_beginnings(made, count)
+        held = [b'\x08' + u2(places[without_order(number, count)]) for number in range(MOST)]
+        method(made, 'f', '()V', code, frames=[full_frame(1, held)], local=MOST)
     return [main_of(fill)]
 
 
@@ -317,7 +361,8 @@ def guarded(count):
 MADE = {
     'overrides': overrides, 'frames': frames, 'known-frames': known_frames, 'handlers': handlers, 'framed-handlers': framed_handlers,
     'interfaces': interfaces, 'descriptors': descriptors, 'branches': branches, 'cases': cases, 'stores': stores, 'beginnings': beginnings,
-    'apart': apart, 'mixed-apart': mixed_apart, 'written': written, 'handled': handled, 'handled-apart': handled_apart, 'layers': layers, 'framed-names': framed_names, 'named-frames': named_frames,
+    'apart': apart, 'mixed-apart': mixed_apart, 'written': written, 'handled': handled, 'handled-apart': handled_apart, 'handled-new': handled_new,
+    'stored': stored, 'uninitialized': uninitialized, 'layers': layers, 'framed-names': framed_names, 'named-frames': named_frames,
     'targets': targets, 'waves': waves, 'ranges': ranges, 'guarded': guarded, 'prefixes': prefixes,
     'colliding': colliding,
 }
