@@ -1,11 +1,13 @@
 """The kinds of tables, by the ending of the file of their rows. README.md, one folder up, has their formats."""
 import analysis
 import asm_text
+import bounded_files
 import calls
 import class_files
 import damage
 import images
 import opcodes
+import ran
 
 KINDS = {
     'calls': calls.Calls(),
@@ -17,6 +19,8 @@ KINDS = {
     'images': images.Words(),
     'opcodes': opcodes.Opcodes(),
     'asm': asm_text.Assembled(),
+    'ran': ran.Ran(),
+    'bounded_files': bounded_files.BoundedFiles(),
     'checked': analysis.Checked(),
     'bounded': analysis.Bounded(),
 }

@@ -1,0 +1,5 @@
+// For javac alone: the linker brings this class (docs/java.md).
+package java.lang;
+
+public interface Cloneable {
+}

@@ -1,0 +1,11 @@
+// For javac alone: the linker brings this class (docs/java.md).
+package java.lang;
+
+public class NegativeArraySizeException extends RuntimeException {
+    public NegativeArraySizeException() {
+    }
+
+    public NegativeArraySizeException(String message) {
+        super(message);
+    }
+}

@@ -1,0 +1,5 @@
+// For javac alone: annotations are passed over by the linker.
+package java.lang.annotation;
+
+public interface Annotation {
+}

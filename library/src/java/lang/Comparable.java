@@ -1,0 +1,6 @@
+package java.lang;
+
+/** Objects that have an order. */
+public interface Comparable<T> {
+    int compareTo(T other);
+}

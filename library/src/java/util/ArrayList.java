@@ -1,0 +1,106 @@
+package java.util;
+
+import java.io.Serializable;
+import jop.Copies;
+
+/** A list in an array that grows by half. */
+public class ArrayList<E> extends AbstractList<E> implements RandomAccess, Cloneable, Serializable {
+    private Object[] elements;
+    private int count;
+
+    public ArrayList() {
+        this(10);
+    }
+
+    public ArrayList(int capacity) {
+        if (capacity < 0) {
+            throw new IllegalArgumentException();
+        }
+        elements = new Object[capacity];
+    }
+
+    public ArrayList(Collection<? extends E> all) {
+        elements = all.toArray();
+        count = elements.length;
+    }
+
+    public void ensureCapacity(int least) {
+        if (least > elements.length) {
+            int grown = elements.length + (elements.length >> 1);
+            Object[] others = new Object[least > grown ? least : grown];
+            Copies.copy(elements, 0, others, 0, count);
+            elements = others;
+        }
+    }
+
+    private void check(int place) {
+        if (place < 0 || place >= count) {
+            throw new IndexOutOfBoundsException();
+        }
+    }
+
+    @Override
+    public int size() {
+        return count;
+    }
+
+    @Override
+    public E get(int place) {
+        check(place);
+        return (E) elements[place];
+    }
+
+    @Override
+    public E set(int place, E element) {
+        E old = get(place);
+        elements[place] = element;
+        return old;
+    }
+
+    @Override
+    public boolean add(E element) {
+        modCount++;
+        ensureCapacity(count + 1);
+        elements[count] = element;
+        count++;
+        return true;
+    }
+
+    @Override
+    public void add(int place, E element) {
+        if (place < 0 || place > count) {
+            throw new IndexOutOfBoundsException();
+        }
+        modCount++;
+        ensureCapacity(count + 1);
+        Copies.copy(elements, place, elements, place + 1, count - place);
+        elements[place] = element;
+        count++;
+    }
+
+    @Override
+    public E remove(int place) {
+        E old = get(place);
+        modCount++;
+        count--;
+        Copies.copy(elements, place + 1, elements, place, count - place);
+        elements[count] = null;
+        return old;
+    }
+
+    @Override
+    public void clear() {
+        modCount++;
+        for (int i = 0; i < count; i++) { //@WCA loop=64 elements
+            elements[i] = null;
+        }
+        count = 0;
+    }
+
+    @Override
+    public Object[] toArray() {
+        Object[] all = new Object[count];
+        Copies.copy(elements, 0, all, 0, count);
+        return all;
+    }
+}

@@ -1,0 +1,8 @@
+package java.util;
+
+/** Elements one after another. */
+public interface Iterator<E> {
+    boolean hasNext();
+
+    E next();
+}
