@@ -1,0 +1,92 @@
+package adapt.classes;
+
+import java.io.IOException;
+import java.io.InputStream;
+import java.io.UncheckedIOException;
+import java.util.List;
+import org.objectweb.asm.ClassReader;
+import org.objectweb.asm.Opcodes;
+import org.objectweb.asm.tree.ClassNode;
+import org.objectweb.asm.tree.MethodNode;
+import org.objectweb.asm.tree.VarInsnNode;
+import org.objectweb.asm.tree.MethodInsnNode;
+import org.objectweb.asm.tree.InsnNode;
+
+/** Classes of the Java virtual machine on which this runs: what they are called and what they stand below, nothing else of theirs. */
+final class Platform {
+    private Platform() {
+    }
+
+    /** A class without members of a name that the platform has, or null; an exception has its plain constructors. */
+    static ClassNode find(String name) {
+        ClassNode from = read(name);
+        if (from == null) {
+            return null;
+        }
+        ClassNode node = new ClassNode();
+        node.version = Opcodes.V1_8;
+        node.name = name;
+        node.superName = from.superName;
+        node.interfaces = from.interfaces;
+        node.access = from.access & (Opcodes.ACC_PUBLIC | Opcodes.ACC_ABSTRACT | Opcodes.ACC_INTERFACE | Opcodes.ACC_SUPER);
+        if (isThrowable(from)) {
+            addConstructor(node, from, "()V");
+            addConstructor(node, from, "(Ljava/lang/String;)V");
+        }
+        return node;
+    }
+
+    private static ClassNode read(String name) {
+        try (InputStream in = ClassLoader.getSystemResourceAsStream(name + ".class")) {
+            if (in == null || !name.startsWith("java")) {
+                return null;
+            }
+            ClassNode node = new ClassNode();
+            new ClassReader(in.readAllBytes()).accept(node, ClassReader.SKIP_DEBUG | ClassReader.SKIP_FRAMES);
+            return node;
+        } catch (IOException fault) {
+            throw new UncheckedIOException(fault);
+        }
+    }
+
+    private static boolean isThrowable(ClassNode node) {
+        for (ClassNode each = node; each != null && each.superName != null; each = read(each.superName)) {
+            if (each.name.equals(CoreClasses.THROWABLE)) {
+                return true;
+            }
+        }
+        return false;
+    }
+
+    /** Adds a constructor that calls the superclass's, where the platform's does just that. */
+    private static void addConstructor(ClassNode node, ClassNode from, String descriptor) {
+        for (MethodNode method : from.methods) {
+            if (method.name.equals("<init>") && method.desc.equals(descriptor) && isPlain(method)) {
+                node.methods.add(plain(node.superName, descriptor));
+            }
+        }
+    }
+
+    private static boolean isPlain(MethodNode method) {
+        List<Integer> wanted = method.desc.equals("()V") ? List.of(Opcodes.ALOAD, Opcodes.INVOKESPECIAL, Opcodes.RETURN)
+                : List.of(Opcodes.ALOAD, Opcodes.ALOAD, Opcodes.INVOKESPECIAL, Opcodes.RETURN);
+        List<Integer> opcodes = new java.util.ArrayList<>();
+        method.instructions.forEach(each -> {
+            if (each.getOpcode() >= 0) {
+                opcodes.add(each.getOpcode());
+            }
+        });
+        return opcodes.equals(wanted);
+    }
+
+    private static MethodNode plain(String superclass, String descriptor) {
+        MethodNode method = new MethodNode(Opcodes.ACC_PUBLIC, "<init>", descriptor, null, null);
+        method.instructions.add(new VarInsnNode(Opcodes.ALOAD, 0));
+        if (!descriptor.equals("()V")) {
+            method.instructions.add(new VarInsnNode(Opcodes.ALOAD, 1));
+        }
+        method.instructions.add(new MethodInsnNode(Opcodes.INVOKESPECIAL, superclass, "<init>", descriptor));
+        method.instructions.add(new InsnNode(Opcodes.RETURN));
+        return method;
+    }
+}
