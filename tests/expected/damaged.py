@@ -21,8 +21,7 @@ import image_file  # noqa: E402
 import microcode  # noqa: E402
 import programs  # noqa: E402
 from calls import Call, data_of, out_text  # noqa: E402
-from certificate import Maker  # noqa: E402
-from check import answer as checked  # noqa: E402
+from certificate import Maker, answer as checked  # noqa: E402
 from classfile import main_class  # noqa: E402
 from costs import Timing  # noqa: E402
 from study import Study, read_bounds  # noqa: E402

@@ -64,7 +64,7 @@ def image_of(main, files):
     words = [expected_image.word(w) for _, region in image.regions() for w in region]
     data = b'JOPI' + struct.pack('>HH', 1, len(main)) + main.encode() + struct.pack('>II', len(words), len(files))
     data += b''.join(struct.pack('>I', w) for w in words) + b''.join(struct.pack('>I', len(f)) + f for f in files)
-    return data, 'linked classes=%d methods=%d words=%d bytes=%d\\n' % (len(image.cs), len(image.coded), len(words), len(data)), image
+    return data, 'linked classes=%d methods=%d words=%d bytes=%d\\n' % (len(image.classes), len(image.coded), len(words), len(data)), image
 
 
 def plainly(data, source=b'', show=()):
@@ -84,7 +84,7 @@ def statuses():
     row(['link', '--main', 'A', 'a=' + data.hex()], 0, image, line)
     status, out, ended = plainly(image)
     words = ended.split()
-    name = linked.cs[int(words[1]) - 8].name.decode()
+    name = linked.classes[int(words[1]) - 8].name.decode()
     assert (status, words[0], name) == (1, 'uncaught', 'java/lang/ArithmeticException')
     row(['run', 'b=@'], 1, out, ' '.join([words[0], name, *words[2:]]) + '\\n')
     row(['run'], 2, b'', 'usage: word 1\\n')

@@ -4,7 +4,6 @@ The first row of a case is `program`, a title, the name of the class whose main 
 of it begins that has them. The parts of the other rows stand between tabs; in a text `|` stands for a line feed.
 """
 import os
-import sys
 
 from class_files import told
 from kind import Kind, files_of
@@ -97,17 +96,7 @@ def lowered(lines):
 
 
 class Bounded(Asked):
-    """what `bound` says: rows are `bound`, a title, options, a method and bounds; its certificate has to hold, also for another checker, and none with a number lowered by one"""
-
-    def answer(self, caller, rows):
-        sys.path.append(os.path.join(HERE, '../expected/bounds'))
-        from check import answer
-        from costs import with_options
-        from study import flow
-        _, main, files = program_of(rows[0])
-        program = flow.Program(main, files)
-        caller.other = lambda options, bounds, text: answer(program, with_options(options), bounds, text)
-        return super().answer(caller, rows)
+    """what `bound` says: rows are `bound`, a title, options, a method and bounds; its certificate has to hold, and none with a number lowered by one"""
 
     def asked(self, caller, word, options, method, bounds):
         options, bounds = options.split(), text_of(bounds)
@@ -117,7 +106,7 @@ class Bounded(Asked):
             return told(answer)
         caller.put('certificate', answer.out)
         lines = answer.out.decode('utf-8', 'replace').split('\n')
-        found = {held(caller.call(['check', *options, 'image', 'bounds', 'certificate'])), caller.other(options, bounds, answer.out.decode('latin-1'))}
+        found = held(caller.call(['check', *options, 'image', 'bounds', 'certificate']))
         caller.options = options
         wrong = ['%s %s' % (change, line) for change in lowered(lines[:-1]) for line in [checked(caller, changed(lines[:-1], [change]))] if line.startswith('holds ')]
-        return ', '.join([lines[0], lines[-2] if len(lines) > 1 else '', *sorted(found), *wrong])
+        return ', '.join([lines[0], lines[-2] if len(lines) > 1 else '', found, *wrong])

@@ -8,8 +8,7 @@ sys.path[:0] = [HERE, os.path.join(HERE, '../graphs'), os.path.join(HERE, '../..
 import flow  # noqa: E402
 import image_file  # noqa: E402
 import programs  # noqa: E402
-from certificate import read  # noqa: E402
-from check import answer  # noqa: E402
+from certificate import answer, read_certificate  # noqa: E402
 from costs import Timing  # noqa: E402
 from kind import sum_of  # noqa: E402
 from study import Study, read_bounds  # noqa: E402
@@ -103,7 +102,7 @@ def certificates(table, check, bare):
                  'JOPC 1\nroot 5\nnode 0 1\nbound 1\n', 'JOPC 2\nroot 5\nsection inside 5\nregion 0 1 0\nbound 1\n', 'JOPC 2\nroot 5\nsection alone 5\nsection loops 5\nbound 1\n',
                  'JOPC 1\nroot 5\nsection inside 5\nnode 0 1\nnode 0 1\nbound 1\n', 'JOPC 1\nroot 5\nsection inside 5\nnode 0 -0\nbound 1\n', 'JOPC 1\nroot 5\nsection inside 5\nnode 0 18446744073709551616\n',
                  'JOPC 1\nroot 5\nbound 18446744073709551616\n', 'JOPC 1\nroot 4294967296\nbound 1\n', 'JOPC 1\nroot 5\nsection inside 5\nloop 0 1\nbound 1\n'):
-        table.add(check, 2, read(text), c=text, **bare)
+        table.add(check, 2, read_certificate(text), c=text, **bare)
     table.add(check, 2, 'check: missing #5', c='JOPC 1\nroot 5\nbound never', **bare)
     table.add(check, 2, 'check: missing #0', c='JOPC 1\nroot 0\nbound never\n', **bare)
     table.add(check, 2, 'check: missing #7', c='JOPC 1\nroot 5\nsection inside 7\nsection inside 5\nbound 3\n', **bare)

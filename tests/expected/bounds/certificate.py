@@ -1,4 +1,4 @@
-"""Certificates: their texts, and potentials that show the numbers of a program's methods.
+"""Certificates: potentials that show the numbers of a program's methods. Their texts are those of `tools/rechecker`.
 
 A section is its kind, its method, its nodes with their potentials, and its loops: the word `loop` or `region`, the header, what an iteration costs at most, the members.
 Node 2p is the instruction at place p, node 2p + 1 the raise step there.
@@ -6,57 +6,19 @@ Node 2p is the instruction at place p, node 2p + 1 the raise step there.
 import os
 import sys
 
-HERE = os.path.dirname(os.path.abspath(__file__))
-sys.path.append(os.path.join(HERE, '..'))
-sys.path.append(HERE)
-import certs  # noqa: E402
+sys.path.append(os.path.dirname(os.path.abspath(__file__)))
 from study import MOST  # noqa: E402
+from rechecker.command import Answered, check_program  # noqa: E402
+from rechecker.conditions import check  # noqa: E402, F401
+from rechecker.texts import Certificate, Section, number_of, read_certificate, shown  # noqa: E402, F401
 from walks import Walks  # noqa: E402
 
-
-class Section:
-    def __init__(self, kind, method, nodes, loops):
-        self.kind, self.method, self.nodes, self.loops = kind, method, nodes, loops
-
-    def lines(self):
-        yield 'section %s %d' % (self.kind, self.method)
-        for u, potential in self.nodes:
-            yield '%s %d %d' % ('raise' if u % 2 else 'node', u // 2, potential)
-        for word, header, cost, members in self.loops:
-            yield ' '.join([word, str(header // 2), str(cost), *map(shown, members)])
-
-
-class Certificate:
-    def __init__(self, version, root, sections, bound):
-        self.version, self.root, self.sections, self.bound = version, root, sections, bound
-
-    def lines(self):
-        yield 'JOPC %d' % self.version
-        yield 'root %d' % self.root
-        for section in self.sections:
-            yield from section.lines()
-        yield 'bound never' if self.bound is None else 'bound %d' % self.bound
-
-    def text(self):
-        return ''.join(line + '\n' for line in self.lines())
-
-
-def shown(u):
-    """a node as it is printed"""
-    return '%d%s' % (u // 2, 'r' if u % 2 else '')
-
-
-def number_of(node):
-    return 2 * node[0] + node[1]
-
-
-def read(text):
-    """the certificate of a text, or what is said of the first line that is refused"""
-    found = certs.parse(text)
-    if isinstance(found, str):
-        return 'bad cert ' + found.split(' ')[1]
-    version, root, sections, bound = found
-    return Certificate(version, root, [Section(*each) for each in sections], bound)
+def answer(program, timing, bounds, text):
+    """the line that `check` answers for a linked image, by the bytes of the bounds and the text of a certificate"""
+    try:
+        return check_program(program, timing, bounds, text.encode('latin-1'))
+    except Answered as other:
+        return other.line
 
 
 # ---- made

@@ -14,8 +14,7 @@ sys.dont_write_bytecode = True
 sys.path[:0] = [HERE, os.path.join(HERE, '../graphs')]
 import flow  # noqa: E402
 import made  # noqa: E402
-from certificate import Maker, shown  # noqa: E402
-from check import check  # noqa: E402
+from certificate import Maker, check, shown  # noqa: E402
 from costs import Timing  # noqa: E402
 from study import Study  # noqa: E402
 

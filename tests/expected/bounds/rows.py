@@ -1,7 +1,7 @@
 #!/usr/bin/env python3
 """rows.py: writes tests/tables/check, certificates and bounds, with what `jop check` and `jop bound` have to answer.
 
-The answers are worked out by check.py and study.py; those of rows by hand are also said there, as they were worked out from docs/costs.md, and have to be the same.
+The answers are worked out by `tools/rechecker` and study.py; those of rows by hand are also said there, as they were worked out from docs/costs.md, and have to be the same.
 """
 import os
 import sys

@@ -3,100 +3,25 @@
 A node is a place and whether it is the raise step there, as in ../graphs/flow.py, which has graphs, targets and regions.
 """
 import os
-import re
 import sys
 
 HERE = os.path.dirname(os.path.abspath(__file__))
 sys.path.append(os.path.join(HERE, '../graphs'))
 sys.path.append(HERE)
 import flow  # noqa: E402
-from costs import Costs  # noqa: E402
+from costs import COSTS  # noqa: E402, F401
+from rechecker.program import Priced  # noqa: E402
+from rechecker.texts import MOST, read_bounds  # noqa: E402, F401
 from walks import Walks  # noqa: E402
 
-COSTS = Costs()
-MOST = 2**64 - 1
-NUMBER = rb'(0|[1-9][0-9]*)'
-BOUND = re.compile(rb'([^ \n]+) ' + NUMBER + rb' loop<=' + NUMBER)
 
-
-def lines_of(text):
-    """the lines of a text, the last of which may lack its end"""
-    lines = text.split(b'\n')
-    return lines[:-1] if lines[-1] == b'' else lines
-
-
-def read_bounds(text):
-    """the bounds of a text by name and place, or what is said of the first line that is refused"""
-    bounds = {}
-    for number, line in enumerate(lines_of(text), 1):
-        if line == b'' or line.startswith(b'#'):
-            continue
-        found = BOUND.fullmatch(line)
-        if not found or int(found[2]) >= 2**32 or int(found[3]) >= 2**32:
-            return 'bad bounds line=%d' % number
-        key = found[1].decode('utf-8', 'replace'), int(found[2])
-        if key in bounds:
-            return 'twice bound line=%d' % number
-        bounds[key] = int(found[3])
-    return bounds
-
-
-def words_of(body):
-    return -(-len(body['code']) // 4)
-
-
-class Study:
+class Study(Priced):
     """a program with what its parts cost, where some loops have bounds"""
 
     def __init__(self, program, timing, bounds):
-        self.program, self.timing, self.bounds = program, timing, bounds
+        super().__init__(program, timing, bounds)
         self.graphs, self.lives, self.known, self.walked = {}, {}, {}, {}
         self.ending = self.methods_that_end()
-
-    # ---- parts
-
-    def bound(self, m, place):
-        """the bound of the loop that an instruction heads"""
-        return self.bounds.get((self.program.names[m], place))
-
-    def own(self, m, node):
-        """what a node costs by itself"""
-        place, raised = node
-        body = self.program.body(m)
-        if raised:
-            return COSTS.raise_step(self.timing, len(body['handlers']))
-        op, pairs = body['code'][place], 0
-        if op == flow.LOOKUP:
-            pairs = flow.number(body['code'], (place // 4 + 1) * 4 + 4, 4)
-        return COSTS.instruction(op, self.timing, pairs)
-
-    def load(self, m):
-        return COSTS.load(self.timing, words_of(self.program.body(m)))
-
-    def loads(self, methods):
-        return sum(self.load(m) for m in methods)
-
-    def greatest_load(self):
-        return max(self.load(m) for m in range(len(self.program.coded)))
-
-    def blocks(self, methods):
-        return self.program.blocks(methods, self.timing.block_words)
-
-    def region(self, m):
-        """the methods that may run while one does"""
-        return self.program.within([m])
-
-    def fit(self, methods):
-        return self.blocks(methods) <= self.timing.blocks
-
-    def region_fits(self, m):
-        if ('fits', m) not in self.known:
-            self.known['fits', m] = self.fit(self.region(m))
-        return self.known['fits', m]
-
-    def too_long(self):
-        """the first method that doesn't fit the cache alone, with its blocks, or none"""
-        return next(((m, self.blocks([m])) for m in range(len(self.program.coded)) if not self.fit([m])), None)
 
     # ---- graphs
 
@@ -182,10 +107,6 @@ class Study:
     def full(self, m):
         value, loads = (self.inside(m), self.loads(self.region(m))) if self.region_fits(m) else (self.loops(m), self.load(m))
         return None if value is None else value + loads
-
-    def printed_with(self, full):
-        """what is printed of a method with this number"""
-        return None if full is None else COSTS.greatest_invoke(self.timing) + full + self.greatest_load()
 
     def printed(self, m):
         return self.printed_with(self.full(m))

@@ -6,7 +6,7 @@ HERE = os.path.dirname(os.path.abspath(__file__))
 sys.path[:0] = [HERE, os.path.join(HERE, '../graphs'), os.path.join(HERE, '../../harness')]
 import analysis  # noqa: E402
 import flow  # noqa: E402
-from check import answer  # noqa: E402
+from certificate import answer  # noqa: E402
 from costs import Timing  # noqa: E402
 from study import Study, read_bounds  # noqa: E402
 

@@ -8,25 +8,9 @@ WRITTEN = ['types', 'interface_methods', 'words']
 
 
 class Image(expected_image.Image):
-    """the same image, with tables of what a class declares, and the supertypes of types found from those of their components"""
-
-    def declared(self, c, sig):
-        tables = self.__dict__.setdefault('tables_of', {})
-        if c not in tables:
-            tables[c] = {}
-            for i, m in enumerate(self.cs[c].methods):
-                tables[c].setdefault((m['name'], m['descriptor']), (c, i))
-        return tables[c].get(sig)
-
-    def mention(self, t):
-        if t[0] == 'r':
-            self.mention(t[1])
-            if t not in self.known:
-                self.known.add(t)
-                self.types.append(t)
+    """the same image, with the supertypes of types found from those of their components"""
 
     def count(self):
-        self.known = set()
         super().count()
         self.array_of = {self.type_number[t[1]]: i for i, t in enumerate(self.types) if t[0] == 'r'}
         self.above = []

@@ -91,7 +91,7 @@ def image_of(main, files):
     name = main.encode()
     data = b'JOPI' + struct.pack('>HH', 1, len(name)) + name + struct.pack('>II', len(words), len(files))
     data += b''.join(struct.pack('>I', w) for w in words) + b''.join(struct.pack('>I', len(f)) + f for f in files)
-    line = 'linked classes=%d methods=%d words=%d bytes=%d' % (len(image.cs), len(image.coded), len(words), len(data))
+    line = 'linked classes=%d methods=%d words=%d bytes=%d' % (len(image.classes), len(image.coded), len(words), len(data))
     return data, line
 
 
@@ -226,7 +226,7 @@ def with_name(line, main, files):
     """the line, with the name of the class whose number stands in it"""
     words = line.split()
     if words[0] == 'uncaught':
-        words[1] = expected_image.link(main.encode(), files).cs[int(words[1]) - 8].name.decode()
+        words[1] = expected_image.link(main.encode(), files).classes[int(words[1]) - 8].name.decode()
     return ' '.join(words)
 
 
@@ -274,11 +274,11 @@ def images(table, classes):
     run('', image_bytes(b'A', [], [plain(major=53).bytes()]), 2, 'link: unsupported version file=0 major=53')
     run('', image_bytes(b'A', words, [plain().bytes(), plain().bytes()]), 2, 'link: duplicate file=1 name=A')
     run('--memory %d' % (len(words) - 1), data, 2, 'memory too small words=%d given=%d' % (len(words), len(words) - 1))
-    taken = [-(-len(image.m(p)['code']['code']) // 4) for p in image.coded]
+    taken = [-(-len(image.method(p)['code']['code']) // 4) for p in image.coded]
     for limit in (1, 4, max(taken) - 1):
         k = next(i for i, n in enumerate(taken) if n > limit)
-        c, name = image.coded[k][0], image.sig(image.coded[k])
-        text = image.cs[c].name + b'.' + name[0] + name[1]
+        c, name = image.coded[k][0], image.signature(image.coded[k])
+        text = image.classes[c].name + b'.' + name[0] + name[1]
         run('--memory 16 --block-words 1 --blocks %d' % limit, data, 2, 'method too long %s blocks=%d limit=%d' % (text.decode(), taken[k], limit))
     run('--cycles 0', data, 3, 'spent cycles=0 hits=0 misses=0')
 

@@ -1,0 +1,1 @@
+"""A second checker of certificates: what docs/assessing.md says, in Python. Not proved: a tool."""
