@@ -12,7 +12,8 @@ deepest_number  loops of two turns within one another as deep as a bound of 64 b
 switching       a switch with 8,000 targets in two loops, one within the other
 ring            1,000 methods that call one another in a ring
 
-Of `solved` the linear program of its walks is written for GLPK and for lp_solve, and solved by those of `glpsol` and `lp_solve` that are installed: their optimum, and how long they take.
+Of `solved` the linear program of its walks is written for GLPK and for lp_solve, and solved by those of `glpsol` and `lp_solve` that are installed (Debian's packages `glpk-utils` and
+`lp-solve`): their optimum, which has to be the greatest walk of tests/expected/bounds, to a hundredth, and how long they take.
 """
 import os
 import re
@@ -33,7 +34,7 @@ ROOT = 'Main.main' + MAIN
 # Calls of each command, and the seconds beyond which one is enough.
 RUNS, LONG = 3, 3
 # The programs that solve linear ones, with the words before the file and how each writes the optimum.
-SOLVERS = {'glpsol': (['--lp'], rb'obj\s*=\s*([0-9.e+]+)'), 'lp_solve': (['-S1'], rb'objective function:\s*([0-9.e+]+)')}
+SOLVERS = {'glpsol': (['--lp'], rb'obj\s*=\s*([0-9.e+]+)'), 'lp_solve': (['-S3'], rb'objective function:\s*([0-9.e+]+)')}
 
 
 class Took:
@@ -80,24 +81,28 @@ def tell(room, name):
     more = bound.memory - link.memory - size
     print('%s: link %.3f s; bound %.3f s, %+.3f s; %+d bytes a node; certificate of %d bytes; load %.1f; %s' % (
         name, link.seconds, bound.seconds, bound.seconds - link.seconds, more // nodes(case.files), size, os.getloadavg()[0], said[:80]), flush=True)
-    if name == 'solved':
-        solve(room, case, bound.seconds - link.seconds)
-    return bool(bound.line) or said.startswith('holds ') or said.startswith('too big')
+    is_same = name != 'solved' or solve(room, case, bound.seconds - link.seconds)
+    return is_same and (bool(bound.line) or said.startswith('holds ') or said.startswith('too big'))
 
 
 def solve(room, case, seconds):
-    """prints how long the solvers take for the linear program of the case"""
+    """prints how long the solvers take for the linear program of the case, and gives whether their optimum is the greatest walk"""
     installed = {solver: said for solver, said in SOLVERS.items() if shutil.which(solver)}
-    print('; '.join('%s: not installed' % solver for solver in SOLVERS if solver not in installed), flush=True)
+    for solver in SOLVERS:
+        if solver not in installed:
+            print('%s: not installed' % solver, flush=True)
     walks = linear.walks_of(case, ROOT) if installed else None
+    is_same = True
     for solver, (words, optimum) in installed.items():
         text = put(room, solver + '.lp', linear.program(walks, solver).encode())
         before, began = resource.getrusage(resource.RUSAGE_CHILDREN).ru_utime, time.monotonic()
         ran = subprocess.run([solver, *words, text], capture_output=True, cwd=room)
         took = resource.getrusage(resource.RUSAGE_CHILDREN).ru_utime - before
         found = re.findall(optimum, ran.stdout)
+        is_same &= bool(found) and abs(float(found[-1]) - walks.greatest()) < 0.01
         print('%s: %.3f s (wall %.3f s), %.0f times; %s beside %d' % (
             solver, took, time.monotonic() - began, took / max(seconds, 1e-3), found[-1:] or ran.stdout[-200:], walks.greatest()), flush=True)
+    return is_same
 
 
 if __name__ == '__main__':

@@ -49,7 +49,7 @@ def nests(count, depth, turn, bound):
 def solved():
     """10,000 nodes with 1,000 loops, ten deep"""
     # Each nest has two nodes and a jump for each loop, and the nodes of the innermost turn.
-    return nests(100, 10, 35 * (ILOAD_1 + ISTORE_1), 20)
+    return nests(100, 10, 35 * (ILOAD_1 + ISTORE_1), 2)
 
 
 def deep():

@@ -1,6 +1,6 @@
 -- What is known of a step from one boundary to the next.
 use Rattle.std.proofs.Common.{◌≡◌, ℕ, zero, suc, ◌+◌, ◌*◌, ◌≤◌, Bool, true, false, List, [], ◌∷◌, ◌++◌, length, Option, Some, None, slice_get, refl, sym, ap, ◌∙◌, subst, IsSomeAnd, IfSome, arith}
-use Rattle.word32.specs.Packed.{words_of_bytes}
+use Rattle.base.specs.Packed.{words_of_bytes}
 use Rattle.method_cache.specs.Contents.{is_cached, loaded}
 use Rattle.cache_regions.specs.LookUps.{after, stall_of_loads}
 use Rattle.jop_core.specs.State as machine
@@ -20,8 +20,8 @@ use Rattle.bytecode_typing.specs.Lawful.{Lawful, IsVirtualCall, IsResolvedRow}
 use Rattle.bytecode_typing.specs.Fits.{ObjectFits, PartsFit, numbers_of, IsGoing}
 use Rattle.micro_flow.specs.declared.CostParams.{CostParams}
 use Rattle.micro_flow.specs.Walk.{IsCost, IsRaiseCost}
-use Rattle.jop_opcodes.specs.Bytes.{u1}
-use Rattle.jop_opcodes.specs.Start.{IsStart}
+use Rattle.opcodes.specs.Bytes.{u1}
+use Rattle.opcodes.specs.Start.{IsStart}
 use Rattle.bytecode_model.specs.declared.Value.{Value}
 use Rattle.bytecode_model.specs.Lists.{onto}
 use Rattle.bytecode_typing.specs.Laws.{FittingStatesAreWellFormed}

@@ -42,7 +42,8 @@ pub record Keeps {g : Setting} {m : ℕ} {a b : Stage} (bound_of : BoundOf) (h :
 -- ---- along a tree
 
 -- the walks of all frames that are made in a stay keep the bounds
-abbrev pub ChildrenKeep : {g : Setting} (bound_of : BoundOf) {callers : List Frame} {m : ℕ} {a b : Stage} {between : List Stage} {nodes : List ℕ} → Stay g callers m a b between nodes → Type 0
+abbrev pub ChildrenKeep : {g : Setting} (bound_of : BoundOf) {callers : List Frame} {m : ℕ} {a b : Stage} {between : List Stage} {nodes : List ℕ}
+    → Stay g callers m a b between nodes → Type 0
 ChildrenKeep bound_of (leaves top follows left) = Unit {0}
 ChildrenKeep bound_of (goes top follows moves more) = ChildrenKeep bound_of more
 ChildrenKeep {g} bound_of (calls {vs = vs} top follows enters child more) =

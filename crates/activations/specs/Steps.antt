@@ -1,7 +1,7 @@
 -- What a step from one boundary to the next takes, and what it does to the frames.
 use Rattle.std.specs.Prelude.{◌≡◌, ℕ, ◌+◌, ◌≤◌, true, List, [], ◌∷◌, Some, None}
 use Rattle.std.specs.declared.option.Option.{Option}
-use Rattle.word32.specs.Packed.{words_of_bytes}
+use Rattle.base.specs.Packed.{words_of_bytes}
 use Rattle.method_cache.specs.Contents.{is_cached}
 use Rattle.cache_regions.specs.LookUps.{after, stall_of_loads}
 use Rattle.jop_core.specs.State as machine
@@ -52,10 +52,12 @@ pub record StepFacts (g : Setting) (t : Timing) (words : ℕ → List ℕ) (a b 
   -- those of the microcode are at most the own cost of the node at which the top frame stands
   pub costs : (f : Frame) (callers : List Frame) (c : ℕ) → a.state.frames ≡ f ∷ callers → IsOwnCost g.program t f.method (node_of a.state.mode f) c → micro ≤ c
   -- while a frame runs, its method is in the cache
-  pub cached : (f : Frame) (callers : List Frame) → a.state.frames ≡ f ∷ callers → a.state.mode ≡ Running → is_cached (g.places.method f.method) a.machine.cache ≡ true
+  pub cached : (f : Frame) (callers : List Frame) → a.state.frames ≡ f ∷ callers → a.state.mode ≡ Running
+      → is_cached (g.places.method f.method) a.machine.cache ≡ true
   pub going : IsGoing a.state.mode
   pub start : (f : Frame) (callers : List Frame) → a.state.frames ≡ f ∷ callers → IsStartOf g.program f.method f.pc
   pub shape : (f : Frame) (callers : List Frame) → a.state.frames ≡ f ∷ callers → FramesStep g.program a.state.mode f callers b.state
 
 abbrev pub StepsAreTold : Type 0
-StepsAreTold = (g : Setting) (t : Timing) (words : ℕ → List ℕ) (a b : Stage) → IsSetting g → AreWords g.program g.places words → HasTiming t a.machine → Follows g a b → StepFacts g t words a b
+StepsAreTold = (g : Setting) (t : Timing) (words : ℕ → List ℕ) (a b : Stage) → IsSetting g → AreWords g.program g.places words → HasTiming t a.machine
+    → Follows g a b → StepFacts g t words a b

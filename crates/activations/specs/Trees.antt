@@ -25,14 +25,17 @@ ActivationsAreTrees = (g : Setting) (m : ℕ) (a b : Stage) (h : IsActivation g 
 
 -- the nodes of a stay are a walk that a run can take, from the node at which it begins to an exit
 abbrev pub StaysAreWalks : Type 0
-StaysAreWalks = (g : Setting) (callers : List Frame) (m : ℕ) (a b : Stage) (between : List Stage) (nodes : List ℕ) → Stay g callers m a b between nodes → (f : Frame) → a.state.frames ≡ f ∷ callers
+StaysAreWalks = (g : Setting) (callers : List Frame) (m : ℕ) (a b : Stage) (between : List Stage) (nodes : List ℕ) → Stay g callers m a b between nodes
+    → (f : Frame) → a.state.frames ≡ f ∷ callers
     → LiveWalk g.program m (node_of a.state.mode f) nodes
 
 -- the walk of an activation leads from its method's first instruction to an exit, so the method can end
 abbrev pub ActivationsAreWalks : Type 0
-ActivationsAreWalks = (g : Setting) (m : ℕ) (a b : Stage) (h : IsActivation g m a b) → IsSetting g → LiveWalk g.program m (At 0) (walk_of h) × CanEnd g.program m
+ActivationsAreWalks = (g : Setting) (m : ℕ) (a b : Stage) (h : IsActivation g m a b) → IsSetting g
+    → LiveWalk g.program m (At 0) (walk_of h) × CanEnd g.program m
 
 -- where an activation keeps the bounds, its stay does, and so do all stays within it
 abbrev pub StaysKeep : Type 0
-StaysKeep = (g : Setting) (m : ℕ) (a b : Stage) (h : IsActivation g m a b) (bound_of : BoundOf) → Keeps bound_of h → (callers : List Frame) (nodes : List ℕ) (stay : Stay g callers m h.first b h.between nodes)
+StaysKeep = (g : Setting) (m : ℕ) (a b : Stage) (h : IsActivation g m a b) (bound_of : BoundOf) → Keeps bound_of h
+    → (callers : List Frame) (nodes : List ℕ) (stay : Stay g callers m h.first b h.between nodes)
     → WalkKeeps g.program bound_of m nodes × ChildrenKeep bound_of stay

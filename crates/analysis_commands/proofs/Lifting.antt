@@ -10,7 +10,7 @@ use Rattle.class_pool.specs.declared.class.ClassFile.{ClassFile}
 use Rattle.program_tables.specs.Resolved.{resolved}
 use Rattle.linked_methods.specs.declared.fitting.TooLong.{TooLong}
 use Rattle.linked_methods.specs.Fitting.{IsFirst}
-use Rattle.jop_words.specs.declared.command.Settings.{Settings}
+use Rattle.command_line.specs.declared.command.Settings.{Settings}
 use Rattle.loop_bounds.specs.Bounds.{LoopBound, bound_in}
 use Rattle.loop_bounds.specs.Grammar.{IsRead}
 use Rattle.bytecode_model.specs.Lists.{onto}
@@ -18,8 +18,8 @@ use Rattle.bytecode_model.specs.Program.{Program, Body, body_of}
 use Rattle.method_flow.specs.declared.timing.Timing.{Timing}
 use Rattle.method_flow.specs.Flow.{Coded, Flow, IsFlowOf}
 use Rattle.method_flow.specs.Keeping.{BoundOf}
-use Rattle.flow_costs.specs.Costs as table
-use Rattle.jop_text.specs.Line.{lines_of as text_lines}
+use Rattle.node_costs.specs.Costs as table
+use Rattle.ascii_text.specs.Line.{lines_of as text_lines}
 use Rattle.bound_cert.specs.Certificate.{Certificate}
 use Rattle.bound_cert.specs.Texts.{AreLinesOf}
 use Rattle.bound_rules.specs.declared.faults.CheckFault.{CheckFault}

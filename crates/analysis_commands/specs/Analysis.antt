@@ -4,7 +4,7 @@ use Rattle.class_pool.specs.declared.class.ClassFile.{ClassFile}
 use Rattle.program_tables.specs.Numbers.{method_text}
 use Rattle.program_tables.specs.Resolved.{at_method, resolved}
 use Rattle.linked_methods.specs.Fitting.{MethodFits, IsFirst}
-use Rattle.jop_words.specs.declared.command.Settings.{Settings}
+use Rattle.command_line.specs.declared.command.Settings.{Settings}
 use Rattle.loop_bounds.specs.Bounds.{LoopBound, bound_in}
 use Rattle.loop_bounds.specs.Grammar.{IsRead, IsReadTo, IsMalformed, IsTwice}
 use Rattle.bytecode_model.specs.Lists.{onto}
@@ -42,7 +42,8 @@ bounds_of cs lines m p = onto (body_of (resolved cs) m) (λ b. bound_in (name_of
 
 -- ---- what is made of them
 
--- each code fits the method cache, the table is that of the program, with the names of its methods, the bounds are those of the text, and the timing is that of the settings
+-- each code fits the method cache, the table is that of the program, with the names of its methods, the bounds are those of the text, and the timing
+-- is that of the settings
 pub record IsAnalysisOf (cs : List ClassFile) (s : Settings) (bounds_text : List ℕ) (a : Analysis) : Type 0 where
   pub codes_fit : EachFits s cs
   pub flow : IsFlowOf (resolved cs) a.flow
@@ -59,7 +60,8 @@ IsBoundsFault text NoMemory = Unit {0}
 
 -- why there is no analysis: the first method whose code doesn't fit, with its name, or else what refuses the bounds
 abbrev pub IsAnalysisFault : List ClassFile → Settings → (bounds_text : List ℕ) → AnalysisFault → Type 0
-IsAnalysisFault cs s text (MethodTooLong m name blocks) = IsFirst (resolved cs) s.blocks s.block_words (record { method = m; blocks = blocks }) × (name.items ≡ name_of cs m)
+IsAnalysisFault cs s text (MethodTooLong m name blocks) = IsFirst (resolved cs) s.blocks s.block_words (record { method = m; blocks = blocks })
+    × (name.items ≡ name_of cs m)
 IsAnalysisFault cs s text (BadBounds line) = EachFits s cs × IsBoundsFault text (BadBounds line)
 IsAnalysisFault cs s text (TwiceBound line) = EachFits s cs × IsBoundsFault text (TwiceBound line)
 IsAnalysisFault cs s text NoMemory = Unit {0}

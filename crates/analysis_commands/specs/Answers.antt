@@ -1,12 +1,12 @@
 -- What is answered of a certificate by the table of a program.
 use Rattle.std.specs.Prelude.{◌≡◌, ◌⊎◌, ℕ, List, Some, None, slice_get}
-use Rattle.jop_text.specs.Line.{lines_of as text_lines}
+use Rattle.ascii_text.specs.Line.{lines_of as text_lines}
 use Rattle.method_flow.specs.Flow.{Flow}
-use Rattle.flow_costs.specs.Costs.{bounds_of}
+use Rattle.node_costs.specs.Costs.{bounds_of}
 use Rattle.bound_cert.specs.Certificate.{Certificate}
 use Rattle.bound_cert.specs.Texts.{AreLinesOf, IsFirstRefused}
 use Rattle.bound_rules.specs.declared.faults.CheckFault.TheVariants as faults
-use Rattle.bound_checker.specs.Answer.{Meets, Refuses}
+use Rattle.cert_checker.specs.Answer.{Meets, Refuses}
 use Rattle.analysis_commands.specs.declared.analysis.Analysis.{Analysis}
 use Rattle.linked_methods.specs.declared.fitting.TooLong.{TooLong}
 use Rattle.analysis_commands.specs.declared.analysis.AnalysisFault.{AnalysisFault}
@@ -41,7 +41,8 @@ pub record IsHeldBy (a : Analysis) (c : Certificate) (h : Held) : Type 0 where
 abbrev pub IsRefusedBy : Analysis → Certificate → CheckRefusal → Type 0
 IsRefusedBy a c (NoAnalysis fault) = ⊥
 IsRefusedBy a c (BadCert line) = ⊥
-IsRefusedBy a c (Fails fault name) = (m : ℕ) × (method_of fault ≡ Some m) × Refuses a.flow (bounds_of a.flow a.bounds) a.timing c fault × (name.items ≡ table_name a.flow m)
+IsRefusedBy a c (Fails fault name) = (m : ℕ) × (method_of fault ≡ Some m) × Refuses a.flow (bounds_of a.flow a.bounds) a.timing c fault
+    × (name.items ≡ table_name a.flow m)
 IsRefusedBy a c NoMemory = Unit {0}
 
 -- ---- of a text
@@ -71,5 +72,6 @@ IsRefusedInText a text refusal = IsTextFault text refusal ⊎ FailsInText a text
 
 -- why nothing is held of a bare image with this certificate
 abbrev pub IsBareTextRefusal : (text : List ℕ) → CheckRefusal → Type 0
-IsBareTextRefusal text (Fails (faults.Missing m) name) = (c : Certificate) × AreLinesOf (text_lines text) c × (m ≡ first_method c) × (name.items ≡ number_text m)
+IsBareTextRefusal text (Fails (faults.Missing m) name) = (c : Certificate) × AreLinesOf (text_lines text) c × (m ≡ first_method c)
+    × (name.items ≡ number_text m)
 IsBareTextRefusal text refusal = IsTextFault text refusal

@@ -1,9 +1,9 @@
 -- What is answered of a method that is asked for by its name, by the table of a program.
 use Rattle.std.specs.Prelude.{◌≡◌, ℕ, List, Option, Some}
-use Rattle.jop_text.specs.Line.{lines_of as text_lines}
+use Rattle.ascii_text.specs.Line.{lines_of as text_lines}
 use Rattle.bytecode_model.specs.Program.{Program}
 use Rattle.method_flow.specs.Flow.{IsFlowOf}
-use Rattle.flow_costs.specs.Costs.{bounds_of}
+use Rattle.node_costs.specs.Costs.{bounds_of}
 use Rattle.bound_cert.specs.Certificate.{Certificate}
 use Rattle.bound_cert.specs.Texts.{AreLinesOf, text_of}
 use Rattle.bound_rules.specs.declared.faults.BoundRefusal.{BoundRefusal}
@@ -11,7 +11,7 @@ use Rattle.bound_rules.specs.Bounding.{IsAsked, IsCause}
 use Rattle.bound_causes.specs.declared.causes.Asked.{Asked}
 use Rattle.bound_causes.specs.Naming.{IsNamedBy}
 use Rattle.bound_causes.specs.Ready.{IsReady, AreInTable}
-use Rattle.analysis_lines.specs.declared.bound.BoundCause.{BoundCause}
+use Rattle.answer_lines.specs.declared.bound.BoundCause.{BoundCause}
 use Rattle.analysis_commands.specs.declared.analysis.Analysis.{Analysis}
 use Rattle.analysis_commands.specs.declared.bound.NotBounded.{NotBounded}
 use Rattle.analysis_commands.specs.declared.bound.NotBounded.TheVariants.{NoAnalysis, Forbidden, NoMemory}

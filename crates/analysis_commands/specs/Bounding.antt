@@ -3,8 +3,8 @@ use Rattle.std.specs.Prelude.{◌≡◌, ℕ, List, [], ◌++◌, Option, Some, 
 use Rattle.class_pool.specs.declared.class.ClassFile.{ClassFile}
 use Rattle.program_tables.specs.Resolved.{resolved}
 use Rattle.bytecode_model.specs.Program.{Program}
-use Rattle.jop_words.specs.declared.command.Settings.{Settings}
-use Rattle.jop_text.specs.Line.{lines_of as text_lines}
+use Rattle.command_line.specs.declared.command.Settings.{Settings}
+use Rattle.ascii_text.specs.Line.{lines_of as text_lines}
 use Rattle.loop_bounds.specs.Bounds.{LoopBound}
 use Rattle.loop_bounds.specs.Grammar.{IsRead}
 use Rattle.method_flow.specs.Keeping.{BoundOf}
@@ -16,9 +16,9 @@ use Rattle.bound_rules.specs.Numbers.{IsPrinted}
 use Rattle.bound_rules.specs.declared.faults.BoundRefusal.{BoundRefusal}
 use Rattle.bound_rules.specs.declared.faults.BoundRefusal.TheVariants.{NoMethod, Recursion, Irreducible, MissingBound, TooLarge, NoMemory}
 use Rattle.bound_rules.specs.Bounding.{IsAsked, HasNoCause, IsCause}
-use Rattle.analysis_lines.specs.declared.bound.BoundCause.{BoundCause}
-use Rattle.analysis_lines.specs.declared.bound.BoundCause.TheVariants as causes
-use Rattle.analysis_lines.specs.Lines.{names_text, nodes_text}
+use Rattle.answer_lines.specs.declared.bound.BoundCause.{BoundCause}
+use Rattle.answer_lines.specs.declared.bound.BoundCause.TheVariants as causes
+use Rattle.answer_lines.specs.AnalysisLines.{names_text, nodes_text}
 use Rattle.analysis_commands.specs.declared.bound.NotBounded.{NotBounded}
 use Rattle.analysis_commands.specs.declared.bound.NotBounded.TheVariants as refusals
 use Rattle.analysis_commands.specs.Analysis.{EachFits, timing_of, bounds_of, name_of, named_or_number, IsBoundsFault, IsAnalysisFault}
@@ -29,8 +29,8 @@ IsNamed cs name m = name_of cs m ≡ name
 
 -- ---- the certificate
 
--- The certificate, of version 2, is of a method that is asked for, of which there is no cause to refuse a bound. It meets the conditions, and its last line is the number
--- that is printed of the method.
+-- The certificate, of version 2, is of a method that is asked for, of which there is no cause to refuse a bound. It meets the conditions, and its
+-- last line is the number that is printed of the method.
 pub record IsBoundBy (P : Program) (t : Timing) (bound_of : BoundOf) (named : ℕ → Type 0) (c : Certificate) : Type 0 where
   pub asked : IsAsked P named c.root
   pub no_cause : HasNoCause P t bound_of c.root

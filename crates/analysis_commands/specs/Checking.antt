@@ -3,8 +3,8 @@ use Rattle.std.specs.Prelude.{◌≡◌, ℕ, List, [], ◌∷◌, Option, Some,
 use Rattle.std.specs.Option.{option_map_or}
 use Rattle.class_pool.specs.declared.class.ClassFile.{ClassFile}
 use Rattle.program_tables.specs.Resolved.{resolved}
-use Rattle.jop_words.specs.declared.command.Settings.{Settings}
-use Rattle.jop_text.specs.Line.{lines_of as text_lines}
+use Rattle.command_line.specs.declared.command.Settings.{Settings}
+use Rattle.ascii_text.specs.Line.{lines_of as text_lines}
 use Rattle.loop_bounds.specs.Bounds.{LoopBound}
 use Rattle.loop_bounds.specs.Grammar.{IsRead}
 use Rattle.bound_cert.specs.Certificate.{Certificate}

@@ -1,6 +1,7 @@
 //! What an analysis of a program stands on.
 ghost use Rattle.std.specs.Prelude.{◌≡◌, ◌≤◌, ℕ, length, IfOk, IfErr, Some, slice_get};
-ghost use Rattle.jop_words.specs.Range.{AreSettings};
+ghost use Rattle.base.specs.Sizes.{longest_file};
+ghost use Rattle.command_line.specs.Range.{AreSettings};
 ghost use Rattle.loop_bounds.specs.Grammar.{IsRead};
 ghost use Rattle.method_flow.specs.Flow.{Coded, IsFlowOf};
 ghost use Rattle.program_tables.specs.Resolved.{resolved};
@@ -8,10 +9,10 @@ ghost use Rattle.analysis_commands.specs.Analysis.{timing_of, name_of, IsAnalysi
 ghost use Rattle.analysis_commands.specs.Answers.{IsTooLong};
 
 use crate::names::table_name;
+use base::NoMemory;
 use bytecode_verifier::Verified;
+use command_line::Settings;
 use flow_program::flow_of;
-use jop_base::NoMemory;
-use jop_words::Settings;
 use linked_methods::{TooLong, first_too_long};
 use loop_bounds::{Bounds, BoundsFault, read_bounds};
 use method_flow::{FlowProgram, Timing};
@@ -39,7 +40,7 @@ pub enum AnalysisFault {
     NoMemory,
 }
 
-// The timing of the machine that these settings give.
+/// The timing of the machine that these settings give.
 fn timing_of(settings: &Settings) -> Timing
     ensures { result ≡ timing_of settings.now }
 {
@@ -53,7 +54,7 @@ fn timing_of(settings: &Settings) -> Timing
 
 /// The bounds that a text gives.
 pub(crate) fn bounds_in(alloc: Global, text: &[u8]) -> Result<Bounds, AnalysisFault>
-    requires { length text.now ≤ 33554432 }
+    requires { length text.now ≤ longest_file }
     ensures read { IfOk result (IsRead text.now) }
     ensures fault { IfErr result (IsBoundsFault text.now) }
 {
@@ -65,7 +66,7 @@ pub(crate) fn bounds_in(alloc: Global, text: &[u8]) -> Result<Bounds, AnalysisFa
     }
 }
 
-// The table of a program.
+/// The table of a program.
 fn table_of(alloc: Global, program: &Verified) -> Result<FlowProgram, NoMemory>
     ensures flow { IfOk result (IsFlowOf (resolved program.now)) }
     ensures names { IfOk result (λ f. (m : ℕ) (k : Coded) → slice_get f.methods m ≡ Some k → k.name ≡ name_of program.now m) }
@@ -74,7 +75,7 @@ fn table_of(alloc: Global, program: &Verified) -> Result<FlowProgram, NoMemory>
     flow_of(alloc, program.program())
 }
 
-// Why a program with this table isn't analysed, where this method's code doesn't fit the method cache.
+/// Why a program with this table isn't analysed, where this method's code doesn't fit the method cache.
 fn too_long(alloc: Global, flow: &FlowProgram, long: TooLong) -> AnalysisFault
     ensures { IsTooLong flow.now long result }
 {
@@ -84,14 +85,14 @@ fn too_long(alloc: Global, flow: &FlowProgram, long: TooLong) -> AnalysisFault
     }
 }
 
-// The same with the table of the program, whose codes fit the method cache.
+/// The same with the table of the program, whose codes fit the method cache.
 fn analysis_with(
     alloc: Global,
     flow: FlowProgram,
     timing: Timing,
     bounds: &[u8],
 ) -> Result<Analysis, AnalysisFault>
-    requires { length bounds.now ≤ 33554432 }
+    requires { length bounds.now ≤ longest_file }
     ensures parts { IfOk result (λ a. (a.flow ≡ flow) × (a.timing ≡ timing) × IsRead bounds.now a.bounds) }
     ensures fault { IfErr result (IsBoundsFault bounds.now) }
 {
@@ -121,7 +122,7 @@ pub fn analysis_of(
     bounds: &[u8],
 ) -> Result<Analysis, AnalysisFault>
     requires settings { AreSettings settings.now }
-    requires short { length bounds.now ≤ 33554432 }
+    requires short { length bounds.now ≤ longest_file }
     ensures analysis { IfOk result (IsAnalysisOf program.now settings.now bounds.now) }
     ensures fault { IfErr result (IsAnalysisFault program.now settings.now bounds.now) }
 {

@@ -1,16 +1,17 @@
 //! The bound of a method of a program, by the bounds of its loops.
 ghost use Rattle.std.specs.Prelude.{◌≡◌, ◌≤◌, ◌<◌, length, IfOk, IfErr};
-ghost use Rattle.jop_words.specs.Range.{AreSettings};
+ghost use Rattle.base.specs.Sizes.{longest_file};
+ghost use Rattle.command_line.specs.Range.{AreSettings};
 ghost use Rattle.analysis_commands.specs.Bounding.{IsBound, IsBoundNumber, IsNotBounded, IsBareNotBounded};
 ghost use Rattle.analysis_commands.specs.BoundAnswers.{IsOfProgram, IsBoundText, IsBoundNumberOf, IsCauseOf, IsNotBoundedBy};
 
 use crate::analysis::{Analysis, AnalysisFault, analysis_of, bounds_in};
 use crate::certificates::{certificate_of, certificate_text};
 use crate::subjects::{cause_of, subject_of};
-use analysis_lines::BoundCause;
+use answer_lines::BoundCause;
 use bound_rules::BoundRefusal;
 use bytecode_verifier::Verified;
-use jop_words::Settings;
+use command_line::Settings;
 use std::alloc::Global;
 
 /// Why no bound of a method is given.
@@ -25,7 +26,7 @@ pub enum NotBounded {
     NoMemory,
 }
 
-// The answer where this forbids a bound.
+/// The answer where this forbids a bound.
 fn not_bounded(
     alloc: Global,
     analysis: &Analysis,
@@ -44,7 +45,7 @@ fn not_bounded(
     }
 }
 
-// The text of the certificate of the method of this name.
+/// The text of the certificate of the method of this name.
 fn bound_text(alloc: Global, analysis: &Analysis, name: &[u8]) -> Result<Vec<u8>, NotBounded>
     requires program { IsOfProgram analysis.now }
     requires waits { (analysis.now.timing.read ≤ 63) × (analysis.now.timing.write ≤ 63) }
@@ -73,7 +74,7 @@ pub fn bound_program(
     bounds: &[u8],
 ) -> Result<Vec<u8>, NotBounded>
     requires settings { AreSettings settings.now }
-    requires short { length bounds.now ≤ 33554432 }
+    requires short { length bounds.now ≤ longest_file }
     ensures bound { IfOk result (λ text. IsBound program.now settings.now bounds.now name.now text.items) }
     ensures refused { IfErr result (IsNotBounded program.now settings.now bounds.now name.now) }
 {
@@ -83,7 +84,7 @@ pub fn bound_program(
     }
 }
 
-// The bound of the method of this name.
+/// The bound of the method of this name.
 fn number_of(alloc: Global, analysis: &Analysis, name: &[u8]) -> Result<Option<u64>, NotBounded>
     requires program { IsOfProgram analysis.now }
     requires waits { (analysis.now.timing.read ≤ 63) × (analysis.now.timing.write ≤ 63) }
@@ -110,7 +111,7 @@ pub fn bound_number(
     bounds: &[u8],
 ) -> Result<Option<u64>, NotBounded>
     requires settings { AreSettings settings.now }
-    requires short { length bounds.now ≤ 33554432 }
+    requires short { length bounds.now ≤ longest_file }
     ensures bound { IfOk result (IsBoundNumber program.now settings.now bounds.now name.now) }
     ensures refused { IfErr result (IsNotBounded program.now settings.now bounds.now name.now) }
 {
@@ -123,7 +124,7 @@ pub fn bound_number(
 /// Why no bound is given where the image is a bare one, which has no classes: what refuses the bounds, or else that no method has the
 /// name.
 pub fn bound_bare(alloc: Global, bounds: &[u8]) -> NotBounded
-    requires { length bounds.now ≤ 33554432 }
+    requires { length bounds.now ≤ longest_file }
     ensures { IsBareNotBounded bounds.now result }
 {
     match bounds_in(alloc, bounds) {

@@ -1,6 +1,6 @@
 //! The certificate of a method that is asked for, by the table of a program.
 ghost use Rattle.std.specs.Prelude.{◌≡◌, ◌≤◌, ◌<◌, ℕ, List, IfOk, IfErr};
-ghost use Rattle.jop_text.specs.Line.{lines_of as text_lines};
+ghost use Rattle.ascii_text.specs.Line.{lines_of as text_lines};
 ghost use Rattle.bound_cert.specs.Certificate.{IsInGrammar};
 ghost use Rattle.bound_cert.specs.Texts.{AreLinesOf, text_of};
 ghost use Rattle.analysis_commands.specs.declared.analysis.Analysis.{Analysis};
@@ -14,7 +14,7 @@ use bound_rules::BoundRefusal;
 use std::alloc::Global;
 use wcet::certify;
 
-// The method of this name, where nothing but its size forbids a bound.
+/// The method of this name, where nothing but its size forbids a bound.
 fn asked(alloc: Global, analysis: &Analysis, name: &[u8]) -> Result<Asked, BoundRefusal>
     ensures asked { IfOk result (IsAskedOf analysis.now name.now) }
     ensures cause { IfErr result (IsCauseOf analysis.now name.now) }
@@ -22,7 +22,7 @@ fn asked(alloc: Global, analysis: &Analysis, name: &[u8]) -> Result<Asked, Bound
     cause_before_size(alloc, &analysis.flow, &analysis.bounds, name)
 }
 
-// Its certificate.
+/// Its certificate.
 fn certificate_of_asked(
     alloc: Global,
     analysis: &Analysis,

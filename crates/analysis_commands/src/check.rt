@@ -1,7 +1,8 @@
 //! A certificate, checked against a program and the bounds of its loops.
 ghost use Rattle.std.specs.Prelude.{◌≡◌, ◌≤◌, ◌<◌, length, IfOk, IfErr};
-ghost use Rattle.jop_text.specs.Line.{lines_of as text_lines};
-ghost use Rattle.jop_words.specs.Range.{AreSettings};
+ghost use Rattle.base.specs.Sizes.{longest_file};
+ghost use Rattle.ascii_text.specs.Line.{lines_of as text_lines};
+ghost use Rattle.command_line.specs.Range.{AreSettings};
 ghost use Rattle.bound_cert.specs.Texts.{AreLinesOf};
 ghost use Rattle.analysis_commands.specs.Answers.{IsTextFault, IsHeldInText, IsRefusedInText, IsBareTextRefusal};
 ghost use Rattle.analysis_commands.specs.Checking.{first_method, IsHeld, IsRefusal, IsBareRefusal};
@@ -9,11 +10,10 @@ ghost use Rattle.analysis_commands.specs.Checking.{first_method, IsHeld, IsRefus
 use crate::analysis::{Analysis, AnalysisFault, analysis_of, bounds_in};
 use crate::conditions::check_certificate;
 use crate::names::number_text;
-use bound_cert::Cert;
+use bound_cert::{Cert, CertFault, read_cert};
 use bound_rules::CheckFault;
 use bytecode_verifier::Verified;
-use cert_reader::{CertFault, read_cert};
-use jop_words::Settings;
+use command_line::Settings;
 use std::alloc::Global;
 
 /// What is said of a certificate that holds.
@@ -40,7 +40,7 @@ pub enum CheckRefusal {
     NoMemory,
 }
 
-// The certificate that a text gives.
+/// The certificate that a text gives.
 fn certificate_in(alloc: Global, text: &[u8]) -> Result<Cert, CheckRefusal>
     ensures read { IfOk result (AreLinesOf (text_lines text.now)) }
     ensures fault { IfErr result (IsTextFault text.now) }
@@ -52,7 +52,7 @@ fn certificate_in(alloc: Global, text: &[u8]) -> Result<Cert, CheckRefusal>
     }
 }
 
-// Checks the certificate that a text gives.
+/// Checks the certificate that a text gives.
 fn check_text(alloc: Global, analysis: &Analysis, text: &[u8]) -> Result<Held, CheckRefusal>
     requires waits { (analysis.now.timing.read ≤ 63) × (analysis.now.timing.write ≤ 63) }
     requires sizes { 0 < analysis.now.timing.block_words }
@@ -78,7 +78,7 @@ pub fn check_program(
     certificate: &[u8],
 ) -> Result<Held, CheckRefusal>
     requires settings { AreSettings settings.now }
-    requires short { length bounds.now ≤ 33554432 }
+    requires short { length bounds.now ≤ longest_file }
     ensures held { IfOk result (IsHeld program.now settings.now bounds.now certificate.now) }
     ensures refused { IfErr result (IsRefusal program.now settings.now bounds.now certificate.now) }
 {
@@ -88,7 +88,7 @@ pub fn check_program(
     }
 }
 
-// The method of the first section, or else the root.
+/// The method of the first section, or else the root.
 fn first_method(certificate: &Cert) -> u32
     ensures { result ≡ first_method certificate.now }
 {
@@ -98,7 +98,7 @@ fn first_method(certificate: &Cert) -> u32
     }
 }
 
-// The refusal of the certificate of a text where the program lacks all code.
+/// The refusal of the certificate of a text where the program lacks all code.
 fn missing(alloc: Global, text: &[u8]) -> CheckRefusal
     ensures { IsBareTextRefusal text.now result }
 {
@@ -117,7 +117,7 @@ fn missing(alloc: Global, text: &[u8]) -> CheckRefusal
 /// Why no certificate is held where the image is a bare one, which has no classes: what refuses the bounds, or else the certificate,
 /// or else the first method that the image lacks.
 pub fn check_bare(alloc: Global, bounds: &[u8], certificate: &[u8]) -> CheckRefusal
-    requires { length bounds.now ≤ 33554432 }
+    requires { length bounds.now ≤ longest_file }
     ensures { IsBareRefusal bounds.now certificate.now result }
 {
     match bounds_in(alloc, bounds) {

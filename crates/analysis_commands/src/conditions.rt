@@ -1,8 +1,8 @@
 //! The conditions on a certificate, checked by the table of a program.
 ghost use Rattle.std.specs.Prelude.{◌≡◌, ◌≤◌, ◌<◌, IfOk, IfErr};
-ghost use Rattle.flow_costs.specs.Costs.{bounds_of};
+ghost use Rattle.node_costs.specs.Costs.{bounds_of};
 ghost use Rattle.bound_cert.specs.Certificate.{IsInGrammar};
-ghost use Rattle.bound_checker.specs.Answer.{Meets, Refuses};
+ghost use Rattle.cert_checker.specs.Answer.{Meets, Refuses};
 ghost use Rattle.analysis_commands.specs.Answers.{IsHeldBy, IsRefusedBy};
 ghost use Rattle.analysis_commands.specs.Checking.{method_of};
 
@@ -10,11 +10,11 @@ use crate::analysis::Analysis;
 use crate::check::{CheckRefusal, Held};
 use crate::names::table_name;
 use bound_cert::Cert;
-use bound_checker::check;
 use bound_rules::CheckFault;
+use cert_checker::check;
 use std::alloc::Global;
 
-// The method that a fault speaks of.
+/// The method that a fault speaks of.
 fn method_of(fault: CheckFault) -> Option<u32>
     ensures { result ≡ method_of fault }
 {
@@ -28,7 +28,7 @@ fn method_of(fault: CheckFault) -> Option<u32>
     }
 }
 
-// Whether the certificate meets the conditions.
+/// Whether the certificate meets the conditions.
 fn meets(alloc: Global, analysis: &Analysis, c: &Cert) -> Result<(), CheckFault>
     requires grammar { IsInGrammar c.now }
     requires waits { (analysis.now.timing.read ≤ 63) × (analysis.now.timing.write ≤ 63) }
@@ -42,7 +42,7 @@ fn meets(alloc: Global, analysis: &Analysis, c: &Cert) -> Result<(), CheckFault>
     }
 }
 
-// The refusal by a fault, with the name of the method of which it speaks.
+/// The refusal by a fault, with the name of the method of which it speaks.
 fn fails(alloc: Global, analysis: &Analysis, c: &Cert, fault: CheckFault) -> CheckRefusal
     requires { Refuses analysis.now.flow (bounds_of analysis.now.flow analysis.now.bounds) analysis.now.timing c.now fault }
     ensures { IsRefusedBy analysis.now c.now result }
@@ -56,7 +56,7 @@ fn fails(alloc: Global, analysis: &Analysis, c: &Cert, fault: CheckFault) -> Che
     }
 }
 
-// What is said of a certificate that meets the conditions.
+/// What is said of a certificate that meets the conditions.
 fn held(alloc: Global, analysis: &Analysis, c: &Cert) -> Result<Held, CheckRefusal>
     requires { Meets analysis.now.flow (bounds_of analysis.now.flow analysis.now.bounds) analysis.now.timing c.now }
     ensures held { IfOk result (IsHeldBy analysis.now c.now) }

@@ -3,8 +3,8 @@ ghost use Rattle.std.specs.Prelude.{◌≡◌, IfOk};
 ghost use Rattle.analysis_commands.specs.Analysis.{number_text};
 ghost use Rattle.analysis_commands.specs.Answers.{table_name};
 
-use jop_base::NoMemory;
-use jop_text::put_u64;
+use ascii_text::put_u64;
+use base::NoMemory;
 use method_flow::FlowProgram;
 use std::alloc::Global;
 

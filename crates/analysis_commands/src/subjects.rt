@@ -1,15 +1,15 @@
 //! What the lines of bounds that aren't given name.
 ghost use Rattle.std.specs.Prelude.{◌≡◌, ◌++◌, IfOk, OnOk, codes, map};
-ghost use Rattle.cert_lines.specs.Lines.{node_text};
-ghost use Rattle.analysis_lines.specs.Lines.{names_text, nodes_text};
+ghost use Rattle.bound_cert.specs.CertLines.{node_text};
+ghost use Rattle.answer_lines.specs.AnalysisLines.{names_text, nodes_text};
 ghost use Rattle.analysis_commands.specs.Answers.{table_name};
 ghost use Rattle.analysis_commands.specs.Bounding.{cause_of, subject_of};
 
 use crate::names::table_name;
-use analysis_lines::BoundCause;
+use answer_lines::BoundCause;
+use ascii_text::put_u64;
+use base::NoMemory;
 use bound_rules::BoundRefusal;
-use jop_base::NoMemory;
-use jop_text::put_u64;
 use method_flow::FlowProgram;
 use std::alloc::Global;
 
@@ -27,7 +27,7 @@ pub(crate) fn cause_of(refusal: &BoundRefusal) -> Option<BoundCause>
     }
 }
 
-// Appends the name of a method behind a space.
+/// Appends the name of a method behind a space.
 fn put_name(alloc: Global, out: &mut Vec<u8>, flow: &FlowProgram, m: u32) -> Result<(), NoMemory>
     ensures { OnOk result (out.new.items ≡ out.old.items ++ (codes " " ++ table_name flow.now m)) }
 {
@@ -37,7 +37,7 @@ fn put_name(alloc: Global, out: &mut Vec<u8>, flow: &FlowProgram, m: u32) -> Res
     Ok(())
 }
 
-// The names of methods, each behind a space.
+/// The names of methods, each behind a space.
 fn names_text(alloc: Global, flow: &FlowProgram, methods: &[u32]) -> Result<Vec<u8>, NoMemory>
     ensures { IfOk result (λ text. text.items ≡ names_text (map (table_name flow.now) methods.now)) }
 {
@@ -48,7 +48,7 @@ fn names_text(alloc: Global, flow: &FlowProgram, methods: &[u32]) -> Result<Vec<
     Ok(out)
 }
 
-// Appends a node behind a space: its place, and `r` where it is a raise step.
+/// Appends a node behind a space: its place, and `r` where it is a raise step.
 fn put_node(out: &mut Vec<u8>, node: u32) -> Result<(), NoMemory>
     ensures { OnOk result (out.new.items ≡ out.old.items ++ (codes " " ++ node_text node)) }
 {
@@ -60,7 +60,7 @@ fn put_node(out: &mut Vec<u8>, node: u32) -> Result<(), NoMemory>
     Ok(())
 }
 
-// Appends nodes, each behind a space.
+/// Appends nodes, each behind a space.
 fn put_nodes(out: &mut Vec<u8>, nodes: &[u32]) -> Result<(), NoMemory>
     ensures { OnOk result (out.new.items ≡ out.old.items ++ nodes_text nodes.now) }
 {
@@ -70,7 +70,7 @@ fn put_nodes(out: &mut Vec<u8>, nodes: &[u32]) -> Result<(), NoMemory>
     Ok(())
 }
 
-// The name of a method, and nodes behind it.
+/// The name of a method, and nodes behind it.
 fn name_and_nodes(
     alloc: Global,
     flow: &FlowProgram,

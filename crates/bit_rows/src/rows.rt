@@ -1,10 +1,12 @@
+//! Rows of bits, one for each number.
+
 ghost use Rattle.std.specs.Prelude.{◌≡◌, ℕ, ◌||◌, ◌&&◌, ◌==◌, ◌<◌, ◌≤◌, ◌*◌, ◌+◌, false, length, take, drop, Some, IfOk, OnErr, OnOk};
 ghost use Rattle.std.specs.Option.{option_map_or};
 ghost use Rattle.bit_rows.specs.Bits.{has, is_pair, is_in};
 ghost use Rattle.bit_rows.specs.Table.{columns, start_of};
 
+use base::NoMemory;
 use indexmap::IndexMap;
-use jop_base::NoMemory;
 use std::alloc::Global;
 use std::marker::Model;
 

@@ -16,7 +16,8 @@ LeadsFromReached g = (u v : ℕ) → Edge g u v → IsReachable g u
 -- so they do in graphs of methods, live graphs, and graphs in which some calls don't go on
 abbrev pub MethodGraphsAreReached : Type 0
 MethodGraphsAreReached =
-    (P : Program) (m : ℕ) (calls : List Call) (goes : List Bool) (g : Digraph) → IsGraphOf P m g ⊎ (IsLiveGraph P m g ⊎ IsGraphBy (IsEdgeWhere P m calls goes) P m g) → LeadsFromReached g
+    (P : Program) (m : ℕ) (calls : List Call) (goes : List Bool) (g : Digraph)
+    → IsGraphOf P m g ⊎ (IsLiveGraph P m g ⊎ IsGraphBy (IsEdgeWhere P m calls goes) P m g) → LeadsFromReached g
 
 -- a node of the compact graph is a header where it is one under its other number, and each header has a node there
 abbrev pub CompactKeepsHeaders : Type 0
@@ -26,7 +27,8 @@ CompactKeepsHeaders =
 -- and the members of a loop are the same nodes
 abbrev pub CompactKeepsMembers : Type 0
 CompactKeepsMembers =
-    (g d : Digraph) (node : ℕ → ℕ) → LeadsFromReached g → IsCompact g d node → (h : ℕ) → h < d.nodes → (x : ℕ) → IsMember g (node h) x ↔ ((u : ℕ) × (u < d.nodes) × IsMember d h u × (node u ≡ x))
+    (g d : Digraph) (node : ℕ → ℕ) → LeadsFromReached g → IsCompact g d node → (h : ℕ) → h < d.nodes → (x : ℕ)
+    → IsMember g (node h) x ↔ ((u : ℕ) × (u < d.nodes) × IsMember d h u × (node u ≡ x))
 
 -- a loop with other numbers of nodes
 abbrev pub moved_loop : (ℕ → ℕ) → NaturalLoop → NaturalLoop
@@ -34,4 +36,5 @@ moved_loop node l = record { header = node l.header; members = map node l.member
 
 -- and so the loops of the compact graph, with the other numbers, are those of the graph
 abbrev pub CompactKeepsNests : Type 0
-CompactKeepsNests = (g d : Digraph) (node : ℕ → ℕ) (ls : List NaturalLoop) → LeadsFromReached g → IsCompact g d node → IsNest d ls → IsNest g (map (moved_loop node) ls)
+CompactKeepsNests = (g d : Digraph) (node : ℕ → ℕ) (ls : List NaturalLoop) → LeadsFromReached g → IsCompact g d node → IsNest d ls
+    → IsNest g (map (moved_loop node) ls)

@@ -4,16 +4,16 @@ ghost use Rattle.std.specs.List.Sorted.{IsStrictlyIncreasing};
 ghost use Rattle.bytecode_model.specs.Program.{Program};
 ghost use Rattle.method_flow.specs.Flow.{IsFlowOf};
 ghost use Rattle.method_flow.specs.Regions.{IsWithin, AreMethodsOf};
-ghost use Rattle.flow_costs.specs.Costs.{bounds_of};
+ghost use Rattle.node_costs.specs.Costs.{bounds_of};
 ghost use Rattle.bound_rules.specs.Bounding.{AreReducible, HaveLines};
 ghost use Rattle.bound_causes.specs.Causes.{IsLoopCause, IsUnboundedIn, IsIrreducibleBy, AreSearched, IsIrreducibleAmong, found_or};
 
 use super::shapes::{Shape, shape_of};
+use base::NoMemory;
 use bound_rules::BoundRefusal;
-use flow_costs::bound_at;
-use jop_base::NoMemory;
 use loop_bounds::Bounds;
 use method_flow::FlowProgram;
+use node_costs::bound_at;
 use std::alloc::Global;
 
 /// The first of these places for which no bound is given.
@@ -89,8 +89,10 @@ pub fn check_loops(
 ) -> Result<(), BoundRefusal>
     requires known { All (λ m. m < length f.now.methods) methods.now }
     requires rising { IsStrictlyIncreasing methods.now }
-    ensures ok { OnOk result ((P : Program) (root : ℕ) → IsFlowOf P f.now → AreMethodsOf (IsWithin P root) methods.now → AreReducible P root × HaveLines P (bounds_of f.now b.now) root) }
-    ensures cause { IfErr result (λ e. (P : Program) (root : ℕ) → IsFlowOf P f.now → AreMethodsOf (IsWithin P root) methods.now → IsLoopCause P (bounds_of f.now b.now) root e) }
+    ensures ok { OnOk result ((P : Program) (root : ℕ) → IsFlowOf P f.now → AreMethodsOf (IsWithin P root) methods.now
+        → AreReducible P root × HaveLines P (bounds_of f.now b.now) root) }
+    ensures cause { IfErr result (λ e. (P : Program) (root : ℕ) → IsFlowOf P f.now → AreMethodsOf (IsWithin P root) methods.now
+        → IsLoopCause P (bounds_of f.now b.now) root e) }
 {
     match first_unbounded(alloc, f, b, methods)? {
         Some((m, place)) => Err(BoundRefusal::MissingBound(m, place)),

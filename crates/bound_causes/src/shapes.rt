@@ -7,9 +7,9 @@ ghost use Rattle.method_flow.specs.Flow.{IsCodedOf};
 ghost use Rattle.bound_causes.specs.Shapes.{IsShape, IsCompactShape};
 
 use super::laws::{compact_keeps_loops, method_graphs_are_reached};
+use base::NoMemory;
 use bound_rules::laws::{graphs_are_one, headers_are_instructions};
 use flow_graph::{Compact, compact, whole_graph};
-use jop_base::NoMemory;
 use loop_nest::loops::{Loop, NestFault};
 use loop_nest::nest;
 use method_flow::FlowMethod;

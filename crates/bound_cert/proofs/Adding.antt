@@ -5,10 +5,10 @@ use Rattle.std.specs.Option.{option_map, option_to_list}
 use Rattle.lists.specs.Lemmas.{none≢some, some_same}
 use Rattle.lists.specs.FirstLemmas.{flat_map-more}
 use Rattle.section_check.specs.Section.{CertifiedLoop}
-use Rattle.cert_lines.specs.declared.line.SectionKind.{SectionKind}
-use Rattle.cert_lines.specs.declared.line.CertLine.{CertLine}
-use Rattle.cert_lines.specs.declared.line.CertLine.TheVariants.{Version, Root, Start, Node, Loop, Bound}
-use Rattle.cert_lines.specs.Loop.{LoopSaid}
+use Rattle.bound_cert.specs.declared.lines.line.SectionKind.{SectionKind}
+use Rattle.bound_cert.specs.declared.lines.line.CertLine.{CertLine}
+use Rattle.bound_cert.specs.declared.lines.line.CertLine.TheVariants.{Version, Root, Start, Node, Loop, Bound}
+use Rattle.bound_cert.specs.Loop.{LoopSaid}
 use Rattle.bound_cert.specs.declared.cert.CertSection.{CertSection}
 use Rattle.bound_cert.specs.Texts.{loop_said, section_said, said}
 use Rattle.bound_cert.specs.Drafts.{Draft, Blank, Versioned, Begun, Whole, IsDraft, empty_section, if_empty, certified, with_loop, put}

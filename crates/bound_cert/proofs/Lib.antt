@@ -5,3 +5,13 @@ pub mod Running
 pub mod LinesRead
 pub mod Texts
 pub mod Examples
+pub mod PartLemmas
+pub mod NumberLemmas
+pub mod RisingLemmas
+pub mod MemberLemmas
+pub mod WordLemmas
+pub mod LineLemmas
+pub mod Going
+pub mod Sorts
+pub mod Next
+pub mod Counting

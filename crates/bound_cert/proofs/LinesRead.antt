@@ -4,9 +4,9 @@ use Rattle.std.specs.List.{AllByRecursion}
 use Rattle.std.proofs.lemmas.List.{length-append, take-append-drop, take-append-le}
 use Rattle.lists.specs.Lists.{onto}
 use Rattle.lists.specs.Lemmas.{some_same}
-use Rattle.cert_lines.specs.declared.line.CertLine.{CertLine}
-use Rattle.cert_lines.specs.Lines.{line_text, IsInRange}
-use Rattle.cert_lines.proofs.LineLemmas.{says_one_thing}
+use Rattle.bound_cert.specs.declared.lines.line.CertLine.{CertLine}
+use Rattle.bound_cert.specs.CertLines.{line_text, IsInRange}
+use Rattle.bound_cert.proofs.LineLemmas.{says_one_thing}
 use Rattle.bound_cert.specs.Certificate.{Certificate, IsInGrammar}
 use Rattle.bound_cert.specs.Texts.{said, lines_of, AreLinesOf, BeginOne, IsFirstRefused}
 use Rattle.bound_cert.specs.Drafts.{Draft, Blank, Whole, IsDraft, put, Adds, Refuses}

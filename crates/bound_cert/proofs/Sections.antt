@@ -5,15 +5,15 @@ use Rattle.std.specs.List.Sorted.{IsStrictlyIncreasing}
 use Rattle.std.proofs.lemmas.List.Elements.{All-push, All-nil}
 use Rattle.std.proofs.lemmas.List.Quantifiers.{all_pairs_push}
 use Rattle.section_check.specs.Section.{CertifiedLoop, listed}
-use Rattle.cert_lines.specs.declared.line.SectionKind.{SectionKind}
-use Rattle.cert_lines.specs.declared.line.SectionKind.TheVariants.{Loops}
-use Rattle.cert_lines.specs.Loop.{LoopSaid, IsAbove, last_of, IsLoopSaid}
-use Rattle.cert_lines.specs.Lines.{IsPotential}
+use Rattle.bound_cert.specs.declared.lines.line.SectionKind.{SectionKind}
+use Rattle.bound_cert.specs.declared.lines.line.SectionKind.TheVariants.{Loops}
+use Rattle.bound_cert.specs.Loop.{LoopSaid, IsAbove, last_of, IsLoopSaid}
+use Rattle.bound_cert.specs.CertLines.{IsPotential}
 use Rattle.bound_cert.specs.declared.cert.CertSection.{CertSection}
 use Rattle.bound_cert.specs.declared.cert.SectionSort.{SectionSort}
 use Rattle.bound_cert.specs.Certificate.{IsLoopInText, IsSectionInText, sort_of, IsInGrammar}
 use Rattle.bound_cert.specs.Drafts.{never_with, empty_section, certified, with_loop, TakesLoop}
-use Rattle.cert_lines.proofs.RisingLemmas.{rises_on, rises_before, above_before}
+use Rattle.bound_cert.proofs.RisingLemmas.{rises_on, rises_before, above_before}
 use Rattle.bound_cert.proofs.Lists.{all_before, all_last, pairs_before, pairs_last, map-push}
 
 -- ---- nodes

@@ -6,12 +6,12 @@ use Rattle.std.proofs.lemmas.Bool.{cases_Bool, eqb-true}
 use Rattle.std.proofs.lemmas.List.Elements.{All-from_recursion}
 use Rattle.std.proofs.lemmas.List.Splits.{slice_split_at}
 use Rattle.lists.specs.FirstLemmas.{flat_map-append}
-use Rattle.jop_text.specs.Line.{lines_of as text_lines, without_empty_last}
+use Rattle.ascii_text.specs.Line.{lines_of as text_lines, without_empty_last}
 use Rattle.section_check.specs.Section.{CertifiedLoop}
-use Rattle.cert_lines.specs.declared.line.CertLine.{CertLine}
-use Rattle.cert_lines.specs.declared.line.CertLine.TheVariants.{Version, Root, Start, Node, Loop, Bound}
-use Rattle.cert_lines.specs.Lines.{line_text, IsInRange}
-use Rattle.cert_lines.proofs.LineLemmas.{line_no_feed}
+use Rattle.bound_cert.specs.declared.lines.line.CertLine.{CertLine}
+use Rattle.bound_cert.specs.declared.lines.line.CertLine.TheVariants.{Version, Root, Start, Node, Loop, Bound}
+use Rattle.bound_cert.specs.CertLines.{line_text, IsInRange}
+use Rattle.bound_cert.proofs.LineLemmas.{line_no_feed}
 use Rattle.bound_cert.specs.declared.cert.CertSection.{CertSection}
 use Rattle.bound_cert.specs.Certificate.{Certificate, IsInGrammar}
 use Rattle.bound_cert.specs.Texts.{loop_said, section_said, said, lines_of, text_of, AreLinesOf}

@@ -2,10 +2,10 @@
 use Rattle.std.specs.Prelude.{◌≡◌, ◌≢◌, ℕ, ◌%◌, ◌<◌, ◌^◌, Bool, true, false, List, map, All, AllPairs, Option}
 use Rattle.std.specs.List.Sorted.{IsStrictlyIncreasing}
 use Rattle.section_check.specs.Section.{CertifiedLoop, listed, ArePotentials}
-use Rattle.cert_lines.specs.declared.line.SectionKind.{SectionKind}
-use Rattle.cert_lines.specs.declared.line.SectionKind.TheVariants.{Inside, Alone, Loops}
-use Rattle.cert_lines.specs.Loop.{AreMembers}
-use Rattle.cert_lines.specs.Lines.{IsVersion, IsBound}
+use Rattle.bound_cert.specs.declared.lines.line.SectionKind.{SectionKind}
+use Rattle.bound_cert.specs.declared.lines.line.SectionKind.TheVariants.{Inside, Alone, Loops}
+use Rattle.bound_cert.specs.Loop.{AreMembers}
+use Rattle.bound_cert.specs.CertLines.{IsVersion, IsBound}
 use Rattle.bound_cert.specs.declared.cert.SectionSort.{SectionSort}
 use Rattle.bound_cert.specs.declared.cert.CertSection.{CertSection}
 

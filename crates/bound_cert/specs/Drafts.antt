@@ -2,12 +2,12 @@
 use Rattle.std.specs.Prelude.{◌≡◌, ℕ, ℤ, true, List, [], ◌∷◌, ◌++◌, map, Option, Some, None, IsSomeAnd}
 use Rattle.std.specs.Option.{option_map, option_to_list}
 use Rattle.section_check.specs.Section.{CertifiedLoop, listed}
-use Rattle.cert_lines.specs.declared.line.SectionKind.{SectionKind}
-use Rattle.cert_lines.specs.declared.line.SectionKind.TheVariants.{Loops}
-use Rattle.cert_lines.specs.declared.line.CertLine.{CertLine}
-use Rattle.cert_lines.specs.declared.line.CertLine.TheVariants.{Version, Root, Start, Node, Loop, Bound}
-use Rattle.cert_lines.specs.Loop.{LoopSaid, IsAbove, last_of}
-use Rattle.cert_lines.specs.Lines.{line_text, IsVersion, IsInRange}
+use Rattle.bound_cert.specs.declared.lines.line.SectionKind.{SectionKind}
+use Rattle.bound_cert.specs.declared.lines.line.SectionKind.TheVariants.{Loops}
+use Rattle.bound_cert.specs.declared.lines.line.CertLine.{CertLine}
+use Rattle.bound_cert.specs.declared.lines.line.CertLine.TheVariants.{Version, Root, Start, Node, Loop, Bound}
+use Rattle.bound_cert.specs.Loop.{LoopSaid, IsAbove, last_of}
+use Rattle.bound_cert.specs.CertLines.{line_text, IsVersion, IsInRange}
 use Rattle.bound_cert.specs.declared.cert.CertSection.{CertSection}
 use Rattle.bound_cert.specs.Certificate.{Certificate, IsInGrammar}
 
@@ -53,7 +53,8 @@ put (Versioned version) (Root root) = Some (Begun version root [] None)
 put (Begun version root closed current) (Start kind method) = Some (Begun version root (closed ++ option_to_list current) (Some (empty_section kind method)))
 put (Begun version root closed (Some s)) (Node u potential) = option_map (λ t. Begun version root closed (Some t)) (with_node u potential s)
 put (Begun version root closed (Some s)) (Loop l) = Some (Begun version root closed (Some (with_loop l s)))
-put (Begun version root closed current) (Bound bound) = Some (Whole (record { version = version; root = root; sections = closed ++ option_to_list current; bound = bound }))
+put (Begun version root closed current) (Bound bound) = Some
+    (Whole (record { version = version; root = root; sections = closed ++ option_to_list current; bound = bound }))
 put draft line = None
 
 -- a certificate goes on so

@@ -1,8 +1,8 @@
 -- Certificates that were worked out by hand, with their texts.
 use Rattle.std.specs.Prelude.{◌≡◌, ◌-◌, ◌^◌, pos, negsuc, true, false, [], ◌∷◌, None, Some, codes}
-use Rattle.cert_lines.specs.declared.line.SectionKind.TheVariants.{Inside, Alone, Loops}
-use Rattle.cert_lines.specs.declared.line.CertLine.TheVariants.{Version, Root, Start, Node, Loop, Bound}
-use Rattle.cert_lines.specs.Lines.{line_text}
+use Rattle.bound_cert.specs.declared.lines.line.SectionKind.TheVariants.{Inside, Alone, Loops}
+use Rattle.bound_cert.specs.declared.lines.line.CertLine.TheVariants.{Version, Root, Start, Node, Loop, Bound}
+use Rattle.bound_cert.specs.CertLines.{line_text}
 use Rattle.bound_cert.specs.declared.cert.CertSection.{CertSection}
 use Rattle.bound_cert.specs.Certificate.{Certificate, sort_of}
 use Rattle.bound_cert.specs.Texts.{text_of}
@@ -19,7 +19,11 @@ abbrev pub calling : CertSection
 calling = record {
   kind = Loops;
   method = 7;
-  section = record { nodes = (0, pos 176) ∷ (2, pos 4) ∷ (3, negsuc 0) ∷ (4, pos 1) ∷ []; loops = record { header = 2; iteration_cost = 7; members = 2 ∷ 3 ∷ 4 ∷ []; region = true } ∷ [] };
+  section = record {
+    nodes = (0, pos 176) ∷ (2, pos 4) ∷ (3, negsuc 0) ∷ (4, pos 1)
+        ∷ [];
+    loops = record { header = 2; iteration_cost = 7; members = 2 ∷ 3 ∷ 4 ∷ []; region = true } ∷ [];
+  };
 }
 
 -- a method with a region, and one that it calls
@@ -32,7 +36,13 @@ pub record WorkedTexts : Type 0 where
   pub text_of_sections : text_of with_sections ≡ codes "JOPC 2\nroot 7\nsection inside 3\nnode 0 12\nsection loops 7\nnode 0 176\nnode 1 4\nraise 1 -1\nnode 2 1\nregion 1 7 1 1r 2\nbound 176\n"
   pub greatest_potential : line_text (Node 4294967294 (pos (2 ^ 64 - 1))) ≡ codes "node 2147483647 18446744073709551615"
   pub least_potential : line_text (Node 4294967295 (negsuc (2 ^ 64 - 2))) ≡ codes "raise 2147483647 -18446744073709551615"
-  pub greatest_loop : line_text (Loop (record { region = false; header = 4294967294; cost = 2 ^ 64 - 1; members = 0 ∷ 1 ∷ [] })) ≡ codes "loop 2147483647 18446744073709551615 0 0r"
+  pub greatest_loop : line_text (Loop (record {
+    region = false;
+    header = 4294967294;
+    cost = 2 ^ 64 - 1;
+    members = 0 ∷ 1
+        ∷ [];
+  })) ≡ codes "loop 2147483647 18446744073709551615 0 0r"
   pub greatest_method : line_text (Start Alone 4294967295) ≡ codes "section alone 4294967295"
   pub no_cycle : line_text (Bound (Some 0)) ≡ codes "bound 0"
   pub root_first : put Blank (Root 0) ≡ None

@@ -1,6 +1,6 @@
 -- What follows of texts of certificates.
 use Rattle.std.specs.Prelude.{◌≡◌, ℕ, List}
-use Rattle.jop_text.specs.Line.{lines_of as text_lines}
+use Rattle.ascii_text.specs.Line.{lines_of as text_lines}
 use Rattle.bound_cert.specs.Certificate.{Certificate, IsInGrammar}
 use Rattle.bound_cert.specs.Texts.{AreLinesOf, text_of}
 

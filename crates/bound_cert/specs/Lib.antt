@@ -4,3 +4,10 @@ pub mod Drafts
 pub mod Written
 pub mod Laws
 pub mod Examples
+pub mod Finding
+pub mod Loop
+pub mod CertLines
+pub mod Rests
+pub mod LineLaws
+pub mod Refused
+pub mod Steps

@@ -1,10 +1,10 @@
 -- The text of a certificate, line by line.
 use Rattle.std.specs.Prelude.{◌≡◌, ℕ, ◌+◌, ◌<◌, ◌≤◌, List, [], ◌∷◌, ◌++◌, length, map, take, flat_map, codes}
 use Rattle.section_check.specs.Section.{CertifiedLoop}
-use Rattle.cert_lines.specs.declared.line.CertLine.{CertLine}
-use Rattle.cert_lines.specs.declared.line.CertLine.TheVariants.{Version, Root, Start, Node, Loop, Bound}
-use Rattle.cert_lines.specs.Loop.{LoopSaid}
-use Rattle.cert_lines.specs.Lines.{line_text}
+use Rattle.bound_cert.specs.declared.lines.line.CertLine.{CertLine}
+use Rattle.bound_cert.specs.declared.lines.line.CertLine.TheVariants.{Version, Root, Start, Node, Loop, Bound}
+use Rattle.bound_cert.specs.Loop.{LoopSaid}
+use Rattle.bound_cert.specs.CertLines.{line_text}
 use Rattle.bound_cert.specs.declared.cert.CertSection.{CertSection}
 use Rattle.bound_cert.specs.Certificate.{Certificate, IsInGrammar}
 

@@ -1,9 +1,9 @@
 -- Lines as they are written.
 use Rattle.std.specs.Prelude.{ℕ, ℤ, List, [], ◌∷◌, ◌++◌, flat_map}
 use Rattle.section_check.specs.Section.{CertifiedLoop}
-use Rattle.cert_lines.specs.declared.line.CertLine.{CertLine}
-use Rattle.cert_lines.specs.declared.line.CertLine.TheVariants.{Start, Node, Loop}
-use Rattle.cert_lines.specs.Lines.{line_text}
+use Rattle.bound_cert.specs.declared.lines.line.CertLine.{CertLine}
+use Rattle.bound_cert.specs.declared.lines.line.CertLine.TheVariants.{Start, Node, Loop}
+use Rattle.bound_cert.specs.CertLines.{line_text}
 use Rattle.bound_cert.specs.declared.cert.CertSection.{CertSection}
 use Rattle.bound_cert.specs.Texts.{loop_said}
 

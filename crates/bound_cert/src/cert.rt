@@ -1,7 +1,7 @@
 //! Certificates.
 ghost use Rattle.std.specs.Prelude.{◌≡◌};
 
-use cert_lines::SectionKind;
+use crate::SectionKind;
 use section_check::section::Section;
 use std::marker::Model;
 

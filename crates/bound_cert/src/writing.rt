@@ -2,16 +2,16 @@
 ghost use Rattle.std.specs.Prelude.{◌≡◌, ◌++◌, ◌∷◌, [], All, IfOk, OnOk, codes, decimal, flat_map};
 ghost use Rattle.std.specs.Fmt.{signed_decimal};
 ghost use Rattle.section_check.specs.Section.{IsPotential, ArePotentials};
-ghost use Rattle.cert_lines.specs.Lines.{behind_space, node_text, members_text, kind_text};
-ghost use Rattle.cert_lines.specs.declared.line.CertLine.TheVariants.{Version, Root, Start, Node, Loop, Bound};
+ghost use Rattle.bound_cert.specs.CertLines.{behind_space, node_text, members_text, kind_text};
+ghost use Rattle.bound_cert.specs.declared.lines.line.CertLine.TheVariants.{Version, Root, Start, Node, Loop, Bound};
 ghost use Rattle.bound_cert.specs.Certificate.{IsInGrammar};
 ghost use Rattle.bound_cert.specs.Texts.{loop_said, text_of};
 ghost use Rattle.bound_cert.specs.Written.{fed, node_fed, loop_fed, section_fed};
 
+use crate::SectionKind;
 use crate::cert::{Cert, CertSection};
-use cert_lines::SectionKind;
-use jop_base::NoMemory;
-use jop_text::put_u64;
+use ascii_text::put_u64;
+use base::NoMemory;
 use section_check::section::CertLoop;
 use std::alloc::Global;
 

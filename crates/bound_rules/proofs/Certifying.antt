@@ -2,9 +2,9 @@
 use Rattle.std.proofs.Common.{◌≡◌, ◌≢◌, ℕ, ◌+◌, ◌*◌, ◌<◌, ◌≤◌, ◌^◌, true, false, List, [], ◌∷◌, Contains, Option, Some, None, pos, refl, sym, ap, ap₂, ◌∙◌, subst, inl, inr, IsSome, arith}
 use Rattle.std.proofs.lemmas.List.Elements.{All-cons, All-nil, All-contains}
 use Rattle.std.specs.Int.{int_wrap}
-use Rattle.jop_opcodes.specs.Instruction.{decoded}
-use Rattle.jop_opcodes.specs.Row as opcodes
-use Rattle.jop_opcodes.specs.Start.{starts_of}
+use Rattle.opcodes.specs.Instruction.{decoded}
+use Rattle.opcodes.specs.Row as opcodes
+use Rattle.opcodes.specs.Start.{starts_of}
 use Rattle.bytecode_model.specs.Table.{row_of}
 use Rattle.lists.specs.Members.{at_head, cons_cases, nil_contains}
 use Rattle.micro_flow.specs.Costs.{IsGreatestInvoke}

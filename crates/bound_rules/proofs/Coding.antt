@@ -6,7 +6,7 @@ use Rattle.std.specs.List.{filter_map, cons_option}
 use Rattle.lists.specs.Lemmas.{onto_some, some_is, holds_at}
 use Rattle.lists.specs.Members.{cons_cases, nil_contains}
 use Rattle.lists.specs.Tests.{and_left, and_right}
-use Rattle.jop_opcodes.specs.Start.{IsStart}
+use Rattle.opcodes.specs.Start.{IsStart}
 use Rattle.bytecode_model.specs.Lists.{onto}
 use Rattle.bytecode_model.specs.Program.{Program, Method, Body, body_of}
 use Rattle.bytecode_model.specs.Rows as rows

@@ -5,8 +5,8 @@ use Rattle.std.specs.Int.{int_wrap}
 use Rattle.std.specs.Int.Signed.{≤ℤ_refl}
 use Rattle.std.proofs.lemmas.Bool.Decides.{leb_tells}
 use Rattle.std.proofs.lemmas.Int.{ints}
-use Rattle.jop_opcodes.specs.Instruction.{decoded}
-use Rattle.jop_opcodes.specs.Row as opcodes
+use Rattle.opcodes.specs.Instruction.{decoded}
+use Rattle.opcodes.specs.Row as opcodes
 use Rattle.bytecode_model.specs.Table.{row_of}
 use Rattle.lists.specs.Members.{at_head, in_tail, cons_cases, nil_contains}
 use Rattle.loop_nest.specs.Digraph.{Digraph, IsBefore}
@@ -14,8 +14,8 @@ use Rattle.section_check.specs.Section.{Certified, listed, potential, with_fee}
 use Rattle.section_check.specs.Placing.{IsHeld, IsMisplaced, ExceedsLimit}
 use Rattle.section_check.specs.Placing.IsMisplaced.{lists_no_node, holds_no_node, heads_faulty, enters_aside, holds_entry, exceeds_limit}
 use Rattle.section_check.specs.Conditions.{EdgeHolds, ExitHolds, natural}
-use Rattle.cert_lines.specs.declared.line.SectionKind.{SectionKind}
-use Rattle.cert_lines.specs.declared.line.SectionKind.TheVariants.{Inside}
+use Rattle.bound_cert.specs.declared.lines.line.SectionKind.{SectionKind}
+use Rattle.bound_cert.specs.declared.lines.line.SectionKind.TheVariants.{Inside}
 use Rattle.method_flow.specs.Nodes.{Node, At, RaiseAt, number_of}
 use Rattle.method_flow.specs.Nodes.IsReached.{first, later}
 use Rattle.method_flow.specs.Calls.{IsTarget}

@@ -4,9 +4,9 @@ use Rattle.std.specs.Prelude.{unwrap_or, slice_index_or}
 use Rattle.std.specs.Int.{int_wrap}
 use Rattle.std.specs.Int.Signed.{≤ℤ_refl}
 use Rattle.std.proofs.lemmas.Int.{ints}
-use Rattle.jop_opcodes.specs.Instruction.{decoded}
-use Rattle.jop_opcodes.specs.Row as opcodes
-use Rattle.jop_opcodes.specs.Start.{starts_of}
+use Rattle.opcodes.specs.Instruction.{decoded}
+use Rattle.opcodes.specs.Row as opcodes
+use Rattle.opcodes.specs.Start.{starts_of}
 use Rattle.bytecode_model.specs.Table.{row_of}
 use Rattle.lists.specs.Members.{at_head, in_tail, cons_cases, nil_contains}
 use Rattle.section_check.specs.Section.{CertifiedLoop, PricedLoop}
@@ -14,7 +14,7 @@ use Rattle.section_check.specs.Placing.{IsAt, IsHeld, IsFaulty, IsMisplaced, Exc
 use Rattle.section_check.specs.Placing.IsFaulty.{shares_header, leaves_header_out, crosses_another, does_not_fit, lies_in_region}
 use Rattle.section_check.specs.Placing.IsMisplaced.{lists_no_node, holds_no_node, heads_faulty, enters_aside, holds_entry, exceeds_limit}
 use Rattle.section_check.specs.Conditions.{EdgeHolds, ExitHolds, natural}
-use Rattle.cert_lines.specs.declared.line.SectionKind.TheVariants.{Loops}
+use Rattle.bound_cert.specs.declared.lines.line.SectionKind.TheVariants.{Loops}
 use Rattle.method_flow.specs.Nodes.{Node, At, RaiseAt, number_of}
 use Rattle.method_flow.specs.Nodes.IsReached.{first, later}
 use Rattle.method_flow.specs.Calls.{IsCall, IsStartOf, IsTarget}

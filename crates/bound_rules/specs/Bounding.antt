@@ -73,13 +73,15 @@ HaveLines P bound_of root = (m p : ℕ) → ¬ LacksLine P bound_of root m p
 
 -- ---- numbers past 64 bits
 
--- Of a method, by the numbers: its number with all loads is too large; for the root, what is printed is; or one iteration of each loop that holds a node from which an
--- exit is reached are so together, under the costs of the number that is asked of the method.
+-- Of a method, by the numbers: its number with all loads is too large; for the root, what is printed is; or one iteration of each loop that holds a
+-- node from which an exit is reached are so together, under the costs of the number that is asked of the method.
 pub data ExceedsSize (P : Program) (t : Timing) (bound_of : BoundOf) (root : ℕ) (N : Numbers) (m : ℕ) : Type 0 where
   full : (n : ℕ) → N.full m ≡ Some n → 2 ^ 64 ≤ n → ExceedsSize P t bound_of root N m
   printed : m ≡ root → (n : ℕ) → IsPrintedOf P t (N.full root) (Some n) → 2 ^ 64 ≤ n → ExceedsSize P t bound_of root N m
-  inside : RegionFits P t m → (h : IsInside P t bound_of N m) → IterationsExceed h.flow.graph h.costs (charged_loops h.flow (no_fees h.flow)) → ExceedsSize P t bound_of root N m
-  loops : ¬ RegionFits P t m → (h : IsLoops P t bound_of N m) → IterationsExceed h.flow.graph h.costs (charged_loops h.flow h.fees) → ExceedsSize P t bound_of root N m
+  inside : RegionFits P t m → (h : IsInside P t bound_of N m) → IterationsExceed h.flow.graph h.costs (charged_loops h.flow (no_fees h.flow))
+      → ExceedsSize P t bound_of root N m
+  loops : ¬ RegionFits P t m → (h : IsLoops P t bound_of N m) → IterationsExceed h.flow.graph h.costs (charged_loops h.flow h.fees)
+      → ExceedsSize P t bound_of root N m
 
 -- of a method that may run while the root does
 abbrev pub IsTooLarge : Program → Timing → BoundOf → (root : ℕ) → Numbers → (m : ℕ) → Type 0
@@ -99,7 +101,8 @@ abbrev pub IsCause : Program → Timing → BoundOf → (named : ℕ → Type 0)
 IsCause P t bound_of named NoMethod = (root : ℕ) → ¬ IsAsked P named root
 IsCause P t bound_of named (Recursion cycle) = (root : ℕ) × IsAsked P named root × IsRecursion P root cycle.items
 IsCause P t bound_of named (Irreducible m nodes) = (root : ℕ) × IsAsked P named root × HasNoRecursion P root × IsFirstIrreducible P root m nodes.items
-IsCause P t bound_of named (MissingBound m p) = (root : ℕ) × IsAsked P named root × HasNoRecursion P root × AreReducible P root × IsFirstLacking P bound_of root m p
+IsCause P t bound_of named (MissingBound m p) = (root : ℕ) × IsAsked P named root × HasNoRecursion P root × AreReducible P root
+    × IsFirstLacking P bound_of root m p
 IsCause P t bound_of named (TooLarge m) =
     (root : ℕ) × IsAsked P named root × HasNoRecursion P root × AreReducible P root × HaveLines P bound_of root × IsFirstTooLarge P t bound_of root m
 IsCause P t bound_of named NoMemory = Unit {0}

@@ -18,8 +18,8 @@ abbrev pub greatest_of : (value : ℕ → Option ℕ) → List ℕ → Option �
 greatest_of value [] = None
 greatest_of value (t ∷ ts) = greater (value t) (greatest_of value ts)
 
--- What the methods that an instruction may run add to its cost: the greatest of their values. It adds nothing where it is no invoke, has no target, or none of its
--- targets has a value.
+-- What the methods that an instruction may run add to its cost: the greatest of their values. It adds nothing where it is no invoke, has no target,
+-- or none of its targets has a value.
 abbrev pub added : Program → (method place : ℕ) → (value : ℕ → Option ℕ) → ℕ
 added P m p value = unwrap_or (greatest_of value (targets_of P m p)) 0
 
@@ -28,7 +28,8 @@ abbrev pub added_at : (adds : ℕ → ℕ) → Node → ℕ
 added_at adds (At p) = adds p
 added_at adds (RaiseAt p) = 0
 
--- The costs of the nodes that these edges reach, by their numbers in the graph, where so much is added at each place. A number that is no such node may have any cost.
+-- The costs of the nodes that these edges reach, by their numbers in the graph, where so much is added at each place. A number that is no such node
+-- may have any cost.
 pub record AreCosts (P : Program) (t : Timing) (m : ℕ) (IsEdgeIn : Node → Node → Type 0) (adds : ℕ → ℕ) (g : Digraph) (costs : List ℕ) : Type 0 where
   pub long : length costs ≡ g.nodes
   pub each : (u : Node) → IsReached IsEdgeIn u → (own : ℕ) × IsOwnCost P t m u own × (slice_index costs (number_of u) ≡ own + added_at adds u)

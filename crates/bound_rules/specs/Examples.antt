@@ -1,8 +1,8 @@
--- Worked examples of the rules, over the sample program of graphs of methods: method 1 returns, method 2 goes on for ever, method 3 invokes method 2 and returns,
--- methods 4 and 5 invoke each other, and method 8 has no code.
+-- Worked examples of the rules, over the sample program of graphs of methods: method 1 returns, method 2 goes on for ever, method 3 invokes method 2
+-- and returns, methods 4 and 5 invoke each other, and method 8 has no code.
 use Rattle.std.specs.Prelude.{◌≡◌, ◌≢◌, ℕ, ◌+◌, ◌-◌, ◌*◌, ◌<◌, ◌≤◌, ◌^◌, ◌==◌, ◌&&◌, if◌then◌else◌, ℤ, pos, true, false, List, [], ◌∷◌, Option, Some, None}
 use Rattle.micro_flow.specs.Costs.{IsGreatestInvoke}
-use Rattle.cert_lines.specs.declared.line.SectionKind.TheVariants.{Inside, Loops}
+use Rattle.bound_cert.specs.declared.lines.line.SectionKind.TheVariants.{Inside, Loops}
 use Rattle.bound_cert.specs.declared.cert.CertSection.{CertSection}
 use Rattle.bound_cert.specs.Certificate.{Certificate}
 use Rattle.method_flow.specs.Nodes.{At, RaiseAt}
@@ -31,7 +31,8 @@ one_bound m p = if m == 7 && p == 3 then Some 10 else None
 
 abbrev pub values : List Valued
 values =
-    record { method = 1; inside = true; value = Some 20 } ∷ record { method = 2; inside = false; value = Some 30 } ∷ record { method = 2; inside = true; value = None }
+    record { method = 1; inside = true; value = Some 20 } ∷ record { method = 2; inside = false; value = Some 30 }
+    ∷ record { method = 2; inside = true; value = None }
     ∷ record { method = 1; inside = true; value = Some 50 } ∷ []
 
 pub record Computed : Type 0 where
@@ -82,14 +83,17 @@ pub record CallSection (t : Timing) (bound_of : BoundOf) (c r e : ℕ) : Type 0 
   pub absent : SectionFails sample t bound_of [] (inside_section 3 []) (faults.Missing 2)
   -- it has no value, so that control leaves by the raise step alone
   pub never : MeetsSection sample t bound_of (one_value None) (inside_section 3 ((0, pos (c + r)) ∷ (1, pos r) ∷ [])) (Some (c + r))
-  pub too_low : (low : ℕ) → low < c + r → SectionFails sample t bound_of (one_value None) (inside_section 3 ((0, pos low) ∷ (1, pos r) ∷ [])) (faults.Edge 3 0 1)
+  pub too_low : (low : ℕ) → low < c + r → SectionFails sample t bound_of (one_value None) (inside_section 3 ((0, pos low) ∷ (1, pos r) ∷ []))
+      (faults.Edge 3 0 1)
   -- it has a value, which the invoke costs, too; control comes behind the invoke
   pub returns : (v : ℕ) → c + v + (r + e) ≤ most_cycles
-      → MeetsSection sample t bound_of (one_value (Some v)) (inside_section 3 ((0, pos (c + v + (r + e))) ∷ (1, pos r) ∷ (6, pos e) ∷ [])) (Some (c + v + (r + e)))
+      → MeetsSection sample t bound_of (one_value (Some v)) (inside_section 3 ((0, pos (c + v + (r + e))) ∷ (1, pos r) ∷ (6, pos e) ∷ []))
+      (Some (c + v + (r + e)))
 
 abbrev pub CallSections : Type 0
 CallSections =
-    (t : Timing) (bound_of : BoundOf) (c r e : ℕ) → IsOwnCost sample t 3 (At 0) c → IsOwnCost sample t 3 (RaiseAt 0) r → IsOwnCost sample t 3 (At 3) e → c + r ≤ most_cycles → CallSection t bound_of c r e
+    (t : Timing) (bound_of : BoundOf) (c r e : ℕ) → IsOwnCost sample t 3 (At 0) c → IsOwnCost sample t 3 (RaiseAt 0) r → IsOwnCost sample t 3 (At 3) e
+    → c + r ≤ most_cycles → CallSection t bound_of c r e
 
 -- ---- regions
 
@@ -102,7 +106,16 @@ abbrev pub region_section : (c r iteration_cost : ℕ) → CertSection
 region_section c r iteration_cost = record {
   kind = Loops;
   method = 3;
-  section = record { nodes = (0, pos (c + r)) ∷ (1, pos r) ∷ []; loops = record { header = 0; iteration_cost = iteration_cost; members = 0 ∷ 1 ∷ []; region = true } ∷ [] };
+  section = record {
+    nodes = (0, pos (c + r)) ∷ (1, pos r) ∷ [];
+    loops = record {
+      header = 0;
+      iteration_cost = iteration_cost;
+      members = 0 ∷ 1
+          ∷ [];
+      region = true;
+    } ∷ [];
+  };
 }
 
 -- its entry, here the start, pays all iterations, and once the loads of the methods 3 and 2, of 7 cycles each; without a bound it is refused
@@ -112,7 +125,8 @@ pub record RegionSection (bound_of : BoundOf) (c r k : ℕ) : Type 0 where
   pub unbounded : bound_of 3 0 ≡ None → SectionFails sample timing bound_of (one_value None) (region_section c r k) (faults.Member 3 0)
 
 abbrev pub RegionSections : Type 0
-RegionSections = (bound_of : BoundOf) (c r k : ℕ) → IsOwnCost sample timing 3 (At 0) c → IsOwnCost sample timing 3 (RaiseAt 0) r → c + r ≤ most_cycles → RegionSection bound_of c r k
+RegionSections = (bound_of : BoundOf) (c r k : ℕ) → IsOwnCost sample timing 3 (At 0) c → IsOwnCost sample timing 3 (RaiseAt 0) r → c + r ≤ most_cycles
+    → RegionSection bound_of c r k
 
 -- ---- certificates
 
@@ -128,7 +142,8 @@ pub record ReturnCertificate (bound_of : BoundOf) (c i greatest : ℕ) : Type 0 
 
 abbrev pub ReturnCertificates : Type 0
 ReturnCertificates =
-    (bound_of : BoundOf) (c i greatest : ℕ) → IsOwnCost sample timing 1 (At 0) c → IsGreatestInvoke (params timing 0 0) i → IsGreatestLoad sample timing.read greatest → i + (c + 7) + greatest ≤ most_cycles
+    (bound_of : BoundOf) (c i greatest : ℕ) → IsOwnCost sample timing 1 (At 0) c → IsGreatestInvoke (params timing 0 0) i
+    → IsGreatestLoad sample timing.read greatest → i + (c + 7) + greatest ≤ most_cycles
     → ReturnCertificate bound_of c i greatest
 
 -- ---- refusals of bounds

@@ -35,43 +35,50 @@ use Rattle.bound_rules.specs.Met.{AreMet, IsFound}
 
 -- the sections of a certificate that all meet their conditions are sections that meet them one behind another
 abbrev pub AllAreMet : Type 0
-AllAreMet = (P : Program) (t : Timing) (bound_of : BoundOf) (earlier : List Valued) (ss : List CertSection) (values : List Valued) → AreMet P t bound_of earlier → MeetAll P t bound_of earlier ss values
+AllAreMet = (P : Program) (t : Timing) (bound_of : BoundOf) (earlier : List Valued) (ss : List CertSection) (values : List Valued) → AreMet P t bound_of earlier
+    → MeetAll P t bound_of earlier ss values
     → AreMet P t bound_of values
 
 -- with one more behind them that meets its conditions, they all meet theirs
 abbrev pub OneMoreMeets : Type 0
 OneMoreMeets =
-    (P : Program) (t : Timing) (bound_of : BoundOf) (earlier : List Valued) (ss : List CertSection) (values : List Valued) (s : CertSection) (value : Option ℕ) → MeetAll P t bound_of earlier ss values
+    (P : Program) (t : Timing) (bound_of : BoundOf) (earlier : List Valued) (ss : List CertSection) (values : List Valued) (s : CertSection) (value : Option ℕ)
+    → MeetAll P t bound_of earlier ss values
     → MeetsSection P t bound_of values s value → MeetAll P t bound_of earlier (ss ++ s ∷ []) (values ++ section_value s value ∷ [])
 
 -- a value among theirs is that of one of them
 abbrev pub SectionsAreFound : Type 0
-SectionsAreFound = (P : Program) (t : Timing) (bound_of : BoundOf) (earlier : List Valued) → AreMet P t bound_of earlier → (inside : Bool) (m : ℕ) (value : Option ℕ) → value_in inside m earlier ≡ Some value
+SectionsAreFound = (P : Program) (t : Timing) (bound_of : BoundOf) (earlier : List Valued) → AreMet P t bound_of earlier
+    → (inside : Bool) (m : ℕ) (value : Option ℕ) → value_in inside m earlier ≡ Some value
     → IsFound P t bound_of inside m value
 
 -- the header of a loop of such a section is an instruction, and the loop has the bound that is given for it
 abbrev pub HeadersHaveBounds : Type 0
 HeadersHaveBounds =
     (P : Program) (t : Timing) (bound_of : BoundOf) (earlier : List Valued) (s : CertSection) (value : Option ℕ) → MeetsSection P t bound_of earlier s value
-    → (i : ℕ) (l : CertifiedLoop) → IsAt s.section.loops i l → (p : ℕ) × (l.header ≡ 2 * p) × (bound_of s.method p ≡ Some (slice_index (section_bounds bound_of s) i))
+    → (i : ℕ) (l : CertifiedLoop) → IsAt s.section.loops i l
+    → (p : ℕ) × (l.header ≡ 2 * p) × (bound_of s.method p ≡ Some (slice_index (section_bounds bound_of s) i))
 
 -- ---- runs
 
 -- a method whose section has no value can't end
 abbrev pub NoValueNoEnd : Type 0
-NoValueNoEnd = (P : Program) (t : Timing) (bound_of : BoundOf) (earlier : List Valued) (s : CertSection) → AreMet P t bound_of earlier → MeetsSection P t bound_of earlier s None → ¬ CanEnd P s.method
+NoValueNoEnd = (P : Program) (t : Timing) (bound_of : BoundOf) (earlier : List Valued) (s : CertSection) → AreMet P t bound_of earlier
+    → MeetsSection P t bound_of earlier s None → ¬ CanEnd P s.method
 
 -- from a node of the section's graph, each edge that a run can take is one of that graph
 abbrev pub LiveEdgesStay : Type 0
 LiveEdgesStay =
-    (P : Program) (t : Timing) (bound_of : BoundOf) (earlier : List Valued) (s : CertSection) (value : Option ℕ) → AreMet P t bound_of earlier → (h : MeetsSection P t bound_of earlier s value)
+    (P : Program) (t : Timing) (bound_of : BoundOf) (earlier : List Valued) (s : CertSection) (value : Option ℕ) → AreMet P t bound_of earlier
+    → (h : MeetsSection P t bound_of earlier s value)
     → (u v : Node) → IsSectionNode P s.method h.view.told u → IsLiveEdge P s.method u v → IsSectionEdge P s.method h.view.told u v
 
--- What a walk costs that a run can take, from the first instruction to an exit, is at most the section's value where it keeps the bounds that are given. Where the
--- section has no value, there is no such walk.
+-- What a walk costs that a run can take, from the first instruction to an exit, is at most the section's value where it keeps the bounds that are
+-- given. Where the section has no value, there is no such walk.
 abbrev pub SectionsBoundWalks : Type 0
 SectionsBoundWalks =
-    (P : Program) (t : Timing) (bound_of : BoundOf) (earlier : List Valued) (s : CertSection) (value : Option ℕ) → AreMet P t bound_of earlier → (h : MeetsSection P t bound_of earlier s value)
+    (P : Program) (t : Timing) (bound_of : BoundOf) (earlier : List Valued) (s : CertSection) (value : Option ℕ) → AreMet P t bound_of earlier
+    → (h : MeetsSection P t bound_of earlier s value)
     → (g : Digraph) → IsLiveGraph P s.method g → (ns : List ℕ) → LiveWalk P s.method (At 0) ns → WalkKeeps P bound_of s.method ns
     → MatchOption value ⊥ (λ most. cost_of h.view.costs (loops_of s.section (section_bounds bound_of s) h.view.fees) ns ≤ most)
 
@@ -86,7 +93,8 @@ MethodsHaveCode = (P : Program) → Lawful P → (m x : ℕ) → IsSome (body_of
 -- which of these loops are charged is told by it, too
 abbrev pub ChargesAreOne : Type 0
 ChargesAreOne =
-    (P : Program) (t : Timing) (bound_of : BoundOf) (m : ℕ) (a b : LiveNest P bound_of m) (flags others : List Bool) → AreCharged P t m a.nest flags → AreCharged P t m b.nest others → flags ≡ others
+    (P : Program) (t : Timing) (bound_of : BoundOf) (m : ℕ) (a b : LiveNest P bound_of m) (flags others : List Bool) → AreCharged P t m a.nest flags
+    → AreCharged P t m b.nest others → flags ≡ others
 
 -- costs that agree at each node that a run can come to
 abbrev pub AgreeOnLive : Program → (method : ℕ) → (costs others : List ℕ) → Type 0
@@ -95,19 +103,22 @@ AgreeOnLive P m costs others = (u : Node) → IsReached (IsLiveEdge P m) u → s
 -- the costs of these nodes are told by what is added at their places
 abbrev pub CostsAreTold : Type 0
 CostsAreTold =
-    (P : Program) (t : Timing) (m : ℕ) (adds others : ℕ → ℕ) (g : Digraph) (a b : List ℕ) → AreCosts P t m (IsLiveEdge P m) adds g a → AreCosts P t m (IsLiveEdge P m) others g b
+    (P : Program) (t : Timing) (m : ℕ) (adds others : ℕ → ℕ) (g : Digraph) (a b : List ℕ) → AreCosts P t m (IsLiveEdge P m) adds g a
+    → AreCosts P t m (IsLiveEdge P m) others g b
     → ((p : ℕ) → IsReached (IsLiveEdge P m) (At p) → adds p ≡ others p) → AgreeOnLive P m a b
 
 -- the value of a method's live graph is told by them
 abbrev pub ValuesAreTold : Type 0
 ValuesAreTold =
-    (P : Program) (m : ℕ) (g : Digraph) (costs others : List ℕ) (loops : List BoundedLoop) (a b : Option ℕ) → IsLiveGraph P m g → AgreeOnLive P m costs others → IsValue g costs loops a → IsValue g others loops b
+    (P : Program) (m : ℕ) (g : Digraph) (costs others : List ℕ) (loops : List BoundedLoop) (a b : Option ℕ) → IsLiveGraph P m g → AgreeOnLive P m costs others
+    → IsValue g costs loops a → IsValue g others loops b
     → a ≡ b
 
 -- and so is whether iterations of its loops exceed 64 bits together
 abbrev pub IterationsAreTold : Type 0
 IterationsAreTold =
-    (P : Program) (bound_of : BoundOf) (m : ℕ) (flow : LiveNest P bound_of m) (costs others fees : List ℕ) → AgreeOnLive P m costs others → IterationsExceed flow.graph costs (charged_loops flow fees)
+    (P : Program) (bound_of : BoundOf) (m : ℕ) (flow : LiveNest P bound_of m) (costs others fees : List ℕ) → AgreeOnLive P m costs others
+    → IterationsExceed flow.graph costs (charged_loops flow fees)
     → IterationsExceed flow.graph others (charged_loops flow fees)
 
 -- where all that may run while a method does fits the cache together, it can't be that what runs while one does that it calls doesn't
@@ -131,13 +142,15 @@ pub record AreSameOf (P : Program) (t : Timing) (N M : Numbers) (m : ℕ) : Type
 -- a method whose calls end has one family of numbers
 abbrev pub NumbersAreOne : Type 0
 NumbersAreOne =
-    (P : Program) (t : Timing) (bound_of : BoundOf) (root : ℕ) (N M : Numbers) → CallsEnd P root → ((m : ℕ) → IsWithin P root m → ReachesStarts P m) → AreNumbers P t bound_of root N → AreNumbers P t bound_of root M
+    (P : Program) (t : Timing) (bound_of : BoundOf) (root : ℕ) (N M : Numbers) → CallsEnd P root → ((m : ℕ) → IsWithin P root m → ReachesStarts P m)
+    → AreNumbers P t bound_of root N → AreNumbers P t bound_of root M
     → (m : ℕ) → IsWithin P root m → AreSameOf P t N M m
 
 -- so one number is printed of it
 abbrev pub PrintedIsOne : Type 0
 PrintedIsOne =
-    (P : Program) (t : Timing) (bound_of : BoundOf) (root : ℕ) (a b : Option ℕ) → CallsEnd P root → ((m : ℕ) → IsWithin P root m → ReachesStarts P m) → IsPrinted P t bound_of root a → IsPrinted P t bound_of root b
+    (P : Program) (t : Timing) (bound_of : BoundOf) (root : ℕ) (a b : Option ℕ) → CallsEnd P root → ((m : ℕ) → IsWithin P root m → ReachesStarts P m)
+    → IsPrinted P t bound_of root a → IsPrinted P t bound_of root b
     → a ≡ b
 
 -- what is printed of a method is told by its number with all loads
@@ -154,7 +167,8 @@ abbrev pub LiveGraphsAreOne : Type 0
 LiveGraphsAreOne = (P : Program) (m : ℕ) (g h : Digraph) → IsLiveGraph P m g → IsLiveGraph P m h → g ≡ h
 
 abbrev pub SectionGraphsAreOne : Type 0
-SectionGraphsAreOne = (P : Program) (m : ℕ) (told : TargetValues) (g h : Digraph) → IsGraphBy (IsSectionEdge P m told) P m g → IsGraphBy (IsSectionEdge P m told) P m h → g ≡ h
+SectionGraphsAreOne = (P : Program) (m : ℕ) (told : TargetValues) (g h : Digraph) → IsGraphBy (IsSectionEdge P m told) P m g
+    → IsGraphBy (IsSectionEdge P m told) P m h → g ≡ h
 
 -- the headers of their loops are instructions, so that a bound can be given for each
 abbrev pub HeadersAreInstructions : Type 0
@@ -163,14 +177,17 @@ HeadersAreInstructions = (P : Program) (m : ℕ) (g : Digraph) (h : ℕ) → IsG
 -- the loops of a method's live graph are told by it, with their bounds and whatever they are charged, in the order of their headers
 abbrev pub ChargedLoopsAreOne : Type 0
 ChargedLoopsAreOne =
-    (P : Program) (bound_of : BoundOf) (m : ℕ) (a b : LiveNest P bound_of m) (fees : List ℕ) → (headers_of a.nest ≡ headers_of b.nest) × (charged_loops a fees ≡ charged_loops b fees)
+    (P : Program) (bound_of : BoundOf) (m : ℕ) (a b : LiveNest P bound_of m) (fees : List ℕ)
+    → (headers_of a.nest ≡ headers_of b.nest) × (charged_loops a fees ≡ charged_loops b fees)
 
 -- ---- refusals
 
 -- a certificate has one fault at most
 abbrev pub FaultsAreOne : Type 0
-FaultsAreOne = (P : Program) (t : Timing) (bound_of : BoundOf) (c : Certificate) (a b : CheckFault) → IsRefused P t bound_of c a → IsRefused P t bound_of c b → a ≡ b
+FaultsAreOne = (P : Program) (t : Timing) (bound_of : BoundOf) (c : Certificate) (a b : CheckFault) → IsRefused P t bound_of c a → IsRefused P t bound_of c b
+    → a ≡ b
 
 -- and none where it meets the conditions
 abbrev pub RefusedIsNotMet : Type 0
-RefusedIsNotMet = (P : Program) (t : Timing) (bound_of : BoundOf) (c : Certificate) (fault : CheckFault) → IsRefused P t bound_of c fault → ¬ MeetsConditions P t bound_of c
+RefusedIsNotMet = (P : Program) (t : Timing) (bound_of : BoundOf) (c : Certificate) (fault : CheckFault) → IsRefused P t bound_of c fault
+    → ¬ MeetsConditions P t bound_of c

@@ -1,5 +1,6 @@
 -- The numbers of methods: what a run of each takes at most, by the walks of its graph.
-use Rattle.std.specs.Prelude.{◌≡◌, ◌↔◌, ℕ, ◌+◌, ◌*◌, Bool, true, false, ◌&&◌, if◌then◌else◌, List, [], ◌∷◌, length, map, slice_index, Contains, All, Option, Some, None, IsSome, option_map}
+use Rattle.std.specs.Prelude.{◌≡◌, ◌↔◌, ℕ, ◌+◌, ◌*◌, Bool, true, false, ◌&&◌, if◌then◌else◌, List, [], ◌∷◌, length, map, slice_index, Contains, All, Option}
+use Rattle.std.specs.Prelude.{Some, None, IsSome, option_map}
 use Rattle.loop_nest.specs.Digraph.{Digraph}
 use Rattle.loop_nest.specs.Nest.{NaturalLoop, headers_of, IsNest, IsAround}
 use Rattle.section_check.specs.Bounded.{BoundedLoop, holds, IsGreatest}
@@ -52,8 +53,8 @@ no_fees flow = map (λ l. 0) flow.nest
 abbrev pub HasCall : Program → (method : ℕ) → (nodes : List ℕ) → Type 0
 HasCall P m nodes = (p : ℕ) × Contains nodes (2 * p) × IsStartOf P m p × IsCall P m p
 
--- Loop i, which is l, is charged, by the flags of the loops around it: an invoke is among its members, the methods that may run there fit the cache together, and no
--- loop around it is charged.
+-- Loop i, which is l, is charged, by the flags of the loops around it: an invoke is among its members, the methods that may run there fit the cache
+-- together, and no loop around it is charged.
 pub record IsCharged (P : Program) (t : Timing) (m : ℕ) (nest : List NaturalLoop) (flags : List Bool) (i : ℕ) (l : NaturalLoop) : Type 0 where
   pub call : HasCall P m l.members
   pub fits : LoopFits P t m l.members
@@ -104,14 +105,14 @@ pub record IsLoops (P : Program) (t : Timing) (bound_of : BoundOf) (N : Numbers)
   pub are_costs : AreCosts P t m (IsLiveEdge P m) (loops_adds P t N m flow.nest flags) flow.graph costs
   pub value : IsValue flow.graph costs (charged_loops flow fees) (N.loops m)
 
--- The number with all loads: where the methods that may run fit the cache together, each is loaded once; else the method itself is loaded beside what its loops are
--- charged.
+-- The number with all loads: where the methods that may run fit the cache together, each is loaded once; else the method itself is loaded beside what
+-- its loops are charged.
 pub data IsFull (P : Program) (t : Timing) (N : Numbers) (m : ℕ) : Type 0 where
   fits : (together : RegionFits P t m) → N.full m ≡ option_map (λ n. n + loads_of together) (N.inside m) → IsFull P t N m
   exceeds : ¬ RegionFits P t m → N.full m ≡ option_map (λ n. n + load P t.read m) (N.loops m) → IsFull P t N m
 
--- These are the numbers of a method and of all that may run while it does. Of each method one of the first two is asked: that without loads where the methods that
--- may run while it does fit the cache together, and else that with the loads of loops. No other is used.
+-- These are the numbers of a method and of all that may run while it does. Of each method one of the first two is asked: that without loads where the
+-- methods that may run while it does fit the cache together, and else that with the loads of loops. No other is used.
 pub record AreNumbers (P : Program) (t : Timing) (bound_of : BoundOf) (root : ℕ) (N : Numbers) : Type 0 where
   pub inside : (m : ℕ) → IsWithin P root m → RegionFits P t m → IsInside P t bound_of N m
   pub loops : (m : ℕ) → IsWithin P root m → ¬ RegionFits P t m → IsLoops P t bound_of N m

@@ -18,7 +18,8 @@ use Rattle.bound_rules.specs.Conditions.{MeetAll, IsRight}
 
 -- u is wrong among the listed nodes and the loops of the section
 abbrev pub IsWrong : {P : Program} {t : Timing} {earlier : List Valued} {s : CertSection} → BoundOf → SectionView P t earlier s → ℕ → Type 0
-IsWrong {P} {s = s} bound_of view u = IsMisplaced view.graph s.section (section_bounds bound_of s) view.fees u ⊎ (IsNoNode P s view.told u ⊎ LacksBound bound_of s u)
+IsWrong {P} {s = s} bound_of view u = IsMisplaced view.graph s.section (section_bounds bound_of s) view.fees u
+    ⊎ (IsNoNode P s view.told u ⊎ LacksBound bound_of s u)
 
 -- no invoke among the nodes may run a method that is absent
 abbrev pub NoneLacks : {P : Program} {t : Timing} {earlier : List Valued} {s : CertSection} → SectionView P t earlier s → Type 0
@@ -81,7 +82,8 @@ FailsLast P t values c fault = ⊥
 
 -- The fault of a certificate: that of the first section that fails, behind sections that meet their conditions; or what fails at the root.
 pub data IsRefused (P : Program) (t : Timing) (bound_of : BoundOf) (c : Certificate) (fault : CheckFault) : Type 0 where
-  in_section : (before after : List CertSection) (s : CertSection) (earlier : List Valued) → c.sections ≡ before ++ s ∷ after → MeetAll P t bound_of [] before earlier
+  in_section : (before after : List CertSection) (s : CertSection) (earlier : List Valued) → c.sections ≡ before ++ s ∷ after
+      → MeetAll P t bound_of [] before earlier
       → SectionFails P t bound_of earlier s fault → IsRefused P t bound_of c fault
   at_end : (values : List Valued) → MeetAll P t bound_of [] c.sections values → FailsLast P t values c fault → IsRefused P t bound_of c fault
 

@@ -28,12 +28,13 @@ IsSectionNode P m told u = IsReached (IsSectionEdge P m told) u
 
 -- what the invokes among the nodes are told
 abbrev pub AreTargetValues : Program → Timing → (earlier : List Valued) → CertSection → TargetValues → Type 0
-AreTargetValues P t earlier s told = (p x : ℕ) → IsSectionNode P s.method told (At p) → IsCall P s.method p → IsTarget P s.method p x → IsTargetValue P t earlier s p x (told p x)
+AreTargetValues P t earlier s told = (p x : ℕ) → IsSectionNode P s.method told (At p) → IsCall P s.method p → IsTarget P s.method p x
+    → IsTargetValue P t earlier s p x (told p x)
 
 -- ---- what is paid
 
--- what an entry of a loop of method m pays beside the loop's iterations: for a region the loads of the methods that may run there, and none where these don't fit the
--- cache together; for another loop 0
+-- what an entry of a loop of method m pays beside the loop's iterations: for a region the loads of the methods that may run there, and none where
+-- these don't fit the cache together; for another loop 0
 pub data IsFee (P : Program) (t : Timing) (m : ℕ) (l : CertifiedLoop) (fee : Option ℕ) : Type 0 where
   no_region : l.region ≡ false → fee ≡ Some 0 → IsFee P t m l fee
   fits : l.region ≡ true → (together : LoopFits P t m l.members) → fee ≡ Some (loads_of together) → IsFee P t m l fee
@@ -85,8 +86,8 @@ pub record LacksBound (bound_of : BoundOf) (s : CertSection) (u : ℕ) : Type 0 
   pub header : headed.header ≡ u
   pub none : header_bound bound_of s.method u ≡ None
 
--- The section meets its conditions behind the earlier ones, and has this value: no target is absent, what is listed and held are nodes, each loop has a bound, and the
--- potentials are accepted.
+-- The section meets its conditions behind the earlier ones, and has this value: no target is absent, what is listed and held are nodes, each loop has
+-- a bound, and the potentials are accepted.
 pub record MeetsSection (P : Program) (t : Timing) (bound_of : BoundOf) (earlier : List Valued) (s : CertSection) (value : Option ℕ) : Type 0 where
   pub view : SectionView P t earlier s
   pub present : (x : ℕ) → ¬ IsLacking P s.method view.told x

@@ -1,5 +1,6 @@
 -- What the sections of a certificate say of methods, and what they tell the invokes of later sections.
-use Rattle.std.specs.Prelude.{◌≡◌, ℕ, ◌+◌, ◌*◌, ◌-◌, ◌^◌, nat_le, Bool, true, false, not, ◌&&◌, ◌||◌, ◌==◌, if◌then◌else◌, List, [], ◌∷◌, Option, Some, None, option_map}
+use Rattle.std.specs.Prelude.{◌≡◌, ℕ, ◌+◌, ◌*◌, ◌-◌, ◌^◌, nat_le, Bool, true, false, not, ◌&&◌, ◌||◌, ◌==◌, if◌then◌else◌, List, [], ◌∷◌, Option, Some, None}
+use Rattle.std.specs.Prelude.{option_map}
 use Rattle.std.specs.List.{list_any}
 use Rattle.section_check.specs.Bounded.{holds}
 use Rattle.section_check.specs.Section.{CertifiedLoop}
@@ -34,8 +35,8 @@ value_in inside m (v ∷ vs) = if is_same inside v.inside && v.method == m then 
 abbrev pub with_cycles : ℕ → Option (Option ℕ) → Option (Option ℕ)
 with_cycles more o = option_map (λ v. option_map (λ n. n + more) v) o
 
--- What earlier sections say of a method with all its loads, by the kind of section that its region asks for: it is absent where there is no such section, and has no
--- number where it can't end.
+-- What earlier sections say of a method with all its loads, by the kind of section that its region asks for: it is absent where there is no such
+-- section, and has no number where it can't end.
 pub data SaysFull (P : Program) (t : Timing) (earlier : List Valued) (m : ℕ) (said : Option (Option ℕ)) : Type 0 where
   fits : (together : RegionFits P t m) → said ≡ with_cycles (loads_of together) (value_in true m earlier) → SaysFull P t earlier m said
   exceeds : ¬ RegionFits P t m → said ≡ with_cycles (load P t.read m) (value_in false m earlier) → SaysFull P t earlier m said

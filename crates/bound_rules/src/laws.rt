@@ -1,7 +1,10 @@
 //! Laws of the definitions in `specs/`. The functions do nothing; a caller whose proof needs a law calls its function.
 
 ghost use Rattle.bound_rules.specs.Examples.{WorkedExamples};
-ghost use Rattle.bound_rules.specs.Laws.{AllAreMet, CalledFit, ChargedLoopsAreOne, ChargesAreOne, CostsAreTold, FaultsAreOne, GraphsAreOne, HeadersAreInstructions, HeadersHaveBounds, IterationsAreTold, LiveEdgesStay, LiveGraphsAreOne, MethodsHaveCode, NoValueNoEnd, NumbersAreOne, OneMoreMeets, PrintedIsOne, PrintedIsTold, RefusedIsNotMet, SectionGraphsAreOne, SectionsAreFound, SectionsBoundWalks, ValuesAreTold};
+ghost use Rattle.bound_rules.specs.Laws.{AllAreMet, CalledFit, ChargedLoopsAreOne, ChargesAreOne, CostsAreTold, FaultsAreOne, GraphsAreOne};
+ghost use Rattle.bound_rules.specs.Laws.{HeadersAreInstructions, HeadersHaveBounds, IterationsAreTold, LiveEdgesStay, LiveGraphsAreOne, MethodsHaveCode};
+ghost use Rattle.bound_rules.specs.Laws.{NoValueNoEnd, NumbersAreOne, OneMoreMeets, PrintedIsOne, PrintedIsTold, RefusedIsNotMet, SectionGraphsAreOne};
+ghost use Rattle.bound_rules.specs.Laws.{SectionsAreFound, SectionsBoundWalks, ValuesAreTold};
 
 /// The sections of a certificate that meets its conditions meet them one behind another.
 pub fn all_are_met()

@@ -4,7 +4,7 @@ use Rattle.lists.specs.Lemmas.{some_is}
 use Rattle.lists.specs.Members.{heads}
 use Rattle.method_cache.specs.Contents.{Cache}
 use Rattle.cache_regions.specs.LookUps.{after}
-use Rattle.jop_opcodes.specs.Start.{IsStart}
+use Rattle.opcodes.specs.Start.{IsStart}
 use Rattle.bytecode_model.specs.State.{Frame}
 use Rattle.bytecode_model.specs.Program.{Program, Body, body_of}
 use Rattle.method_flow.specs.Nodes.{Node, At}

@@ -4,7 +4,7 @@ use Rattle.std.proofs.lemmas.List.Elements.{All-cons, All-nil, All-head, All-tai
 use Rattle.method_cache.specs.Contents.{Cache}
 use Rattle.cache_regions.specs.LookUps.{after, stall_of_loads}
 use Rattle.section_check.specs.Bounded.{cost_of_nodes}
-use Rattle.stay_costs.specs.Stays.{Stays}
+use Rattle.bound_sound.specs.Stays.{Stays}
 use Rattle.bytecode_model.specs.declared.Ending.TheVariants.{Running, Raising}
 use Rattle.bytecode_model.specs.State.{Frame}
 use Rattle.method_flow.specs.Shapes.{node_of}

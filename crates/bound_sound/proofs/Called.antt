@@ -9,7 +9,7 @@ use Rattle.cache_regions.specs.LookUps.{after, blocks_taken}
 use Rattle.loop_nest.specs.Digraph.{Digraph}
 use Rattle.section_check.specs.Bounded.{cost_of}
 use Rattle.section_check.specs.Laws.{loops_of}
-use Rattle.stay_costs.specs.Stays.{IsCoveredIn}
+use Rattle.bound_sound.specs.Stays.{IsCoveredIn}
 use Rattle.bytecode_model.specs.State.{Frame}
 use Rattle.bytecode_model.specs.Program.{Program, body_of}
 use Rattle.method_flow.specs.Nodes.{Node, At, number_of}

@@ -6,8 +6,8 @@ use Rattle.lists.specs.Members.{heads}
 use Rattle.method_cache.specs.Contents.{Cache}
 use Rattle.cache_regions.specs.LookUps.{after}
 use Rattle.section_check.specs.Bounded.{cost_of_nodes}
-use Rattle.stay_costs.specs.Stays.{Stays, IsCovered}
-use Rattle.stay_costs.specs.Stays.Stays.{returns, drops}
+use Rattle.bound_sound.specs.Stays.{Stays, IsCovered}
+use Rattle.bound_sound.specs.Stays.Stays.{returns, drops}
 use Rattle.bytecode_model.specs.declared.Ending.TheVariants.{Running, Raising}
 use Rattle.bytecode_model.specs.State.{Frame}
 use Rattle.bytecode_model.specs.Program.{Program}

@@ -15,7 +15,7 @@ use Rattle.section_check.specs.Placing.IsMisplaced.{heads_faulty}
 use Rattle.section_check.specs.Laws.{loops_of}
 use Rattle.section_check.specs.Charges.{start_charge, edge_charge, walk_charge, CostsAreCharged, StartsPayLoads, EdgesPayLoads}
 use Rattle.section_check.specs.Entering.{RegionsAreApart, LoopsAreEnteredAtHeaders}
-use Rattle.stay_costs.specs.Charges.{Charges, AreCharged, charge_of, start_fee}
+use Rattle.bound_sound.specs.Charges.{Charges, AreCharged, charge_of, start_fee}
 use Rattle.bound_cert.specs.declared.cert.CertSection.{CertSection}
 use Rattle.bytecode_model.specs.Program.{Program, body_of}
 use Rattle.method_flow.specs.Keeping.{BoundOf}

@@ -2,10 +2,10 @@
 use Rattle.std.proofs.Common.{◌≡◌, ℕ, ◌≤◌, List, length, Some, None, IsSome, refl, sym, ap, ◌∙◌, subst, inl, inr, arith}
 use Rattle.std.specs.declared.option.Option.{Option}
 use Rattle.std.proofs.lemmas.Bool.Decides.{leb_tells}
-use Rattle.word32.specs.Packed.{words_for, PackedHasWords}
+use Rattle.base.specs.Packed.{words_for, PackedHasWords}
 use Rattle.cache_regions.specs.LookUps.{LoadsKeepTheSum, LookUpsFollow, StallsFollow}
 use Rattle.loop_nest.specs.Digraph.{Digraph}
-use Rattle.stay_costs.specs.Stays.{StaysArePaid}
+use Rattle.bound_sound.specs.Stays.{StaysArePaid}
 use Rattle.bytecode_model.specs.Program.{Program, Body, body_of}
 use Rattle.method_flow.specs.Graphs.{IsLiveGraph}
 use Rattle.method_flow.specs.Regions.{IsWithin, IsWithinNodes, code_words}

@@ -12,3 +12,7 @@ mod Moving
 mod Calling
 mod Accounting
 mod Sound
+pub mod Choosing
+pub mod Staying
+pub mod Existing
+mod Paying

@@ -3,8 +3,8 @@ use Rattle.std.proofs.Common.{append_assoc, ◌≡◌, ℕ, ◌+◌, ◌≤◌, 
 use Rattle.std.proofs.lemmas.List.Elements.{All-append, All-cons, All-nil}
 use Rattle.method_cache.specs.Contents.{Cache, is_cached}
 use Rattle.cache_regions.specs.LookUps.{after}
-use Rattle.stay_costs.specs.Stays.{Stays}
-use Rattle.stay_costs.specs.Stays.Stays.{last, goes, raises, handles}
+use Rattle.bound_sound.specs.Stays.{Stays}
+use Rattle.bound_sound.specs.Stays.Stays.{last, goes, raises, handles}
 use Rattle.bytecode_model.specs.State.{Frame}
 use Rattle.bytecode_model.specs.Program.{Program}
 use Rattle.method_flow.specs.Live.{IsLiveEdge, LiveWalk}

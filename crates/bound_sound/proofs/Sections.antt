@@ -3,12 +3,12 @@ use Rattle.std.proofs.Common.{◌≡◌, ℕ, ◌+◌, ◌*◌, ◌≤◌, Bool,
 use Rattle.section_check.specs.Bounded.{cost_of}
 use Rattle.section_check.specs.Section.{Certified}
 use Rattle.section_check.specs.Laws.{loops_of}
-use Rattle.cert_lines.specs.declared.line.SectionKind.{SectionKind}
+use Rattle.bound_cert.specs.declared.lines.line.SectionKind.{SectionKind}
 use Rattle.bound_cert.specs.declared.cert.CertSection.{CertSection}
 use Rattle.bound_cert.specs.Certificate.{is_inside}
 use Rattle.lists.specs.Members.{has_or_not}
-use Rattle.stay_costs.specs.Charges.{Charges, AreCharged, start_fee, charge_of}
-use Rattle.stay_costs.specs.Stays.{EntersNone}
+use Rattle.bound_sound.specs.Charges.{Charges, AreCharged, start_fee, charge_of}
+use Rattle.bound_sound.specs.Stays.{EntersNone}
 use Rattle.bytecode_model.specs.Program.{Program, body_of}
 use Rattle.method_flow.specs.Nodes.{Node, At, number_of}
 use Rattle.method_flow.specs.Nodes.IsReached.{later}

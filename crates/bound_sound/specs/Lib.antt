@@ -1,1 +1,4 @@
 pub mod Laws
+pub mod GraphLaws
+pub mod Charges
+pub mod Stays

@@ -1,15 +1,19 @@
 //! Certificates of methods bound what activations of the methods take on the machine: a law, which `specs/Laws` has, and the bound
-//! of a certificate that was checked.
+//! of a certificate that was checked. Below it, the graphs of methods of typed programs (`graphs`), and what a frame's stay in its
+//! method costs (`stays`).
 #![tactic(auto)]
 
 ghost use Rattle.std.specs.Prelude.{◌≡◌};
 ghost use Rattle.activations.specs.Warrant.{BoundsActivations};
 ghost use Rattle.bound_sound.specs.Laws.{CertificatesAreSound};
 ghost use Rattle.bytecode_model.specs.Program.{Program};
-ghost use Rattle.flow_costs.specs.Costs.{bounds_of};
+ghost use Rattle.node_costs.specs.Costs.{bounds_of};
 ghost use Rattle.method_flow.specs.Flow.{IsFlowOf};
 
-use bound_checker::Checked;
+pub mod graphs;
+pub mod stays;
+
+use cert_checker::Checked;
 
 /// Where a certificate meets its conditions, each activation of its root that keeps the bounds of loops takes at most as many
 /// cycles as its last line says; where that line says never, no such activation ends. The function does nothing; a caller whose
@@ -25,7 +29,7 @@ pub fn certificates_are_sound()
     activations::laws::stays_are_walks();
     activations::laws::stays_keep();
     // of graphs of methods:
-    live_graphs::laws::live_graphs_exist();
+    crate::graphs::live_graphs_exist();
     method_flow::laws::ending_is_a_walk();
     method_flow::laws::invokes_keep_the_greatest();
     // of sections:
@@ -41,11 +45,11 @@ pub fn certificates_are_sound()
     section_check::laws::costs_are_charged();
     section_check::laws::entries_pay_loads();
     // of what stays cost, and of look-ups:
-    stay_costs::laws::stays_are_paid();
+    crate::stays::stays_are_paid();
     cache_regions::laws::loads_keep_the_sum();
     cache_regions::laws::look_ups_follow();
     cache_regions::laws::stalls_follow();
-    word32::laws::packed_has_words();
+    base::laws::packed_has_words();
 }
 
 /// The bound that a checked certificate shows, in cycles: each activation of its root that keeps the bounds of loops takes at most

@@ -10,7 +10,7 @@ use Rattle.jop_core.specs.declared.tick.Tick.TheVariants as ticks
 use Rattle.jop_core.specs.State as machine
 use Rattle.jop_core.specs.Cycle.{output_of}
 use Rattle.jop_core.specs.Scene.{begun, output_during, first_of}
-use Rattle.jop_device.specs.Told.{Told, GivesEach}
+use Rattle.device_traits.specs.Told.{Told, GivesEach}
 use Rattle.micro_sketch.specs.Ends.{AreGiven}
 use Rattle.micro_sketch.specs.Step.{RanCycles, Arrived, Broke}
 use Rattle.micro_sketch.specs.StepLaws.{AreRunLaws}

@@ -3,13 +3,13 @@ use Rattle.std.proofs.Common.{◌≡◌, ℕ, zero, suc, ◌+◌, ◌-◌, ◌^�
 use Rattle.std.specs.Prelude.{nat_le, FitsSigned, bit_and, bit_or, bit_xor}
 use Rattle.std.specs.Int.{w8, w32, cast_signed}
 use Rattle.std.proofs.lemmas.Bool.{and_parts, leb-true}
-use Rattle.bare_image.specs.declared.shape.Shape.{Shape}
-use Rattle.bare_image.specs.Shapes.{shape_of, is_within}
-use Rattle.jop_opcodes.specs.declared.instruction.Instr.{Instr}
-use Rattle.jop_opcodes.specs.Bytes.{u1}
-use Rattle.jop_opcodes.specs.Form.{Fixed, Operands, Absent, SignedByte}
-use Rattle.jop_opcodes.specs.Row as opcodes
-use Rattle.jop_opcodes.specs.Instruction.{fixed_at, operands_width}
+use Rattle.image_file.specs.declared.bare.shape.Shape.{Shape}
+use Rattle.image_file.specs.Shapes.{shape_of, is_within}
+use Rattle.opcodes.specs.declared.instruction.Instr.{Instr}
+use Rattle.opcodes.specs.Bytes.{u1}
+use Rattle.opcodes.specs.Form.{Fixed, Operands, Absent, SignedByte}
+use Rattle.opcodes.specs.Row as opcodes
+use Rattle.opcodes.specs.Instruction.{fixed_at, operands_width}
 use Rattle.bytecode_model.specs.declared.Value.TheVariants.{Int}
 use Rattle.bytecode_model.specs.Numbers.{sum, difference, bitwise}
 use Rattle.bytecode_model.specs.Types.{IntType, Numbers}

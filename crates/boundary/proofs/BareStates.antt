@@ -1,8 +1,8 @@
 -- The states of bare images have one frame of ints.
 use Rattle.std.proofs.Common.{◌≡◌, ℕ, zero, suc, Bool, true, false, ◌==◌, List, [], ◌∷◌, length, Option, Some, None, refl, sym, ◌∙◌, ap, subst, ◌⊎◌, inl, inr, ⊎_elim, replicate}
 use Rattle.std.specs.Prelude.{IfSome, IsSomeAnd, slice_get, if◌then◌else◌}
-use Rattle.bare_image.specs.Bare.{Image, IsImage}
-use Rattle.jop_opcodes.specs.Start.{starts_of}
+use Rattle.image_file.specs.Bare.{Image, IsImage}
+use Rattle.opcodes.specs.Start.{starts_of}
 use Rattle.bytecode_model.specs.declared.Value.{Value}
 use Rattle.bytecode_model.specs.declared.Value.TheVariants.{Int, Long, Ref, Null, Unset}
 use Rattle.bytecode_model.specs.declared.Ending.{Ending}

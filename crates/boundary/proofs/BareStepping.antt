@@ -2,9 +2,9 @@
 use Rattle.std.proofs.Common.{◌≡◌, ℕ, zero, suc, Bool, true, false, ℤ, List, [], ◌∷◌, length, Option, Some, None, refl, sym, ◌∙◌, ap, subst, ◌⊎◌, inl, inr, ⊎_elim}
 use Rattle.std.specs.Prelude.{slice_get}
 use Rattle.lists.specs.Lemmas.{onto_some}
-use Rattle.bare_image.specs.Bare.{Image}
-use Rattle.jop_opcodes.specs.Bytes.{u1}
-use Rattle.jop_opcodes.specs.Start.{IsStart}
+use Rattle.image_file.specs.Bare.{Image}
+use Rattle.opcodes.specs.Bytes.{u1}
+use Rattle.opcodes.specs.Start.{IsStart}
 use Rattle.bytecode_model.specs.declared.Value.{Value}
 use Rattle.bytecode_model.specs.declared.Value.TheVariants.{Int, Long, Ref, Null, Unset}
 use Rattle.bytecode_model.specs.declared.Ending.{Ending}

@@ -4,17 +4,17 @@ use Rattle.std.specs.Prelude.{nat_le, nat_lt, if◌then◌else◌, is_some, slic
 use Rattle.std.proofs.Math.Seq.{drop-cons, drop-append_seam}
 use Rattle.std.proofs.lemmas.List.{drop_all}
 use Rattle.std.proofs.lemmas.Option.{slice_get_cases}
-use Rattle.bare_image.specs.declared.shape.Shape.{Shape}
-use Rattle.bare_image.specs.Bare as image
-use Rattle.bare_image.specs.Bare.{Image, IsImage, Instruction, spelled, return_code}
-use Rattle.jop_opcodes.specs.declared.instruction.Instr.{Instr}
-use Rattle.jop_opcodes.specs.declared.instruction.DecodeFault.{DecodeFault}
-use Rattle.jop_opcodes.specs.declared.instruction.DecodeFault.TheVariants.{Short}
-use Rattle.jop_opcodes.specs.Bytes.{u1}
-use Rattle.jop_opcodes.specs.Form.{Fixed, Operands}
-use Rattle.jop_opcodes.specs.Row as opcodes
-use Rattle.jop_opcodes.specs.Instruction.{decoded, within, spelled_at, fixed_at}
-use Rattle.jop_opcodes.specs.Start.{IsStart, starts_of, starts_from, next_start, place_behind}
+use Rattle.image_file.specs.declared.bare.shape.Shape.{Shape}
+use Rattle.image_file.specs.Bare as image
+use Rattle.image_file.specs.Bare.{Image, IsImage, Instruction, spelled, return_code}
+use Rattle.opcodes.specs.declared.instruction.Instr.{Instr}
+use Rattle.opcodes.specs.declared.instruction.DecodeFault.{DecodeFault}
+use Rattle.opcodes.specs.declared.instruction.DecodeFault.TheVariants.{Short}
+use Rattle.opcodes.specs.Bytes.{u1}
+use Rattle.opcodes.specs.Form.{Fixed, Operands}
+use Rattle.opcodes.specs.Row as opcodes
+use Rattle.opcodes.specs.Instruction.{decoded, within, spelled_at, fixed_at}
+use Rattle.opcodes.specs.Start.{IsStart, starts_of, starts_from, next_start, place_behind}
 use Rattle.bytecode_model.specs.Lists.{onto}
 use Rattle.bytecode_model.specs.Program.{Program, Body, NoOperand, as_instr}
 use Rattle.bytecode_model.specs.Rows as rows

@@ -5,18 +5,18 @@ use Rattle.std.specs.List.{range_with_len}
 use Rattle.std.proofs.lemmas.List.FromFn.{get_or-map-range_with_len}
 use Rattle.machine_stands.specs.Comes.{ComesTo}
 use Rattle.machine_stands.specs.Simulates.{Simulates}
-use Rattle.value_steps.specs.Family.{moves_values}
-use Rattle.number_steps.specs.Laws.{computes_numbers}
+use Rattle.opcode_steps.specs.Values.Family.{moves_values}
+use Rattle.opcode_steps.specs.Numbers.Laws.{computes_numbers}
 use Rattle.call_steps.specs.Family.{calls_by_receiver, calls_or_returns, throws}
-use Rattle.device_steps.specs.Family.{is_device}
-use Rattle.heap_steps.specs.Family.{is_of_array, is_of_field}
-use Rattle.object_steps.specs.Family.{allocates, is_monitor, tests_types}
-use Rattle.jop_opcodes.specs.declared.instruction.Instr.{Instr}
-use Rattle.jop_opcodes.specs.Bytes.{u1}
-use Rattle.jop_opcodes.specs.Form.{Form, NotAnOpcode, Fixed, Widened, TableSwitch, LookupSwitch, Wide}
-use Rattle.jop_opcodes.specs.Row as opcodes
-use Rattle.jop_opcodes.specs.Instruction.{decoded}
-use Rattle.jop_opcodes.specs.Reading.{IsOfForm, InstructionsAreOfTheirForm}
+use Rattle.opcode_steps.specs.Devices.Family.{is_device}
+use Rattle.opcode_steps.specs.Heap.Family.{is_of_array, is_of_field}
+use Rattle.opcode_steps.specs.Objects.Family.{allocates, is_monitor, tests_types}
+use Rattle.opcodes.specs.declared.instruction.Instr.{Instr}
+use Rattle.opcodes.specs.Bytes.{u1}
+use Rattle.opcodes.specs.Form.{Form, NotAnOpcode, Fixed, Widened, TableSwitch, LookupSwitch, Wide}
+use Rattle.opcodes.specs.Row as opcodes
+use Rattle.opcodes.specs.Instruction.{decoded}
+use Rattle.opcodes.specs.Reading.{IsOfForm, InstructionsAreOfTheirForm}
 use Rattle.bytecode_model.specs.Program.{Operand}
 use Rattle.bytecode_model.specs.Rows.{Row}
 use Rattle.bytecode_model.specs.Table.{row_of}

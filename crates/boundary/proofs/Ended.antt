@@ -1,7 +1,7 @@
 -- How the program ended over which a machine has halted.
 use Rattle.std.proofs.Common.{◌≡◌, ◌≢◌, ℕ, ◌+◌, ◌-◌, ◌<◌, ◌≤◌, true, List, ◌∷◌, length, Option, Some, None, refl, sym, ◌∙◌, ap, subst, arith, add-zero, ⊎_elim}
 use Rattle.std.specs.Prelude.{slice_get, slice_index}
-use Rattle.bare_image.specs.Bare.{Image}
+use Rattle.image_file.specs.Bare.{Image}
 use Rattle.memory_timing.specs.Port.{padded}
 use Rattle.jop_core.specs.declared.halt.Halt.{Halt}
 use Rattle.jop_core.specs.declared.halt.Halt.TheVariants as halts

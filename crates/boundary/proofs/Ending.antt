@@ -4,18 +4,18 @@ use Rattle.std.specs.Prelude.{IfSome, IsSomeAnd, nat_le, nat_lt, if◌then◌els
 use Rattle.std.specs.List.{flat_map}
 use Rattle.std.proofs.Math.Nat.{mul-le-mul}
 use Rattle.lists.specs.Lemmas.{onto_some}
-use Rattle.word32.specs.Packed.{words_for, words_of_bytes, PackedHasWords}
+use Rattle.base.specs.Packed.{words_for, words_of_bytes, PackedHasWords}
 use Rattle.method_cache.specs.Contents.{is_cached}
 use Rattle.micro_flow.specs.Walk.{IsCost}
 use Rattle.micro_flow.specs.Costs.{CostsAreSmall, RaiseIsSmall}
-use Rattle.jop_opcodes.specs.declared.instruction.Instr.{Instr}
-use Rattle.jop_opcodes.specs.declared.instruction.DecodeFault.{DecodeFault}
-use Rattle.jop_opcodes.specs.declared.instruction.DecodeFault.TheVariants.{Short}
-use Rattle.jop_opcodes.specs.Bytes.{u1}
-use Rattle.jop_opcodes.specs.Form.{Form, NotAnOpcode, Fixed, Widened, TableSwitch, LookupSwitch, Wide}
-use Rattle.jop_opcodes.specs.Row as opcodes
-use Rattle.jop_opcodes.specs.Instruction.{decoded, within, spelled_at, widened_at, fixed_at, table_switch_at, lookup_switch_at}
-use Rattle.jop_opcodes.specs.Target.{WholeIsWithin}
+use Rattle.opcodes.specs.declared.instruction.Instr.{Instr}
+use Rattle.opcodes.specs.declared.instruction.DecodeFault.{DecodeFault}
+use Rattle.opcodes.specs.declared.instruction.DecodeFault.TheVariants.{Short}
+use Rattle.opcodes.specs.Bytes.{u1}
+use Rattle.opcodes.specs.Form.{Form, NotAnOpcode, Fixed, Widened, TableSwitch, LookupSwitch, Wide}
+use Rattle.opcodes.specs.Row as opcodes
+use Rattle.opcodes.specs.Instruction.{decoded, within, spelled_at, widened_at, fixed_at, table_switch_at, lookup_switch_at}
+use Rattle.opcodes.specs.Target.{WholeIsWithin}
 use Rattle.jop_core.specs.State as machine
 use Rattle.jop_core.specs.Cycle.{at_boundary, asks_input, cycle_of, output_of}
 use Rattle.jop_core.specs.Scene.{Scene, begun, run, given, left_over, first_of}

@@ -17,7 +17,7 @@ use Rattle.jop_core.specs.Operations.{popped, pushed, stored, word_at, looked_up
 use Rattle.jop_core.specs.Cycle.{byte_at, entry_of, branched, with_opd, with_nxt, with_flags, performed, waits, ran, micro_at, counted, cycle_of, asks, asks_input, body_outputs, puts, output_of, at_boundary}
 use Rattle.jop_core.specs.Scene.{Scene, begun, run, next_scene, given}
 use Rattle.jop_core.specs.declared.tick.Tick.TheVariants as ticks
-use Rattle.jop_device.specs.Told.{Told}
+use Rattle.device_traits.specs.Told.{Told}
 use Rattle.micro_sketch.specs.Step.{Broke}
 use Rattle.bytecode_model.specs.declared.Ending.{Ending}
 use Rattle.bytecode_model.specs.declared.Ending.TheVariants as modes

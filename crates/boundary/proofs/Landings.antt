@@ -6,7 +6,7 @@ use Rattle.jop_core.specs.State as machine
 use Rattle.jop_core.specs.Cycle.{at_boundary, asks_input, output_of}
 use Rattle.jop_core.specs.Scene.{Scene, begun, run, next_scene, left_over, first_of, output_during}
 use Rattle.jop_core.specs.declared.tick.Tick.{Tick}
-use Rattle.jop_device.specs.Told.{Told}
+use Rattle.device_traits.specs.Told.{Told}
 use Rattle.micro_sketch.specs.Step.{IsQuiet, Arrived, Broke}
 use Rattle.micro_sketch.specs.StepLaws.{AreRunLaws, UsesUp}
 use Rattle.bytecode_model.specs.State.{State}

@@ -4,7 +4,7 @@ use Rattle.jop_core.specs.State as machine
 use Rattle.jop_core.specs.Cycle.{asks_input}
 use Rattle.jop_core.specs.Keeps.{CyclesKeep}
 use Rattle.jop_core.specs.Scene.{Scene, next_scene, given, begun, run}
-use Rattle.jop_device.specs.Told.{Told}
+use Rattle.device_traits.specs.Told.{Told}
 use Rattle.bytecode_model.specs.State.{State}
 use Rattle.boundary.specs.declared.answer.Boundary.{Boundary}
 use Rattle.boundary.specs.declared.answer.Boundary.TheVariants as answers

@@ -21,3 +21,12 @@ pub mod Whole
 pub mod Tracing
 mod Faults
 mod BareStates
+mod Between
+mod Caught
+mod Statics
+mod Tables
+mod Boot
+mod Limits
+mod Handlers
+mod Told
+mod Uncaught

@@ -3,7 +3,7 @@ use Rattle.std.proofs.Common.{◌≡◌, ℕ, ◌+◌, ◌-◌, ◌*◌, ◌/◌
 use Rattle.std.specs.Prelude.{slice_get, slice_index, slice_range, IsTrue}
 use Rattle.std.specs.List.{flat_map}
 use Rattle.lists.specs.Lemmas.{onto_some}
-use Rattle.word32.specs.Packed.{words_for, words_of_bytes, PackedHasBytes, PackedHasWords}
+use Rattle.base.specs.Packed.{words_for, words_of_bytes, PackedHasBytes, PackedHasWords}
 use Rattle.method_cache.specs.Contents.{empty, can_load}
 use Rattle.jop_core.specs.Operations.{code_place, code_words}
 use Rattle.jop_core.specs.Reset.{Start, linked_start, linked_reset, reset_of}

@@ -1,8 +1,8 @@
 -- What a run's machine shows.
 use Rattle.std.proofs.Common.{◌≡◌, ℕ, List, [], length, true, ◌∙◌, sym, ap, subst, refl, ⊎_elim}
 use Rattle.std.specs.Prelude.{sum_by, IsSomeAnd, Some, None}
-use Rattle.jop_opcodes.specs.Bytes.{u1}
-use Rattle.coded_methods.specs.declared.method.CodedMethod.{CodedMethod}
+use Rattle.opcodes.specs.Bytes.{u1}
+use Rattle.image_facts.specs.declared.method.CodedMethod.{CodedMethod}
 use Rattle.jop_core.specs.State as machine
 use Rattle.bytecode_model.specs.declared.Ending.{Ending}
 use Rattle.bytecode_model.specs.declared.Ending.TheVariants.{Running, Raising, Ended, Uncaught}

@@ -4,15 +4,15 @@ use Rattle.std.specs.Prelude.{IfSome, IsSomeAnd, IsTrue, slice_get}
 use Rattle.std.proofs.lemmas.List.{append_cancel_left}
 use Rattle.micro_flow.specs.Closed.{RaiseApart}
 use Rattle.microcode_rom.specs.declared.TheConstants.{RAISE}
-use Rattle.jop_opcodes.specs.Bytes.{u1}
-use Rattle.jop_opcodes.specs.Start.{IsStart}
-use Rattle.jop_opcodes.specs.Reading.{InstructionsAreOfTheirForm}
+use Rattle.opcodes.specs.Bytes.{u1}
+use Rattle.opcodes.specs.Start.{IsStart}
+use Rattle.opcodes.specs.Reading.{InstructionsAreOfTheirForm}
 use Rattle.jop_core.specs.declared.halt.Halt.TheVariants as halts
 use Rattle.jop_core.specs.State as machine
 use Rattle.jop_core.specs.Scene.{first_of}
-use Rattle.jop_device.specs.Told.{IsGiven}
+use Rattle.device_traits.specs.Told.{IsGiven}
 use Rattle.micro_sketch.specs.Ends.{AreGiven}
-use Rattle.bare_image.specs.Bare.{Image}
+use Rattle.image_file.specs.Bare.{Image}
 use Rattle.bytecode_model.specs.declared.Ending.{Ending}
 use Rattle.bytecode_model.specs.declared.Ending.TheVariants.{Running, Raising, Ended, Uncaught}
 use Rattle.bytecode_model.specs.State.{Frame, State}

@@ -4,7 +4,7 @@ use Rattle.std.specs.Prelude.{slice_get}
 use Rattle.lists.specs.Lemmas.{onto_some}
 use Rattle.stack_cache.specs.Size.{IsSize}
 use Rattle.memory_timing.specs.declared.Config.{Config}
-use Rattle.bare_image.specs.Bare.{Image, IsImage}
+use Rattle.image_file.specs.Bare.{Image, IsImage}
 use Rattle.jop_core.specs.State as machine
 use Rattle.jop_core.specs.Reset.{CanStart, bare_reset, linked_reset}
 use Rattle.bytecode_model.specs.declared.Ending.TheVariants.{Running}
@@ -16,8 +16,8 @@ use Rattle.boundary.specs.declared.answer.Boundary.TheVariants as answers
 use Rattle.boundary.specs.Answers.{answer_of}
 use Rattle.image_facts.specs.Places.{image_of, bare_places}
 use Rattle.machine_stands.specs.Bare.{program_of}
-use Rattle.coded_methods.specs.declared.method.CodedMethod.{CodedMethod}
-use Rattle.coded_methods.specs.Methods.{AreMethods}
+use Rattle.image_facts.specs.declared.method.CodedMethod.{CodedMethod}
+use Rattle.image_facts.specs.Methods.{AreMethods}
 use Rattle.boundary.specs.Laws.{BareImagesArePrograms}
 use Rattle.boundary.specs.Linked.{IsHeldImage, BeginsEach, LinkedRunsBegin}
 use Rattle.boundary.specs.Setting.{Setting, IsSetting, bare_setting}

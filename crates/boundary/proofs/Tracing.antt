@@ -1,24 +1,24 @@
 -- A traced run, boundary by boundary.
 use Rattle.std.proofs.Common.{◌≡◌, ◌≢◌, ℕ, ◌<◌, Bool, List, [], ◌++◌, Option, None, refl, sym, ◌∙◌, ap, subst, arith, ◌⊎◌, ⊎_elim}
 use Rattle.std.specs.List.{flat_map}
-use Rattle.jop_outside.specs.Outside.{Grew}
-use Rattle.jop_outside.specs.Growing.{Grew-refl, Grew-trans}
+use Rattle.outside.specs.Outside.{Grew}
+use Rattle.outside.specs.Growing.{Grew-refl, Grew-trans}
 use Rattle.jop_core.specs.State as machine
 use Rattle.jop_core.specs.Keeps.{CyclesKeep}
 use Rattle.jop_core.specs.Scene.{begun, notes_during}
-use Rattle.jop_device.specs.declared.seen.Seen.{Seen}
-use Rattle.jop_device.specs.Told.{Told, Note, silent, Attended, GivesEach}
+use Rattle.device_traits.specs.declared.seen.Seen.{Seen}
+use Rattle.device_traits.specs.Told.{Told, Note, silent, Attended, GivesEach}
 use Rattle.micro_sketch.specs.Step.{RanCycles}
 use Rattle.micro_sketch.specs.StepLaws.{AreRunLaws}
-use Rattle.trace_lines.specs.Lines.{note_line}
-use Rattle.trace_lines.specs.Traced.{LineIsPut}
+use Rattle.run_devices.specs.Lines.{note_line}
+use Rattle.run_devices.specs.Traced.{LineIsPut}
 use Rattle.bytecode_model.specs.declared.Ending.TheVariants as modes
 use Rattle.bytecode_model.specs.State.{State}
 use Rattle.bytecode_typing.specs.Fits as states
 use Rattle.boundary.specs.declared.answer.Boundary.{Boundary}
 use Rattle.boundary.specs.declared.answer.Boundary.TheVariants as answers
 use Rattle.boundary.specs.Answers.{answer_of, mode_after, IsGoing}
-use Rattle.coded_methods.specs.Methods.{AreMethods}
+use Rattle.image_facts.specs.Methods.{AreMethods}
 use Rattle.boundary.specs.Setting.{Setting, Stands}
 use Rattle.boundary.specs.Session.{Session, IsStateOf}
 use Rattle.boundary.specs.Activations.{Stage}

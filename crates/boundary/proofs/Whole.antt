@@ -3,7 +3,7 @@ use Rattle.std.proofs.Common.{◌≡◌, ◌≢◌, ℕ, suc, ◌+◌, ◌<◌, 
 use Rattle.jop_core.specs.State as machine
 use Rattle.jop_core.specs.Keeps.{CyclesKeep}
 use Rattle.jop_core.specs.Scene.{Scene, begun, run, output_during}
-use Rattle.jop_device.specs.Told.{Told}
+use Rattle.device_traits.specs.Told.{Told}
 use Rattle.micro_sketch.specs.Step.{RanCycles}
 use Rattle.micro_sketch.specs.StepLaws.{AreRunLaws, after_output}
 use Rattle.bytecode_model.specs.declared.Ending.{Ending}

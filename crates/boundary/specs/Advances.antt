@@ -1,7 +1,7 @@
 -- One step of the machine and of the bytecode together.
 use Rattle.std.specs.Prelude.{◌≡◌, ℕ, ◌<◌, List, [], ◌∷◌, ◌++◌, Some, IsSomeAnd}
 use Rattle.std.specs.declared.option.Option.{Option}
-use Rattle.jop_device.specs.Told.{Told}
+use Rattle.device_traits.specs.Told.{Told}
 use Rattle.jop_core.specs.declared.tick.Tick.TheVariants as ticks
 use Rattle.jop_core.specs.State as machine
 use Rattle.jop_core.specs.Cycle.{output_of}

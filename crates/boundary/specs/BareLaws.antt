@@ -1,9 +1,9 @@
 -- What is proved of the code of bare images.
 use Rattle.std.specs.Prelude.{◌≡◌, ◌⊎◌, ℕ, true, Some}
 use Rattle.std.specs.declared.option.Option.{Option}
-use Rattle.jop_opcodes.specs.Bytes.{u1}
-use Rattle.jop_opcodes.specs.Start.{IsStart}
-use Rattle.bare_image.specs.Bare.{Image, IsImage}
+use Rattle.opcodes.specs.Bytes.{u1}
+use Rattle.opcodes.specs.Start.{IsStart}
+use Rattle.image_file.specs.Bare.{Image, IsImage}
 use Rattle.jop_core.specs.State as machine
 use Rattle.bytecode_model.specs.declared.Ending.TheVariants.{Running, Ended}
 use Rattle.bytecode_model.specs.State.{State}

@@ -2,7 +2,7 @@
 use Rattle.std.specs.Prelude.{◌≡◌, ◌⊎◌, ℕ, zero, suc, List, [], ◌∷◌, Some, FitsSigned}
 use Rattle.std.specs.Int.{w32}
 use Rattle.std.specs.declared.option.Option.{Option}
-use Rattle.bare_image.specs.Bare.{Image, IsImage}
+use Rattle.image_file.specs.Bare.{Image, IsImage}
 use Rattle.jop_core.specs.State as machine
 use Rattle.bytecode_model.specs.declared.Value.{Value}
 use Rattle.bytecode_model.specs.declared.Value.TheVariants.{Int}

@@ -2,7 +2,7 @@
 use Rattle.std.specs.Prelude.{ℕ}
 use Rattle.memory_timing.specs.declared.Config.{Config}
 use Rattle.stack_cache.specs.Size.{IsSize}
-use Rattle.bare_image.specs.Bare.{Image, IsImage}
+use Rattle.image_file.specs.Bare.{Image, IsImage}
 use Rattle.jop_core.specs.Reset.{bare_reset, CanStartBare}
 use Rattle.boundary.specs.Setting.{IsSetting, bare_setting}
 use Rattle.boundary.specs.Session.{Begins}

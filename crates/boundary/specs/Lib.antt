@@ -13,3 +13,4 @@ pub mod Activations
 pub mod Runs
 pub mod Traces
 pub mod BareStates
+pub mod Start

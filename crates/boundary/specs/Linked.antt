@@ -1,7 +1,7 @@
 -- A linked program at the start of its run.
 use Rattle.std.specs.Prelude.{◌≡◌, ℕ, ◌-◌, ◌≤◌, true, List, length, IfSome, IsTrue}
 use Rattle.stack_cache.specs.Size.{IsSize}
-use Rattle.word32.specs.Packed.{words_for}
+use Rattle.base.specs.Packed.{words_for}
 use Rattle.method_cache.specs.Contents.{empty, can_load}
 use Rattle.memory_timing.specs.declared.Config.{Config}
 use Rattle.jop_core.specs.State as machine
@@ -9,8 +9,8 @@ use Rattle.jop_core.specs.Reset.{CanStart, linked_reset}
 use Rattle.bytecode_model.specs.Sizes.{body_words}
 use Rattle.bytecode_model.specs.Program.{body_of}
 use Rattle.image_facts.specs.Places.{image_of, image_words}
-use Rattle.coded_methods.specs.declared.method.CodedMethod.{CodedMethod}
-use Rattle.coded_methods.specs.Methods.{AreMethods}
+use Rattle.image_facts.specs.declared.method.CodedMethod.{CodedMethod}
+use Rattle.image_facts.specs.Methods.{AreMethods}
 use Rattle.boundary.specs.Setting.{Setting, IsSetting}
 use Rattle.boundary.specs.Session.{Begins}
 
@@ -38,4 +38,5 @@ BeginsEach n words config m = (g : Setting) → IsHeld g config → g.chip ≡ n
 
 -- The machine can begin with the words of its image, and at reset over them it stands for the boot state.
 abbrev pub LinkedRunsBegin : Type 0
-LinkedRunsBegin = (g : Setting) (config : Config) → IsHeld g config → let words = image_of g.program g.places in CanStart words config × Begins g (linked_reset g.chip words config)
+LinkedRunsBegin = (g : Setting) (config : Config) → IsHeld g config
+    → let words = image_of g.program g.places in CanStart words config × Begins g (linked_reset g.chip words config)

@@ -1,6 +1,6 @@
 -- What the fields of a run mean.
 use Rattle.std.specs.Prelude.{ℕ, List, [], ◌∷◌}
-use Rattle.coded_methods.specs.declared.method.CodedMethod.{CodedMethod}
+use Rattle.image_facts.specs.declared.method.CodedMethod.{CodedMethod}
 use Rattle.boundary.specs.declared.methods.Methods.{Methods}
 use Rattle.boundary.specs.declared.methods.Methods.TheVariants.{One, All}
 use Rattle.boundary.specs.declared.running.Running.TheInside.{Inside}

@@ -1,7 +1,7 @@
 -- The instruction at which a state stands.
 use Rattle.std.specs.Prelude.{ℕ, Some, None}
 use Rattle.std.specs.declared.option.Option.{Option}
-use Rattle.jop_opcodes.specs.Bytes.{u1}
+use Rattle.opcodes.specs.Bytes.{u1}
 use Rattle.bytecode_model.specs.declared.Ending.{Ending}
 use Rattle.bytecode_model.specs.declared.Ending.TheVariants.{Running}
 use Rattle.bytecode_model.specs.Lists.{onto}

@@ -3,7 +3,7 @@ use Rattle.std.specs.Prelude.{◌≡◌, ℕ, zero, suc, ◌+◌, ◌<◌, ◌�
 use Rattle.std.specs.declared.option.Option.{Option}
 use Rattle.jop_core.specs.State as machine
 use Rattle.jop_core.specs.Scene.{begun, output_during}
-use Rattle.jop_device.specs.Told.{Told}
+use Rattle.device_traits.specs.Told.{Told}
 use Rattle.micro_sketch.specs.Step.{RanCycles}
 use Rattle.bytecode_model.specs.declared.Ending.TheVariants as modes
 use Rattle.bytecode_model.specs.State.{State}
@@ -46,7 +46,8 @@ pub record RunsOn (g : Setting) (limit : ℕ) (a : Stage) (now : machine.State) 
   pub holds : K last.state
 
 -- the run came to a boundary from which a step was begun, on which a call on the device failed
-pub record Breaks (g : Setting) (limit : ℕ) (a : Stage) (now : machine.State) (told told' : Told) (K : State → (old new : machine.State) → (before after : Told) → Type 0) : Type 0 where
+pub record Breaks (g : Setting) (limit : ℕ) (a : Stage) (now : machine.State) (told told' : Told)
+    (K : State → (old new : machine.State) → (before after : Told) → Type 0) : Type 0 where
   pub last : Stage
   pub before : Told
   pub run : IsRun g limit a last told before
@@ -65,4 +66,5 @@ RunsTo g limit a now told told' ends.SeenFault = Breaks g limit a now told told'
 
 -- so it is from each state of a program for which the machine stood
 unfoldable pub RunsAll : (limit : ℕ) → (old now : machine.State) → (told told' : Told) → RunEnd → Type 0
-RunsAll limit old now told told' end = (g : Setting) (s : State) → IsSetting g → Stands g old s → RunsTo g limit (record { machine = old; state = s }) now told told' end
+RunsAll limit old now told told' end = (g : Setting) (s : State) → IsSetting g → Stands g old s
+    → RunsTo g limit (record { machine = old; state = s }) now told told' end

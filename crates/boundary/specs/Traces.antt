@@ -2,12 +2,12 @@
 use Rattle.std.specs.Prelude.{◌≡◌, ℕ, zero, suc, ◌<◌, ◌≤◌, Bool, List, [], ◌++◌, length, map, sum_by, slice_get, Some, None, Vec}
 use Rattle.std.specs.List.{flat_map}
 use Rattle.std.specs.declared.alloc.Global.{Global}
-use Rattle.jop_outside.specs.Outside.{Grew}
+use Rattle.outside.specs.Outside.{Grew}
 use Rattle.jop_core.specs.State as machine
 use Rattle.jop_core.specs.Scene.{begun, notes_during}
-use Rattle.jop_device.specs.Told.{Told, silent}
-use Rattle.trace_lines.specs.Lines.{step_line, step_name, note_line}
-use Rattle.trace_lines.specs.Traced.{LineIsPut, LineFails}
+use Rattle.device_traits.specs.Told.{Told, silent}
+use Rattle.run_devices.specs.Lines.{step_line, step_name, note_line}
+use Rattle.run_devices.specs.Traced.{LineIsPut, LineFails}
 use Rattle.bytecode_model.specs.declared.Ending.TheVariants as modes
 use Rattle.bytecode_model.specs.State.{State}
 use Rattle.bytecode_model.specs.Sizes.{value_words}
@@ -34,23 +34,27 @@ texts names = map (λ (name : Vec ℕ Global). name.items) names
 abbrev pub name_of : (names : List (List ℕ)) → (method : ℕ) → List ℕ
 name_of names method = elim (slice_get names method) [ None ↦ [] | Some name ↦ name ]
 
--- the line of a boundary: the cycles so far, and of the top frame the method's name, the place of the instruction, what is about to run, how many frames there are
--- and how many words its operands take
+-- the line of a boundary: the cycles so far, and of the top frame the method's name, the place of the instruction, what is about to run, how many
+-- frames there are and how many words its operands take
 abbrev pub stage_line : (names : List (List ℕ)) → Setting → Stage → List ℕ
 stage_line names g a =
     elim (top_frame a.state.frames) [
       | None ↦ []
-      | Some f ↦ step_line a.machine.clock (name_of names f.method) f.pc (step_name (next_opcode g.program a.state)) (length a.state.frames) (sum_by value_words f.operands)
+      | Some f ↦ step_line a.machine.clock (name_of names f.method) f.pc (step_name (next_opcode g.program a.state)) (length a.state.frames)
+          (sum_by value_words f.operands)
     ]
 
 -- the lines of a step: that of its boundary, and then those of what the device notes in its cycles
 abbrev pub step_text : (cycles : Bool) → (names : List (List ℕ)) → (g : Setting) → (a b : Stage) → Follows g a b → List ℕ
-step_text cycles names g a b follows = stage_line names g a ++ flat_map (note_line cycles) (notes_during follows.comes.cycles (begun a.machine follows.comes.answers))
+step_text cycles names g a b follows = stage_line names g a ++ flat_map (note_line cycles)
+    (notes_during follows.comes.cycles (begun a.machine follows.comes.answers))
 
 -- the lines of the steps from a to b, one after another
-abbrev pub run_text : (cycles : Bool) → (names : List (List ℕ)) → (g : Setting) → (limit : ℕ) → (a : Stage) → (steps : ℕ) → (b : Stage) → Goes g limit a steps b → List ℕ
+abbrev pub run_text : (cycles : Bool) → (names : List (List ℕ)) → (g : Setting) → (limit : ℕ) → (a : Stage) → (steps : ℕ) → (b : Stage) → Goes g limit a steps b
+    → List ℕ
 run_text cycles names g limit a zero b goes = []
-run_text cycles names g limit a (suc n) b (mid, goes, going, below, follows) = run_text cycles names g limit a n mid goes ++ step_text cycles names g mid b follows
+run_text cycles names g limit a (suc n) b (mid, goes, going, below, follows) = run_text cycles names g limit a n mid goes
+    ++ step_text cycles names g mid b follows
 
 -- ---- the run
 
@@ -65,7 +69,8 @@ pub record IsTraced (cycles : Bool) (names : List (List ℕ)) (g : Setting) (lim
   pub text : Grew told.noted told'.noted (run_text cycles names g limit a run.steps b run.stages)
 
 -- the traced run came to a machine that stands for a state of which this holds
-pub record TracesOn (cycles : Bool) (names : List (List ℕ)) (g : Setting) (limit : ℕ) (a : Stage) (now : machine.State) (told told' : Told) (K : State → Type 0) : Type 0 where
+pub record TracesOn (cycles : Bool) (names : List (List ℕ)) (g : Setting) (limit : ℕ) (a : Stage) (now : machine.State) (told told' : Told)
+    (K : State → Type 0) : Type 0 where
   pub last : Stage
   pub now_is : last.machine ≡ now
   pub traced : IsTraced cycles names g limit a last told told'
@@ -74,7 +79,8 @@ pub record TracesOn (cycles : Bool) (names : List (List ℕ)) (g : Setting) (lim
 -- ---- one step more
 
 -- the line of the boundary was put, and from there this holds of the state and the machine
-pub record AfterLine (names : List (List ℕ)) (g : Setting) (a : Stage) (now : machine.State) (told told' : Told) (K : State → (old new : machine.State) → (before after : Told) → Type 0) : Type 0 where
+pub record AfterLine (names : List (List ℕ)) (g : Setting) (a : Stage) (now : machine.State) (told told' : Told)
+    (K : State → (old new : machine.State) → (before after : Told) → Type 0) : Type 0 where
   pub begun : Told
   pub line : LineIsPut told begun (stage_line names g a)
   pub holds : K a.state a.machine now begun told'
@@ -95,10 +101,12 @@ StepTraces names g a now told told' answer = AfterLine names g a now told told' 
 
 -- so it is from each state for which the machine stood, of a program with these methods
 unfoldable pub StepTracesAll : (names : List (List ℕ)) → (old : Session) → (now : machine.State) → (told told' : Told) → Boundary → Type 0
-StepTracesAll names old now told told' answer = (g : Setting) (s : State) → IsStateOf g old.methods old.machine s → StepTraces names g (record { machine = old.machine; state = s }) now told told' answer
+StepTracesAll names old now told told' answer = (g : Setting) (s : State) → IsStateOf g old.methods old.machine s
+    → StepTraces names g (record { machine = old.machine; state = s }) now told told' answer
 
 -- the traced run came to a boundary from which a step was begun, where a call on the device failed
-pub record TraceBreaks (cycles : Bool) (names : List (List ℕ)) (g : Setting) (limit : ℕ) (a : Stage) (now : machine.State) (told told' : Told) (fault : Boundary) : Type 0 where
+pub record TraceBreaks (cycles : Bool) (names : List (List ℕ)) (g : Setting) (limit : ℕ) (a : Stage) (now : machine.State) (told told' : Told)
+    (fault : Boundary) : Type 0 where
   pub last : Stage
   pub before : Told
   pub traced : IsTraced cycles names g limit a last told before
@@ -109,7 +117,8 @@ pub record TraceBreaks (cycles : Bool) (names : List (List ℕ)) (g : Setting) (
 -- ---- how the traced run ends
 
 -- A line of a cycle that fails is a write that fails.
-abbrev pub TracesTo : (cycles : Bool) → (names : List (List ℕ)) → (g : Setting) → (limit : ℕ) → (a : Stage) → (now : machine.State) → (told told' : Told) → RunEnd → Type 0
+abbrev pub TracesTo : (cycles : Bool) → (names : List (List ℕ)) → (g : Setting) → (limit : ℕ) → (a : Stage) → (now : machine.State) → (told told' : Told)
+    → RunEnd → Type 0
 TracesTo cycles names g limit a now told told' ends.Ended = TracesOn cycles names g limit a now told told' (λ s. s.mode ≡ modes.Ended)
 TracesTo cycles names g limit a now told told' (ends.Uncaught c) = TracesOn cycles names g limit a now told told' (λ s. s.mode ≡ modes.Uncaught c)
 TracesTo cycles names g limit a now told told' ends.Spent = TracesOn cycles names g limit a now told told' (λ s. IsGoing s.mode) × (limit ≤ now.clock)
@@ -118,5 +127,7 @@ TracesTo cycles names g limit a now told told' ends.WriteFault = TraceBreaks cyc
 TracesTo cycles names g limit a now told told' ends.SeenFault = ⊥
 
 -- so it is from each state for which the machine stood, of a program with these methods
-unfoldable pub TracesAll : (cycles : Bool) → (names : List (List ℕ)) → (limit : ℕ) → (old : Session) → (now : machine.State) → (told told' : Told) → RunEnd → Type 0
-TracesAll cycles names limit old now told told' end = (g : Setting) (s : State) → IsStateOf g old.methods old.machine s → TracesTo cycles names g limit (record { machine = old.machine; state = s }) now told told' end
+unfoldable pub TracesAll : (cycles : Bool) → (names : List (List ℕ)) → (limit : ℕ) → (old : Session) → (now : machine.State) → (told told' : Told) → RunEnd
+    → Type 0
+TracesAll cycles names limit old now told told' end = (g : Setting) (s : State) → IsStateOf g old.methods old.machine s
+    → TracesTo cycles names g limit (record { machine = old.machine; state = s }) now told told' end

@@ -1,3 +1,5 @@
+//! Laws of runs, from one boundary to the next: functions without a body.
+
 ghost use Rattle.machine_stands.specs.Simulates.{Simulates};
 ghost use Rattle.boundary.specs.Families.{is_built};
 ghost use Rattle.boundary.specs.Activations.{ActivationsTakeCycles};
@@ -33,8 +35,8 @@ pub fn linked_runs_begin()
 {
     bytecode_typing::the_boot_state_fits();
     bytecode_typing::fitting_states_are_well_formed();
-    word32::laws::packed_has_words();
-    word32::laws::packed_has_bytes();
+    base::laws::packed_has_words();
+    base::laws::packed_has_bytes();
     image_facts::words_are_read_and_written();
     image_facts::words_lie();
     image_facts::image_words_lie();
@@ -45,17 +47,17 @@ pub fn linked_runs_begin()
 pub fn families_are_simulated()
     ensures { Simulates is_built }
 {
-    value_steps::laws::values_are_moved();
-    number_steps::laws::numbers_are_computed();
+    opcode_steps::values::values_are_moved();
+    opcode_steps::numbers::numbers_are_computed();
     call_steps::laws::static_calls_and_returns();
     call_steps::laws::calls_by_receiver_come();
     call_steps::laws::throws_come();
-    device_steps::laws::devices_are_simulated();
-    heap_steps::laws::fields_are_simulated();
-    heap_steps::laws::arrays_are_simulated();
-    object_steps::laws::objects_are_made();
-    object_steps::laws::types_are_tested();
-    object_steps::laws::monitors_are_passed();
+    opcode_steps::devices::devices_are_simulated();
+    opcode_steps::heap::fields_are_simulated();
+    opcode_steps::heap::arrays_are_simulated();
+    opcode_steps::objects::objects_are_made();
+    opcode_steps::objects::types_are_tested();
+    opcode_steps::objects::monitors_are_passed();
 }
 
 /// Each instruction of a bare image has one of the opcodes that it may have.
@@ -71,7 +73,7 @@ pub fn stages_advance()
     call_steps::laws::raises_come();
     machine_stands::rows_are_read();
     bytecode_model::laws::rows_are_of_their_opcodes();
-    jop_opcodes::laws::instructions_are_read();
+    opcodes::laws::instructions_are_read();
     bare_images_have_bare_opcodes();
     bytecode_typing::typed_programs_keep();
     bytecode_typing::fitting_states_are_well_formed();
@@ -90,8 +92,8 @@ pub fn stages_end_soon()
 {
     stages_advance();
     costs_are_small();
-    word32::laws::packed_has_words();
-    jop_opcodes::laws::instructions_end_within();
+    base::laws::packed_has_words();
+    opcodes::laws::instructions_end_within();
     machine_stands::fixed_words_are_read();
     bytecode_typing::fitting_states_are_well_formed();
 }

@@ -8,10 +8,12 @@ pub mod laws;
 mod methods;
 mod running;
 mod runs;
+mod start;
 mod traces;
 
 pub use answer::Boundary;
-pub use coded_methods::CodedMethod;
+pub use image_facts::CodedMethod;
 pub use running::Running;
 pub use runs::{RunEnd, run};
+pub use start::{boot_takes_six_words, uncaught_classes_are_there, verified_programs_are_told};
 pub use traces::trace;

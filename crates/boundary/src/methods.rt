@@ -1,12 +1,12 @@
 //! The methods that a run knows.
 ghost use Rattle.std.specs.Prelude.{◌≡◌, length};
-ghost use Rattle.bare_image.specs.Bare.{IsImage};
-ghost use Rattle.coded_methods.specs.Methods.{AreMethods};
+ghost use Rattle.image_file.specs.Bare.{IsImage};
+ghost use Rattle.image_facts.specs.Methods.{AreMethods};
 ghost use Rattle.image_facts.specs.Places.{bare_places};
 ghost use Rattle.machine_stands.specs.Bare.{program_of};
 ghost use Rattle.boundary.specs.Meaning.{methods_of};
 
-use coded_methods::CodedMethod;
+use image_facts::CodedMethod;
 use jop_core::Bare;
 use std::slice::from_ref;
 

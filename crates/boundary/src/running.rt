@@ -2,7 +2,7 @@
 ghost use Rattle.std.specs.Prelude.{◌≡◌, ◌≢◌, ◌<◌, ◌^◌, true, false, length, IfOk};
 ghost use Rattle.stack_cache.specs.Size.{IsSize};
 ghost use Rattle.jop_core.specs.Reset.{CanStartBare, bare_reset, linked_reset};
-ghost use Rattle.coded_methods.specs.Methods.{AreMethods};
+ghost use Rattle.image_facts.specs.Methods.{AreMethods};
 ghost use Rattle.boundary.specs.Answers.{is_going, mode_after};
 ghost use Rattle.boundary.specs.Setting.{bare_setting};
 ghost use Rattle.boundary.specs.Linked.{IsHeldImage, BeginsEach};
@@ -17,9 +17,9 @@ use crate::laws::{
     stages_end_soon,
 };
 use crate::methods::Methods;
+use base::NoMemory;
 use bytecode_typing::fitting_states_are_well_formed;
-use coded_methods::CodedMethod;
-use jop_base::NoMemory;
+use image_facts::CodedMethod;
 use jop_core::laws::cycles_keep;
 use jop_core::{Bare, Config, Devices, Machine};
 use micro_flow::laws::entries_are_reached_by_dispatch;
@@ -28,7 +28,7 @@ use micro_sketch::step::{Stepped, to_boundary};
 use std::alloc::Global;
 use std::marker::Model;
 
-// The number of the type of the first class. The types of the arrays of numbers come before those of classes.
+/// The number of the type of the first class. The types of the arrays of numbers come before those of classes.
 const FIRST_CLASS: u32 = 8;
 
 /// A machine that runs a program: at each boundary it stands for a state of the program, and it still stands for
@@ -144,7 +144,7 @@ impl<'a, const N: usize> Running<'a, N> {
     }
 }
 
-// Whether the machine goes on.
+/// Whether the machine goes on.
 fn is_going(mode: Boundary) -> bool
     ensures { result ≡ is_going mode }
 {
@@ -154,7 +154,7 @@ fn is_going(mode: Boundary) -> bool
     }
 }
 
-// How a run goes on after an answer.
+/// How a run goes on after an answer.
 fn follow(mode: &mut Boundary, answer: Boundary)
     ensures { mode.new ≡ mode_after answer }
 {
@@ -166,7 +166,7 @@ fn follow(mode: &mut Boundary, answer: Boundary)
     }
 }
 
-// Goes on from an instruction or a raise, up to the next boundary.
+/// Goes on from an instruction or a raise, up to the next boundary.
 fn go_on<const N: usize, D: Devices>(machine: &mut Machine<N>, device: &mut D) -> Boundary
     requires stands { IsAtStep machine.old }
     requires clock { machine.old.clock < 2 ^ 63 }
@@ -192,8 +192,8 @@ fn go_on<const N: usize, D: Devices>(machine: &mut Machine<N>, device: &mut D) -
     }
 }
 
-// Where a machine has halted over an object that wasn't caught, the number of its class. There is none where the program
-// returned.
+/// Where a machine has halted over an object that wasn't caught, the number of its class. There is none where the program
+/// returned.
 fn class_uncaught<const N: usize>(machine: &Machine<N>) -> Option<u32>
     requires { HasEnded machine.now }
     ensures { EndsWith machine.now result }

@@ -51,7 +51,7 @@ pub fn run<const N: usize, D: Devices>(
     }
 }
 
-// The same from a machine that goes on.
+/// The same from a machine that goes on.
 fn go_to_end<const N: usize, D: Devices>(
     running: &mut Running<'_, N>,
     device: &mut D,

@@ -5,8 +5,8 @@ ghost use Rattle.boundary.specs.Answers.{IsGoing, IsUnbroken};
 ghost use Rattle.boundary.specs.Setting.{Setting};
 ghost use Rattle.boundary.specs.Session.{IsStateOf};
 ghost use Rattle.bytecode_model.specs.State.{State};
-ghost use Rattle.trace_lines.specs.Lines.{boundary_line};
-ghost use Rattle.trace_lines.specs.Traced.{PutsLine};
+ghost use Rattle.run_devices.specs.Lines.{boundary_line};
+ghost use Rattle.run_devices.specs.Traced.{PutsLine};
 ghost use Rattle.boundary.specs.Advances.{PassesTime};
 ghost use Rattle.boundary.specs.Traces.{TracesAll, StepTracesAll, stage_line, texts};
 
@@ -15,9 +15,9 @@ use crate::running::Running;
 use crate::runs::RunEnd;
 use jop_core::laws::cycles_keep;
 use jop_core::{DeviceFault, Devices};
-use jop_outside::{Sink, Source};
 use micro_sketch::laws::runs_add_up;
-use trace_lines::{AtBoundary, TraceDevice};
+use outside::{Sink, Source};
+use run_devices::{AtBoundary, TraceDevice};
 
 /// The same as [`run`](crate::run), with its trace: before each step the line of its boundary is put. The names are those of
 /// the methods with code, by number. Where a line fails, the run ends in a `WriteFault`.
@@ -30,7 +30,8 @@ pub fn trace<'i, 'o, const N: usize, S: Source, O: Sink>(
     requires unbroken { IsUnbroken running.old.mode }
     requires few { limit < 2 ^ 63 }
     requires named { length running.old.methods ≤ length names.now }
-    ensures traces { TracesAll device.old.cycles (texts names.now) limit running.old running.new.machine (⟦<TraceDevice<'i, 'o, S, O> as Devices>⟧.told device.old) (⟦<TraceDevice<'i, 'o, S, O> as Devices>⟧.told device.new) result }
+    ensures traces { TracesAll device.old.cycles (texts names.now) limit running.old running.new.machine
+        (⟦<TraceDevice<'i, 'o, S, O> as Devices>⟧.told device.old) (⟦<TraceDevice<'i, 'o, S, O> as Devices>⟧.told device.new) result }
     ensures methods { running.new.methods ≡ running.old.methods }
     ensures names { ⟦<TraceDevice<'i, 'o, S, O> as Devices>⟧.names device.new ≡ ⟦<TraceDevice<'i, 'o, S, O> as Devices>⟧.names device.old }
 {
@@ -46,7 +47,7 @@ pub fn trace<'i, 'o, const N: usize, S: Source, O: Sink>(
     }
 }
 
-// The same from a machine that goes on.
+/// The same from a machine that goes on.
 fn trace_to_end<'i, 'o, const N: usize, S: Source, O: Sink>(
     running: &mut Running<'_, N>,
     names: &[Vec<u8>],
@@ -56,7 +57,8 @@ fn trace_to_end<'i, 'o, const N: usize, S: Source, O: Sink>(
     requires going { IsGoing running.old.mode }
     requires few { limit < 2 ^ 63 }
     requires named { length running.old.methods ≤ length names.now }
-    ensures traces { TracesAll device.old.cycles (texts names.now) limit running.old running.new.machine (⟦<TraceDevice<'i, 'o, S, O> as Devices>⟧.told device.old) (⟦<TraceDevice<'i, 'o, S, O> as Devices>⟧.told device.new) result }
+    ensures traces { TracesAll device.old.cycles (texts names.now) limit running.old running.new.machine
+        (⟦<TraceDevice<'i, 'o, S, O> as Devices>⟧.told device.old) (⟦<TraceDevice<'i, 'o, S, O> as Devices>⟧.told device.new) result }
     ensures methods { running.new.methods ≡ running.old.methods }
     ensures names { ⟦<TraceDevice<'i, 'o, S, O> as Devices>⟧.names device.new ≡ ⟦<TraceDevice<'i, 'o, S, O> as Devices>⟧.names device.old }
 {
@@ -77,7 +79,7 @@ fn trace_to_end<'i, 'o, const N: usize, S: Source, O: Sink>(
     RunEnd::Spent
 }
 
-// Puts the line of the boundary and goes on to the next one. A line that fails is a write that fails.
+/// Puts the line of the boundary and goes on to the next one. A line that fails is a write that fails.
 fn trace_step<'i, 'o, const N: usize, S: Source, O: Sink>(
     running: &mut Running<'_, N>,
     names: &[Vec<u8>],
@@ -86,7 +88,8 @@ fn trace_step<'i, 'o, const N: usize, S: Source, O: Sink>(
     requires going { IsGoing running.old.mode }
     requires clock { running.old.machine.clock < 2 ^ 63 }
     requires named { length running.old.methods ≤ length names.now }
-    ensures steps { StepTracesAll (texts names.now) running.old running.new.machine (⟦<TraceDevice<'i, 'o, S, O> as Devices>⟧.told device.old) (⟦<TraceDevice<'i, 'o, S, O> as Devices>⟧.told device.new) result }
+    ensures steps { StepTracesAll (texts names.now) running.old running.new.machine (⟦<TraceDevice<'i, 'o, S, O> as Devices>⟧.told device.old)
+        (⟦<TraceDevice<'i, 'o, S, O> as Devices>⟧.told device.new) result }
     ensures time { PassesTime running.old.machine running.new.machine result }
     ensures shown { result ≢ Boundary.SeenFault }
     ensures mode { IsGoing result → running.new.mode ≡ result }
@@ -102,7 +105,7 @@ fn trace_step<'i, 'o, const N: usize, S: Source, O: Sink>(
     }
 }
 
-// Puts the line of the boundary.
+/// Puts the line of the boundary.
 fn put_line<'i, 'o, const N: usize, S: Source, O: Sink>(
     running: &Running<'_, N>,
     names: &[Vec<u8>],
@@ -110,18 +113,20 @@ fn put_line<'i, 'o, const N: usize, S: Source, O: Sink>(
 ) -> Result<(), DeviceFault>
     requires going { IsGoing running.now.mode }
     requires named { length running.now.methods ≤ length names.now }
-    ensures put { (g : Setting) (s : State) → IsStateOf g running.now.methods running.now.machine s → PutsLine (⟦<TraceDevice<'i, 'o, S, O> as Devices>⟧.told device.old) (⟦<TraceDevice<'i, 'o, S, O> as Devices>⟧.told device.new)
+    ensures put { (g : Setting) (s : State) → IsStateOf g running.now.methods running.now.machine s
+        → PutsLine (⟦<TraceDevice<'i, 'o, S, O> as Devices>⟧.told device.old) (⟦<TraceDevice<'i, 'o, S, O> as Devices>⟧.told device.new)
         (stage_line (texts names.now) g (record { machine = running.now.machine; state = s })) result }
     ensures names { ⟦<TraceDevice<'i, 'o, S, O> as Devices>⟧.names device.new ≡ ⟦<TraceDevice<'i, 'o, S, O> as Devices>⟧.names device.old }
 {
     device.put_boundary(at_boundary(running, names))
 }
 
-// The boundary at which a run stands.
+/// The boundary at which a run stands.
 fn at_boundary<'n, const N: usize>(running: &Running<'_, N>, names: &'n [Vec<u8>]) -> AtBoundary<'n>
     requires going { IsGoing running.now.mode }
     requires named { length running.now.methods ≤ length names.now }
-    ensures { (g : Setting) (s : State) → IsStateOf g running.now.methods running.now.machine s → boundary_line result ≡ stage_line (texts names.now) g (record { machine = running.now.machine; state = s }) }
+    ensures { (g : Setting) (s : State) → IsStateOf g running.now.methods running.now.machine s
+        → boundary_line result ≡ stage_line (texts names.now) g (record { machine = running.now.machine; state = s }) }
 {
     let method = running.method();
     AtBoundary {

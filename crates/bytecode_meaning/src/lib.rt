@@ -6,9 +6,12 @@ ghost use Rattle.program_tables.specs.Resolved.{resolved};
 ghost use Rattle.bytecode_verifier.specs.Failure.{types_found};
 ghost use Rattle.bytecode_meaning.specs.Meaning.{Keeps, Runs, Begins};
 
+mod frames;
+
 pub use bytecode_model::{Ending, Frame, Object, State, Value};
 use bytecode_typing::{the_boot_state_fits, typed_programs_keep, typed_runs_fit};
 use bytecode_verifier::Verified;
+pub use frames::readings_agree;
 
 /// In a verified program each state that fits the frames of types and hasn't ended has a next state, whatever the input answers,
 /// and that fits too; so does each state of a run from one that fits; and the state in which the program begins fits, where the

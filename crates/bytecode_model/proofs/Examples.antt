@@ -1,8 +1,8 @@
 -- The worked examples, by computing.
 use Rattle.std.proofs.Common.{refl}
 use Rattle.std.specs.Int.{int_wrap}
-use Rattle.jop_opcodes.specs.Instruction.{decoded}
-use Rattle.jop_opcodes.specs.Row as opcodes
+use Rattle.opcodes.specs.Instruction.{decoded}
+use Rattle.opcodes.specs.Row as opcodes
 use Rattle.bytecode_model.specs.Table.{row_of}
 use Rattle.bytecode_model.specs.Steps.{run_from}
 use Rattle.bytecode_model.specs.Examples.{Arithmetic, StackForms, LocalVariables, Arrays, Heap, Casts, InterfaceCalls, Handlers, Frames, Rest, WorkedExamples}

@@ -1,8 +1,8 @@
 -- Only opcodes that are marked so raise.
 use Rattle.std.proofs.Common.{◌≡◌, ℕ, Bool, true, false, ◌==◌, ◌+◌, List, [], ◌∷◌, ◌++◌, Option, Some, None, ℤ, pos, negsuc, refl, sym, ◌∙◌, ap, subst, eqb-true, ◌⊎◌, inl, inr, IsSomeAnd}
 use Rattle.std.specs.Prelude.{if◌then◌else◌}
-use Rattle.jop_opcodes.specs.declared.instruction.Instr.{Instr}
-use Rattle.jop_opcodes.specs.Row as opcodes
+use Rattle.opcodes.specs.declared.instruction.Instr.{Instr}
+use Rattle.opcodes.specs.Row as opcodes
 use Rattle.bytecode_model.specs.declared.Value.{Value}
 use Rattle.bytecode_model.specs.declared.Ending.TheVariants.{Running, Raising, Ended}
 use Rattle.bytecode_model.specs.Lists.{onto, replaced, natural}
@@ -11,7 +11,7 @@ use Rattle.bytecode_model.specs.State.{Frame, State}
 use Rattle.bytecode_model.specs.Program.{Program, Limits, Operand, NoOperand, AnInt, ALong, AString, AStatic, AField, AMethod, AType, body_of, instr_at}
 use Rattle.bytecode_model.specs.Rows as rows
 use Rattle.bytecode_model.specs.Rows.{Row}
-use Rattle.jop_opcodes.specs.Target.{cases_of}
+use Rattle.opcodes.specs.Target.{cases_of}
 use Rattle.bytecode_model.specs.Table.{Meaning, constant, long_constant, by_local, increment, by_static, by_type, constants, loads, stores, stack, math, conversions, comparisons, control, references, extended, reserved, instructions, row_among, row_of}
 use Rattle.bytecode_model.specs.Effects.{Effect, Stuck, Go, Make, WritePart, WriteStatic, Take, Give, Call, Leave, Raise, effect}
 use Rattle.bytecode_model.specs.Steps.{written, with_top, resumed, left, applied, row_at, step_in}

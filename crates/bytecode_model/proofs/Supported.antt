@@ -3,8 +3,8 @@ use Rattle.std.proofs.Common.{◌≡◌, ℕ, ◌<◌, Bool, true, false, ◌==�
 use Rattle.std.specs.List.{list_any, range_with_len}
 use Rattle.std.proofs.lemmas.Bool.{false≢true}
 use Rattle.std.proofs.lemmas.List.FromFn.{get_or-map-range_with_len}
-use Rattle.jop_opcodes.specs.declared.instruction.Instr.{Instr}
-use Rattle.jop_opcodes.specs.Row as opcodes
+use Rattle.opcodes.specs.declared.instruction.Instr.{Instr}
+use Rattle.opcodes.specs.Row as opcodes
 use Rattle.bytecode_model.specs.Types.{OfClass}
 use Rattle.bytecode_model.specs.Program.{Operand, NoOperand, AnInt, ALong, AStatic, AField, AMethod, AType}
 use Rattle.bytecode_model.specs.Rows.{Row}

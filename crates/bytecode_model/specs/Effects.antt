@@ -1,12 +1,14 @@
 -- What each row does to the top frame and to the rest (JVM Specification SE 8, 6.5).
-use Rattle.std.specs.Prelude.{ℕ, ◌+◌, ℤ, pos, ◌+ℤ◌, Bool, true, false, not, ◌==◌, nat_le, if◌then◌else◌, List, [], ◌∷◌, length, map, reverse, replicate, Option, Some, None, slice_get}
+use Rattle.std.specs.Prelude.{ℕ, ◌+◌, ℤ, pos, ◌+ℤ◌, Bool, true, false, not, ◌==◌, nat_le, if◌then◌else◌, List, [], ◌∷◌, length, map, reverse, replicate, Option}
+use Rattle.std.specs.Prelude.{Some, None, slice_get}
 use Rattle.std.specs.List.{list_any}
 use Rattle.std.specs.Int.{w8, w32, w64, int_wrap}
-use Rattle.jop_opcodes.specs.declared.instruction.Case.{Case}
+use Rattle.opcodes.specs.declared.instruction.Case.{Case}
 use Rattle.bytecode_model.specs.declared.Value.{Value}
 use Rattle.bytecode_model.specs.declared.Value.TheVariants.{Int, Long, Ref, Null, Unset}
 use Rattle.bytecode_model.specs.Lists.{onto, replaced, natural}
-use Rattle.bytecode_model.specs.Types.{NumberType, IntType, LongType, References, Kind, OfClass, OfNumbers, OfReferences, Declared, is_moved, suits, is_long, zero_of, default, element_type}
+use Rattle.bytecode_model.specs.Types.{NumberType, IntType, LongType, References, Kind, OfClass, OfNumbers, OfReferences, Declared, is_moved, suits, is_long}
+use Rattle.bytecode_model.specs.Types.{zero_of, default, element_type}
 use Rattle.bytecode_model.specs.State.{Object, Frame, State}
 use Rattle.bytecode_model.specs.Program.{Program, Limits, Method, kind_of, type_number, is_of}
 use Rattle.bytecode_model.specs.Sizes.{object_words, made_words}
@@ -228,7 +230,8 @@ effect P limits s f next (rows.PutField named owner k) =
 effect P limits s f next (rows.New c) = only_if (P.is_concrete c) (allocate P limits s (OfClass c) (map default (P.fields c)) next f.locals f.operands)
 effect P limits s f next (rows.NewNumbers code) =
     on_size f.operands (λ size rest. allocate P limits s (OfNumbers code) (replicate size (zero_of (element_type code))) next f.locals rest)
-effect P limits s f next (rows.NewReferences k) = on_size f.operands (λ size rest. allocate P limits s (OfReferences k) (replicate size Null) next f.locals rest)
+effect P limits s f next (rows.NewReferences k) = on_size f.operands
+    (λ size rest. allocate P limits s (OfReferences k) (replicate size Null) next f.locals rest)
 -- of an array alone (6.5.arraylength)
 effect P limits s f next rows.Length =
     on_object s.objects f.operands (λ p o rest. only_if (is_array (kind_of P o)) (Go next f.locals (Int (pos (length o.parts)) ∷ rest)))

@@ -11,11 +11,13 @@ use Rattle.bytecode_model.specs.State.{Object, State}
 use Rattle.bytecode_model.specs.Program.{Program, Limits, Method, Body, Handler, Operand, NoOperand, AStatic, AMethod, AType}
 use Rattle.bytecode_model.specs.Steps.{step, run_from, boot_state}
 
--- ---- a sample program: the classes 0 to 4 that the virtual machine knows, the exceptions 5 and 6, the interface 7, the class 8 without it, and the class 9 with it
+-- ---- a sample program: the classes 0 to 4 that the virtual machine knows, the exceptions 5 and 6, the interface 7, the class 8 without it, and the
+-- class 9 with it
 
 abbrev pub supertypes : List (List ℕ)
 supertypes =
-    (0 ∷ []) ∷ (1 ∷ 0 ∷ []) ∷ (2 ∷ 0 ∷ []) ∷ (3 ∷ 1 ∷ 0 ∷ []) ∷ (4 ∷ 1 ∷ 0 ∷ []) ∷ (5 ∷ 4 ∷ 1 ∷ 0 ∷ []) ∷ (6 ∷ 4 ∷ 1 ∷ 0 ∷ []) ∷ (7 ∷ 0 ∷ []) ∷ (8 ∷ 0 ∷ []) ∷ (9 ∷ 7 ∷ 0 ∷ []) ∷ []
+    (0 ∷ []) ∷ (1 ∷ 0 ∷ []) ∷ (2 ∷ 0 ∷ []) ∷ (3 ∷ 1 ∷ 0 ∷ []) ∷ (4 ∷ 1 ∷ 0 ∷ []) ∷ (5 ∷ 4 ∷ 1 ∷ 0 ∷ []) ∷ (6 ∷ 4 ∷ 1 ∷ 0 ∷ []) ∷ (7 ∷ 0 ∷ []) ∷ (8 ∷ 0 ∷ [])
+    ∷ (9 ∷ 7 ∷ 0 ∷ []) ∷ []
 
 abbrev pub is_supertype : Option (List ℕ) → ℕ → Bool
 is_supertype None d = false
@@ -227,11 +229,13 @@ pub record Arrays : Type 0 where
   pub eight_bits : parts_after 9 (next (84 ∷ []) NoOperand [] (Int (pos 456) ∷ Int (pos 0) ∷ Ref 9 ∷ []) (object 4 (a ∷ []) ∷ [])) ≡ Some (Int (negsuc 55) ∷ [])
   pub sign : operands_after (next (51 ∷ []) NoOperand [] (Int (pos 0) ∷ Ref 9 ∷ []) (object 4 (Int (negsuc 55) ∷ []) ∷ [])) ≡ Some (Int (negsuc 55) ∷ [])
   -- castore keeps sixteen bits without a sign
-  pub sixteen_bits : parts_after 9 (next (85 ∷ []) NoOperand [] (Int (negsuc 0) ∷ Int (pos 0) ∷ Ref 9 ∷ []) (object 1 (a ∷ []) ∷ [])) ≡ Some (Int (pos 65535) ∷ [])
+  pub sixteen_bits : parts_after 9 (next (85 ∷ []) NoOperand [] (Int (negsuc 0) ∷ Int (pos 0) ∷ Ref 9 ∷ []) (object 1 (a ∷ []) ∷ [])) ≡ Some
+      (Int (pos 65535) ∷ [])
 
 -- newarray of three longs with so many words free
 abbrev pub three_longs : (heap : ℕ) → Option State
-three_longs heap = step (sample (methods_with (body 4 8 (188 ∷ 11 ∷ []) [])) NoOperand) (record { frames = 1000; heap = heap }) None (at_first [] (Int (pos 3) ∷ []) [] Running)
+three_longs heap = step (sample (methods_with (body 4 8 (188 ∷ 11 ∷ []) [])) NoOperand) (record { frames = 1000; heap = heap }) None
+    (at_first [] (Int (pos 3) ∷ []) [] Running)
 
 pub record Heap : Type 0 where
   pub fits : parts_after 9 (three_longs 8) ≡ Some (replicate 3 (Long (pos 0)))
@@ -284,9 +288,10 @@ pub record Handlers : Type 0 where
 
 -- boot calls main, main calls a method, which calls itself; each names its callee by its own number
 abbrev pub endless : (main_stack : ℕ) → Program
-endless main_stack = record (sample (static_method (body 0 1 (184 ∷ 0 ∷ 0 ∷ 177 ∷ []) []) ∷ static_method (body 2 main_stack (184 ∷ 0 ∷ 0 ∷ 177 ∷ []) []) ∷ static_method (body 0 2 (184 ∷ 0 ∷ 0 ∷ 177 ∷ []) []) ∷ []) NoOperand) {
-  operand = λ m pc. AMethod 8 (elim (m == 0) [ true ↦ 1 | false ↦ 2 ]);
-}
+endless main_stack = record (sample (static_method (body 0 1 (184 ∷ 0 ∷ 0 ∷ 177 ∷ []) []) ∷ static_method (body 2 main_stack (184 ∷ 0 ∷ 0 ∷ 177 ∷ []) [])
+    ∷ static_method (body 0 2 (184 ∷ 0 ∷ 0 ∷ 177 ∷ []) []) ∷ []) NoOperand) {
+      operand = λ m pc. AMethod 8 (elim (m == 0) [ true ↦ 1 | false ↦ 2 ]);
+    }
 
 abbrev pub deep : (main_stack : ℕ) → (steps : ℕ) → Option State
 deep main_stack steps =
@@ -305,7 +310,8 @@ pub record Frames : Type 0 where
 
 -- the input's byte and its end, the output's low eight bits, and a branch to before the code
 pub record Rest : Type 0 where
-  pub byte : operands_after (step (sample (methods_with (body 0 1 (254 ∷ []) [])) NoOperand) ample (Some 200) (at_first [] [] [] Running)) ≡ Some (Int (pos 200) ∷ [])
+  pub byte : operands_after (step (sample (methods_with (body 0 1 (254 ∷ []) [])) NoOperand) ample (Some 200) (at_first [] [] [] Running)) ≡ Some
+      (Int (pos 200) ∷ [])
   pub end : leaves 254 [] ≡ Some (Int (negsuc 0) ∷ [])
   pub output : onto (next (255 ∷ []) NoOperand [] (Int (negsuc 0) ∷ []) []) (λ s. Some s.output) ≡ Some (255 ∷ [])
   pub output_of_more_bits : onto (next (255 ∷ []) NoOperand [] (Int (pos 300) ∷ []) []) (λ s. Some s.output) ≡ Some (44 ∷ [])
@@ -316,7 +322,8 @@ pub record Rest : Type 0 where
   pub int_into_long_static : next (179 ∷ 0 ∷ 0 ∷ []) (AStatic 0) [] (a ∷ []) [] ≡ None
   -- wide istore 256 has no such local variable, and wide iinc 1 −300 has one
   pub wide_store : next (196 ∷ 54 ∷ 1 ∷ 0 ∷ []) NoOperand (a ∷ b ∷ []) (a ∷ []) [] ≡ None
-  pub wide_increment : onto (next (196 ∷ 132 ∷ 0 ∷ 1 ∷ 254 ∷ 212 ∷ []) NoOperand (a ∷ b ∷ []) [] []) (λ s. Some (top_locals s)) ≡ Some (a ∷ Int (negsuc 297) ∷ [])
+  pub wide_increment : onto (next (196 ∷ 132 ∷ 0 ∷ 1 ∷ 254 ∷ 212 ∷ []) NoOperand (a ∷ b ∷ []) [] []) (λ s. Some (top_locals s)) ≡ Some
+      (a ∷ Int (negsuc 297) ∷ [])
 
 pub record WorkedExamples : Type 0 where
   pub arithmetic : Arithmetic

@@ -1,5 +1,6 @@
 -- The arithmetic of int and long: JVM Specification SE 8, 2.11.3 and 6.5. Each result wraps at its type's width where it is pushed (see `number` in Effects).
-use Rattle.std.specs.Prelude.{ℕ, zero, ◌/◌, ◌%◌, ◌^◌, ℤ, pos, negsuc, ◌+ℤ◌, ◌-ℤ◌, ◌*ℤ◌, int_lt, int_div, int_rem, Bool, not, ◌||◌, if◌then◌else◌, Option, Some, None}
+use Rattle.std.specs.Prelude.{ℕ, zero, ◌/◌, ◌%◌, ◌^◌, ℤ, pos, negsuc, ◌+ℤ◌, ◌-ℤ◌, ◌*ℤ◌, int_lt, int_div, int_rem, Bool, not, ◌||◌, if◌then◌else◌, Option, Some}
+use Rattle.std.specs.Prelude.{None}
 use Rattle.std.specs.Int.{Width, w16, w32, int_wrap, cast_unsigned}
 
 -- The second operand of an instruction is on top of the first: it comes first here.

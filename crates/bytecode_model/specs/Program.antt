@@ -1,7 +1,8 @@
--- A resolved program (JVM Specification SE 8, 5.4): methods with their code, what each instruction's pool entry means, types, and what the class hierarchy says.
+-- A resolved program (JVM Specification SE 8, 5.4): methods with their code, what each instruction's pool entry means, types, and what the class
+-- hierarchy says.
 use Rattle.std.specs.Prelude.{ℕ, ℤ, Bool, false, ◌==◌, ◌||◌, List, Option, Some, None, Result, Ok, Err, slice_get}
-use Rattle.jop_opcodes.specs.declared.instruction.Instr.{Instr}
-use Rattle.jop_opcodes.specs.Instruction.{decoded}
+use Rattle.opcodes.specs.declared.instruction.Instr.{Instr}
+use Rattle.opcodes.specs.Instruction.{decoded}
 use Rattle.bytecode_model.specs.declared.Value.{Value}
 use Rattle.bytecode_model.specs.Lists.{onto, index_of}
 use Rattle.bytecode_model.specs.Types.{Kind, OfClass, OfNumbers, OfReferences, Declared, same_kind}
@@ -111,7 +112,8 @@ kind_of P o = slice_get P.types o.kind
 abbrev pub type_number : Program → Kind → Option ℕ
 type_number P k = index_of (same_kind k) P.types
 
--- An object of the first kind is one of the second (6.5.checkcast): a class by the hierarchy; an array by its component, and as an Object, a Cloneable and a Serializable.
+-- An object of the first kind is one of the second (6.5.checkcast): a class by the hierarchy; an array by its component, and as an Object, a
+-- Cloneable and a Serializable.
 abbrev pub is_of : Program → Kind → Kind → Bool
 is_of P (OfClass c) (OfClass d) = P.extends c d
 is_of P (OfNumbers a) (OfNumbers b) = a == b

@@ -1,6 +1,6 @@
 -- What an instruction does, once it is decoded and its operands are resolved.
 use Rattle.std.specs.Prelude.{ℕ, ℤ, Bool, List, [], ◌∷◌, Option}
-use Rattle.jop_opcodes.specs.declared.instruction.Case.{Case}
+use Rattle.opcodes.specs.declared.instruction.Case.{Case}
 use Rattle.bytecode_model.specs.declared.Value.{Value}
 use Rattle.bytecode_model.specs.Types.{NumberType, Kind, Moved}
 

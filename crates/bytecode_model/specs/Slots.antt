@@ -1,4 +1,5 @@
--- Local variables and operands by words (JVM Specification SE 8, 2.6.1 and 2.6.2): what takes two words, and what unsets what. They hold values, or types of values.
+-- Local variables and operands by words (JVM Specification SE 8, 2.6.1 and 2.6.2): what takes two words, and what unsets what. They hold values, or
+-- types of values.
 use Rattle.std.specs.Prelude.{ℕ, zero, suc, Bool, List, [], ◌∷◌, ◌++◌, Option, Some, None, if◌then◌else◌}
 use Rattle.bytecode_model.specs.Lists.{onto}
 use Rattle.bytecode_model.specs.Rows.{Width, Zero, One, Two, Form, Drop, Copy, Swap}

@@ -1,5 +1,6 @@
 -- The step of a state, and runs (JVM Specification SE 8, 2.6, 2.10 and 2.11).
-use Rattle.std.specs.Prelude.{ℕ, zero, suc, ◌+◌, Bool, true, false, ◌&&◌, nat_le, nat_lt, if◌then◌else◌, List, [], ◌∷◌, ◌++◌, length, map, Option, Some, None, pos, negsuc, slice_get}
+use Rattle.std.specs.Prelude.{ℕ, zero, suc, ◌+◌, Bool, true, false, ◌&&◌, nat_le, nat_lt, if◌then◌else◌, List, [], ◌∷◌, ◌++◌, length, map, Option, Some, None}
+use Rattle.std.specs.Prelude.{pos, negsuc, slice_get}
 use Rattle.bytecode_model.specs.declared.Value.{Value}
 use Rattle.bytecode_model.specs.declared.Value.TheVariants.{Int, Ref, Unset}
 use Rattle.bytecode_model.specs.declared.Ending.{Ending}
@@ -12,7 +13,8 @@ use Rattle.bytecode_model.specs.Rows.{Row}
 use Rattle.bytecode_model.specs.Slots.{spread, padded}
 use Rattle.bytecode_model.specs.Table.{row_of}
 use Rattle.bytecode_model.specs.Sizes.{frames_words}
-use Rattle.bytecode_model.specs.Effects.{Effect, Stuck, Go, Make, WritePart, WriteStatic, Take, Give, Call, Leave, Raise, effect, fault_object, StackOverflowError}
+use Rattle.bytecode_model.specs.Effects.{Effect, Stuck, Go, Make, WritePart, WriteStatic, Take, Give, Call, Leave, Raise, effect, fault_object}
+use Rattle.bytecode_model.specs.Effects.{StackOverflowError}
 
 -- ---- entering a method and leaving it (2.6)
 
@@ -29,7 +31,8 @@ all_suit ds vs = false
 abbrev pub first_frame : Program → (method : ℕ) → (arguments : List Value) → Option Frame
 first_frame P m args =
     onto (slice_get P.methods m) (λ k. onto k.body (λ b.
-    if all_suit (taken_types k) args then onto (padded Unset b.max_locals (spread is_long Unset args)) (λ ls. Some (record { method = m; pc = 0; locals = ls; operands = [] }))
+    if all_suit (taken_types k) args then onto (padded Unset b.max_locals (spread is_long Unset args))
+    (λ ls. Some (record { method = m; pc = 0; locals = ls; operands = [] }))
     else None))
 
 abbrev pub with_top : State → (callers : List Frame) → Frame → State
@@ -123,7 +126,8 @@ step_in P limits answer s (f ∷ callers) (Raising p) =
     onto (body_of P f.method) (λ b. onto (slice_get s.objects p) (λ o. onto (kind_of P o) (λ k. unwound s p k f callers (handler_for P k f.pc b.handlers))))
 step_in P limits answer s fs mode = None
 
--- The next state; where the instruction asks the input, it gets the answer. There is none where the state has ended, and else only where no typed program comes.
+-- The next state; where the instruction asks the input, it gets the answer. There is none where the state has ended, and else only where no typed
+-- program comes.
 abbrev pub step : Program → Limits → (answer : Option ℕ) → State → Option State
 step P limits answer s = step_in P limits answer s s.frames s.mode
 

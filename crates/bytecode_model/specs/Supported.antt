@@ -1,7 +1,7 @@
 -- Which opcodes have a row.
 use Rattle.std.specs.Prelude.{◌≡◌, ℕ, ◌<◌, Bool, true, false, List, map, Some, None}
-use Rattle.jop_opcodes.specs.declared.instruction.Instr.{Instr}
-use Rattle.jop_opcodes.specs.Row as opcodes
+use Rattle.opcodes.specs.declared.instruction.Instr.{Instr}
+use Rattle.opcodes.specs.Row as opcodes
 use Rattle.bytecode_model.specs.Program.{Operand}
 use Rattle.bytecode_model.specs.Rows.{Row}
 use Rattle.bytecode_model.specs.Table.{Meaning, instructions, row_of}

@@ -1,15 +1,17 @@
 -- The instructions (JVM Specification SE 8, 6.5), in the order and the families of chapter 7: the row of each by its mnemonic, its form and what it names.
 -- What stands behind `wide` (6.5.wide) has the row of its own opcode.
-use Rattle.std.specs.Prelude.{ℕ, ◌==◌, Bool, true, false, ℤ, pos, negsuc, List, [], ◌∷◌, ◌++◌, Option, Some, None, codes, if◌then◌else◌, bit_and, bit_or, bit_xor}
+use Rattle.std.specs.Prelude.{ℕ, ◌==◌, Bool, true, false, ℤ, pos, negsuc, List, [], ◌∷◌, ◌++◌, Option, Some, None, codes, if◌then◌else◌, bit_and, bit_or}
+use Rattle.std.specs.Prelude.{bit_xor}
 use Rattle.std.specs.List.{list_any}
 use Rattle.std.specs.Int.{w8, w16, w32, w64}
-use Rattle.jop_opcodes.specs.declared.instruction.Instr.{Instr}
-use Rattle.jop_opcodes.specs.Target.{cases_of}
+use Rattle.opcodes.specs.declared.instruction.Instr.{Instr}
+use Rattle.opcodes.specs.Target.{cases_of}
 use Rattle.bytecode_model.specs.declared.Value.TheVariants.{Int, Long, Ref, Null}
 use Rattle.bytecode_model.specs.Lists.{onto, natural}
 use Rattle.bytecode_model.specs.Types.{NumberType, IntType, LongType, Kind, OfClass, Numbers, References, t_boolean, t_char, t_byte, t_short, t_int, t_long}
 use Rattle.bytecode_model.specs.Program.{Operand, AnInt, ALong, AString, AStatic, AField, AMethod, AType}
-use Rattle.bytecode_model.specs.Numbers.{sum, difference, product, negated, quotient, remainder, bitwise, shifted_left, shifted_right, shifted_right_unsigned, compared, unchanged, narrowed, as_char, is_equal, is_unequal, is_less, is_at_least, is_greater, is_at_most}
+use Rattle.bytecode_model.specs.Numbers.{sum, difference, product, negated, quotient, remainder, bitwise, shifted_left, shifted_right, shifted_right_unsigned}
+use Rattle.bytecode_model.specs.Numbers.{compared, unchanged, narrowed, as_char, is_equal, is_unequal, is_less, is_at_least, is_greater, is_at_most}
 use Rattle.bytecode_model.specs.Rows as rows
 use Rattle.bytecode_model.specs.Rows.{Row, Takes, Zero, One, Two, Drop, Copy, Swap}
 

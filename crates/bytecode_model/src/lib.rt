@@ -81,5 +81,13 @@ impl Model for State {
 
     ghost Value = { model.State };
 
-    ghost view = { λ s. record { frames = s.frames.items; objects = s.objects.items; statics = s.statics.items; answers = s.answers.items; output = s.output.items; mode = s.mode } };
+    ghost view = { λ s. record {
+      frames = s.frames.items;
+      objects = s.objects.items;
+      statics = s.statics.items;
+      answers = s.answers.items;
+      output
+          = s.output.items;
+      mode = s.mode;
+    } };
 }

@@ -15,3 +15,4 @@ pub mod TypedWalks
 pub mod Beginning
 pub mod BareProof
 pub mod WorkedOut
+pub mod Placed

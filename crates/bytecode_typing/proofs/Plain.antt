@@ -4,7 +4,7 @@ use Rattle.std.specs.Prelude.{◌&&◌, nat_le, slice_get, if◌then◌else◌, 
 use Rattle.std.specs.Int.{w32, w64}
 use Rattle.std.specs.List.{list_all}
 use Rattle.std.proofs.lemmas.Int.{SFits-int_wrap, fits_signed_from_abs}
-use Rattle.jop_opcodes.specs.declared.instruction.Case.{Case}
+use Rattle.opcodes.specs.declared.instruction.Case.{Case}
 use Rattle.bytecode_model.specs.declared.Value.{Value}
 use Rattle.bytecode_model.specs.declared.Value.TheVariants.{Int, Long, Ref, Null, Unset}
 use Rattle.bytecode_model.specs.Lists.{onto, replaced, natural}

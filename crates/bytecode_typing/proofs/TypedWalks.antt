@@ -3,12 +3,12 @@ use Rattle.std.proofs.Common.{◌≡◌, ℕ, zero, suc, ◌+◌, ◌<◌, ◌�
 use Rattle.std.specs.Prelude.{◌&&◌, ◌||◌, ◌==◌, nat_lt, if◌then◌else◌, IfSome, slice_get, slice_index_or, ℤ, pos, ◌+ℤ◌}
 use Rattle.std.specs.List.{list_all}
 use Rattle.std.proofs.lemmas.Bool.{eqb-true, leb-true, ltb-true, lt-ltb}
-use Rattle.jop_opcodes.specs.declared.instruction.Instr.{Instr}
-use Rattle.jop_opcodes.specs.declared.instruction.DecodeFault.{DecodeFault}
-use Rattle.jop_opcodes.specs.Instruction.{decoded}
-use Rattle.jop_opcodes.specs.declared.instruction.Case.{Case}
-use Rattle.jop_opcodes.specs.Target.{WholeIsWithin, cases_of}
-use Rattle.jop_opcodes.specs.Start.{IsStart, starts_of, starts_from, first_start, next_start, place_behind, AreStarts}
+use Rattle.opcodes.specs.declared.instruction.Instr.{Instr}
+use Rattle.opcodes.specs.declared.instruction.DecodeFault.{DecodeFault}
+use Rattle.opcodes.specs.Instruction.{decoded}
+use Rattle.opcodes.specs.declared.instruction.Case.{Case}
+use Rattle.opcodes.specs.Target.{WholeIsWithin, cases_of}
+use Rattle.opcodes.specs.Start.{IsStart, starts_of, starts_from, first_start, next_start, place_behind, AreStarts}
 use Rattle.bytecode_model.specs.Lists.{onto, natural}
 use Rattle.bytecode_model.specs.Types.{NumberType, IntType, Declared, Moved, Kind, OfClass, OfNumbers, OfReferences}
 use Rattle.bytecode_model.specs.Program.{Program, Method, Body, Handler, Operand, body_of, instr_at, as_instr, throwable_class}

@@ -1,8 +1,8 @@
 -- The worked examples compute.
 use Rattle.std.proofs.Common.{refl}
-use Rattle.jop_opcodes.specs.Instruction.{decoded}
-use Rattle.jop_opcodes.specs.Start.{starts_of}
-use Rattle.jop_opcodes.specs.Row.{row_of}
+use Rattle.opcodes.specs.Instruction.{decoded}
+use Rattle.opcodes.specs.Start.{starts_of}
+use Rattle.opcodes.specs.Row.{row_of}
 use Rattle.bytecode_model.specs.Table.{row_of as meaning_of}
 use Rattle.bytecode_typing.specs.Examples.{RulesFailFirst}
 

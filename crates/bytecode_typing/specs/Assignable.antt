@@ -3,7 +3,8 @@ use Rattle.std.specs.Prelude.{◌==◌, Bool, true, false, not, ◌&&◌, ◌||�
 use Rattle.bytecode_model.specs.Types.{Kind, OfClass, OfReferences}
 use Rattle.bytecode_model.specs.Program.{Program, is_of}
 use Rattle.bytecode_typing.specs.Tests.{all_two}
-use Rattle.bytecode_typing.specs.Types.{VarType, Top, Integer, LongInteger, NullReference, UninitializedThis, Uninitialized, ReferenceTo, TypeFrame, is_long_type}
+use Rattle.bytecode_typing.specs.Types.{VarType, Top, Integer, LongInteger, NullReference, UninitializedThis, Uninitialized, ReferenceTo, TypeFrame}
+use Rattle.bytecode_typing.specs.Types.{is_long_type}
 
 -- The verifier takes every class for an interface (4.10.1.2: an interface is treated like Object); of arrays it asks for a true supertype.
 -- What runs asks `is_of` instead.

@@ -2,7 +2,7 @@
 use Rattle.std.specs.Prelude.{◌≡◌, ℕ, zero, suc, ◌==◌, ◌||◌, ◌&&◌, nat_lt, false, if◌then◌else◌, List, [], ◌∷◌, replicate, Option, Some, None, FitsSigned}
 use Rattle.std.specs.Int.{w32}
 use Rattle.std.specs.Option.{IsSomeAnd}
-use Rattle.jop_opcodes.specs.Start.{starts_of}
+use Rattle.opcodes.specs.Start.{starts_of}
 use Rattle.bytecode_model.specs.declared.Value.TheVariants.{Int}
 use Rattle.bytecode_model.specs.Types.{IntType, Numeric, Numbers}
 use Rattle.bytecode_model.specs.Program.{Program, Method, Body, NoOperand, object_class, serializable_class, cloneable_class}
@@ -66,7 +66,8 @@ abbrev pub StayWithin : Body → (places : List ℕ) → (depth : ℕ) → Type 
 StayWithin b [] d = ⊥
 StayWithin b (pc ∷ []) d = IsSomeAnd (row_in (bare_program b) 0 pc) (λ x. x.1 ≡ rows.Return None)
 StayWithin b (pc ∷ q ∷ qs) d =
-    IsSomeAnd (row_in (bare_program b) 0 pc) (λ x. (x.0 ≡ q) × IsQuiet x.1 × IsIntConstant x.1 × IsSomeAnd (depth_behind b x.1 d) (λ e. StayWithin b (q ∷ qs) e))
+    IsSomeAnd (row_in (bare_program b) 0 pc) (λ x. (x.0 ≡ q) × IsQuiet x.1 × IsIntConstant x.1
+    × IsSomeAnd (depth_behind b x.1 d) (λ e. StayWithin b (q ∷ qs) e))
 
 -- the body of a bare image
 pub record IsStraightLine (b : Body) : Type 0 where

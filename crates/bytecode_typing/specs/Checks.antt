@@ -1,5 +1,6 @@
 -- What the verifier asks of each instruction: JVM Specification SE 8, 4.10.1.9, in the order of the rows.
-use Rattle.std.specs.Prelude.{ℕ, ◌+◌, ◌==◌, Bool, true, false, not, ◌&&◌, ◌||◌, nat_le, if◌then◌else◌, List, [], ◌∷◌, ◌++◌, map, reverse, Option, Some, None, ℤ, pos, ◌+ℤ◌, slice_get}
+use Rattle.std.specs.Prelude.{ℕ, ◌+◌, ◌==◌, Bool, true, false, not, ◌&&◌, ◌||◌, nat_le, if◌then◌else◌, List, [], ◌∷◌, ◌++◌, map, reverse, Option, Some, None, ℤ}
+use Rattle.std.specs.Prelude.{pos, ◌+ℤ◌, slice_get}
 use Rattle.std.specs.List.{list_any, list_all}
 use Rattle.bytecode_model.specs.declared.Value.{Value}
 use Rattle.bytecode_model.specs.declared.Value.TheVariants.{Int, Long, Ref, Null, Unset}
@@ -10,7 +11,9 @@ use Rattle.bytecode_model.specs.Rows as rows
 use Rattle.bytecode_model.specs.Rows.{Row}
 use Rattle.bytecode_model.specs.Slots.{shuffle, stored}
 use Rattle.bytecode_model.specs.Steps.{row_in}
-use Rattle.bytecode_typing.specs.Types.{VarType, Top, Integer, LongInteger, NullReference, UninitializedThis, Uninitialized, ReferenceTo, TypeFrame, is_long_type, number_type, type_of, result_types, is_reference_type, is_initialized, is_this, moves, moved_words, substituted, holds_made}
+use Rattle.bytecode_typing.specs.Types.{VarType, Top, Integer, LongInteger, NullReference, UninitializedThis, Uninitialized, ReferenceTo, TypeFrame}
+use Rattle.bytecode_typing.specs.Types.{is_long_type, number_type, type_of, result_types, is_reference_type, is_initialized, is_this, moves, moved_words}
+use Rattle.bytecode_typing.specs.Types.{substituted, holds_made}
 use Rattle.bytecode_typing.specs.Assignable.{is_assignable, is_assignable_item, flows_to}
 use Rattle.bytecode_typing.specs.Rules as rule
 use Rattle.bytecode_typing.specs.Rules.{Checked, Fails, Leaves, need, found, on_type, on_reference, on_number_types, on_argument_types}

@@ -60,7 +60,8 @@ pub record RulesFailFirst : Type 0 where
   -- nop, at the end of the code
   pub past_the_end : checked_code (0 ∷ []) ≡ Failed 0 rule.Flow
   -- iconst_0; return, where the StackMapTable has an int as first local variable
-  pub merge : checked_method false false [] (3 ∷ 177 ∷ []) [] (types_at 1 (record { locals = Integer ∷ Top ∷ []; stack = Integer ∷ []; flag = false })) ≡ Failed 1 rule.Merge
+  pub merge : checked_method false false [] (3 ∷ 177 ∷ []) []
+      (types_at 1 (record { locals = Integer ∷ Top ∷ []; stack = Integer ∷ []; flag = false })) ≡ Failed 1 rule.Merge
   -- iload 2, of two local variables
   pub operand : checked_code (21 ∷ 2 ∷ 177 ∷ []) ≡ Failed 0 rule.Operand
   -- lconst_0; pop: half a long
@@ -83,4 +84,5 @@ pub record RulesFailFirst : Type 0 where
   -- goto to a place before the code
   pub before_the_code : checked_code (167 ∷ 255 ∷ 255 ∷ 177 ∷ []) ≡ Failed 0 rule.Target
   -- nop; return, with a handler at the return that has no frame
-  pub handler : checked_method false false [] (0 ∷ 177 ∷ []) (record { start = 0; end = 1; target = 1; caught = None } ∷ []) (λ pc. None) ≡ Failed 0 rule.Handled
+  pub handler : checked_method false false [] (0 ∷ 177 ∷ []) (record { start = 0; end = 1; target = 1; caught = None } ∷ [])
+      (λ pc. None) ≡ Failed 0 rule.Handled

@@ -16,7 +16,8 @@ use Rattle.bytecode_model.specs.Effects.{has_class}
 use Rattle.bytecode_model.specs.Steps.{row_in}
 use Rattle.bytecode_model.specs.WellFormed.{IsValue, AreSpaced, first_method}
 use Rattle.bytecode_typing.specs.Tests.{Holds, AllTwo}
-use Rattle.bytecode_typing.specs.Types.{VarType, Top, Integer, LongInteger, NullReference, UninitializedThis, Uninitialized, ReferenceTo, TypeFrame, is_long_type, result_types}
+use Rattle.bytecode_typing.specs.Types.{VarType, Top, Integer, LongInteger, NullReference, UninitializedThis, Uninitialized, ReferenceTo, TypeFrame}
+use Rattle.bytecode_typing.specs.Types.{is_long_type, result_types}
 use Rattle.bytecode_typing.specs.Assignable.{flows_to}
 use Rattle.bytecode_typing.specs.Checks.{made_at}
 use Rattle.bytecode_typing.specs.Typed.{Typing}

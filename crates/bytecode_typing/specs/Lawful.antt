@@ -2,7 +2,7 @@
 use Rattle.std.specs.Prelude.{◌≡◌, ℕ, true, false, [], Option, Some, None, IfSome, slice_get, FitsSigned, ◌⊎◌}
 use Rattle.std.specs.Int.{w32, w64}
 use Rattle.std.specs.Option.{IsSomeAnd}
-use Rattle.jop_opcodes.specs.Start.{IsStart}
+use Rattle.opcodes.specs.Start.{IsStart}
 use Rattle.bytecode_model.specs.declared.Value.{Value}
 use Rattle.bytecode_model.specs.declared.Value.TheVariants.{Int, Long, Ref, Null, Unset}
 use Rattle.bytecode_model.specs.Lists.{onto}
@@ -32,15 +32,16 @@ pub record IsStaticCall (k : Method) : Type 0 where
   pub static : k.has_this ≡ false
   pub code : IsThere k.body
 
--- What invokespecial names is an instance method with code: an `<init>` of the named class, which gives no result, or a method that is fixed from the named class,
--- or from the superclass of the current class, upwards (6.5.invokespecial).
+-- What invokespecial names is an instance method with code: an `<init>` of the named class, which gives no result, or a method that is fixed from the
+-- named class, or from the superclass of the current class, upwards (6.5.invokespecial).
 pub record IsSpecialCall (P : Program) (m : Method) (named : ℕ) (k : Method) : Type 0 where
   pub instance : k.has_this ≡ true
   pub code : IsThere k.body
   pub init : k.is_init ≡ true → (k.owner ≡ named) × (k.result ≡ None)
   pub above : k.is_init ≡ false → Holds (is_own_class P m named) → Holds (P.extends m.owner k.owner)
 
--- what invokevirtual names is an instance method other than `<init>`, of the named class, which isn't an interface, or of a superclass or superinterface (5.4.3.3)
+-- what invokevirtual names is an instance method other than `<init>`, of the named class, which isn't an interface, or of a superclass or
+-- superinterface (5.4.3.3)
 pub record IsVirtualCall (P : Program) (named : ℕ) (k : Method) : Type 0 where
   pub instance : k.has_this ≡ true
   pub other : k.is_init ≡ false
@@ -102,11 +103,13 @@ pub record Lawful (P : Program) : Type 0 where
   pub selects : (receiver c : ℕ) (k : Method) → slice_get P.methods c ≡ Some k → k.has_this ≡ true → k.is_init ≡ false → P.is_concrete receiver ≡ true
       → Holds (P.extends receiver k.owner) → IsSomeAnd (P.select receiver c) (λ t. IsSomeAnd (slice_get P.methods t) (IsSelected P receiver k))
   -- what the instructions name
-  pub rows : (n : ℕ) (m : Method) (b : Body) → slice_get P.methods n ≡ Some m → m.body ≡ Some b → (pc : ℕ) → IsStart b.code pc → IfSome (row_in P n pc) (λ x. IsResolvedRow P m x.1)
+  pub rows : (n : ℕ) (m : Method) (b : Body) → slice_get P.methods n ≡ Some m → m.body ≡ Some b → (pc : ℕ) → IsStart b.code pc
+      → IfSome (row_in P n pc) (λ x. IsResolvedRow P m x.1)
   -- boot is a class method without a result
   pub boot : IsSomeAnd (slice_get P.methods P.boot) (λ k. (k.has_this ≡ false) × (k.result ≡ None) × IsThere k.body)
   -- a program that comes of class files has at the start an object of each class that instructions raise
-  pub faults : P.linked ≡ true → (f : Fault) → IsSomeAnd (slice_get P.first_objects (fault_object f)) (λ o. IsSomeAnd (kind_of P o) (λ k. Holds (is_of P k (OfClass throwable_class))))
+  pub faults : P.linked ≡ true → (f : Fault) → IsSomeAnd (slice_get P.first_objects (fault_object f))
+      (λ o. IsSomeAnd (kind_of P o) (λ k. Holds (is_of P k (OfClass throwable_class))))
   -- the objects and the static fields begin with what their types allow
   pub first_objects : (p : ℕ) → IfSome (slice_get P.first_objects p) (ObjectFits P (numbers_of P.first_objects))
   pub first_statics : AllTwo (HasDeclared P (numbers_of P.first_objects)) P.statics P.first_statics

@@ -11,3 +11,5 @@ pub mod Typings
 pub mod Bare
 pub mod Laws
 pub mod Examples
+pub mod WellPlaced
+pub mod PlacedLaws

@@ -1,7 +1,7 @@
 -- Typed programs: JVM Specification SE 8, 4.10.1.6. Each instruction that may run has a frame of types, which its rules take to those that follow.
 use Rattle.std.specs.Prelude.{◌≡◌, ℕ, ◌≤◌, ℤ, false, List, [], ◌∷◌, Option, Some, IfSome, slice_get}
 use Rattle.std.specs.Option.{IsSomeAnd}
-use Rattle.jop_opcodes.specs.Start.{IsStart}
+use Rattle.opcodes.specs.Start.{IsStart}
 use Rattle.bytecode_model.specs.Types.{NumberType}
 use Rattle.bytecode_model.specs.Program.{Program, Method, Body}
 use Rattle.bytecode_model.specs.Rows as rows

@@ -14,8 +14,8 @@ pub data VarType : Type 0 where
   Uninitialized : (place : ℕ) → VarType
   ReferenceTo : Kind → VarType
 
--- what is known before an instruction: the types of the local variables, those of the operand stack with the top one first, and whether `this` isn't initialised yet
--- (flagThisUninit, 4.10.1.4). A LongInteger among the locals is followed by Top; on the stack it is one item.
+-- what is known before an instruction: the types of the local variables, those of the operand stack with the top one first, and whether `this` isn't
+-- initialised yet (flagThisUninit, 4.10.1.4). A LongInteger among the locals is followed by Top; on the stack it is one item.
 pub record TypeFrame : Type 0 where
   pub locals : List VarType
   pub stack : List VarType

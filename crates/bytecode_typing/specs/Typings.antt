@@ -1,7 +1,7 @@
 -- The typings of a method: a frame of types before each instruction, which keeps the rules. Where the method has none, one place and rule fail first.
 use Rattle.std.specs.Prelude.{◌≡◌, ℕ, ◌==◌, ◌<◌, ◌≤◌, if◌then◌else◌, List, [], ◌∷◌, ◌++◌, length, Option, Some, None, IfSome, slice_get}
 use Rattle.std.specs.Option.{IsSomeAnd}
-use Rattle.jop_opcodes.specs.Start.{IsStart, starts_of}
+use Rattle.opcodes.specs.Start.{IsStart, starts_of}
 use Rattle.bytecode_model.specs.Lists.{onto}
 use Rattle.bytecode_model.specs.Program.{Program, Method, Body}
 use Rattle.bytecode_typing.specs.Types.{TypeFrame, stack_words}
@@ -11,8 +11,8 @@ use Rattle.bytecode_typing.specs.Typed.{Typing}
 
 -- Method m, of number n, with its body, and the frames that its StackMapTable gives by place.
 module _ (P : Program) (n : ℕ) (m : Method) (b : Body) (maps : ℕ → Option TypeFrame) where
-  -- Each of these places, at which instructions follow one another, has its frame: that of the StackMapTable, or the one that falls in. No rule fails there, and
-  -- the frame behind an instruction falls into the next; `behind` is the one behind the last.
+  -- Each of these places, at which instructions follow one another, has its frame: that of the StackMapTable, or the one that falls in. No rule fails
+  -- there, and the frame behind an instruction falls into the next; `behind` is the one behind the last.
   abbrev pub IsTypingOf : (places : List ℕ) → (falling : Option TypeFrame) → (frames : List (ℕ × TypeFrame)) → (behind : Option TypeFrame) → Type 0
   IsTypingOf [] falling [] behind = falling ≡ behind
   IsTypingOf (pc ∷ pcs) falling (x ∷ xs) behind =

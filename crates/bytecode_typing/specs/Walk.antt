@@ -1,9 +1,10 @@
 -- The check of a method from its first instruction to its last, with the place and the rule that fail first: JVM Specification SE 8, 4.10.1.6.
-use Rattle.std.specs.Prelude.{ℕ, ◌+◌, ◌==◌, Bool, true, false, not, ◌&&◌, ◌||◌, nat_le, nat_lt, if◌then◌else◌, List, [], ◌∷◌, ◌++◌, length, map, sum_by, Option, Some, None, ℤ, pos, int_le, int_lt, slice_index, slice_get}
+use Rattle.std.specs.Prelude.{ℕ, ◌+◌, ◌==◌, Bool, true, false, not, ◌&&◌, ◌||◌, nat_le, nat_lt, if◌then◌else◌, List, [], ◌∷◌, ◌++◌, length, map, sum_by, Option}
+use Rattle.std.specs.Prelude.{Some, None, ℤ, pos, int_le, int_lt, slice_index, slice_get}
 use Rattle.std.specs.List.{list_all}
-use Rattle.jop_opcodes.specs.declared.instruction.Instr.{Instr}
-use Rattle.jop_opcodes.specs.declared.instruction.Case.{Case}
-use Rattle.jop_opcodes.specs.Start.{starts_of}
+use Rattle.opcodes.specs.declared.instruction.Instr.{Instr}
+use Rattle.opcodes.specs.declared.instruction.Case.{Case}
+use Rattle.opcodes.specs.Start.{starts_of}
 use Rattle.bytecode_model.specs.Lists.{onto}
 use Rattle.bytecode_model.specs.Types.{Kind, OfClass}
 use Rattle.bytecode_model.specs.Program.{Program, Method, Body, Handler, instr_at, throwable_class, object_class}
@@ -106,7 +107,8 @@ is_throwable P (Some k) = is_assignable_kind P k (OfClass throwable_class)
 abbrev pub covers : (pc : ℕ) → Handler → Bool
 covers pc h = nat_le h.start pc && nat_lt pc h.end
 
--- what the handler catches is a Throwable, and it takes the local variables with that alone on the stack (4.10.1.6, handlerIsLegal and instructionSatisfiesHandlers)
+-- what the handler catches is a Throwable, and it takes the local variables with that alone on the stack (4.10.1.6, handlerIsLegal and
+-- instructionSatisfiesHandlers)
 abbrev pub is_handled : Program → (frames : ℕ → Option TypeFrame) → TypeFrame → Handler → Bool
 is_handled P frames f h =
     is_throwable P h.caught && flows_to P (record f { stack = ReferenceTo (caught_kind h.caught) ∷ [] }) (frames h.target)

@@ -6,7 +6,12 @@
 #![tactic(auto)]
 
 ghost use Rattle.bytecode_typing.specs.Examples.{RulesFailFirst};
-ghost use Rattle.bytecode_typing.specs.Laws.{TypedProgramsKeep, TypedRunsFit, FittingStatesAreWellFormed, TheBootStateFits, TheWalkFindsATyping, ProgramsWithTypingsAreTyped, BareProgramsAreTyped};
+ghost use Rattle.bytecode_typing.specs.Laws.{TypedProgramsKeep, TypedRunsFit, FittingStatesAreWellFormed, TheBootStateFits, TheWalkFindsATyping};
+ghost use Rattle.bytecode_typing.specs.Laws.{ProgramsWithTypingsAreTyped, BareProgramsAreTyped};
+
+mod well_placed;
+
+pub use well_placed::control_stays_at_instructions;
 
 /// In a typed program each state that fits and has not ended has a next state, whatever the input answers, and it fits.
 pub fn typed_programs_keep()
@@ -38,16 +43,16 @@ pub fn the_walk_finds_a_typing()
 pub fn programs_with_typings_are_typed()
     ensures { ProgramsWithTypingsAreTyped }
 {
-    jop_opcodes::laws::starts_follow_one_another();
-    jop_opcodes::laws::instructions_end_within();
+    opcodes::laws::starts_follow_one_another();
+    opcodes::laws::instructions_end_within();
 }
 
 /// A bare image, seen as a program of one class method of ints, is lawful and typed.
 pub fn bare_programs_are_typed()
     ensures { BareProgramsAreTyped }
 {
-    jop_opcodes::laws::starts_follow_one_another();
-    jop_opcodes::laws::instructions_end_within();
+    opcodes::laws::starts_follow_one_another();
+    opcodes::laws::instructions_end_within();
 }
 
 /// One small code for each rule of the verifier, with the place at which it fails first.

@@ -6,15 +6,15 @@ use Rattle.std.proofs.lemmas.List.{drop_all}
 use Rattle.std.proofs.lemmas.Option.{slice_get_cases}
 use Rattle.core_classes.proofs.BootWalk.{index_number}
 use Rattle.class_pool.specs.Spelling as spelling
-use Rattle.jop_opcodes.specs.declared.instruction.Instr.{Instr}
-use Rattle.jop_opcodes.specs.declared.instruction.DecodeFault.{DecodeFault}
-use Rattle.jop_opcodes.specs.declared.instruction.DecodeFault.TheVariants.{Short}
-use Rattle.jop_opcodes.specs.Bytes.{u1}
-use Rattle.jop_opcodes.specs.Form.{Absent, UnsignedShort, Fixed, Operands, one}
-use Rattle.jop_opcodes.specs.Row.{row_of}
-use Rattle.jop_opcodes.specs.Entry.{entry_row}
-use Rattle.jop_opcodes.specs.Instruction.{decoded, within, spelled_at, fixed_at}
-use Rattle.jop_opcodes.specs.Start.{starts_from, place_behind, next_start}
+use Rattle.opcodes.specs.declared.instruction.Instr.{Instr}
+use Rattle.opcodes.specs.declared.instruction.DecodeFault.{DecodeFault}
+use Rattle.opcodes.specs.declared.instruction.DecodeFault.TheVariants.{Short}
+use Rattle.opcodes.specs.Bytes.{u1}
+use Rattle.opcodes.specs.Form.{Absent, UnsignedShort, Fixed, Operands, one}
+use Rattle.opcodes.specs.Row.{row_of}
+use Rattle.opcodes.specs.Entry.{entry_row}
+use Rattle.opcodes.specs.Instruction.{decoded, within, spelled_at, fixed_at}
+use Rattle.opcodes.specs.Start.{starts_from, place_behind, next_start}
 use Rattle.bytecode_model.specs.Types.{Reference, OfClass, OfReferences}
 use Rattle.bytecode_model.specs.Program.{Program, Method, Body, AMethod, AType}
 use Rattle.bytecode_model.specs.Table.{row_of as meaning_of}

@@ -25,11 +25,11 @@ use Rattle.core_classes.specs.Linkage.{DeclaresStatic, initializer, main_signatu
 use Rattle.class_lookup.specs.Parts.{Signature, text_at, is_static, is_init}
 use Rattle.class_lookup.specs.Hierarchy.{supertypes}
 use Rattle.descriptors.specs.Parsing.{primitive_in, split_in, class_in, element_in, type_from, types_in, field_in, result_in, method_in as method_type_in}
-use Rattle.jop_opcodes.specs.declared.instruction.Instr.{Instr}
-use Rattle.jop_opcodes.specs.Form.{Absent, UnsignedShort, Fixed, one}
-use Rattle.jop_opcodes.specs.Row.{row_of}
-use Rattle.jop_opcodes.specs.Instruction.{decoded}
-use Rattle.jop_opcodes.specs.Start.{starts_of, starts_from, first_bad}
+use Rattle.opcodes.specs.declared.instruction.Instr.{Instr}
+use Rattle.opcodes.specs.Form.{Absent, UnsignedShort, Fixed, one}
+use Rattle.opcodes.specs.Row.{row_of}
+use Rattle.opcodes.specs.Instruction.{decoded}
+use Rattle.opcodes.specs.Start.{starts_of, starts_from, first_bad}
 use Rattle.bytecode_model.specs.Types.{Kind, Reference, OfClass, OfReferences}
 use Rattle.bytecode_model.specs.Program.{Program, Method, NoOperand, AType}
 use Rattle.bytecode_typing.specs.Types.{Integer}

@@ -16,10 +16,10 @@ use Rattle.class_lookup.specs.Hierarchy.{find_class, superclass, superclasses, w
 use Rattle.class_lookup.specs.Lookup.{Place, same_place, find_field, find_method}
 use Rattle.class_lookup.specs.Selection.{select, special}
 use Rattle.descriptors.specs.Parsing.{primitive_in, split_in, class_in, element_in, type_from, types_in, field_in, result_in, method_in}
-use Rattle.jop_opcodes.specs.Row.{row_of}
-use Rattle.jop_opcodes.specs.Entry.{entry_row}
-use Rattle.jop_opcodes.specs.Instruction.{decoded}
-use Rattle.jop_opcodes.specs.Start.{starts_of, first_bad}
+use Rattle.opcodes.specs.Row.{row_of}
+use Rattle.opcodes.specs.Entry.{entry_row}
+use Rattle.opcodes.specs.Instruction.{decoded}
+use Rattle.opcodes.specs.Start.{starts_of, first_bad}
 use Rattle.bytecode_model.specs.Types.{Declared, Reference, OfClass, OfNumbers}
 use Rattle.bytecode_model.specs.Program.{AField, AMethod, NoOperand}
 use Rattle.bytecode_model.specs.Table.{row_of as meaning_of}

@@ -1,10 +1,10 @@
 -- The walks over methods of the core classes that use a field, in any program that has such methods and fields.
 use Rattle.std.proofs.Common.{◌≡◌, ℕ, true, false, List, [], ◌∷◌, Option, Some, None, refl, ap, ap₂, ◌∙◌}
 use Rattle.std.specs.Prelude.{slice_get}
-use Rattle.jop_opcodes.specs.Row.{row_of}
-use Rattle.jop_opcodes.specs.Entry.{entry_row}
-use Rattle.jop_opcodes.specs.Instruction.{decoded}
-use Rattle.jop_opcodes.specs.Start.{starts_of, first_bad}
+use Rattle.opcodes.specs.Row.{row_of}
+use Rattle.opcodes.specs.Entry.{entry_row}
+use Rattle.opcodes.specs.Instruction.{decoded}
+use Rattle.opcodes.specs.Start.{starts_of, first_bad}
 use Rattle.bytecode_model.specs.Table.{row_of as meaning_of}
 use Rattle.bytecode_model.specs.Types.{Numeric, Reference, IntType, OfClass, OfNumbers}
 use Rattle.bytecode_model.specs.Program.{Program, Method, Body, AField, AMethod}

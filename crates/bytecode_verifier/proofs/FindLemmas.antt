@@ -6,7 +6,7 @@ use Rattle.lists.specs.Lemmas.{none≢some, some_same}
 use Rattle.bytecode_model.specs.Types.{Kind, OfReferences}
 use Rattle.program_tables.specs.Kinds.{arrays_of}
 use Rattle.bytecode_model.specs.Rows.{Row}
-use Rattle.jop_opcodes.specs.declared.instruction.Instr.{Instr}
+use Rattle.opcodes.specs.declared.instruction.Instr.{Instr}
 use Rattle.bytecode_model.specs.Program.{Operand}
 use Rattle.bytecode_typing.specs.Types.{TypeFrame}
 use Rattle.verifier_types.specs.Site.{Site}

@@ -2,11 +2,11 @@
 use Rattle.std.proofs.Common.{◌≡◌, ℕ, ◌+◌, Bool, true, false, ◌||◌, List, Option, Some, None, refl, sym, ap, ◌∙◌}
 use Rattle.std.specs.Prelude.{IfSome}
 use Rattle.std.specs.Option.{option_map}
-use Rattle.jop_opcodes.specs.declared.instruction.Instr.{Instr}
+use Rattle.opcodes.specs.declared.instruction.Instr.{Instr}
 use Rattle.lists.specs.Lists.{onto}
 use Rattle.lists.specs.Lemmas.{none≢some, some_same, onto_some}
 use Rattle.bytecode_model.specs.Program.{Program, Operand, body_of, as_instr, instr_at}
-use Rattle.jop_opcodes.specs.Instruction.{decoded}
+use Rattle.opcodes.specs.Instruction.{decoded}
 use Rattle.bytecode_model.specs.Rows as rows
 use Rattle.bytecode_model.specs.Rows.{Row}
 use Rattle.bytecode_model.specs.Table.{row_of, by_class}

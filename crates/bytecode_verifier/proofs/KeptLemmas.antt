@@ -2,7 +2,7 @@
 use Rattle.std.proofs.Common.{◌≡◌, ℕ, Bool, true, false, List, [], ◌∷◌, reverse, Option, Some, None, Ok, refl, sym, ap, ◌∙◌, subst}
 use Rattle.std.specs.Prelude.{◌+◌, nat_le, slice_get}
 use Rattle.std.specs.Option.{option_map}
-use Rattle.jop_opcodes.specs.declared.instruction.Instr.{Instr}
+use Rattle.opcodes.specs.declared.instruction.Instr.{Instr}
 use Rattle.bytecode_model.specs.Types.{NumberType, IntType, Declared, Moved, OfClass}
 use Rattle.bytecode_model.specs.Program.{Program, Method, Body, Operand}
 use Rattle.bytecode_model.specs.Rows as rows

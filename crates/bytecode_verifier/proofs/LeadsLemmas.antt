@@ -2,7 +2,7 @@
 use Rattle.std.proofs.Common.{◌≡◌, ℕ, List, Option, Some, None, refl, sym, ap, ◌∙◌, ℤ, pos}
 use Rattle.std.specs.Prelude.{slice_get, ◌+ℤ◌}
 use Rattle.std.specs.Option.{IsSomeAnd}
-use Rattle.jop_opcodes.specs.declared.instruction.Instr.{Instr}
+use Rattle.opcodes.specs.declared.instruction.Instr.{Instr}
 use Rattle.bytecode_model.specs.Lists.{natural}
 use Rattle.bytecode_model.specs.Program.{Program, Method, Operand}
 use Rattle.bytecode_model.specs.Table.{row_of}

@@ -1,7 +1,7 @@
 -- Frames whose places are within a code.
 use Rattle.std.proofs.Common.{ℕ, ◌+◌, ◌<◌, List, [], ◌∷◌, length, subst}
 use Rattle.std.specs.List.{AllByRecursion}
-use Rattle.jop_opcodes.specs.Start.{AreStarts, starts_of}
+use Rattle.opcodes.specs.Start.{AreStarts, starts_of}
 use Rattle.class_pool.specs.declared.class.Code.{Code}
 use Rattle.frame_types.specs.declared.types.TypeFrame.{TypeFrame}
 use Rattle.class_pool.specs.declared.entry.Entry.{Entry}

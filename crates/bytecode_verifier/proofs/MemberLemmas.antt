@@ -1,7 +1,7 @@
 -- Where a member that an instruction names isn't there, and which of two instructions it is.
 use Rattle.std.proofs.Common.{◌≡◌, ℕ, Bool, true, false, List, Option, Some, None, sym, ap, ◌∙◌}
 use Rattle.std.specs.Prelude.{slice_get, if◌then◌else◌}
-use Rattle.jop_opcodes.specs.declared.instruction.Instr.{Instr}
+use Rattle.opcodes.specs.declared.instruction.Instr.{Instr}
 use Rattle.bytecode_model.specs.Program.{Program, AMethod}
 use Rattle.bytecode_model.specs.Rows as rows
 use Rattle.bytecode_typing.specs.Types.{TypeFrame}

@@ -1,7 +1,7 @@
 -- Which rows the families have: which make objects, and of which more is asked than the rules on operands and stack.
 use Rattle.std.proofs.Common.{◌≡◌, ℕ, Bool, true, false, List, Option, Some, None, refl, sym}
 use Rattle.std.specs.Prelude.{IfSome, if◌then◌else◌}
-use Rattle.jop_opcodes.specs.declared.instruction.Instr.{Instr}
+use Rattle.opcodes.specs.declared.instruction.Instr.{Instr}
 use Rattle.bytecode_model.specs.Lists.{onto, natural}
 use Rattle.bytecode_model.specs.Types.{Kind, OfClass, OfNumbers, OfReferences}
 use Rattle.bytecode_model.specs.Program.{Program, Operand, AnInt, ALong, AString, AStatic, AField, AMethod, AType}

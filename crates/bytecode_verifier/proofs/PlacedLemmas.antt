@@ -6,11 +6,11 @@ use Rattle.std.specs.List.{list_all, AllByRecursion}
 use Rattle.std.proofs.lemmas.Bool.{leb-true, ltb-true}
 use Rattle.std.proofs.lemmas.Option.{slice_get_within}
 use Rattle.std.proofs.lemmas.List.Sums.{sum_by-cons}
-use Rattle.jop_opcodes.specs.declared.instruction.Instr.{Instr}
-use Rattle.jop_opcodes.specs.declared.instruction.Case.{Case}
-use Rattle.jop_opcodes.specs.declared.instruction.DecodeFault.{DecodeFault}
-use Rattle.jop_opcodes.specs.Instruction.{decoded}
-use Rattle.jop_opcodes.specs.Start.{IsStart, starts_of, AreStarts}
+use Rattle.opcodes.specs.declared.instruction.Instr.{Instr}
+use Rattle.opcodes.specs.declared.instruction.Case.{Case}
+use Rattle.opcodes.specs.declared.instruction.DecodeFault.{DecodeFault}
+use Rattle.opcodes.specs.Instruction.{decoded}
+use Rattle.opcodes.specs.Start.{IsStart, starts_of, AreStarts}
 use Rattle.lists.specs.Lists.{onto}
 use Rattle.lists.specs.Lemmas.{none≢some, onto_some}
 use Rattle.lists.specs.Members.{cons_cases, nil_contains}
@@ -35,7 +35,7 @@ use Rattle.bytecode_typing.proofs.Relations.{both_left, both_right, is_true, the
 use Rattle.bytecode_typing.proofs.Hierarchy.{equal, equal_in}
 use Rattle.bytecode_typing.proofs.Pairs.{need_checked, found_checked}
 use Rattle.bytecode_typing.proofs.TypedWalks.{IsPassed, passed, numbers_checked, unless_passed}
-use Rattle.well_placed.specs.WellPlaced.{goes_on, offsets_of, LeadsToInstruction, local_words, HasItsOperand, RiseFrom, KeysRise, declared_words, argument_words, HasItsForm, IsWellPlacedAt, IsWellPlacedHandler, IsWellPlacedCode, WellPlaced}
+use Rattle.bytecode_typing.specs.WellPlaced.{goes_on, offsets_of, LeadsToInstruction, local_words, HasItsOperand, RiseFrom, KeysRise, declared_words, argument_words, HasItsForm, IsWellPlacedAt, IsWellPlacedHandler, IsWellPlacedCode, WellPlaced}
 
 -- ---- the form of an instruction
 

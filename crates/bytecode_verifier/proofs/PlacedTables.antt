@@ -3,7 +3,7 @@ use Rattle.std.proofs.Common.{◌≡◌, ℕ, Bool, true, false, List, [], ◌�
 use Rattle.std.specs.Prelude.{◌&&◌, ◌||◌, ◌==◌, nat_lt}
 use Rattle.std.specs.List.{AllByRecursion}
 use Rattle.std.proofs.lemmas.Bool.{eqb-true, ltb-true}
-use Rattle.jop_opcodes.specs.Start.{IsStart, starts_of, AreStarts}
+use Rattle.opcodes.specs.Start.{IsStart, starts_of, AreStarts}
 use Rattle.class_pool.specs.declared.class.ClassFile.{ClassFile}
 use Rattle.class_rules.specs.Found.{MethodsHaveCode}
 use Rattle.lists.specs.Tests.{and_left, and_right, not_false}
@@ -15,7 +15,7 @@ use Rattle.program_tables.specs.Laws.{MethodsStandByNumber}
 use Rattle.program_tables.specs.Resolved.{handler_of, resolved}
 use Rattle.program_tables.specs.Resolving.{IsResolved}
 use Rattle.bytecode_typing.specs.Laws.{TheWalkFindsATyping}
-use Rattle.well_placed.specs.WellPlaced.{IsWellPlacedHandler, WellPlaced}
+use Rattle.bytecode_typing.specs.WellPlaced.{IsWellPlacedHandler, WellPlaced}
 use Rattle.bytecode_verifier.specs.Failure.{is_bad_entry, maps_of, IsVerified}
 use Rattle.bytecode_verifier.specs.Laws.{IsTableOf}
 use Rattle.bytecode_verifier.proofs.TableLemmas.{Entry}

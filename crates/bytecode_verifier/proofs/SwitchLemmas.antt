@@ -6,10 +6,10 @@ use Rattle.std.proofs.Math.ListN.{drop_of_length-le}
 use Rattle.std.proofs.lemmas.List.{length-map}
 use Rattle.std.proofs.lemmas.List.FromFn.{length-range_with_len}
 use Rattle.std.proofs.lemmas.Option.{slice_get_within, get_or_from_slice_get}
-use Rattle.jop_opcodes.specs.declared.instruction.Instr.{Instr}
-use Rattle.jop_opcodes.specs.Form.{Form, TableSwitch, LookupSwitch}
-use Rattle.jop_opcodes.specs.Row.{row_of}
-use Rattle.jop_opcodes.specs.Target.{cases_of, cases_by, table_case, lookup_case}
+use Rattle.opcodes.specs.declared.instruction.Instr.{Instr}
+use Rattle.opcodes.specs.Form.{Form, TableSwitch, LookupSwitch}
+use Rattle.opcodes.specs.Row.{row_of}
+use Rattle.opcodes.specs.Target.{cases_of, cases_by, table_case, lookup_case}
 use Rattle.bytecode_model.specs.Lists.{natural}
 use Rattle.bytecode_model.specs.Program.{Program}
 use Rattle.bytecode_typing.specs.Types.{VarType, TypeFrame}

@@ -5,7 +5,7 @@ use Rattle.std.proofs.lemmas.Bool.{eqb-true}
 use Rattle.std.proofs.lemmas.List.Sums.{sum_by-append, sum_by-cons}
 use Rattle.std.proofs.lemmas.List.{map-append}
 use Rattle.verifier_types.proofs.ListLemmas.{reverse_cons}
-use Rattle.jop_opcodes.specs.Start.{IsStart, starts_of}
+use Rattle.opcodes.specs.Start.{IsStart, starts_of}
 use Rattle.class_pool.specs.declared.class.Code.{Code}
 use Rattle.class_pool.specs.declared.class.ClassFile.{ClassFile}
 use Rattle.class_pool.specs.Found.{otherwise}

@@ -21,11 +21,14 @@ module _ (s : Site) (f : TypeFrame) (named : ℕ) (all : Bool) where
   -- of another method of the current class or of a superclass
   abbrev pub super_left : Method → (stack : List VarType) → Checked
   super_left k stack =
-      on_type stack (λ t rest. need (checks.is_own_class s.program s.method named && checks.is_seen_as s.program s.number s.method s.body s.maps s.place f (OfClass s.method.owner) t) rule.Stack
-      (Leaves (Some (record f { stack = result_types k.result ++ rest })) (checks.may_access s.program s.number s.method s.body s.maps s.place f t) (is_initialized t && all) true))
+      on_type stack (λ t rest. need (checks.is_own_class s.program s.method named
+      && checks.is_seen_as s.program s.number s.method s.body s.maps s.place f (OfClass s.method.owner) t) rule.Stack
+      (Leaves (Some (record f { stack = result_types k.result ++ rest })) (checks.may_access s.program s.number s.method s.body s.maps s.place f t)
+      (is_initialized t && all) true))
 
   -- of one that the receiver's class selects
   abbrev pub virtual_left : Method → (stack : List VarType) → Checked
   virtual_left k stack =
       on_type stack (λ t rest. need (checks.is_seen_as s.program s.number s.method s.body s.maps s.place f (OfClass named) t) rule.Stack
-      (Leaves (Some (record f { stack = result_types k.result ++ rest })) (checks.may_access s.program s.number s.method s.body s.maps s.place f t) (is_initialized t && all) true))
+      (Leaves (Some (record f { stack = result_types k.result ++ rest })) (checks.may_access s.program s.number s.method s.body s.maps s.place f t)
+      (is_initialized t && all) true))

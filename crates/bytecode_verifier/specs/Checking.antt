@@ -40,7 +40,8 @@ pub record IsAt (t : LocalTable) (m : Checking) (pc : ℕ) (x : Instruction) (s 
   pub guarded : s.program.guarded s.number s.place ≡ x.guarded
   pub text : IsTyped s.program (operand_seen x.operand)
 
--- the code's answer and the frame that it leaves are what the rules say of the row, if there is one, with the lists of types of local variables before it and behind it
+-- the code's answer and the frame that it leaves are what the rules say of the row, if there is one, with the lists of types of local variables
+-- before it and behind it
 abbrev pub ChecksRowOver : (before after : List (List VarType)) → Site → Option Row → (old : TypeFrame) → Checked → (new : TypeFrame) → Type 0
 ChecksRowOver before after s row old checked new = checked_seen checked (frame_seen after new) ≡ check_found s (frame_seen before old) row
 

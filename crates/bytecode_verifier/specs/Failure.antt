@@ -1,7 +1,8 @@
 -- The rules of a method in their order, and what fails first in a program: JVM Specification SE 8, 4.7.3, 4.7.4, 4.9.1 and 4.10.1.
-use Rattle.std.specs.Prelude.{◌≡◌, ℕ, ◌<◌, ◌==◌, not, ◌&&◌, ◌||◌, nat_lt, Bool, List, [], ◌∷◌, length, map, min, Option, Some, None, option_map, Result, Ok, Err, slice_get}
+use Rattle.std.specs.Prelude.{◌≡◌, ℕ, ◌<◌, ◌==◌, not, ◌&&◌, ◌||◌, nat_lt, Bool, List, [], ◌∷◌, length, map, min, Option, Some, None, option_map, Result, Ok}
+use Rattle.std.specs.Prelude.{Err, slice_get}
 use Rattle.std.specs.List.{filter}
-use Rattle.jop_opcodes.specs.Start.{first_bad}
+use Rattle.opcodes.specs.Start.{first_bad}
 use Rattle.class_pool.specs.declared.class.Code.{Code}
 use Rattle.class_pool.specs.declared.class.Member.{Member}
 use Rattle.class_pool.specs.declared.class.ClassFile.{ClassFile}
@@ -44,7 +45,8 @@ opcode_failure code = option_map (λ pc. (pc, Opcode)) (first_bad code)
 
 -- ---- the exception table (4.7.3)
 
--- an entry with its start, its end, its handler's place and what it catches: its range is empty, or one of these is no start of an instruction; the end may be the code's
+-- an entry with its start, its end, its handler's place and what it catches: its range is empty, or one of these is no start of an instruction; the
+-- end may be the code's
 abbrev pub is_bad_entry : (code : List ℕ) → ℕ × ℕ × ℕ × ℕ → Bool
 is_bad_entry code h = not (nat_lt h.0 h.1 && (is_start code h.0 && ((is_start code h.1 || h.1 == length code) && is_start code h.2)))
 
@@ -91,7 +93,10 @@ code_failure cs n m b c member k =
 -- what is said of the code of a method of the program
 abbrev pub at_code : {A : Type 0} → List ClassFile → (number : ℕ) → (none : A) → (Place → ClassFile → Member → Code → A) → A
 at_code cs n none say =
-    at_method cs n none (λ p. elim (slice_get cs p.0) [ None ↦ none | Some c ↦ elim (slice_get c.methods p.1) [ None ↦ none | Some m ↦ elim (code_of m) [ None ↦ none | Some k ↦ say p c m k ] ] ])
+    at_method cs n none (λ p. elim (slice_get cs p.0) [
+      | None ↦ none
+      | Some c ↦ elim (slice_get c.methods p.1) [ None ↦ none | Some m ↦ elim (code_of m) [ None ↦ none | Some k ↦ say p c m k ] ]
+    ])
 
 -- what fails first in the method of this number; nothing where it has no code
 unfoldable pub method_failure : List ClassFile → (number : ℕ) → Option Failure

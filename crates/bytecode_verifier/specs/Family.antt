@@ -2,12 +2,13 @@
 -- For contracts within this crate alone: no public contract's meaning rests on this file.
 use Rattle.std.specs.Prelude.{◌≡◌, ℕ, pos, true, List, map, Option, None}
 use Rattle.std.specs.Option.{option_map}
-use Rattle.jop_opcodes.specs.declared.instruction.Instr.{Instr}
+use Rattle.opcodes.specs.declared.instruction.Instr.{Instr}
 use Rattle.bytecode_model.specs.declared.Value.TheVariants as values
 use Rattle.bytecode_model.specs.Program.{Operand}
 use Rattle.bytecode_model.specs.Rows as rows
 use Rattle.bytecode_model.specs.Rows.{Row}
-use Rattle.bytecode_model.specs.Table.{row_of, always, constant, long_constant, by_local, increment, by_offset, switch, lookup_switch, by_static, by_field, by_method, by_type, by_class, by_code}
+use Rattle.bytecode_model.specs.Table.{row_of, always, constant, long_constant, by_local, increment, by_offset, switch, lookup_switch, by_static, by_field}
+use Rattle.bytecode_model.specs.Table.{by_method, by_type, by_class, by_code}
 use Rattle.verifier_types.specs.Seen.{number_seen, moved_seen, width_seen, form_seen}
 use Rattle.bytecode_verifier.specs.declared.family.Value.{Value}
 use Rattle.bytecode_verifier.specs.declared.family.Value.TheVariants as value

@@ -27,7 +27,8 @@ HaveSameLocals f g = (f.locals ≡ g.locals) × (f.flag ≡ g.flag)
 
 -- the same holds of them as of the others
 abbrev pub HoldAlike : (handlers others : List Handler) → Type 0
-HoldAlike hs others = (P : Program) (frames : ℕ → Option TypeFrame) (place : ℕ) (f : TypeFrame) → handlers_hold P frames place f hs ≡ handlers_hold P frames place f others
+HoldAlike hs others = (P : Program) (frames : ℕ → Option TypeFrame) (place : ℕ) (f : TypeFrame)
+    → handlers_hold P frames place f hs ≡ handlers_hold P frames place f others
 
 -- the instruction leaves the local variables as they are, and whether `this` is initialised
 abbrev pub keeps_locals : Option Row → Bool

@@ -2,7 +2,7 @@
 use Rattle.std.specs.Prelude.{◌≡◌, ◌↔◌, ◌⊎◌, ℕ, ◌<◌, ◌≤◌, true, false, List, Some, None, Contains, IsOk, Err}
 use Rattle.std.specs.List.{AllByRecursion}
 use Rattle.std.specs.Option.{IsSomeAnd}
-use Rattle.jop_opcodes.specs.Start.{first_bad}
+use Rattle.opcodes.specs.Start.{first_bad}
 use Rattle.class_pool.specs.declared.class.Code.{Code}
 use Rattle.class_pool.specs.declared.class.Member.{Member}
 use Rattle.class_pool.specs.declared.class.ClassFile.{ClassFile}
@@ -20,7 +20,8 @@ use Rattle.bytecode_verifier.specs.Methods.{IsCodeOf, method_of, body_of}
 abbrev pub IsTableOf : (code : List ℕ) → List (ℕ × ℕ × ℕ × ℕ) → Type 0
 IsTableOf code entries = AllByRecursion (λ h. is_bad_entry code h ≡ false) entries
 
--- what is asked of a code before its instructions are typed: whole instructions, an exception table whose entries are in their form, and a StackMapTable that gives frames
+-- what is asked of a code before its instructions are typed: whole instructions, an exception table whose entries are in their form, and a
+-- StackMapTable that gives frames
 pub record HasForm (c : ClassFile) (m : Member) (k : Code) : Type 0 where
   pub instructions : first_bad k.code ≡ None
   pub table : IsTableOf k.code k.handlers

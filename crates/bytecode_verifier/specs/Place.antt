@@ -2,7 +2,7 @@
 -- For contracts within this crate alone: no public contract's meaning rests on this file.
 use Rattle.std.specs.Prelude.{◌≡◌, ◌==◌, ◌||◌, not, nat_lt, ◌+◌, ℕ, Bool, true, List, length, map, Option, Some, Result, Ok, Err}
 use Rattle.std.specs.Option.{option_map}
-use Rattle.jop_opcodes.specs.declared.instruction.Instr.{Instr}
+use Rattle.opcodes.specs.declared.instruction.Instr.{Instr}
 use Rattle.bytecode_model.specs.Program.{Program, Handler, Method, Body, body_of}
 use Rattle.bytecode_model.specs.Rows.{Row}
 use Rattle.program_tables.specs.declared.operand.Instruction.{Instruction}
@@ -26,7 +26,8 @@ pub record HasCode (c : Checking) (number : ℕ) : Type 0 where
   pub there : body_of (resolved c.program.now) number ≡ Some body
   pub code : body.code ≡ c.code.now
 
--- what is checked is the method m of this number with its body b, and the frames of its StackMapTable by place, the lists of types of local variables being those of this table and perhaps others behind them
+-- what is checked is the method m of this number with its body b, and the frames of its StackMapTable by place, the lists of types of local variables
+-- being those of this table and perhaps others behind them
 pub record IsMethodOf (t : LocalTable) (c : Checking) (number : ℕ) (m : Method) (b : Body) (given : ℕ → Option TypeFrame) : Type 0 where
   pub classes : t.classes ≡ c.program.now
   pub around : c.around.classes.now ≡ c.program.now

@@ -1,4 +1,5 @@
--- A row without what the verifier doesn't look at: which function of numbers it computes, what it tests, what an array keeps of a number, and which number a constant is or the input gives.
+-- A row without what the verifier doesn't look at: which function of numbers it computes, what it tests, what an array keeps of a number, and which
+-- number a constant is or the input gives.
 -- For contracts within this crate alone: no public contract's meaning rests on this file.
 use Rattle.std.specs.Prelude.{pos, true, List, [], ◌∷◌, Option, Some, None}
 use Rattle.bytecode_model.specs.declared.Value.{Value}

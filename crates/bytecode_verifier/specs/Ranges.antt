@@ -9,4 +9,5 @@ use Rattle.bytecode_verifier.specs.Handled.{takes}
 
 -- it takes a frame at a place exactly where both do
 abbrev pub HoldsAsBoth : (first second joined : Handler) → Type 0
-HoldsAsBoth g h j = (P : Program) (frames : ℕ → Option TypeFrame) (place : ℕ) (f : TypeFrame) → takes P frames place f (handler_seen j) ≡ (takes P frames place f (handler_seen g) && takes P frames place f (handler_seen h))
+HoldsAsBoth g h j = (P : Program) (frames : ℕ → Option TypeFrame) (place : ℕ) (f : TypeFrame)
+    → takes P frames place f (handler_seen j) ≡ (takes P frames place f (handler_seen g) && takes P frames place f (handler_seen h))

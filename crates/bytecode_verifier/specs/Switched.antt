@@ -1,7 +1,7 @@
 -- A case of a switch: JVM Specification SE 8, 4.10.1.9 (tableswitch and lookupswitch).
 -- For contracts within this crate alone: no public contract's meaning rests on this file.
 use Rattle.std.specs.Prelude.{ℕ, Bool, pos, ◌+ℤ◌}
-use Rattle.jop_opcodes.specs.declared.instruction.Case.{Case}
+use Rattle.opcodes.specs.declared.instruction.Case.{Case}
 use Rattle.bytecode_model.specs.Lists.{natural}
 use Rattle.program_tables.specs.Resolved.{resolved}
 use Rattle.bytecode_typing.specs.Types.{TypeFrame}

@@ -18,7 +18,7 @@ ghost use Rattle.bytecode_verifier.specs.Calls.{init_left, super_left, virtual_l
 
 use crate::around::Around;
 use crate::seen::{is_own_class, is_seen_as, is_seen_for, may_access, may_begin, seen, type_of};
-use jop_base::NoMemory;
+use base::NoMemory;
 use program_tables::{Declared, MethodShape};
 use verifier_types::laws::what_is_taken_is_found;
 use verifier_types::{Checked, Left, LocalLists, Moved, Operands, Rule, TypeFrame, VarType};
@@ -37,7 +37,8 @@ pub fn pop_arguments(
     operands: &mut Operands,
     parameters: &[Declared],
 ) -> Option<bool>
-    ensures { (s : Site) → StandsAt around.now s → option_map (λ all. (all, operands_seen operands.new)) result ≡ arguments_found s (reverse (map declared_seen parameters.now)) (operands_seen operands.old) }
+    ensures { (s : Site) → StandsAt around.now s → option_map (λ all. (all, operands_seen operands.new)) result ≡ arguments_found s
+        (reverse (map declared_seen parameters.now)) (operands_seen operands.old) }
 {
     let mut all = true;
     for i in 0..parameters.len() {
@@ -70,7 +71,8 @@ pub fn check_static(
     frame: &mut TypeFrame,
     callee: &MethodShape,
 ) -> Result<Checked, NoMemory>
-    ensures { IfOk result (λ c. (s : Site) (number : ℕ) (k : model.Method) → StandsAt around.now s → slice_get s.program.methods number ≡ Some k → HasShape callee.now k → Checks s (rows.CallStatic number) frame.old c frame.new) }
+    ensures { IfOk result (λ c. (s : Site) (number : ℕ) (k : model.Method) → StandsAt around.now s → slice_get s.program.methods number ≡ Some k
+        → HasShape callee.now k → Checks s (rows.CallStatic number) frame.old c frame.new) }
 {
     what_is_taken_is_found();
     let all = match pop_arguments(around, &mut frame.operands, callee.parameters.as_slice()) {
@@ -96,7 +98,9 @@ fn check_begin(
     all: bool,
 ) -> Result<Checked, NoMemory>
     ensures lists { OnOk result (HasListsOf lists.old lists.new) }
-    ensures checks { IfOk result (λ c. (s : Site) (first : List typing.VarType) → StandsAt around.now s → checked_seen c (frame_seen (lists_seen lists.new) frame.new) ≡ init_left s (record (frame_seen (lists_seen lists.old) frame.old) { stack = first }) named all (operands_seen frame.old.operands)) }
+    ensures checks { IfOk result (λ c. (s : Site) (first : List typing.VarType) → StandsAt around.now s
+        → checked_seen c (frame_seen (lists_seen lists.new) frame.new) ≡ init_left s (record
+        (frame_seen (lists_seen lists.old) frame.old) { stack = first }) named all (operands_seen frame.old.operands)) }
 {
     let object = match frame.operands.pop() {
         Some(item) => item,
@@ -133,7 +137,9 @@ fn check_super(
     all: bool,
     given: Option<Declared>,
 ) -> Result<Checked, NoMemory>
-    ensures { IfOk result (λ c. (s : Site) (first : List typing.VarType) (k : model.Method) (ls : List (List typing.VarType)) → StandsAt around.now s → s.program.guarded s.number s.place ≡ guarded → k.result ≡ option_map declared_seen given → checked_seen c (frame_seen ls frame.new) ≡ super_left s (record (frame_seen ls frame.old) { stack = first }) named all k (operands_seen frame.old.operands)) }
+    ensures { IfOk result (λ c. (s : Site) (first : List typing.VarType) (k : model.Method) (ls : List (List typing.VarType)) → StandsAt around.now s
+        → s.program.guarded s.number s.place ≡ guarded → k.result ≡ option_map declared_seen given → checked_seen c (frame_seen ls
+        frame.new) ≡ super_left s (record (frame_seen ls frame.old) { stack = first }) named all k (operands_seen frame.old.operands)) }
 {
     let object = match frame.operands.pop() {
         Some(item) => item,
@@ -165,7 +171,9 @@ pub fn check_special(
     callee: &MethodShape,
 ) -> Result<Checked, NoMemory>
     ensures lists { OnOk result (HasListsOf lists.old lists.new) }
-    ensures checks { IfOk result (λ c. (s : Site) (number : ℕ) (k : model.Method) → StandsAt around.now s → s.program.guarded s.number s.place ≡ guarded → slice_get s.program.methods number ≡ Some k → HasShape callee.now k → ChecksOver (lists_seen lists.old) (lists_seen lists.new) s (rows.CallSpecial named number) frame.old c frame.new) }
+    ensures checks { IfOk result (λ c. (s : Site) (number : ℕ) (k : model.Method) → StandsAt around.now s → s.program.guarded s.number s.place ≡ guarded
+        → slice_get s.program.methods number ≡ Some k → HasShape callee.now k → ChecksOver (lists_seen lists.old) (lists_seen lists.new) s (rows.CallSpecial
+        named number) frame.old c frame.new) }
 {
     what_is_taken_is_found();
     let all = match pop_arguments(around, &mut frame.operands, callee.parameters.as_slice()) {
@@ -187,7 +195,9 @@ fn check_receiver(
     all: bool,
     given: Option<Declared>,
 ) -> Result<Checked, NoMemory>
-    ensures { IfOk result (λ c. (s : Site) (first : List typing.VarType) (k : model.Method) (ls : List (List typing.VarType)) → StandsAt around.now s → s.program.guarded s.number s.place ≡ guarded → k.result ≡ option_map declared_seen given → checked_seen c (frame_seen ls frame.new) ≡ virtual_left s (record (frame_seen ls frame.old) { stack = first }) named all k (operands_seen frame.old.operands)) }
+    ensures { IfOk result (λ c. (s : Site) (first : List typing.VarType) (k : model.Method) (ls : List (List typing.VarType)) → StandsAt around.now s
+        → s.program.guarded s.number s.place ≡ guarded → k.result ≡ option_map declared_seen given → checked_seen c (frame_seen ls
+        frame.new) ≡ virtual_left s (record (frame_seen ls frame.old) { stack = first }) named all k (operands_seen frame.old.operands)) }
 {
     let object = match frame.operands.pop() {
         Some(item) => item,
@@ -213,8 +223,10 @@ pub fn check_virtual(
     named: u32,
     callee: &MethodShape,
 ) -> Result<Checked, NoMemory>
-    ensures class { IfOk result (λ c. (s : Site) (number : ℕ) (k : model.Method) → StandsAt around.now s → s.program.guarded s.number s.place ≡ guarded → slice_get s.program.methods number ≡ Some k → HasShape callee.now k → Checks s (rows.CallVirtual named number) frame.old c frame.new) }
-    ensures interface { IfOk result (λ c. (s : Site) (number : ℕ) (k : model.Method) → StandsAt around.now s → s.program.guarded s.number s.place ≡ guarded → slice_get s.program.methods number ≡ Some k → HasShape callee.now k → Checks s (rows.CallInterface named number) frame.old c frame.new) }
+    ensures class { IfOk result (λ c. (s : Site) (number : ℕ) (k : model.Method) → StandsAt around.now s → s.program.guarded s.number s.place ≡ guarded
+        → slice_get s.program.methods number ≡ Some k → HasShape callee.now k → Checks s (rows.CallVirtual named number) frame.old c frame.new) }
+    ensures interface { IfOk result (λ c. (s : Site) (number : ℕ) (k : model.Method) → StandsAt around.now s → s.program.guarded s.number s.place ≡ guarded
+        → slice_get s.program.methods number ≡ Some k → HasShape callee.now k → Checks s (rows.CallInterface named number) frame.old c frame.new) }
 {
     what_is_taken_is_found();
     let all = match pop_arguments(around, &mut frame.operands, callee.parameters.as_slice()) {
@@ -238,7 +250,8 @@ fn returns(init: bool) -> Checked
 
 /// Whether a return may come now, where the flag says that `this` isn't initialised.
 fn may_return(around: &Around<'_>, flag: bool) -> bool
-    ensures { (s : Site) (f : typing.TypeFrame) → StandsAt around.now s → f.flag ≡ flag → result ≡ checks.may_return s.program s.number s.method s.body s.maps s.place f }
+    ensures { (s : Site) (f : typing.TypeFrame) → StandsAt around.now s → f.flag ≡ flag
+        → result ≡ checks.may_return s.program s.number s.method s.body s.maps s.place f }
 {
     !(around.is_init && flag)
 }
@@ -250,7 +263,9 @@ fn check_value(
     declared: Declared,
     sort: Moved,
 ) -> Checked
-    ensures { (s : Site) (ls : List (List typing.VarType)) → StandsAt around.now s → checked_seen result (frame_seen ls frame.new) ≡ checks.return_check s.program s.number s.method s.body s.maps s.place (frame_seen ls frame.old) (Some (declared_seen declared)) (Some (moved_seen sort)) }
+    ensures { (s : Site) (ls : List (List typing.VarType)) → StandsAt around.now s
+        → checked_seen result (frame_seen ls frame.new) ≡ checks.return_check s.program s.number s.method s.body s.maps s.place (frame_seen ls frame.old) (Some
+        (declared_seen declared)) (Some (moved_seen sort)) }
 {
     let item = match frame.operands.pop() {
         Some(item) => item,
@@ -269,7 +284,8 @@ pub fn check_return(
     declared: Option<Declared>,
     given: Option<Moved>,
 ) -> Checked
-    ensures { (s : Site) → StandsAt around.now s → s.method.result ≡ option_map declared_seen declared → Checks s (rows.Return (option_map moved_seen given)) frame.old result frame.new }
+    ensures { (s : Site) → StandsAt around.now s → s.method.result ≡ option_map declared_seen declared
+        → Checks s (rows.Return (option_map moved_seen given)) frame.old result frame.new }
 {
     match (declared, given) {
         (None, None) => returns(may_return(around, frame.flag)),

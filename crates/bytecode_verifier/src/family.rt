@@ -104,7 +104,7 @@ const TWO_LONGS: &[NumberType] = &[NumberType::Long, NumberType::Long];
 
 const INT_AND_LONG: &[NumberType] = &[NumberType::Int, NumberType::Long];
 
-// The array type codes (6.5.newarray).
+/// The array type codes (6.5.newarray).
 const T_BOOLEAN: u8 = 4;
 
 const T_CHAR: u8 = 5;

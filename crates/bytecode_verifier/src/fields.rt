@@ -11,13 +11,14 @@ ghost use Rattle.bytecode_verifier.specs.Around.{StandsAt};
 
 use crate::around::Around;
 use crate::seen::{is_seen_as, is_seen_for, may_access, may_be_written, type_of};
-use jop_base::NoMemory;
+use base::NoMemory;
 use program_tables::Declared;
 use verifier_types::{Checked, GOES, Left, Rule, TypeFrame, VarType, uses};
 
 /// `getstatic` of a field of this type.
 pub fn check_get_static(frame: &mut TypeFrame, declared: Declared) -> Result<Checked, NoMemory>
-    ensures { IfOk result (λ c. (s : Site) (field : ℕ) → slice_get s.program.statics field ≡ Some (declared_seen declared) → Checks s (rows.GetStatic field) frame.old c frame.new) }
+    ensures { IfOk result (λ c. (s : Site) (field : ℕ) → slice_get s.program.statics field ≡ Some (declared_seen declared)
+        → Checks s (rows.GetStatic field) frame.old c frame.new) }
 {
     frame.operands.push(type_of(declared))?;
     Ok(GOES)
@@ -25,7 +26,8 @@ pub fn check_get_static(frame: &mut TypeFrame, declared: Declared) -> Result<Che
 
 /// `putstatic`.
 pub fn check_put_static(around: &Around<'_>, frame: &mut TypeFrame, declared: Declared) -> Checked
-    ensures { (s : Site) (field : ℕ) → StandsAt around.now s → slice_get s.program.statics field ≡ Some (declared_seen declared) → Checks s (rows.PutStatic field) frame.old result frame.new }
+    ensures { (s : Site) (field : ℕ) → StandsAt around.now s → slice_get s.program.statics field ≡ Some (declared_seen declared)
+        → Checks s (rows.PutStatic field) frame.old result frame.new }
 {
     match frame.operands.pop() {
         Some(item) => {
@@ -47,7 +49,8 @@ pub fn check_get_field(
     named: u32,
     declared: Declared,
 ) -> Result<Checked, NoMemory>
-    ensures { IfOk result (λ c. (s : Site) (owner index : ℕ) → StandsAt around.now s → s.program.guarded s.number s.place ≡ guarded → slice_get (s.program.fields owner) index ≡ Some (declared_seen declared) → Checks s (rows.GetField named owner index) frame.old c frame.new) }
+    ensures { IfOk result (λ c. (s : Site) (owner index : ℕ) → StandsAt around.now s → s.program.guarded s.number s.place ≡ guarded
+        → slice_get (s.program.fields owner) index ≡ Some (declared_seen declared) → Checks s (rows.GetField named owner index) frame.old c frame.new) }
 {
     let object = match frame.operands.pop() {
         Some(item) => item,
@@ -67,7 +70,8 @@ pub fn check_get_field(
 
 /// Whether the value is initialised, and the field, which the class `owner` declares, may be written in the object.
 fn may_put(around: &Around<'_>, owner: u32, value: VarType, object: VarType) -> bool
-    ensures { (s : Site) (f : typing.TypeFrame) → StandsAt around.now s → result ≡ (is_initialized (type_seen value) && checks.may_be_written s.program s.number s.method s.body s.maps s.place f owner (type_seen object)) }
+    ensures { (s : Site) (f : typing.TypeFrame) → StandsAt around.now s
+        → result ≡ (is_initialized (type_seen value) && checks.may_be_written s.program s.number s.method s.body s.maps s.place f owner (type_seen object)) }
 {
     value.is_initialized() && may_be_written(around, owner, object)
 }
@@ -81,7 +85,8 @@ pub fn check_put_field(
     owner: u32,
     declared: Declared,
 ) -> Checked
-    ensures { (s : Site) (index : ℕ) → StandsAt around.now s → s.program.guarded s.number s.place ≡ guarded → slice_get (s.program.fields owner) index ≡ Some (declared_seen declared) → Checks s (rows.PutField named owner index) frame.old result frame.new }
+    ensures { (s : Site) (index : ℕ) → StandsAt around.now s → s.program.guarded s.number s.place ≡ guarded
+        → slice_get (s.program.fields owner) index ≡ Some (declared_seen declared) → Checks s (rows.PutField named owner index) frame.old result frame.new }
 {
     let value = match frame.operands.pop() {
         Some(item) => item,

@@ -12,8 +12,8 @@ ghost use Rattle.bytecode_verifier.specs.Listed.{HasLocals};
 
 use crate::names::{Current, all_locals};
 use crate::seen::{of_class, type_of};
+use base::NoMemory;
 use frame_types::FirstLocal;
-use jop_base::NoMemory;
 use program_tables::{Declared, MethodShape};
 use std::alloc::Global;
 use verifier_types::laws::what_has_room_is_filled;
@@ -115,7 +115,8 @@ pub fn begin(
 
 /// The first frame of a method that begins with these local variables.
 pub fn first_frame(alloc: Global, locals: &Current, shape: &MethodShape) -> TypeFrame
-    ensures { (t : LocalTable) (m : model.Method) (b : model.Body) (more : List (List typing.VarType)) → HasShape shape.now m → b.max_locals ≡ t.max_locals → HasLocals t locals.now (first_kinds m) → Some (frame_seen (t.lists ++ more) result) ≡ first_types m b }
+    ensures { (t : LocalTable) (m : model.Method) (b : model.Body) (more : List (List typing.VarType)) → HasShape shape.now m → b.max_locals ≡ t.max_locals
+        → HasLocals t locals.now (first_kinds m) → Some (frame_seen (t.lists ++ more) result) ≡ first_types m b }
 {
     what_has_room_is_filled();
     let flag = begins_uninitialized(shape);

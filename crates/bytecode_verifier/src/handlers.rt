@@ -67,7 +67,8 @@ fn is_handled(
     frame: &TypeFrame,
     handler: &Handler,
 ) -> bool
-    ensures handled { let ls = lists_seen lists.old in result ≡ walk.is_handled (resolved lists.old.classes) (frames_at ls maps.now) (frame_seen ls frame.now) (handler_seen handler.now) }
+    ensures handled { let ls = lists_seen lists.old in result ≡ walk.is_handled (resolved lists.old.classes) (frames_at ls maps.now) (frame_seen ls frame.now)
+        (handler_seen handler.now) }
     ensures kept { lists.new ≡ lists.old }
 {
     let throwable = ObjectKind {
@@ -97,7 +98,8 @@ fn takes(
     frame: &TypeFrame,
     handler: &Handler,
 ) -> bool
-    ensures taken { let ls = lists_seen lists.old in result ≡ takes (resolved lists.old.classes) (frames_at ls maps.now) place (frame_seen ls frame.now) (handler_seen handler.now) }
+    ensures taken { let ls = lists_seen lists.old in result ≡ takes (resolved lists.old.classes) (frames_at ls maps.now) place (frame_seen ls frame.now)
+        (handler_seen handler.now) }
     ensures kept { lists.new ≡ lists.old }
 {
     let covers = u32::from(handler.start) <= place && place < u32::from(handler.end);
@@ -114,7 +116,9 @@ pub fn are_handled(
     frame: &TypeFrame,
     handlers: &Handlers,
 ) -> bool
-    ensures handled { let P = resolved lists.old.classes in let ls = lists_seen lists.old in IsHeld P (frames_at ls maps.now) asked (Some (frame_seen ls frame.now)) (map handler_seen handlers.now.items.items) → result ≡ walk.handlers_hold P (frames_at ls maps.now) place (frame_seen ls frame.now) (map handler_seen handlers.now.items.items) }
+    ensures handled { let P = resolved lists.old.classes in let ls = lists_seen lists.old in IsHeld P (frames_at ls maps.now) asked
+        (Some (frame_seen ls frame.now)) (map handler_seen handlers.now.items.items) → result ≡ walk.handlers_hold P (frames_at ls maps.now) place (frame_seen
+        ls frame.now) (map handler_seen handlers.now.items.items) }
     ensures kept { lists.new ≡ lists.old }
 {
     let first = begun_before(handlers, asked, place);

@@ -1,6 +1,7 @@
 //! Laws of verified programs (JVM Specification SE 8, 4.7.3, 4.7.4, 4.9.1 and 4.10): where no rule fails there are typings, and what
 //! fails first is the first failure of a typing; in the classes that are there in every program no rule fails, so that what fails
-//! stands in a file; the frame with which a method begins is the same by the names of classes. The functions do nothing; a caller whose proof needs a law calls its function.
+//! stands in a file; the frame with which a method begins is the same by the names of classes. The functions do nothing; a caller whose proof needs a
+//! law calls its function.
 ghost use Rattle.bytecode_verifier.specs.Beginnings.{FirstFramesAgree};
 ghost use Rattle.bytecode_verifier.specs.CoreLaws.{CoreIsVerified, BootIsVerified};
 ghost use Rattle.bytecode_verifier.specs.Laws.{VerifiedMeansTyped, FirstFailureMeansFirst};

@@ -1,6 +1,6 @@
 //! The classes that `new` names (JVM Specification SE 8, 4.10.1.4 and 6.5.new).
 ghost use Rattle.std.specs.Prelude.{◌≡◌, ◌<◌, ℕ, List, length};
-ghost use Rattle.jop_opcodes.specs.declared.instruction.Instr as instr;
+ghost use Rattle.opcodes.specs.declared.instruction.Instr as instr;
 ghost use Rattle.bytecode_model.specs.Lists.{onto};
 ghost use Rattle.bytecode_typing.specs.Checks.{class_made_by, made_at};
 ghost use Rattle.program_tables.specs.Meanings.{operand_seen};

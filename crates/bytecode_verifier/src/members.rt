@@ -1,7 +1,7 @@
 //! What the operands of instructions name among the members of a program (JVM Specification SE 8, 5.4.3).
 ghost use Rattle.std.specs.Prelude.{◌≡◌, ℕ, List, slice_get};
 ghost use Rattle.std.specs.Option.{option_map};
-ghost use Rattle.jop_opcodes.specs.declared.instruction.Instr.{Instr};
+ghost use Rattle.opcodes.specs.declared.instruction.Instr.{Instr};
 ghost use Rattle.bytecode_model.specs.Rows as rows;
 ghost use Rattle.bytecode_model.specs.Table.{by_class};
 ghost use Rattle.program_tables.specs.Meanings.{operand_seen, declared_seen};

@@ -2,7 +2,8 @@
 ghost use Rattle.std.specs.Prelude.{◌≡◌, ◌<◌, ◌≤◌, ◌&&◌, ◌||◌, ℕ, List, Option, Some, length, map, IfOk, OnOk, slice_get};
 ghost use Rattle.std.specs.Option.{option_map};
 ghost use Rattle.std.specs.List.{filter};
-ghost use Rattle.jop_opcodes.specs.Start.{starts_of, first_bad};
+ghost use Rattle.base.specs.Sizes.{longest_file};
+ghost use Rattle.opcodes.specs.Start.{starts_of, first_bad};
 ghost use Rattle.class_pool.specs.declared.class.ClassFile.{ClassFile};
 ghost use Rattle.bytecode_model.specs.Program as model;
 ghost use Rattle.bytecode_typing.specs.Types as typing;
@@ -30,13 +31,13 @@ use crate::maps::MapFrames;
 use crate::names::{Owner, map_frames};
 use crate::place::{Step, verdict_at};
 use crate::rows::Checking;
+use base::NoMemory;
 use class_pool::Code;
 use class_rules::laws::methods_have_code;
 use frame_types::laws::frames_stand_at_instructions;
 use frame_types::{MapFault, map_steps};
-use jop_base::NoMemory;
-use jop_opcodes::laws::starts_follow_one_another;
-use jop_opcodes::{decode, starts};
+use opcodes::laws::starts_follow_one_another;
+use opcodes::{decode, starts};
 use program_tables::Handler;
 use program_tables::laws::{members_are_there, methods_stand_by_number};
 use resolved_program::Program;
@@ -49,7 +50,7 @@ pub type Failure = (u32, MethodRule);
 /// The first of the places at which instructions begin from which the code isn't a whole instruction.
 fn first_bad(code: &[u8], starts: &[u32]) -> Option<u32>
     requires starts { starts.now ≡ starts_of code.now }
-    requires small { length code.now ≤ 33554432 }
+    requires small { length code.now ≤ longest_file }
     ensures { result ≡ first_bad code.now }
 {
     starts_follow_one_another();
@@ -115,7 +116,8 @@ fn handlers_of(
     entries: &[(u16, u16, u16, u16)],
 ) -> Result<Vec<Handler>, NoMemory>
     requires { class < length program.now }
-    ensures { IfOk result (λ handlers. (c : ClassFile) → slice_get program.now class ≡ Some c → map handler_seen handlers.items ≡ map (handler_of program.now c) entries.now) }
+    ensures { IfOk result (λ handlers. (c : ClassFile) → slice_get program.now class ≡ Some c
+        → map handler_seen handlers.items ≡ map (handler_of program.now c) entries.now) }
 {
     let mut handlers = Vec::new(alloc);
     for entry in entries {
@@ -135,8 +137,10 @@ fn walk_places(
 ) -> Result<Option<(u32, Rule)>, NoMemory>
     requires method { number < length (methods_by_number checking.now.program.now) }
     requires code { HasCode checking.now number }
-    requires small { length checking.now.code.now ≤ 33554432 }
-    ensures { IfOk result (λ failed. (m : model.Method) (b : model.Body) (maps : ℕ → Option typing.TypeFrame) → IsMethodOf lists.old checking.now number m b maps → option_map walk_failed failed ≡ walk_failure (walk.walk (resolved checking.now.program.now) number m b maps starts.now (Some (frame_seen (lists_seen lists.old) first)))) }
+    requires small { length checking.now.code.now ≤ longest_file }
+    ensures { IfOk result (λ failed. (m : model.Method) (b : model.Body) (maps : ℕ → Option typing.TypeFrame)
+        → IsMethodOf lists.old checking.now number m b maps → option_map walk_failed failed ≡ walk_failure (walk.walk
+        (resolved checking.now.program.now) number m b maps starts.now (Some (frame_seen (lists_seen lists.old) first)))) }
 {
     let mut falling = Some(first);
     let mut asked = None;
@@ -166,7 +170,10 @@ fn checking_of<'a>(
     ensures code { result.code.now ≡ code.now.code }
     ensures maps { result.maps.now ≡ maps.now }
     ensures there { HasCode result number }
-    ensures method { (h : IsCodeOf program.now number code.now) (given : ℕ → Option typing.TypeFrame) (t : LocalTable) → t.classes ≡ program.now → AreGiven (lists_seen t) maps.now given → HoldAlike (map (handler_of program.now h.class) code.now.handlers) (map handler_seen handlers.now.items.items) → IsMethodOf t result number (method_of program.now number code.now h) (body_of program.now number code.now h) given }
+    ensures method { (h : IsCodeOf program.now number code.now) (given : ℕ → Option typing.TypeFrame) (t : LocalTable) → t.classes ≡ program.now
+        → AreGiven (lists_seen t) maps.now given → HoldAlike (map (handler_of program.now h.class) code.now.handlers)
+        (map handler_seen handlers.now.items.items) → IsMethodOf t result number (method_of program.now number code.now h)
+        (body_of program.now number code.now h) given }
 {
     members_are_there();
     methods_stand_by_number();
@@ -205,9 +212,12 @@ fn walk_method(
     requires method { number < length (methods_by_number program.now) }
     requires code { IsCodeOf program.now number code.now }
     requires starts { starts.now ≡ starts_of code.now.code }
-    requires small { length code.now.code ≤ 33554432 }
+    requires small { length code.now.code ≤ longest_file }
     requires classes { lists.old.classes ≡ program.now }
-    ensures { IfOk result (λ failure. (h : IsCodeOf program.now number code.now) (given : ℕ → Option typing.TypeFrame) → walk.first_types (method_of program.now number code.now h) (body_of program.now number code.now h) ≡ Some (frame_seen (lists_seen lists.old) first) → AreGiven (lists_seen lists.old) maps.now given → option_map failure_seen failure ≡ walk_failure (walk.walked (resolved program.now) number (method_of program.now number code.now h) (body_of program.now number code.now h) given)) }
+    ensures { IfOk result (λ failure. (h : IsCodeOf program.now number code.now) (given : ℕ → Option typing.TypeFrame)
+        → walk.first_types (method_of program.now number code.now h) (body_of program.now number code.now h) ≡ Some (frame_seen
+        (lists_seen lists.old) first) → AreGiven (lists_seen lists.old) maps.now given → option_map failure_seen failure ≡ walk_failure (walk.walked (resolved
+        program.now) number (method_of program.now number code.now h) (body_of program.now number code.now h) given)) }
 {
     members_are_there();
     let class = program.method(number).class;
@@ -230,7 +240,7 @@ fn maps_of(
 ) -> Result<MapFrames, MapFault>
     requires method { number < length (methods_by_number program.now) }
     requires code { IsCodeOf program.now number code.now }
-    requires small { length code.now.code ≤ 33554432 }
+    requires small { length code.now.code ≤ longest_file }
     requires room { lists.old.max_locals ≡ code.now.max_locals }
     requires begins { (h : IsCodeOf program.now number code.now) → BeginsIfRoom lists.old (Some first) (first_kinds (method_of program.now number code.now h)) }
     ensures maps { (h : IsCodeOf program.now number code.now) → AreMaps (lists_seen lists.new) program.now (found_in program.now number code.now h) result }
@@ -268,8 +278,10 @@ fn types_failure(
     requires method { number < length (methods_by_number program.now) }
     requires code { IsCodeOf program.now number code.now }
     requires starts { starts.now ≡ starts_of code.now.code }
-    requires small { length code.now.code ≤ 33554432 }
-    ensures { IfOk result (λ failure. (h : IsCodeOf program.now number code.now) → let m = method_of program.now number code.now h in let b = body_of program.now number code.now h in option_map failure_seen failure ≡ types_failure program.now number m b (walk.first_types m b) (found_in program.now number code.now h)) }
+    requires small { length code.now.code ≤ longest_file }
+    ensures { IfOk result (λ failure. (h : IsCodeOf program.now number code.now)
+        → let m = method_of program.now number code.now h in let b = body_of program.now number code.now h in option_map failure_seen failure
+        ≡ types_failure program.now number m b (walk.first_types m b) (found_in program.now number code.now h)) }
 {
     methods_stand_by_number();
     let mut lists = LocalLists::new(alloc, program.hierarchy(), code.max_locals)?;
@@ -301,8 +313,10 @@ fn code_failure(
 ) -> Result<Option<Failure>, NoMemory>
     requires method { number < length (methods_by_number program.now) }
     requires code { IsCodeOf program.now number code.now }
-    requires small { length code.now.code ≤ 33554432 }
-    ensures { IfOk result (λ failure. (h : IsCodeOf program.now number code.now) → option_map failure_seen failure ≡ code_failure program.now number (method_of program.now number code.now h) (body_of program.now number code.now h) h.class h.member code.now) }
+    requires small { length code.now.code ≤ longest_file }
+    ensures { IfOk result (λ failure. (h : IsCodeOf program.now number code.now)
+        → option_map failure_seen failure ≡ code_failure program.now number (method_of program.now number code.now h) (body_of program.now number code.now
+        h) h.class h.member code.now) }
 {
     let bytes = code.code.as_slice();
     let starts = starts(alloc, bytes)?;

@@ -20,8 +20,8 @@ ghost use Rattle.bytecode_verifier.specs.Maps.{seen_at, frames_seen, frames_at};
 ghost use Rattle.bytecode_verifier.specs.Named.{type_by, frame_by, frames_by};
 
 use crate::maps::MapFrames;
+use base::NoMemory;
 use frame_types::{EntryType, MapStep, StepChange};
-use jop_base::NoMemory;
 use resolved_program::Program;
 use std::alloc::Global;
 use verifier_types::laws::what_has_room_is_filled;
@@ -46,7 +46,8 @@ pub struct Owner<'a> {
 
 /// The type of an object by a Class entry.
 fn entry_object(of: &Owner<'_>, index: u16) -> VarType
-    ensures { (c : ClassFile) → slice_get of.now.program.now of.now.class ≡ Some c → type_seen result ≡ type_by of.now.program.now (Object (class_text c.pool index)) }
+    ensures { (c : ClassFile) → slice_get of.now.program.now of.now.class ≡ Some c
+        → type_seen result ≡ type_by of.now.program.now (Object (class_text c.pool index)) }
 {
     match of.program.kind_of_entry(of.class, index) {
         Some(kind) => VarType::Reference(kind),
@@ -75,7 +76,8 @@ fn types_of_entries(
     of: &Owner<'_>,
     entries: &[EntryType],
 ) -> Result<Vec<VarType>, NoMemory>
-    ensures { IfOk result (λ found. (c : ClassFile) → slice_get of.now.program.now of.now.class ≡ Some c → types_seen found.items ≡ types_by of.now.program.now (map (type_named c.pool) entries.now)) }
+    ensures { IfOk result (λ found. (c : ClassFile) → slice_get of.now.program.now of.now.class ≡ Some c
+        → types_seen found.items ≡ types_by of.now.program.now (map (type_named c.pool) entries.now)) }
 {
     let mut found = Vec::new(alloc);
     for entry in entries {
@@ -102,7 +104,8 @@ fn add_local(
     item: VarType,
 ) -> Result<(), NoMemory>
     ensures lists { OnOk result (HasListsOf lists.old lists.new) }
-    ensures locals { OnOk result ((types : List typing.VarType) → length (words_of (types ++ type_seen item ∷ [])) ≤ lists.old.max_locals → HasLocals lists.old current.old types → HasLocals lists.new current.new (types ++ type_seen item ∷ [])) }
+    ensures locals { OnOk result ((types : List typing.VarType) → length (words_of (types ++ type_seen item ∷ [])) ≤ lists.old.max_locals
+        → HasLocals lists.old current.old types → HasLocals lists.new current.new (types ++ type_seen item ∷ [])) }
 {
     current.starts.push(current.words)?;
     current.list = lists.push_with(current.list, current.words, item)?;
@@ -118,7 +121,10 @@ fn add_locals(
     entries: &[EntryType],
 ) -> Result<(), NoMemory>
     ensures lists { OnOk result (HasListsOf lists.old lists.new) }
-    ensures locals { OnOk result ((c : ClassFile) (types : List typing.VarType) → slice_get of.now.program.now of.now.class ≡ Some c → length (words_of (types ++ types_by of.now.program.now (map (type_named c.pool) entries.now))) ≤ lists.old.max_locals → HasLocals lists.old current.old types → HasLocals lists.new current.new (types ++ types_by of.now.program.now (map (type_named c.pool) entries.now))) }
+    ensures locals { OnOk result ((c : ClassFile) (types : List typing.VarType) → slice_get of.now.program.now of.now.class ≡ Some c
+        → length (words_of (types ++ types_by of.now.program.now (map (type_named c.pool) entries.now))) ≤ lists.old.max_locals
+        → HasLocals lists.old current.old types → HasLocals lists.new current.new
+        (types ++ types_by of.now.program.now (map (type_named c.pool) entries.now))) }
 {
     for entry in entries {
         add_local(lists, current, type_of_entry(of, *entry))?;
@@ -129,7 +135,8 @@ fn add_locals(
 /// A list that is another one but for Top at the words from one index to another.
 fn forget_words(lists: &mut LocalLists<'_>, list: u32, from: u32, end: u32) -> Result<u32, NoMemory>
     ensures lists { OnOk result (HasListsOf lists.old lists.new) }
-    ensures list { IfOk result (λ number. (words : List typing.VarType) → length words ≤ lists.old.max_locals → length words ≡ end → from ≤ end → IsListed lists.old list (filled lists.old.max_locals words) → IsListed lists.new number (filled lists.old.max_locals (take from words))) }
+    ensures list { IfOk result (λ number. (words : List typing.VarType) → length words ≤ lists.old.max_locals → length words ≡ end → from ≤ end
+        → IsListed lists.old list (filled lists.old.max_locals words) → IsListed lists.new number (filled lists.old.max_locals (take from words))) }
 {
     let mut now = list;
     let mut index = end;
@@ -142,7 +149,8 @@ fn forget_words(lists: &mut LocalLists<'_>, list: u32, from: u32, end: u32) -> R
 
 /// The index of the first word of a local variable, or the one behind all.
 fn start_of(current: &Current, index: usize) -> u32
-    ensures { (t : LocalTable) (types : List typing.VarType) → HasLocals t current.now types → index ≤ length types → result ≡ length (words_of (take index types)) }
+    ensures { (t : LocalTable) (types : List typing.VarType) → HasLocals t current.now types → index ≤ length types
+        → result ≡ length (words_of (take index types)) }
 {
     if index < current.starts.len() {
         current.starts[index]
@@ -154,7 +162,8 @@ fn start_of(current: &Current, index: usize) -> u32
 /// Takes so many of the last local variables away, which are there.
 fn chop_locals(lists: &mut LocalLists<'_>, current: &mut Current, count: u8) -> Result<(), NoMemory>
     ensures lists { OnOk result (HasListsOf lists.old lists.new) }
-    ensures locals { OnOk result ((types : List typing.VarType) → count ≤ length types → HasLocals lists.old current.old types → HasLocals lists.new current.new (take (length types - count) types)) }
+    ensures locals { OnOk result ((types : List typing.VarType) → count ≤ length types → HasLocals lists.old current.old types
+        → HasLocals lists.new current.new (take (length types - count) types)) }
 {
     let kept = current.starts.len().saturating_sub(usize::from(count));
     let from = start_of(current, kept);
@@ -257,7 +266,9 @@ fn full_locals(
 ) -> Result<(), NoMemory>
     requires { lists.old.max_locals ≡ max_locals }
     ensures lists { OnOk result (HasListsOf lists.old lists.new) }
-    ensures locals { OnOk result ((c : ClassFile) → slice_get of.now.program.now of.now.class ≡ Some c → length (words_of (types_by of.now.program.now (map (type_named c.pool) entries.now))) ≤ lists.old.max_locals → HasLocals lists.new current.new (types_by of.now.program.now (map (type_named c.pool) entries.now))) }
+    ensures locals { OnOk result ((c : ClassFile) → slice_get of.now.program.now of.now.class ≡ Some c
+        → length (words_of (types_by of.now.program.now (map (type_named c.pool) entries.now))) ≤ lists.old.max_locals
+        → HasLocals lists.new current.new (types_by of.now.program.now (map (type_named c.pool) entries.now))) }
 {
     let types = types_of_entries(alloc, of, entries)?;
     match all_locals(alloc, lists, &types, max_locals)? {
@@ -280,7 +291,9 @@ fn change_locals(
 ) -> Result<(), NoMemory>
     requires { lists.old.max_locals ≡ max_locals }
     ensures lists { OnOk result (HasListsOf lists.old lists.new) }
-    ensures locals { OnOk result ((c : ClassFile) (before after stack : List named_types.VarType) → slice_get of.now.program.now of.now.class ≡ Some c → changed (change_named c.pool change.now) before ≡ Some (after, stack) → length (words_of (types_by of.now.program.now after)) ≤ lists.old.max_locals → HasLocals lists.old current.old (types_by of.now.program.now before) → HasLocals lists.new current.new (types_by of.now.program.now after)) }
+    ensures locals { OnOk result ((c : ClassFile) (before after stack : List named_types.VarType) → slice_get of.now.program.now of.now.class ≡ Some c
+        → changed (change_named c.pool change.now) before ≡ Some (after, stack) → length (words_of (types_by of.now.program.now after)) ≤ lists.old.max_locals
+        → HasLocals lists.old current.old (types_by of.now.program.now before) → HasLocals lists.new current.new (types_by of.now.program.now after)) }
 {
     match change {
         StepChange::Same => Ok(()),
@@ -295,7 +308,8 @@ fn change_locals(
 
 /// The operand stack that an entry gives, from its bottom to its top.
 fn stack_of(alloc: Global, of: &Owner<'_>, change: &StepChange) -> Result<Vec<VarType>, NoMemory>
-    ensures { IfOk result (λ found. (c : ClassFile) (before after stack : List named_types.VarType) → slice_get of.now.program.now of.now.class ≡ Some c → changed (change_named c.pool change.now) before ≡ Some (after, stack) → types_seen found.items ≡ types_by of.now.program.now stack) }
+    ensures { IfOk result (λ found. (c : ClassFile) (before after stack : List named_types.VarType) → slice_get of.now.program.now of.now.class ≡ Some c
+        → changed (change_named c.pool change.now) before ≡ Some (after, stack) → types_seen found.items ≡ types_by of.now.program.now stack) }
 {
     match change {
         StepChange::OneItem(entry) => types_of_entries(alloc, of, &[*entry]),
@@ -315,8 +329,15 @@ fn frame_behind(
 ) -> Result<TypeFrame, NoMemory>
     requires { lists.old.max_locals ≡ max_locals }
     ensures lists { OnOk result (HasListsOf lists.old lists.new) }
-    ensures locals { OnOk result ((c : ClassFile) (k : Code) (before after stack : List named_types.VarType) (f : named_frames.TypeFrame) → slice_get of.now.program.now of.now.class ≡ Some c → k.max_locals ≡ max_locals → changed (change_named c.pool step.now.change) before ≡ Some (after, stack) → frame_of k after stack ≡ Some f → HasLocals lists.old current.old (types_by of.now.program.now before) → HasLocals lists.new current.new (types_by of.now.program.now after)) }
-    ensures frame { IfOk result (λ frame. (c : ClassFile) (k : Code) (before after stack : List named_types.VarType) (f : named_frames.TypeFrame) (more : List (List typing.VarType)) → slice_get of.now.program.now of.now.class ≡ Some c → k.max_locals ≡ max_locals → changed (change_named c.pool step.now.change) before ≡ Some (after, stack) → frame_of k after stack ≡ Some f → f.flag ≡ step.now.flag → HasLocals lists.old current.old (types_by of.now.program.now before) → frame_seen (lists_seen lists.new ++ more) frame ≡ frame_by of.now.program.now f) }
+    ensures locals { OnOk result ((c : ClassFile) (k : Code) (before after stack : List named_types.VarType) (f : named_frames.TypeFrame)
+        → slice_get of.now.program.now of.now.class ≡ Some c → k.max_locals ≡ max_locals
+        → changed (change_named c.pool step.now.change) before ≡ Some (after, stack) → frame_of k after stack ≡ Some f
+        → HasLocals lists.old current.old (types_by of.now.program.now before) → HasLocals lists.new current.new (types_by of.now.program.now after)) }
+    ensures frame { IfOk result (λ frame. (c : ClassFile) (k : Code) (before after stack : List named_types.VarType) (f : named_frames.TypeFrame)
+        (more : List (List typing.VarType)) → slice_get of.now.program.now of.now.class ≡ Some c → k.max_locals ≡ max_locals
+        → changed (change_named c.pool step.now.change) before ≡ Some (after, stack) → frame_of k after stack ≡ Some f → f.flag ≡ step.now.flag
+        → HasLocals lists.old current.old (types_by of.now.program.now before)
+        → frame_seen (lists_seen lists.new ++ more) frame ≡ frame_by of.now.program.now f) }
 {
     what_has_room_is_filled();
     change_locals(alloc, of, lists, current, &step.change, max_locals)?;
@@ -341,7 +362,10 @@ fn placed_frames(
 ) -> Result<Vec<(u32, TypeFrame)>, NoMemory>
     requires { lists.old.max_locals ≡ max_locals }
     ensures lists { OnOk result (HasListsOf lists.old lists.new) }
-    ensures frames { IfOk result (λ found. (c : ClassFile) (k : Code) (locals : List named_types.VarType) (xs : List (ℕ × named_frames.TypeFrame)) (more : List (List typing.VarType)) → slice_get of.now.program.now of.now.class ≡ Some c → k.max_locals ≡ max_locals → HasLocals lists.old first (types_by of.now.program.now locals) → AreSteps c.pool k locals steps.now xs → frames_seen (lists_seen lists.new ++ more) found.items ≡ frames_by of.now.program.now xs) }
+    ensures frames { IfOk result (λ found. (c : ClassFile) (k : Code) (locals : List named_types.VarType) (xs : List (ℕ × named_frames.TypeFrame))
+        (more : List (List typing.VarType)) → slice_get of.now.program.now of.now.class ≡ Some c → k.max_locals ≡ max_locals
+        → HasLocals lists.old first (types_by of.now.program.now locals) → AreSteps c.pool k locals steps.now xs
+        → frames_seen (lists_seen lists.new ++ more) found.items ≡ frames_by of.now.program.now xs) }
     ensures places { IfOk result (λ found. map (λ x. x.0) found.items ≡ map (λ s. s.place) steps.now) }
 {
     let mut current = first;
@@ -371,7 +395,8 @@ fn by_place(
     length: u32,
 ) -> Result<Vec<Option<TypeFrame>>, NoMemory>
     requires { AllByRecursion (λ x. x.0 < length) frames.items }
-    ensures { IfOk result (λ places. (ls : List (List typing.VarType)) (place : ℕ) → seen_at ls places.items place ≡ frame_among (frames_seen ls frames.items) place) }
+    ensures { IfOk result (λ places. (ls : List (List typing.VarType)) (place : ℕ)
+        → seen_at ls places.items place ≡ frame_among (frames_seen ls frames.items) place) }
 {
     let mut places = no_frames(alloc, length)?;
     while let Some((place, frame)) = frames.pop() {
@@ -394,7 +419,10 @@ pub fn map_frames(
     requires room { lists.old.max_locals ≡ max_locals }
     requires within { AllByRecursion (λ s. s.place < length) steps.now }
     ensures lists { OnOk result (HasListsOf lists.old lists.new) }
-    ensures frames { IfOk result (λ maps. (c : ClassFile) (k : Code) (locals : List named_types.VarType) (xs : List (ℕ × named_frames.TypeFrame)) (more : List (List typing.VarType)) (place : ℕ) → slice_get of.now.program.now of.now.class ≡ Some c → k.max_locals ≡ max_locals → HasLocals lists.old first (types_by of.now.program.now locals) → AreSteps c.pool k locals steps.now xs → frames_at (lists_seen lists.new ++ more) maps place ≡ frame_among (frames_by of.now.program.now xs) place) }
+    ensures frames { IfOk result (λ maps. (c : ClassFile) (k : Code) (locals : List named_types.VarType) (xs : List (ℕ × named_frames.TypeFrame))
+        (more : List (List typing.VarType)) (place : ℕ) → slice_get of.now.program.now of.now.class ≡ Some c → k.max_locals ≡ max_locals
+        → HasLocals lists.old first (types_by of.now.program.now locals) → AreSteps c.pool k locals steps.now xs
+        → frames_at (lists_seen lists.new ++ more) maps place ≡ frame_among (frames_by of.now.program.now xs) place) }
 {
     let frames = placed_frames(alloc, of, lists, first, steps, max_locals)?;
     let by_place = by_place(alloc, frames, length)?;

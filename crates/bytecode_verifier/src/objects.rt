@@ -7,7 +7,7 @@ ghost use Rattle.bytecode_verifier.specs.Around.{StandsAt};
 
 use crate::around::Around;
 use crate::seen::is_seen_as;
-use jop_base::NoMemory;
+use base::NoMemory;
 use verifier_types::{Checked, GOES, Left, LocalLists, Rule, TypeFrame, VarType};
 
 /// The number of the class Throwable.
@@ -21,7 +21,8 @@ pub fn check_new(
     place: u32,
 ) -> Result<Checked, NoMemory>
     ensures lists { OnOk result (HasListsOf lists.old lists.new) }
-    ensures checks { IfOk result (λ c. (s : Site) (class : ℕ) → s.place ≡ place → ChecksOver (lists_seen lists.old) (lists_seen lists.new) s (rows.New class) frame.old c frame.new) }
+    ensures checks { IfOk result (λ c. (s : Site) (class : ℕ) → s.place ≡ place
+        → ChecksOver (lists_seen lists.old) (lists_seen lists.new) s (rows.New class) frame.old c frame.new) }
 {
     if frame.operands.holds_made(place) {
         return Ok(Checked::Fails(Rule::Stack));

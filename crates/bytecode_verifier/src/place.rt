@@ -1,9 +1,10 @@
 //! An instruction with the frame before it (JVM Specification SE 8, 4.10.1.6).
 ghost use Rattle.std.specs.Prelude.{◌≡◌, ◌<◌, ◌≤◌, ℕ, true, not, List, Option, Some, length, Ok, IfOk, OnOk, IfSome};
 ghost use Rattle.std.specs.Option.{option_map};
-ghost use Rattle.jop_opcodes.specs.Instruction.{decoded};
-ghost use Rattle.jop_opcodes.specs.Target.{cases_of};
-ghost use Rattle.jop_opcodes.specs.declared.instruction.Instr as instr;
+ghost use Rattle.base.specs.Sizes.{longest_file};
+ghost use Rattle.opcodes.specs.Instruction.{decoded};
+ghost use Rattle.opcodes.specs.Target.{cases_of};
+ghost use Rattle.opcodes.specs.declared.instruction.Instr as instr;
 ghost use Rattle.bytecode_model.specs.Program as model;
 ghost use Rattle.bytecode_model.specs.Rows as rows;
 ghost use Rattle.bytecode_model.specs.Table.{row_of};
@@ -27,8 +28,8 @@ use crate::rows::{Checking, check_row};
 use crate::seen::type_of;
 use crate::settle::{Verdict, settle};
 use crate::switches::keys_rise;
-use jop_base::NoMemory;
-use jop_opcodes::Instr;
+use base::NoMemory;
+use opcodes::Instr;
 use program_tables::{Instruction, MethodShape, Operand};
 use std::alloc::Global;
 use verifier_types::{LocalLists, Rule, TypeFrame, has_same_locals};
@@ -82,7 +83,8 @@ fn has_words(shape: &MethodShape, count: i32) -> bool
 
 /// Whether an `invokeinterface` of this method has the number of argument words, and then a zero (6.5.invokeinterface).
 fn is_interface_call(checking: &Checking<'_>, place: u32, x: &Instruction) -> bool
-    ensures { (named method : ℕ) → operand_seen x.now.operand ≡ model.AMethod named method → result ≡ walk.is_formed (resolved checking.now.program.now) checking.now.code.now place x.now.instr (rows.CallInterface named method) }
+    ensures { (named method : ℕ) → operand_seen x.now.operand ≡ model.AMethod named method
+        → result ≡ walk.is_formed (resolved checking.now.program.now) checking.now.code.now place x.now.instr (rows.CallInterface named method) }
 {
     let at = place as usize + 4;
     let behind = if at < checking.code.len() {
@@ -105,7 +107,7 @@ fn is_interface_call(checking: &Checking<'_>, place: u32, x: &Instruction) -> bo
 /// Whether a `tableswitch` has a range, and the keys rise (4.9.1).
 fn is_switch_formed(code: &[u8], place: u32, instr: &Instr) -> bool
     requires decoded { decoded code.now place ≡ Ok instr.now }
-    requires small { length code.now ≤ 33554432 }
+    requires small { length code.now ≤ longest_file }
     ensures { (P : model.Program) → result ≡ walk.is_formed P code.now place instr.now (rows.Switch instr.now.first (cases_of code.now instr.now)) }
 {
     if instr.op == TABLESWITCH && instr.count == 0 {
@@ -117,8 +119,9 @@ fn is_switch_formed(code: &[u8], place: u32, instr: &Instr) -> bool
 /// Whether what a row doesn't keep of its instruction is in its form (4.9.1).
 fn is_formed(checking: &Checking<'_>, place: u32, x: &Instruction) -> bool
     requires decoded { decoded checking.now.code.now place ≡ Ok x.now.instr }
-    requires small { length checking.now.code.now ≤ 33554432 }
-    ensures { IfSome (row_of checking.now.code.now x.now.instr (operand_seen x.now.operand)) (λ row. result ≡ walk.is_formed (resolved checking.now.program.now) checking.now.code.now place x.now.instr row) }
+    requires small { length checking.now.code.now ≤ longest_file }
+    ensures { IfSome (row_of checking.now.code.now x.now.instr (operand_seen x.now.operand))
+        (λ row. result ≡ walk.is_formed (resolved checking.now.program.now) checking.now.code.now place x.now.instr row) }
 {
     match family_of(x.instr.op) {
         Family::Leads(leads) => match leads {
@@ -185,9 +188,13 @@ fn settle_row(
     asked: Option<u32>,
 ) -> Result<Verdict, NoMemory>
     requires decoded { decoded checking.now.code.now place ≡ Ok x.now.instr }
-    requires small { length checking.now.code.now ≤ 33554432 }
+    requires small { length checking.now.code.now ≤ longest_file }
     ensures lists { OnOk result (HasListsOf lists.old lists.new) }
-    ensures verdict { let before = frame_seen (lists_seen lists.old) frame.old in let after = frame_seen (lists_seen lists.new) frame.new in IfOk result (λ v. (n : ℕ) (m : model.Method) (b : model.Body) (maps : ℕ → Option typing.TypeFrame) → IsMethodOf lists.old checking.now n m b maps → IsNamedAs checking.now n place x.now → IsHeld (resolved checking.now.program.now) maps asked (Some before) b.handlers → verdict_seen v before after ≡ walk.on_row (resolved checking.now.program.now) n m b maps place before x.now.instr (row_of checking.now.code.now x.now.instr (operand_seen x.now.operand))) }
+    ensures verdict { let before = frame_seen (lists_seen lists.old) frame.old in let after = frame_seen (lists_seen lists.new) frame.new in IfOk result
+        (λ v. (n : ℕ) (m : model.Method) (b : model.Body) (maps : ℕ → Option typing.TypeFrame) → IsMethodOf lists.old checking.now n m b maps
+        → IsNamedAs checking.now n place x.now → IsHeld (resolved checking.now.program.now) maps asked (Some before) b.handlers
+        → verdict_seen v before after ≡ walk.on_row (resolved checking.now.program.now) n m b maps place before x.now.instr
+        (row_of checking.now.code.now x.now.instr (operand_seen x.now.operand))) }
 {
     checking.program.is_resolved();
     if !is_formed(checking, place, x) {
@@ -212,7 +219,9 @@ fn still_asked(
     map: Option<&TypeFrame>,
     falling: Option<&TypeFrame>,
 ) -> Option<u32>
-    ensures { let ls = lists_seen lists.now in (P : model.Program) (frames : ℕ → Option typing.TypeFrame) (hs : List model.Handler) (f : typing.TypeFrame) → Some f ≡ walk.incoming (frame_at_seen ls map.entry) (frame_at_seen ls falling.entry) → IsHeld P frames asked (frame_at_seen ls falling.entry) hs → IsHeld P frames result (Some f) hs }
+    ensures { let ls = lists_seen lists.now in (P : model.Program) (frames : ℕ → Option typing.TypeFrame) (hs : List model.Handler) (f : typing.TypeFrame)
+        → Some f ≡ walk.incoming (frame_at_seen ls map.entry) (frame_at_seen ls falling.entry) → IsHeld P frames asked (frame_at_seen ls
+        falling.entry) hs → IsHeld P frames result (Some f) hs }
 {
     let place = asked?;
     let given = match map {
@@ -233,8 +242,10 @@ fn joined(
     map: Option<&TypeFrame>,
     falling: Option<TypeFrame>,
 ) -> Result<Option<(TypeFrame, bool)>, NoMemory>
-    ensures frame { let ls = lists_seen lists.old in IfOk result (λ j. option_map (λ x. frame_seen ls x.0) j ≡ walk.incoming (frame_at_seen ls map.entry) (option_map (frame_seen ls) falling)) }
-    ensures merged { let ls = lists_seen lists.old in IfOk result (λ j. IfSome j (λ x. x.1 ≡ walk.merges (resolved lists.old.classes) (frame_at_seen ls map.entry) (option_map (frame_seen ls) falling))) }
+    ensures frame { let ls = lists_seen lists.old in IfOk result
+        (λ j. option_map (λ x. frame_seen ls x.0) j ≡ walk.incoming (frame_at_seen ls map.entry) (option_map (frame_seen ls) falling)) }
+    ensures merged { let ls = lists_seen lists.old in IfOk result
+        (λ j. IfSome j (λ x. x.1 ≡ walk.merges (resolved lists.old.classes) (frame_at_seen ls map.entry) (option_map (frame_seen ls) falling))) }
     ensures kept { lists.new ≡ lists.old }
 {
     match map {
@@ -266,9 +277,13 @@ pub fn verdict_at(
 ) -> Result<Step, NoMemory>
     requires method { number < length (methods_by_number checking.now.program.now) }
     requires code { HasCode checking.now number }
-    requires small { length checking.now.code.now ≤ 33554432 }
+    requires small { length checking.now.code.now ≤ longest_file }
     ensures lists { OnOk result (HasListsOf lists.old lists.new) }
-    ensures step { let before = lists_seen lists.old in let after = lists_seen lists.new in IfOk result (λ step. (m : model.Method) (b : model.Body) (maps : ℕ → Option typing.TypeFrame) → IsMethodOf lists.old checking.now number m b maps → IsHeld (resolved checking.now.program.now) maps asked (option_map (frame_seen before) falling) b.handlers → (step_seen after step ≡ behind (walk.verdict_at (resolved checking.now.program.now) number m b maps place (option_map (frame_seen before) falling))) × IsHeldBehind after (resolved checking.now.program.now) maps place step b.handlers) }
+    ensures step { let before = lists_seen lists.old in let after = lists_seen lists.new in IfOk result
+        (λ step. (m : model.Method) (b : model.Body) (maps : ℕ → Option typing.TypeFrame) → IsMethodOf lists.old checking.now number m b maps
+        → IsHeld (resolved checking.now.program.now) maps asked (option_map (frame_seen before) falling) b.handlers → (step_seen after step ≡ behind
+        (walk.verdict_at (resolved checking.now.program.now) number m b maps place
+        (option_map (frame_seen before) falling))) × IsHeldBehind after (resolved checking.now.program.now) maps place step b.handlers) }
 {
     let map = frame_at(checking.maps, u64::from(place));
     let asked = still_asked(lists, asked, map, falling.as_ref());

@@ -1,8 +1,9 @@
 //! The check of an instruction by its family (JVM Specification SE 8, 4.10.1.9).
 ghost use Rattle.std.specs.Prelude.{◌≡◌, ◌≤◌, ◌==◌, ℕ, ◌∷◌, [], List, length, Ok, Some, None, IfOk, OnOk, if◌then◌else◌, pos, ◌+ℤ◌};
 ghost use Rattle.std.specs.List.{list_any};
-ghost use Rattle.jop_opcodes.specs.declared.instruction.Instr as model;
-ghost use Rattle.jop_opcodes.specs.Instruction.{decoded};
+ghost use Rattle.base.specs.Sizes.{longest_file};
+ghost use Rattle.opcodes.specs.declared.instruction.Instr as model;
+ghost use Rattle.opcodes.specs.Instruction.{decoded};
 ghost use Rattle.bytecode_model.specs.Lists.{onto, natural};
 ghost use Rattle.bytecode_model.specs.Program as program;
 ghost use Rattle.bytecode_model.specs.Program.{AMethod};
@@ -31,8 +32,8 @@ use crate::maps::{MapFrames, target_of};
 use crate::members::{callee, class_meant, instance_type, static_type};
 use crate::objects::{check_new, check_throw};
 use crate::switches::check_switch;
-use jop_base::NoMemory;
-use jop_opcodes::Instr;
+use base::NoMemory;
+use opcodes::Instr;
 use program_tables::{Base, Declared, Instruction, ObjectKind, Operand};
 use resolved_program::Program;
 use verifier_types::{
@@ -73,7 +74,8 @@ fn local_of(instr: &Instr) -> Option<u32>
 
 /// The array type code of numbers that an instruction has (6.5.newarray).
 fn code_of_numbers(instr: &Instr) -> Option<u8>
-    ensures { result ≡ onto (natural instr.now.first) (λ a. if list_any (λ c. c == a) (t_boolean ∷ t_char ∷ t_byte ∷ t_short ∷ t_int ∷ t_long ∷ []) then Some a else None) }
+    ensures { result ≡ onto (natural instr.now.first) (λ a. if list_any (λ c. c == a)
+        (t_boolean ∷ t_char ∷ t_byte ∷ t_short ∷ t_int ∷ t_long ∷ []) then Some a else None) }
 {
     match u8::try_from(instr.first) {
         Ok(code) if matches!(code, 4 | 5 | 8 | 9 | 10 | 11) => Some(code),
@@ -102,7 +104,8 @@ fn check_value(
     family: Value,
 ) -> Result<Checked, NoMemory>
     ensures lists { OnOk result (HasListsOf lists.old lists.new) }
-    ensures checks { IfOk result (λ c. (s : Site) (code : List ℕ) (o : program.Operand) → s.body.max_locals ≡ max_locals → ChecksRowOver (lists_seen lists.old) (lists_seen lists.new) s (value_row family code instr.now o) frame.old c frame.new) }
+    ensures checks { IfOk result (λ c. (s : Site) (code : List ℕ) (o : program.Operand) → s.body.max_locals ≡ max_locals
+        → ChecksRowOver (lists_seen lists.old) (lists_seen lists.new) s (value_row family code instr.now o) frame.old c frame.new) }
 {
     match family {
         Value::Nothing => Ok(GOES),
@@ -155,7 +158,8 @@ fn check_array(frame: &mut TypeFrame, instr: &Instr, family: Array) -> Result<Ch
 
 /// `ldc` and `ldc_w`.
 fn check_constant(frame: &mut TypeFrame, operand: Operand) -> Result<Checked, NoMemory>
-    ensures { IfOk result (λ c. (s : Site) (code : List ℕ) (i : model.Instr) → IsTyped s.program (operand_seen operand) → ChecksRow s (constant code i (operand_seen operand)) frame.old c frame.new) }
+    ensures { IfOk result (λ c. (s : Site) (code : List ℕ) (i : model.Instr) → IsTyped s.program (operand_seen operand)
+        → ChecksRow s (constant code i (operand_seen operand)) frame.old c frame.new) }
 {
     match operand {
         Operand::Int(_) => check_push(frame, VarType::Integer),
@@ -166,7 +170,8 @@ fn check_constant(frame: &mut TypeFrame, operand: Operand) -> Result<Checked, No
 
 /// `ldc2_w`.
 fn check_long(frame: &mut TypeFrame, operand: Operand) -> Result<Checked, NoMemory>
-    ensures { IfOk result (λ c. (s : Site) (code : List ℕ) (i : model.Instr) → ChecksRow s (long_constant code i (operand_seen operand)) frame.old c frame.new) }
+    ensures { IfOk result (λ c. (s : Site) (code : List ℕ) (i : model.Instr)
+        → ChecksRow s (long_constant code i (operand_seen operand)) frame.old c frame.new) }
 {
     match operand {
         Operand::Long(_) => check_push(frame, VarType::LongInteger),
@@ -201,7 +206,8 @@ fn check_named(
     family: Named,
 ) -> Result<Checked, NoMemory>
     ensures lists { OnOk result (HasListsOf lists.old lists.new) }
-    ensures checks { IfOk result (λ c. (s : Site) (code : List ℕ) (i : model.Instr) → s.place ≡ place → IsTyped s.program (operand_seen operand) → ChecksRowOver (lists_seen lists.old) (lists_seen lists.new) s (named_row family code i (operand_seen operand)) frame.old c frame.new) }
+    ensures checks { IfOk result (λ c. (s : Site) (code : List ℕ) (i : model.Instr) → s.place ≡ place → IsTyped s.program (operand_seen operand)
+        → ChecksRowOver (lists_seen lists.old) (lists_seen lists.new) s (named_row family code i (operand_seen operand)) frame.old c frame.new) }
 {
     match family {
         Named::Constant => check_constant(frame, operand),
@@ -232,7 +238,8 @@ fn check_static_field(
     index: u32,
     writes: bool,
 ) -> Result<Checked, NoMemory>
-    ensures { IfOk result (λ c. (s : Site) → s.program ≡ resolved checking.now.program.now → StandsAt checking.now.around s → Checks s (if writes then rows.PutStatic index else rows.GetStatic index) frame.old c frame.new) }
+    ensures { IfOk result (λ c. (s : Site) → s.program ≡ resolved checking.now.program.now → StandsAt checking.now.around s
+        → Checks s (if writes then rows.PutStatic index else rows.GetStatic index) frame.old c frame.new) }
 {
     match static_type(checking.program, index) {
         Some(declared) if writes => Ok(check_put_static(&checking.around, frame, declared)),
@@ -249,7 +256,9 @@ fn check_instance_field(
     field: (u32, u32, u32),
     writes: bool,
 ) -> Result<Checked, NoMemory>
-    ensures { IfOk result (λ c. (s : Site) → s.program ≡ resolved checking.now.program.now → StandsAt checking.now.around s → s.program.guarded s.number s.place ≡ guarded → Checks s (if writes then rows.PutField field.0 field.1 field.2 else rows.GetField field.0 field.1 field.2) frame.old c frame.new) }
+    ensures { IfOk result (λ c. (s : Site) → s.program ≡ resolved checking.now.program.now → StandsAt checking.now.around s
+        → s.program.guarded s.number s.place ≡ guarded → Checks s (if writes then rows.PutField field.0 field.1 field.2 else rows.GetField field.0 field.1
+        field.2) frame.old c frame.new) }
 {
     let (named, owner, index) = field;
     let around = &checking.around;
@@ -267,7 +276,8 @@ fn check_field(
     x: &Instruction,
     family: Field,
 ) -> Result<Checked, NoMemory>
-    ensures { IfOk result (λ c. (s : Site) (place : ℕ) (code : List ℕ) (i : model.Instr) (t : LocalTable) → IsAt t checking.now place x.now s → ChecksRowIn (lists_seen t) s (field_row family code i (operand_seen x.now.operand)) frame.old c frame.new) }
+    ensures { IfOk result (λ c. (s : Site) (place : ℕ) (code : List ℕ) (i : model.Instr) (t : LocalTable) → IsAt t checking.now place x.now s
+        → ChecksRowIn (lists_seen t) s (field_row family code i (operand_seen x.now.operand)) frame.old c frame.new) }
 {
     match family {
         Field::GetStatic => match x.operand {
@@ -304,7 +314,9 @@ fn check_callee(
     family: Call,
 ) -> Result<Checked, NoMemory>
     ensures lists { OnOk result (HasListsOf lists.old lists.new) }
-    ensures checks { IfOk result (λ c. (s : Site) (code : List ℕ) (i : model.Instr) → s.program ≡ resolved checking.now.program.now → StandsAt checking.now.around s → s.program.guarded s.number s.place ≡ guarded → ChecksRowOver (lists_seen lists.old) (lists_seen lists.new) s (call_row family code i (AMethod method.0 method.1)) frame.old c frame.new) }
+    ensures checks { IfOk result (λ c. (s : Site) (code : List ℕ) (i : model.Instr) → s.program ≡ resolved checking.now.program.now
+        → StandsAt checking.now.around s → s.program.guarded s.number s.place ≡ guarded → ChecksRowOver (lists_seen lists.old) (lists_seen
+        lists.new) s (call_row family code i (AMethod method.0 method.1)) frame.old c frame.new) }
 {
     let (named, number) = method;
     let around = &checking.around;
@@ -330,7 +342,8 @@ fn check_call(
     family: Call,
 ) -> Result<Checked, NoMemory>
     ensures lists { OnOk result (HasListsOf lists.old lists.new) }
-    ensures checks { IfOk result (λ c. (s : Site) (place : ℕ) (code : List ℕ) (i : model.Instr) → IsAt lists.old checking.now place x.now s → ChecksRowOver (lists_seen lists.old) (lists_seen lists.new) s (call_row family code i (operand_seen x.now.operand)) frame.old c frame.new) }
+    ensures checks { IfOk result (λ c. (s : Site) (place : ℕ) (code : List ℕ) (i : model.Instr) → IsAt lists.old checking.now place x.now s
+        → ChecksRowOver (lists_seen lists.old) (lists_seen lists.new) s (call_row family code i (operand_seen x.now.operand)) frame.old c frame.new) }
 {
     match x.operand {
         Operand::Method(named, number) => {
@@ -357,8 +370,9 @@ fn check_leads(
     family: Leads,
 ) -> Checked
     requires decoded { decoded checking.now.code.now place ≡ Ok instr.now }
-    requires small { length checking.now.code.now ≤ 33554432 }
-    ensures checks { (s : Site) (x : tables.Instruction) (o : program.Operand) → IsAt lists.old checking.now place x s → ChecksRowIn (lists_seen lists.old) s (leads_row family checking.now.code.now instr.now o) frame.old result frame.new }
+    requires small { length checking.now.code.now ≤ longest_file }
+    ensures checks { (s : Site) (x : tables.Instruction) (o : program.Operand) → IsAt lists.old checking.now place x s
+        → ChecksRowIn (lists_seen lists.old) s (leads_row family checking.now.code.now instr.now o) frame.old result frame.new }
     ensures kept { lists.new ≡ lists.old }
 {
     let maps = checking.maps;
@@ -387,9 +401,11 @@ pub fn check_row(
     x: &Instruction,
 ) -> Result<Checked, NoMemory>
     requires decoded { decoded checking.now.code.now place ≡ Ok x.now.instr }
-    requires small { length checking.now.code.now ≤ 33554432 }
+    requires small { length checking.now.code.now ≤ longest_file }
     ensures lists { OnOk result (HasListsOf lists.old lists.new) }
-    ensures checks { IfOk result (λ c. (s : Site) → IsAt lists.old checking.now place x.now s → ChecksRowOver (lists_seen lists.old) (lists_seen lists.new) s (row_of checking.now.code.now x.now.instr (operand_seen x.now.operand)) frame.old c frame.new) }
+    ensures checks { IfOk result (λ c. (s : Site) → IsAt lists.old checking.now place x.now s
+        → ChecksRowOver (lists_seen lists.old) (lists_seen lists.new) s (row_of checking.now.code.now x.now.instr
+        (operand_seen x.now.operand)) frame.old c frame.new) }
 {
     let instr = &x.instr;
     match family_of(instr.op) {

@@ -68,7 +68,8 @@ pub fn seen(around: &Around<'_>, item: VarType) -> VarType
 
 /// Whether it may stand for an object of the class.
 pub fn is_seen_as(around: &Around<'_>, class: u32, item: VarType) -> bool
-    ensures { (s : Site) (f : typing.TypeFrame) → StandsAt around.now s → result ≡ checks.is_seen_as s.program s.number s.method s.body s.maps s.place f (OfClass class) (type_seen item) }
+    ensures { (s : Site) (f : typing.TypeFrame) → StandsAt around.now s
+        → result ≡ checks.is_seen_as s.program s.number s.method s.body s.maps s.place f (OfClass class) (type_seen item) }
 {
     is_assignable(
         around.classes,
@@ -79,14 +80,16 @@ pub fn is_seen_as(around: &Around<'_>, class: u32, item: VarType) -> bool
 
 /// Whether it may be the value of a field, of an argument or of a result of a declared type.
 pub fn is_seen_for(around: &Around<'_>, declared: Declared, item: VarType) -> bool
-    ensures { (s : Site) (f : typing.TypeFrame) → StandsAt around.now s → result ≡ checks.is_seen_for s.program s.number s.method s.body s.maps s.place f (declared_seen declared) (type_seen item) }
+    ensures { (s : Site) (f : typing.TypeFrame) → StandsAt around.now s
+        → result ≡ checks.is_seen_for s.program s.number s.method s.body s.maps s.place f (declared_seen declared) (type_seen item) }
 {
     is_assignable_item(around.classes, seen(around, item), type_of(declared))
 }
 
 /// Whether a member may be used on it, which is guarded or not.
 pub fn may_access(around: &Around<'_>, guarded: bool, item: VarType) -> bool
-    ensures { (s : Site) (f : typing.TypeFrame) → StandsAt around.now s → s.program.guarded s.number s.place ≡ guarded → result ≡ checks.may_access s.program s.number s.method s.body s.maps s.place f (type_seen item) }
+    ensures { (s : Site) (f : typing.TypeFrame) → StandsAt around.now s → s.program.guarded s.number s.place ≡ guarded
+        → result ≡ checks.may_access s.program s.number s.method s.body s.maps s.place f (type_seen item) }
 {
     if guarded {
         is_seen_as(around, around.owner, item)
@@ -97,7 +100,8 @@ pub fn may_access(around: &Around<'_>, guarded: bool, item: VarType) -> bool
 
 /// Whether a field of this class may be written in it.
 pub fn may_be_written(around: &Around<'_>, owner: u32, item: VarType) -> bool
-    ensures { (s : Site) (f : typing.TypeFrame) → StandsAt around.now s → result ≡ checks.may_be_written s.program s.number s.method s.body s.maps s.place f owner (type_seen item) }
+    ensures { (s : Site) (f : typing.TypeFrame) → StandsAt around.now s
+        → result ≡ checks.may_be_written s.program s.number s.method s.body s.maps s.place f owner (type_seen item) }
 {
     match item {
         VarType::UninitializedThis => owner == around.owner,
@@ -120,7 +124,8 @@ fn is_superclass(classes: &Hierarchy, of: u32, class: u32) -> bool
 
 /// Whether an `<init>` of the class may begin it.
 pub fn may_begin(around: &Around<'_>, class: u32, item: VarType) -> bool
-    ensures { (s : Site) (f : typing.TypeFrame) → StandsAt around.now s → result ≡ checks.may_begin s.program s.number s.method s.body s.maps s.place f class (type_seen item) }
+    ensures { (s : Site) (f : typing.TypeFrame) → StandsAt around.now s
+        → result ≡ checks.may_begin s.program s.number s.method s.body s.maps s.place f class (type_seen item) }
 {
     match item {
         VarType::UninitializedThis => {

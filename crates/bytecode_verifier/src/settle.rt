@@ -18,7 +18,9 @@ pub enum Verdict {
 /// What is left of an instruction is held to the depth of the operand stack, and then to the rules on access, on initialisation,
 /// on targets and on handlers.
 pub fn settle(checked: Checked, after: &TypeFrame, max_stack: u16, handled: bool) -> Verdict
-    ensures { (s : Site) (before : typing.TypeFrame) (ls : List (List typing.VarType)) → s.body.max_stack ≡ max_stack → walk.handlers_hold s.program s.maps s.place before s.body.handlers ≡ handled → verdict_seen result before (frame_seen ls after.now) ≡ walk.settled s.program s.number s.method s.body s.maps s.place before (checked_seen checked (frame_seen ls after.now)) }
+    ensures { (s : Site) (before : typing.TypeFrame) (ls : List (List typing.VarType)) → s.body.max_stack ≡ max_stack
+        → walk.handlers_hold s.program s.maps s.place before s.body.handlers ≡ handled → verdict_seen result before (frame_seen ls
+        after.now) ≡ walk.settled s.program s.number s.method s.body s.maps s.place before (checked_seen checked (frame_seen ls after.now)) }
 {
     let left = match checked {
         Checked::Fails(rule) => return Verdict::Breaks(rule),

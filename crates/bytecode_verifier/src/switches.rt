@@ -1,8 +1,9 @@
 //! Switches (JVM Specification SE 8, 4.10.1.9).
 ghost use Rattle.std.specs.Prelude.{◌≡◌, ◌<◌, ◌≤◌, ℤ, pos, ◌+ℤ◌, int_lt, Ok, length};
 ghost use Rattle.std.specs.List.{list_all};
-ghost use Rattle.jop_opcodes.specs.Instruction.{decoded};
-ghost use Rattle.jop_opcodes.specs.Target.{cases_of};
+ghost use Rattle.base.specs.Sizes.{longest_file};
+ghost use Rattle.opcodes.specs.Instruction.{decoded};
+ghost use Rattle.opcodes.specs.Target.{cases_of};
 ghost use Rattle.bytecode_model.specs.Lists.{natural};
 ghost use Rattle.bytecode_model.specs.Rows as rows;
 ghost use Rattle.program_tables.specs.Resolved.{resolved};
@@ -16,7 +17,7 @@ ghost use Rattle.bytecode_verifier.specs.Switched.{is_case_taken};
 
 use crate::calls::both;
 use crate::maps::{MapFrames, target_of};
-use jop_opcodes::{Case, Instr, case};
+use opcodes::{Case, Instr, case};
 use verifier_types::{Checked, Left, LocalLists, NumberType, Rule, TypeFrame};
 
 /// Whether a frame stands at the offset from the place, and takes this one.
@@ -27,7 +28,8 @@ pub fn is_taken(
     frame: &TypeFrame,
     offset: i32,
 ) -> bool
-    ensures taken { let ls = lists_seen lists.old in result ≡ flows_to (resolved lists.old.classes) (frame_seen ls frame.now) (frame_over ls maps.now (natural (pos place +ℤ offset))) }
+    ensures taken { let ls = lists_seen lists.old in result ≡ flows_to (resolved lists.old.classes) (frame_seen ls frame.now)
+        (frame_over ls maps.now (natural (pos place +ℤ offset))) }
     ensures kept { lists.new ≡ lists.old }
 {
     match target_of(maps, place, offset) {
@@ -58,7 +60,8 @@ fn leads_default(
     frame: &TypeFrame,
     instr: Instr,
 ) -> bool
-    ensures taken { let ls = lists_seen lists.old in result ≡ flows_to (resolved lists.old.classes) (frame_seen ls frame.now) (frame_over ls maps.now (natural (pos place +ℤ instr.first))) }
+    ensures taken { let ls = lists_seen lists.old in result ≡ flows_to (resolved lists.old.classes) (frame_seen ls frame.now)
+        (frame_over ls maps.now (natural (pos place +ℤ instr.first))) }
     ensures kept { lists.new ≡ lists.old }
 {
     is_taken(lists, maps, place, frame, instr.first)
@@ -74,7 +77,7 @@ fn are_taken(
     instr: &Instr,
 ) -> bool
     requires decoded { decoded code.now place ≡ Ok instr.now }
-    requires small { length code.now ≤ 33554432 }
+    requires small { length code.now ≤ longest_file }
     ensures taken { result ≡ list_all (is_case_taken lists.old maps.now place (frame_seen (lists_seen lists.old) frame.now)) (cases_of code.now instr.now) }
     ensures kept { lists.new ≡ lists.old }
 {
@@ -96,8 +99,9 @@ pub fn check_switch(
     instr: &Instr,
 ) -> Checked
     requires decoded { decoded code.now place ≡ Ok instr.now }
-    requires small { length code.now ≤ 33554432 }
-    ensures checks { let ls = lists_seen lists.old in (s : Site) → s.program ≡ resolved lists.old.classes → s.place ≡ place → AreMapsOf ls maps.now s → ChecksIn ls s (rows.Switch instr.now.first (cases_of code.now instr.now)) frame.old result frame.new }
+    requires small { length code.now ≤ longest_file }
+    ensures checks { let ls = lists_seen lists.old in (s : Site) → s.program ≡ resolved lists.old.classes → s.place ≡ place → AreMapsOf ls maps.now s
+        → ChecksIn ls s (rows.Switch instr.now.first (cases_of code.now instr.now)) frame.old result frame.new }
     ensures kept { lists.new ≡ lists.old }
 {
     if !frame.operands.pop_numbers(&[NumberType::Int]) {
@@ -123,7 +127,7 @@ fn is_below(first: Case, second: Case) -> bool
 /// Whether the keys of a switch rise.
 pub fn keys_rise(code: &[u8], place: u32, instr: &Instr) -> bool
     requires decoded { decoded code.now place ≡ Ok instr.now }
-    requires small { length code.now ≤ 33554432 }
+    requires small { length code.now ≤ longest_file }
     ensures { result ≡ keys_rise (cases_of code.now instr.now) }
 {
     if instr.count == 0 {

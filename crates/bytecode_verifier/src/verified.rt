@@ -3,7 +3,7 @@ ghost use Rattle.std.specs.Prelude.{◌≡◌, IfOk, IfErr};
 ghost use Rattle.bytecode_typing.specs.Lawful.{Lawful};
 ghost use Rattle.bytecode_typing.specs.Typed.{Typed};
 ghost use Rattle.program_tables.specs.Resolved.{resolved};
-ghost use Rattle.well_placed.specs.WellPlaced.{WellPlaced};
+ghost use Rattle.bytecode_typing.specs.WellPlaced.{WellPlaced};
 ghost use Rattle.bytecode_verifier.specs.Failure.{IsVerified, types_found};
 ghost use Rattle.bytecode_verifier.specs.Verdict.{IsFaultOf};
 
@@ -12,7 +12,7 @@ use crate::methods::first_failure;
 use bytecode_typing::{programs_with_typings_are_typed, the_walk_finds_a_typing};
 use class_rules::laws::methods_have_code;
 use frame_types::laws::frames_stand_at_instructions;
-use jop_opcodes::laws::starts_follow_one_another;
+use opcodes::laws::starts_follow_one_another;
 use program_laws::laws::resolved_programs_are_lawful;
 use program_tables::laws::methods_stand_by_number;
 use resolved_program::Program;

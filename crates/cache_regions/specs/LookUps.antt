@@ -35,7 +35,8 @@ LoadsKeepTheSum =
 
 -- look-ups keep the sizes of the cache
 abbrev pub LookUpsKeepSizes : Type 0
-LookUpsKeepSizes = (words : ℕ → List ℕ) (look_ups : List ℕ) (c : Cache) → ((after words look_ups c).blocks ≡ c.blocks) × ((after words look_ups c).block_words ≡ c.block_words)
+LookUpsKeepSizes = (words : ℕ → List ℕ) (look_ups : List ℕ) (c : Cache)
+    → ((after words look_ups c).blocks ≡ c.blocks) × ((after words look_ups c).block_words ≡ c.block_words)
 
 -- look-ups ys behind look-ups xs find the cache as xs leave it
 abbrev pub LookUpsFollow : Type 0
@@ -48,4 +49,5 @@ LoadsFollow = (words : ℕ → List ℕ) (xs ys : List ℕ) (c : Cache) → load
 -- and so their stalls add up
 abbrev pub StallsFollow : Type 0
 StallsFollow =
-    (words : ℕ → List ℕ) (r : ℕ) (xs ys : List ℕ) (c : Cache) → stall_of_loads words r (xs ++ ys) c ≡ stall_of_loads words r xs c + stall_of_loads words r ys (after words xs c)
+    (words : ℕ → List ℕ) (r : ℕ) (xs ys : List ℕ) (c : Cache)
+    → stall_of_loads words r (xs ++ ys) c ≡ stall_of_loads words r xs c + stall_of_loads words r ys (after words xs c)

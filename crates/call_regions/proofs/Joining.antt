@@ -1,10 +1,10 @@
 -- The calls in the table of a program are those of the program.
 use Rattle.std.proofs.Common.{◌≡◌, ℕ, true, List, [], ◌∷◌, map, Contains, Option, Some, None, Ok, Result, refl, sym, ap, ◌∙◌, subst, inl, inr, IsSomeAnd}
 use Rattle.std.specs.Option.{option_map_or}
-use Rattle.jop_opcodes.specs.declared.instruction.Instr.{Instr}
-use Rattle.jop_opcodes.specs.declared.instruction.DecodeFault.{DecodeFault}
-use Rattle.jop_opcodes.specs.Instruction.{decoded}
-use Rattle.jop_opcodes.specs.Start.{IsStart}
+use Rattle.opcodes.specs.declared.instruction.Instr.{Instr}
+use Rattle.opcodes.specs.declared.instruction.DecodeFault.{DecodeFault}
+use Rattle.opcodes.specs.Instruction.{decoded}
+use Rattle.opcodes.specs.Start.{IsStart}
 use Rattle.bytecode_model.specs.Program.{Program, Body, as_instr, body_of, instr_at}
 use Rattle.bytecode_model.specs.Rows as rows
 use Rattle.bytecode_model.specs.Rows.{Row}

@@ -4,7 +4,7 @@ use Rattle.std.specs.Prelude.{slice_get}
 use Rattle.lists.specs.Lemmas.{some_is}
 use Rattle.lists.specs.Members.{at_head, cons_cases, nil_contains}
 use Rattle.bytecode_model.specs.Program.{Program, Body, body_of}
-use Rattle.jop_opcodes.specs.Start.{IsStart}
+use Rattle.opcodes.specs.Start.{IsStart}
 use Rattle.method_flow.specs.Flow.{Flow, IsFlowOf}
 use Rattle.method_flow.specs.Regions.{IsWithin}
 use Rattle.method_flow.specs.Regions.IsWithin.{itself as within_itself, calls as within_calls}

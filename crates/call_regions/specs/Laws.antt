@@ -1,6 +1,6 @@
 -- What follows for each program.
 use Rattle.std.specs.Prelude.{◌≡◌, ℕ, List, length, ◌↔◌, slice_get, Some}
-use Rattle.word32.specs.Packed.{words_for}
+use Rattle.base.specs.Packed.{words_for}
 use Rattle.bytecode_model.specs.Program.{Program}
 use Rattle.method_flow.specs.Flow.{Flow, Coded, IsFlowOf}
 use Rattle.method_flow.specs.Regions.{code_words}

@@ -1,6 +1,6 @@
 -- What the table of a program says of calls.
 use Rattle.std.specs.Prelude.{◌≡◌, ℕ, ◌*◌, List, length, Contains, slice_get, Option, Some, None}
-use Rattle.word32.specs.Packed.{words_for}
+use Rattle.base.specs.Packed.{words_for}
 use Rattle.method_cache.specs.Contents.{blocks_for}
 use Rattle.method_flow.specs.Flow.{Flow, Coded, IsCoded, targets_of_call}
 use Rattle.method_flow.specs.declared.flow.Call.{Call}

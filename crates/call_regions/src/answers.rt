@@ -1,5 +1,5 @@
 //! What is said of methods that may run while another does.
-use items::Items;
+use base::Items;
 use std::alloc::{AllocError, AllocFailed};
 
 /// What may run together.

@@ -13,8 +13,7 @@ use super::answers::Region;
 use super::calls::calls_of;
 use super::laws::runs_are_calls;
 use super::search::{Cache, Search, add, add_members, add_reached, first};
-use items::Items;
-use jop_base::NoMemory;
+use base::{Items, NoMemory};
 use method_flow::FlowProgram;
 use std::alloc::Global;
 

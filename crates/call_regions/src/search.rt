@@ -8,10 +8,10 @@ ghost use Rattle.call_regions.specs.Searching.{IsSearch, Adds, FindsAll, IsFirst
 
 use super::calls::calls_of;
 use super::sizes::blocks;
-use jop_base::NoMemory;
+use base::NoMemory;
 use method_flow::{Call, FlowProgram};
 use std::alloc::Global;
-use upward_order::NumberSet;
+use upward_sets::NumberSet;
 
 /// So many blocks of so many words.
 #[derive(Clone, Copy)]

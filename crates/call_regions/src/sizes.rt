@@ -1,6 +1,6 @@
 //! How large the code of a method is.
 ghost use Rattle.std.specs.Prelude.{◌≡◌, ◌<◌, length};
-ghost use Rattle.word32.specs.Packed.{words_for};
+ghost use Rattle.base.specs.Packed.{words_for};
 ghost use Rattle.method_cache.specs.Contents.{blocks_for};
 ghost use Rattle.method_flow.specs.Flow.{IsCoded};
 

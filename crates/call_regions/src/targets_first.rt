@@ -9,7 +9,7 @@ ghost use Rattle.call_regions.specs.Calling.{IsTargetsFirst, IsCallCause};
 use super::answers::{CallFault, Order};
 use super::laws::runs_are_calls;
 use super::walk::walk_from;
-use items::Items;
+use base::Items;
 use method_flow::FlowProgram;
 use std::alloc::{AllocError, Global};
 

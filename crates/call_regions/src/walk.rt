@@ -1,12 +1,14 @@
 //! A depth-first walk along calls. A list of targets is shared by all calls of one resolved method: once its targets are done
 //! it isn't looked at again, so that the walk takes a step for each method, each call and each target of a list.
-ghost use Rattle.std.specs.Prelude.{◌≡◌, ◌⊎◌, ℕ, ◌<◌, ◌≤◌, [], ◌∷◌, ◌++◌, true, false, length, map, drop, All, Contains, OnOk, IfOk, IfErr, IfSome, IfNone, MatchOption, IsTrue, ◌↔◌, List, slice_get, slice_index_or};
+ghost use Rattle.std.specs.Prelude.{◌≡◌, ◌⊎◌, ℕ, ◌<◌, ◌≤◌, [], ◌∷◌, ◌++◌, true, false, length, map, drop, All, Contains, OnOk, IfOk, IfErr, IfSome, IfNone};
+ghost use Rattle.std.specs.Prelude.{MatchOption, IsTrue, ◌↔◌, List, slice_get, slice_index_or};
 ghost use Rattle.method_flow.specs.Flow.{Flow, targets_of_call};
-ghost use Rattle.call_regions.specs.Walking.{IsDone, AreWalked, AreDoneBefore, AreDoneUpTo, AreAllDone, AreMethodsDone, IsLeft, IsLeftAt, IsWalk, IsTableOrder, IsRingCause, methods_of, state_of, steps_left};
+ghost use Rattle.call_regions.specs.Walking.{IsDone, AreWalked, AreDoneBefore, AreDoneUpTo, AreAllDone, AreMethodsDone, IsLeft, IsLeftAt, IsWalk, IsTableOrder};
+ghost use Rattle.call_regions.specs.Walking.{IsRingCause, methods_of, state_of, steps_left};
 
 use super::answers::CallFault;
 use super::calls::calls_of;
-use items::Items;
+use base::Items;
 use method_flow::{Call, FlowProgram};
 use std::alloc::{AllocError, Global};
 
@@ -125,7 +127,8 @@ fn next_left(
     requires before { AreDoneBefore f.now states.now calls.now visit.call visit.target }
     ensures walked { OnOk result (AreWalked f.now states.now walked.new.items) }
     ensures left { IfOk result (λ r. MatchOption r (AreAllDone f.now states.now calls.now)
-        (λ v. (v.method ≡ visit.method) × AreDoneBefore f.now states.now calls.now v.call v.target × ((t : ℕ) × IsLeft f.now states.now calls.now v.call v.target t))) }
+        (λ v. (v.method ≡ visit.method) × AreDoneBefore f.now states.now calls.now v.call v.target
+        × ((t : ℕ) × IsLeft f.now states.now calls.now v.call v.target t))) }
 {
     for i in visit.call..calls.len() {
         let call = calls[i];
@@ -193,9 +196,11 @@ fn enter(alloc: Global, f: &FlowProgram, walk: &mut Walk, visit: Visit) -> Resul
 /// Closes the newest open method, all targets of which are done.
 fn leave(walk: &mut Walk, visit: Visit) -> Result<(), CallFault>
     requires { visit.method < length walk.old.states.items }
-    ensures walk { OnOk result ((f : Flow) → IsWalk f walk.old (walk.old.visits.items ++ visit ∷ []) → AreMethodsDone f walk.old.states.items visit.method → IsWalk f walk.new walk.new.visits.items) }
+    ensures walk { OnOk result ((f : Flow) → IsWalk f walk.old (walk.old.visits.items ++ visit ∷ []) → AreMethodsDone f walk.old.states.items visit.method
+        → IsWalk f walk.new walk.new.visits.items) }
     ensures root { OnOk result (walk.new.root ≡ walk.old.root) }
-    ensures fewer { OnOk result (state_of walk.old.states.items visit.method ≡ State.Open → steps_left walk.new.states.items < steps_left walk.old.states.items) }
+    ensures fewer { OnOk result (state_of walk.old.states.items visit.method ≡ State.Open
+        → steps_left walk.new.states.items < steps_left walk.old.states.items) }
     ensures cause { IfErr result (λ e. e ≡ CallFault.NoMemory) }
 {
     walk.states[visit.method as usize] = State::Done;

@@ -3,7 +3,7 @@ use Rattle.std.proofs.Common.{◌≡◌, ℕ, ◌+◌, ◌-◌, ◌*◌, ◌/◌
 use Rattle.std.specs.Prelude.{slice_index}
 use Rattle.microcode_rom.specs.declared.addresses.TheConstants.{INVOKESTATIC, INVOKE}
 use Rattle.micro_sketch.specs.Sketch.{Sketch, exec, abyte}
-use Rattle.micro_plain.specs.Operand.{past}
+use Rattle.micro_sketch.specs.Operand.{past}
 use Rattle.call_steps.proofs.Parts.{Low, at}
 
 -- f as a row begins

@@ -5,7 +5,7 @@ use Rattle.std.proofs.Math.Nat.{mod-eq_of_lt}
 use Rattle.microcode_rom.specs.declared.addresses.TheConstants.{INVOKESTATIC}
 use Rattle.micro_sketch.specs.Sketch.{Sketch, abyte}
 use Rattle.micro_sketch.specs.Stands.{Env, Shaped, Reaches}
-use Rattle.micro_plain.specs.Operand.{past, two_byte_operand}
+use Rattle.micro_sketch.specs.Operand.{past, two_byte_operand}
 use Rattle.call_steps.specs.Method.{argument_words}
 use Rattle.call_steps.specs.Calls.{Invokestatic, called, CanCall}
 use Rattle.call_steps.specs.Entry.{CanEnter}

@@ -3,7 +3,7 @@ use Rattle.std.proofs.Common.{◌≡◌, ℕ, ◌+◌, ◌*◌, ◌/◌, ◌%◌
 use Rattle.std.specs.Prelude.{slice_get, slice_index, slice_range, IfSome, IsTrue}
 use Rattle.std.specs.List.{flat_map}
 use Rattle.std.proofs.lemmas.Bool.Decides.{nat_tests}
-use Rattle.word32.specs.Packed.{words_for, words_of_bytes, PackedHasWords}
+use Rattle.base.specs.Packed.{words_for, words_of_bytes, PackedHasWords}
 use Rattle.method_cache.specs.Contents.{Cache, can_load}
 use Rattle.jop_core.specs.State as machine
 use Rattle.jop_core.specs.Operations.{code_words, code_place}

@@ -5,16 +5,16 @@ use Rattle.std.proofs.lemmas.Option.{none-some}
 use Rattle.std.proofs.lemmas.List.{get_or-drop, length-reverse, reverse-append, reverse-reverse}
 use Rattle.std.proofs.lemmas.List.Sums.{sum_by-cons}
 use Rattle.lists.specs.Lemmas.{holds_at, onto_some, some_is, some_same}
-use Rattle.word32.specs.Packed.{words_of_bytes}
+use Rattle.base.specs.Packed.{words_of_bytes}
 use Rattle.stack_cache.specs.Size.{IsSize}
 use Rattle.method_cache.specs.Contents.{Cache, is_cached, loaded}
 use Rattle.microcode_rom.specs.declared.addresses.TheConstants.{HANDLER_FOUND, END}
 use Rattle.micro_flow.specs.declared.CostParams.{CostParams}
 use Rattle.micro_flow.specs.Walk.{turns_at}
-use Rattle.jop_opcodes.specs.declared.instruction.Instr.{Instr}
-use Rattle.jop_opcodes.specs.Instruction.{decoded}
-use Rattle.jop_opcodes.specs.Start.{AreStarts}
-use Rattle.jop_opcodes.specs.Target.{WholeIsWithin}
+use Rattle.opcodes.specs.declared.instruction.Instr.{Instr}
+use Rattle.opcodes.specs.Instruction.{decoded}
+use Rattle.opcodes.specs.Start.{AreStarts}
+use Rattle.opcodes.specs.Target.{WholeIsWithin}
 use Rattle.jop_core.specs.State as machine
 use Rattle.jop_core.specs.Operations.{code_words}
 use Rattle.micro_sketch.specs.Sketch.{Sketch, can_find, missed, found_words}

@@ -7,10 +7,10 @@ use Rattle.std.proofs.lemmas.Option.{none-some}
 use Rattle.std.proofs.lemmas.List.{get_or-drop}
 use Rattle.std.proofs.lemmas.Bool.Decides.{nat_tests}
 use Rattle.lists.specs.Lemmas.{onto_some, some_same}
-use Rattle.jop_opcodes.specs.declared.instruction.Instr.{Instr}
-use Rattle.jop_opcodes.specs.Instruction.{decoded}
-use Rattle.jop_opcodes.specs.Start.{IsStart}
-use Rattle.word32.specs.Packed.{words_of_bytes}
+use Rattle.opcodes.specs.declared.instruction.Instr.{Instr}
+use Rattle.opcodes.specs.Instruction.{decoded}
+use Rattle.opcodes.specs.Start.{IsStart}
+use Rattle.base.specs.Packed.{words_of_bytes}
 use Rattle.jop_core.specs.State as machine
 use Rattle.memory_timing.specs.Port.{padded}
 use Rattle.bytecode_model.specs.Lists.{onto, index_of}

@@ -7,11 +7,11 @@ use Rattle.std.proofs.lemmas.List.Sums.{sum_by-cons, sum_by-append}
 use Rattle.machine_stands.proofs.Defined.{on_defined, only_if_defined}
 use Rattle.lists.specs.Lemmas.{some_same}
 use mathlib.Core.List.{reverse_aux, reverse_aux-eq}
-use Rattle.jop_opcodes.specs.Bytes.{u2}
-use Rattle.jop_opcodes.specs.Form.{Operands, UnsignedShort, UnsignedByte, one}
-use Rattle.jop_opcodes.specs.Instruction.{operands_width}
-use Rattle.jop_opcodes.specs.Row as opcodes
-use Rattle.jop_opcodes.specs.Reading.{plain_instr}
+use Rattle.opcodes.specs.Bytes.{u2}
+use Rattle.opcodes.specs.Form.{Operands, UnsignedShort, UnsignedByte, one}
+use Rattle.opcodes.specs.Instruction.{operands_width}
+use Rattle.opcodes.specs.Row as opcodes
+use Rattle.opcodes.specs.Reading.{plain_instr}
 use Rattle.bytecode_model.specs.declared.Value.{Value}
 use Rattle.bytecode_model.specs.declared.Value.TheVariants.{Int, Long, Ref, Null, Unset}
 use Rattle.bytecode_model.specs.Types.{IntType, LongType, OfClass, Declared, Numeric, Reference, suits}

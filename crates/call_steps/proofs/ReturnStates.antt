@@ -6,13 +6,13 @@ use Rattle.std.proofs.lemmas.Option.{none-some}
 use Rattle.std.proofs.lemmas.List.{length-reverse, reverse-append, reverse-reverse}
 use Rattle.std.proofs.lemmas.List.Sums.{sum_by-cons}
 use Rattle.lists.specs.Lemmas.{onto_some, some_is, some_same}
-use Rattle.word32.specs.Packed.{words_of_bytes}
+use Rattle.base.specs.Packed.{words_of_bytes}
 use Rattle.method_cache.specs.Contents.{is_cached}
 use Rattle.micro_flow.specs.Walk.{IsCost}
-use Rattle.jop_opcodes.specs.declared.instruction.Instr.{Instr}
-use Rattle.jop_opcodes.specs.Form.{one, Absent}
-use Rattle.jop_opcodes.specs.Instruction.{decoded}
-use Rattle.jop_opcodes.specs.Reading.{plain_instr}
+use Rattle.opcodes.specs.declared.instruction.Instr.{Instr}
+use Rattle.opcodes.specs.Form.{one, Absent}
+use Rattle.opcodes.specs.Instruction.{decoded}
+use Rattle.opcodes.specs.Reading.{plain_instr}
 use Rattle.jop_core.specs.State as machine
 use Rattle.micro_sketch.specs.Sketch.{Sketch}
 use Rattle.micro_sketch.specs.View.{env_of}

@@ -4,9 +4,9 @@ use Rattle.std.proofs.lemmas.Option.{none-some}
 use Rattle.machine_stands.proofs.Defined.{only_if_defined}
 use Rattle.lists.specs.Lemmas.{some_same}
 use Rattle.lists.specs.Members.{heads}
-use Rattle.jop_opcodes.specs.Form.{one, Absent}
-use Rattle.jop_opcodes.specs.Row as opcodes
-use Rattle.jop_opcodes.specs.Reading.{plain_instr}
+use Rattle.opcodes.specs.Form.{one, Absent}
+use Rattle.opcodes.specs.Row as opcodes
+use Rattle.opcodes.specs.Reading.{plain_instr}
 use Rattle.micro_sketch.specs.Sketch.{Sketch}
 use Rattle.micro_sketch.specs.Row.{words_of}
 use Rattle.bytecode_model.specs.declared.Value.{Value}

@@ -7,7 +7,7 @@ use Rattle.lists.specs.Lemmas.{holds_at}
 use Rattle.stack_cache.specs.Size.{IsSize}
 use Rattle.method_cache.specs.Contents.{Cache, is_cached, loaded}
 use Rattle.micro_flow.specs.declared.CostParams.{CostParams}
-use Rattle.jop_opcodes.specs.Target.{WholeIsWithin}
+use Rattle.opcodes.specs.Target.{WholeIsWithin}
 use Rattle.jop_core.specs.State as machine
 use Rattle.jop_core.specs.Operations.{code_words}
 use Rattle.micro_sketch.specs.Sketch.{Sketch, missed, found_words}

@@ -5,16 +5,16 @@ use Rattle.std.proofs.Math.Nat.{mod-eq_of_lt}
 use Rattle.std.proofs.lemmas.Option.{none-some}
 use Rattle.machine_stands.proofs.Defined.{on_defined}
 use Rattle.lists.specs.Lemmas.{holds_at, onto_some, some_same}
-use Rattle.jop_opcodes.specs.declared.instruction.Instr.{Instr}
-use Rattle.jop_opcodes.specs.Bytes.{u1, u2}
-use Rattle.jop_opcodes.specs.Form.{one, UnsignedShort}
-use Rattle.jop_opcodes.specs.Row as opcodes
-use Rattle.jop_opcodes.specs.Reading.{plain_instr}
+use Rattle.opcodes.specs.declared.instruction.Instr.{Instr}
+use Rattle.opcodes.specs.Bytes.{u1, u2}
+use Rattle.opcodes.specs.Form.{one, UnsignedShort}
+use Rattle.opcodes.specs.Row as opcodes
+use Rattle.opcodes.specs.Reading.{plain_instr}
 use Rattle.jop_core.specs.State as machine
 use Rattle.micro_sketch.specs.Sketch.{Sketch, abyte}
 use Rattle.micro_sketch.specs.View.{env_of}
 use Rattle.micro_sketch.specs.Row.{StandsAt}
-use Rattle.micro_plain.specs.Operand.{past, two_byte_operand}
+use Rattle.micro_sketch.specs.Operand.{past, two_byte_operand}
 use Rattle.bytecode_model.specs.declared.Value.{Value}
 use Rattle.bytecode_model.specs.declared.Ending.TheVariants.{Running}
 use Rattle.bytecode_model.specs.Rows.{Row, CallStatic}

@@ -13,7 +13,7 @@ use Rattle.micro_sketch.specs.Sketch.{Sketch, exec, same_bool}
 use Rattle.micro_sketch.specs.Stands.{Env, Shaped, Reaches}
 use Rattle.micro_sketch.specs.Frames.{whole}
 use Rattle.micro_sketch.specs.StackLaws.{StackWordIsLoaded}
-use Rattle.micro_plain.specs.Operand.{past, two_byte_operand}
+use Rattle.micro_sketch.specs.Operand.{past, two_byte_operand}
 use Rattle.call_steps.specs.Entry.{CanEnter, fits_at}
 use Rattle.call_steps.specs.Tables.{TableCall, Invokevirtual, Invokespecial, Invokeinterface, first_word, second_word, taken_words, table_word, method_for, behind, HasReceiver, has_none}
 use Rattle.call_steps.proofs.Parts.{PartLaws, Low, computed, followed_by}

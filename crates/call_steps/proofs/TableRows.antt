@@ -4,7 +4,7 @@ use Rattle.std.specs.Prelude.{slice_index}
 use Rattle.microcode_rom.specs.declared.TheConstants.{RAISE}
 use Rattle.microcode_rom.specs.declared.addresses.TheConstants.{INVOKEVIRTUAL, INVOKESPECIAL, INVOKEINTERFACE, INVOKE}
 use Rattle.micro_sketch.specs.Sketch.{Sketch, exec, abyte, same_bool}
-use Rattle.micro_plain.specs.Operand.{past}
+use Rattle.micro_sketch.specs.Operand.{past}
 use Rattle.call_steps.specs.Tables.{TableCall, Invokevirtual, Invokespecial, Invokeinterface}
 use Rattle.call_steps.proofs.Parts.{Low, at}
 use Rattle.call_steps.proofs.InvokeRaises.{raw_object}

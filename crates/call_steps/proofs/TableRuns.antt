@@ -7,7 +7,7 @@ use Rattle.micro_sketch.specs.Sketch.{Sketch}
 use Rattle.micro_sketch.specs.Stands.{Env}
 use Rattle.micro_sketch.specs.Row.{StandsAt}
 use Rattle.micro_sketch.specs.Rows.{entered, head_of, tail_of, RunsToRaise}
-use Rattle.micro_plain.specs.Operand.{past}
+use Rattle.micro_sketch.specs.Operand.{past}
 use Rattle.call_steps.specs.Entry.{CanEnter, raises_at, RunsEntry, Enters}
 use Rattle.call_steps.specs.Tables.{TableCall, Invokevirtual, Invokespecial, Invokeinterface, table_code, method_for, behind, HasReceiver, has_none, NullRaises, ChangeRaises, TableCallsRun}
 use Rattle.call_steps.proofs.Parts.{low_of}

@@ -11,16 +11,16 @@ use Rattle.std.proofs.lemmas.List.Sums.{sum_by-cons, sum_by-append}
 use Rattle.machine_stands.proofs.Seeing.{parts_same}
 use Rattle.machine_stands.proofs.Defined.{class_is, object_at, on_defined}
 use Rattle.lists.specs.Lemmas.{holds_at, onto_some, some_is, some_same}
-use Rattle.jop_opcodes.specs.declared.instruction.Instr.{Instr}
-use Rattle.jop_opcodes.specs.Bytes.{u1, u2}
-use Rattle.jop_opcodes.specs.Reading.{plain_instr}
+use Rattle.opcodes.specs.declared.instruction.Instr.{Instr}
+use Rattle.opcodes.specs.Bytes.{u1, u2}
+use Rattle.opcodes.specs.Reading.{plain_instr}
 use Rattle.jop_core.specs.State as machine
 use Rattle.micro_flow.specs.declared.CostParams.{CostParams}
 use Rattle.micro_sketch.specs.Sketch.{Sketch, abyte}
 use Rattle.micro_sketch.specs.View.{env_of}
 use Rattle.micro_sketch.specs.Row.{StandsAt}
 use Rattle.micro_sketch.specs.Rows.{RunsToRaise}
-use Rattle.micro_plain.specs.Operand.{past, two_byte_operand}
+use Rattle.micro_sketch.specs.Operand.{past, two_byte_operand}
 use Rattle.bytecode_model.specs.declared.Value.{Value}
 use Rattle.bytecode_model.specs.declared.Value.TheVariants.{Int, Long, Ref, Null, Unset}
 use Rattle.bytecode_model.specs.declared.Ending.TheVariants.{Running}

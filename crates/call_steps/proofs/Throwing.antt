@@ -9,10 +9,10 @@ use Rattle.micro_sketch.proofs.RowSteps.{no_stalls}
 use Rattle.machine_stands.proofs.Defined.{on_defined}
 use Rattle.lists.specs.Lemmas.{some_same}
 use Rattle.micro_flow.specs.declared.CostParams.{CostParams}
-use Rattle.jop_opcodes.specs.declared.instruction.Instr.{Instr}
-use Rattle.jop_opcodes.specs.Form.{one, Absent}
-use Rattle.jop_opcodes.specs.Row as opcodes
-use Rattle.jop_opcodes.specs.Reading.{plain_instr}
+use Rattle.opcodes.specs.declared.instruction.Instr.{Instr}
+use Rattle.opcodes.specs.Form.{one, Absent}
+use Rattle.opcodes.specs.Row as opcodes
+use Rattle.opcodes.specs.Reading.{plain_instr}
 use Rattle.jop_core.specs.State as machine
 use Rattle.micro_sketch.specs.Sketch.{Sketch, same_bool}
 use Rattle.micro_sketch.specs.Stands.{Env}

@@ -6,7 +6,7 @@ use Rattle.micro_sketch.specs.Sketch.{Sketch}
 use Rattle.micro_sketch.specs.Stands.{Env}
 use Rattle.micro_sketch.specs.Row.{words_of}
 use Rattle.micro_sketch.specs.Rows.{Switch, Raising, RunsSwitch}
-use Rattle.micro_plain.specs.Operand.{past, two_byte_operand, pool_word}
+use Rattle.micro_sketch.specs.Operand.{past, two_byte_operand, pool_word}
 use Rattle.call_steps.specs.Method.{max_locals, argument_words, IsMethod}
 use Rattle.call_steps.specs.Entry.{sum_with, fits_at, enter, overflow_at}
 

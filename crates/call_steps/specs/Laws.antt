@@ -12,7 +12,8 @@ use Rattle.call_steps.specs.Returns.{ReturnOp, return_code, CanReturn, IsLast, R
 
 -- A call makes its frame where that fits with the others.
 abbrev pub CallsRun : Type 0
-CallsRun = (n : ℕ) (p : CostParams) (op : CallOp) (x : Sketch) (e : Env) (s : State) → StandsAt n p (call_code op) x e s → (c : CanCall n op x) → fits op x ≡ true → RunsCall n p op x e c
+CallsRun = (n : ℕ) (p : CostParams) (op : CallOp) (x : Sketch) (e : Env) (s : State) → StandsAt n p (call_code op) x e s → (c : CanCall n op x)
+    → fits op x ≡ true → RunsCall n p op x e c
 
 -- Else it raises a StackOverflowError.
 abbrev pub CallsRaise : Type 0

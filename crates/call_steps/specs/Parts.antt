@@ -105,10 +105,23 @@ low_of xs = record {
 
 -- f about to run the word at an address, with these words at the places from 0 to 31, on its stack and past it
 abbrev pub at : (mpc : ℕ) → Sketch → Low → (top next : ℕ) → (under above : List ℕ) → Sketch
-at mpc f v t u us js = record f { mpc = mpc; low = low_words v; top = t; next = u; under = us; above = js; busy = false; halt = Running; fine = true; done = false }
+at mpc f v t u us js = record f {
+  mpc = mpc;
+  low = low_words v;
+  top = t;
+  next = u;
+  under = us;
+  above = js;
+  busy = false;
+  halt = Running;
+  fine = true;
+  done
+      = false;
+}
 
 -- some words that compute to a sketch
-pub computed : PartLaws → (n k : ℕ) (gs : List Bool) (x y : Sketch) (e : Env) → Shaped n x → PortFits x.busy e → exec (suc k) gs x ≡ y → y.fine ≡ true → Reaches n x y e
+pub computed : PartLaws → (n k : ℕ) (gs : List Bool) (x y : Sketch) (e : Env) → Shaped n x → PortFits x.busy e → exec (suc k) gs x ≡ y → y.fine ≡ true
+    → Reaches n x y e
 computed laws n k gs x y e h q same fine = subst (λ z. Reaches n x z e) same (laws.follows k gs n x e h q (ap (λ (z : Sketch). z.fine) same ∙ fine))
 
 pub followed_by : PartLaws → (n : ℕ) (x y z : Sketch) (e : Env) (a : Reaches n x y e) → Reaches n y z a.env → y.done ≡ false → Reaches n x z e

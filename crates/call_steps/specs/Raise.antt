@@ -1,5 +1,6 @@
 -- What a step of the raise routine makes of the words of the top frame (JVM Specification SE 8, 2.10 and 4.7.3).
-use Rattle.std.specs.Prelude.{ℕ, ◌≡◌, ◌⊎◌, ◌+◌, ◌-◌, ◌*◌, ◌/◌, ◌%◌, ◌^◌, ◌<◌, ◌≤◌, ◌==◌, ◌&&◌, ◌||◌, Bool, true, false, nat_lt, nat_le, if◌then◌else◌, List, [], ◌∷◌, ◌++◌, length, reverse, drop, Option, Some, None, slice_index}
+use Rattle.std.specs.Prelude.{ℕ, ◌≡◌, ◌⊎◌, ◌+◌, ◌-◌, ◌*◌, ◌/◌, ◌%◌, ◌^◌, ◌<◌, ◌≤◌, ◌==◌, ◌&&◌, ◌||◌, Bool, true, false, nat_lt, nat_le, if◌then◌else◌, List, []}
+use Rattle.std.specs.Prelude.{◌∷◌, ◌++◌, length, reverse, drop, Option, Some, None, slice_index}
 use Rattle.microcode_rom.specs.declared.TheConstants.{RAISE}
 use Rattle.microcode_rom.specs.declared.addresses.TheConstants.{HANDLER_FOUND, END}
 use Rattle.micro_flow.specs.declared.CostParams.{CostParams}
@@ -109,7 +110,8 @@ pub record Handled (n : ℕ) (x : Sketch) (e : Env) (target : ℕ) (c : HasFrame
   pub switches : Switches (handle n x target c) x after
 
 abbrev pub HandlersRun : Type 0
-HandlersRun = (n : ℕ) (x : Sketch) (e : Env) (target : ℕ) → IsRaising n x e → (t : HasTable x) → (c : HasFrame n x) → handler_of x t ≡ Some target → target < 2 ^ 16 → Handled n x e target c
+HandlersRun = (n : ℕ) (x : Sketch) (e : Env) (target : ℕ) → IsRaising n x e → (t : HasTable x) → (c : HasFrame n x) → handler_of x t ≡ Some target
+    → target < 2 ^ 16 → Handled n x e target c
 
 -- ---- none
 
@@ -152,7 +154,8 @@ pub record Dropped (n : ℕ) (x : Sketch) (e : Env) (c : HasFrame n x) (d : HasC
   pub drops : Drops n x c d after
 
 abbrev pub FramesDrop : Type 0
-FramesDrop = (n : ℕ) (x : Sketch) (e : Env) → IsRaising n x e → (t : HasTable x) → (c : HasFrame n x) → (d : HasCaller n x c) → handler_of x t ≡ None → Dropped n x e c d
+FramesDrop = (n : ℕ) (x : Sketch) (e : Env) → IsRaising n x e → (t : HasTable x) → (c : HasFrame n x) → (d : HasCaller n x c) → handler_of x t ≡ None
+    → Dropped n x e c d
 
 -- boot's frame is the last one, and the machine halts
 pub record Stopped (n : ℕ) (x : Sketch) (e : Env) : Type 0 where

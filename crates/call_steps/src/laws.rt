@@ -1,3 +1,5 @@
+//! Laws of rows of calls and returns: functions without a body.
+
 ghost use Rattle.machine_stands.specs.Simulates.{Simulates, Unwinds};
 ghost use Rattle.call_steps.specs.Coming.{MethodsAreRead, CallsCome};
 ghost use Rattle.call_steps.specs.Family.{calls_by_receiver, calls_or_returns, throws};
@@ -66,7 +68,7 @@ pub fn methods_are_read()
     image_facts::words_are_read_and_written();
     image_facts::words_lie();
     image_facts::image_words_lie();
-    word32::laws::packed_has_words();
+    base::laws::packed_has_words();
 }
 
 /// From a call whose row goes on so the machine comes to where it stands for the next state.
@@ -95,7 +97,7 @@ pub fn static_calls_and_returns()
     machine_stands::operands_have_words();
     machine_stands::fixed_words_are_read();
     machine_stands::frames_have_room();
-    jop_opcodes::laws::instructions_end_within();
+    opcodes::laws::instructions_end_within();
     methods_are_read();
     calls_come();
     call_rows_run();
@@ -146,8 +148,8 @@ pub fn raises_come()
     image_facts::words_are_read_and_written();
     image_facts::words_lie();
     image_facts::image_words_lie();
-    jop_opcodes::laws::starts_follow_one_another();
-    jop_opcodes::laws::instructions_end_within();
+    opcodes::laws::starts_follow_one_another();
+    opcodes::laws::instructions_end_within();
     methods_are_read();
     raise_routine_runs();
 }

@@ -3,11 +3,11 @@ use Rattle.std.proofs.Common.{◌≡◌, ℕ, ◌-◌, ◌<◌, ◌≤◌, ◌==
 use Rattle.std.specs.Prelude.{Result, Err}
 use Rattle.std.proofs.lemmas.List.{drop_at, take_all, length-drop}
 use Rattle.class_pool.specs.declared.entry.Entry.{Entry}
-use Rattle.jop_base.specs.declared.fault.FormatFault.{FormatFault}
-use Rattle.jop_base.specs.declared.fault.FormatFault.TheVariants as faults
+use Rattle.base.specs.declared.fault.FormatFault.{FormatFault}
+use Rattle.base.specs.declared.fault.FormatFault.TheVariants as faults
 use Rattle.class_pool.specs.Spelling.{u2, u4, pool_bytes}
 use Rattle.class_pool.specs.Grammar.{IsPool, IsPoolOf}
-use Rattle.jop_base.specs.Reading.{◌>>=◌, Fails}
+use Rattle.base.specs.Reading.{◌>>=◌, Fails}
 use Rattle.class_pool.specs.Reading.{number_in}
 use Rattle.class_pool.specs.NumberLaws.{IsBytes, bind_some, same_some, Takes, Takes-then, wide_2, wide_4, number_takes, number_again}
 use Rattle.class_pool.specs.declared.class.ClassFile.{ClassFile}
@@ -20,7 +20,7 @@ use Rattle.class_rules.specs.Rules.{FollowsRules}
 use Rattle.class_rules.specs.Grammar.{IsClassOf}
 use Rattle.class_file.specs.Grammar.{IsBehindHeader, IsOtherVersion}
 use Rattle.class_file.specs.Reading.{header_in}
-use Rattle.class_reader.specs.Grammar.{IsInsideOf, OneInside}
+use Rattle.class_file.specs.InsideGrammar.{IsInsideOf, OneInside}
 
 passed : {A : Type 0} (b : Bool) (x y : A) → cond b (Some x) None ≡ Some y → (b ≡ true) × (x ≡ y)
 passed true x y e = (refl, same_some x y e)

@@ -1,1 +1,5 @@
 pub mod ClassLaws
+pub mod ManyLemmas
+pub mod PartLaws
+pub mod MemberLaws
+pub mod CheckLemmas

@@ -1,6 +1,6 @@
 -- The fault of a part as the fault of a class file.
-use Rattle.jop_base.specs.declared.fault.FormatFault.{FormatFault}
-use Rattle.jop_base.specs.declared.fault.FormatFault.TheVariants as parts
+use Rattle.base.specs.declared.fault.FormatFault.{FormatFault}
+use Rattle.base.specs.declared.fault.FormatFault.TheVariants as parts
 use Rattle.class_file.specs.declared.fault.ClassFault.{ClassFault}
 use Rattle.class_file.specs.declared.fault.ClassFault.TheVariants.{Bad, NoMemory}
 

@@ -1,3 +1,6 @@
 pub mod Reading
 pub mod Grammar
 pub mod Faults
+pub mod InsideReading
+pub mod Parts
+pub mod InsideGrammar

@@ -1,6 +1,6 @@
 -- Reading the header of a class file from the front of bytes: what was read and the bytes behind it, or nothing.
 use Rattle.std.specs.Prelude.{ℕ, ◌==◌, if◌then◌else◌, List, Option, Some, None}
-use Rattle.jop_base.specs.Reading.{◌>>=◌}
+use Rattle.base.specs.Reading.{◌>>=◌}
 use Rattle.class_pool.specs.Reading.{number_in}
 
 -- the minor and the major version behind the magic number

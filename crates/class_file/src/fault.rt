@@ -1,4 +1,6 @@
-use jop_base::FormatFault;
+//! Why bytes are no class file.
+
+use base::FormatFault;
 
 /// Why no class file was read.
 #[derive(Clone, Copy)]

@@ -1,7 +1,7 @@
 //! Class files from bytes.
 ghost use Rattle.std.specs.Prelude.{◌≡◌, ◌↔◌, ℕ, IfOk, IfErr, Err, MatchResult};
-ghost use Rattle.jop_base.specs.Reading.{Gives};
-ghost use Rattle.jop_base.specs.declared.fault.FormatFault.TheVariants as faults;
+ghost use Rattle.base.specs.Reading.{Gives};
+ghost use Rattle.base.specs.declared.fault.FormatFault.TheVariants as faults;
 ghost use Rattle.class_pool.specs.declared.class.ClassFile.{ClassFile};
 ghost use Rattle.class_file.specs.declared.fault.ClassFault.TheVariants as answers;
 ghost use Rattle.class_file.specs.Reading.{header_in};
@@ -9,11 +9,11 @@ ghost use Rattle.class_rules.specs.Grammar.{IsClassOf};
 ghost use Rattle.class_file.specs.Grammar.{IsBehindHeader, IsOtherVersion};
 
 use crate::fault::ClassFault;
+use crate::structure::inside_of;
+use base::{FormatFault, NoMemory};
 use class_pool::numbers::{u16_at, u32_at};
 use class_pool::{ClassFile, read_pool};
-use class_reader::inside_of;
 use class_rules::follows_rules;
-use jop_base::{FormatFault, NoMemory};
 use std::alloc::Global;
 
 /// The first bytes of each class file.
@@ -24,7 +24,7 @@ pub(crate) const OLDEST: u16 = 50;
 
 pub(crate) const NEWEST: u16 = 52;
 
-// The minor and the major version, and the bytes behind the header.
+/// The minor and the major version, and the bytes behind the header.
 #[tactic(auto, unfolding(crate::specs::Reading::header_in))]
 fn header_at(bytes: &[u8]) -> Result<((u16, u16), &[u8]), FormatFault>
     ensures read { Gives (λ x. (x.0, x.1.now)) result (header_in bytes.now) }
@@ -39,7 +39,7 @@ fn header_at(bytes: &[u8]) -> Result<((u16, u16), &[u8]), FormatFault>
     Ok(((minor, major), rest))
 }
 
-// What stands behind a header.
+/// What stands behind a header.
 fn class_behind(
     alloc: Global,
     minor: u16,

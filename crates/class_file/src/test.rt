@@ -2,11 +2,11 @@
 ghost use Rattle.std.specs.Prelude.{◌≡◌, ◌↔◌, IfOk, IsTrue};
 ghost use Rattle.class_rules.specs.Grammar.{IsClass};
 
+use crate::checking::is_inside;
 use crate::reader::{NEWEST, OLDEST};
+use base::NoMemory;
 use class_pool::{ClassFile, is_pool};
-use class_reader::is_inside;
 use class_rules::follows_rules;
-use jop_base::NoMemory;
 use std::alloc::Global;
 
 /// Whether a value is a class file: of a version that is read, with a pool, with bytes behind it, and following the

@@ -16,8 +16,10 @@ pub record HasMore (old new : BitTable) : Type 0 where
 
 -- where a class declares such a member, its bit is set in the row of the member's symbols
 pub record AreMarked (members : ClassFile → List Member) (cs : List ClassFile) (m : BitTable) : Type 0 where
-  pub each : (s : Signature) (a b c : ℕ) → symbol cs s.name ≡ Some a → symbol cs s.descriptor ≡ Some b → is_some (declared members cs s c) ≡ true → has m (a, b) c ≡ true
+  pub each : (s : Signature) (a b c : ℕ) → symbol cs s.name ≡ Some a → symbol cs s.descriptor ≡ Some b → is_some (declared members cs s c) ≡ true
+      → has m (a, b) c ≡ true
 
 -- a row has a set bit for each class that declares a member of this name and descriptor
 abbrev pub Tells : (members : ClassFile → List Member) → List ClassFile → (name descriptor : ℕ) → Row → Type 0
-Tells members cs a b row = (s : Signature) (c : ℕ) → symbol cs s.name ≡ Some a → symbol cs s.descriptor ≡ Some b → is_in row c ≡ false → declared members cs s c ≡ None
+Tells members cs a b row = (s : Signature) (c : ℕ) → symbol cs s.name ≡ Some a → symbol cs s.descriptor ≡ Some b → is_in row c ≡ false
+    → declared members cs s c ≡ None

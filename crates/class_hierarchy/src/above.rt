@@ -4,17 +4,15 @@ ghost use Rattle.std.specs.Prelude.{◌≡◌, ℕ, ◌<◌, ◌++◌, ◌∷◌
 ghost use Rattle.std.specs.Option.{option_map_or};
 ghost use Rattle.std.specs.List.{flat_map};
 ghost use Rattle.class_lookup.specs.Hierarchy.{superclass, superclasses, superinterfaces, with_superinterfaces, all_superinterfaces, IsAcyclic};
-ghost use Rattle.upward_order.specs.Numbers.{entry, IsSameSearch, IsTransitive};
+ghost use Rattle.upward_sets.specs.Numbers.{entry, IsSameSearch, IsTransitive};
 ghost use Rattle.class_hierarchy.specs.TopDown.{IsTopDown};
 ghost use Rattle.class_hierarchy.specs.Tables.{AreAbove};
 
 use crate::acyclic::{direct_of, top_down};
+use base::{Items, NoMemory};
 use class_lookup::Classes;
-use items::Items;
-use jop_base::NoMemory;
 use std::alloc::Global;
-use upward_lists::{MarkedSet, upward_lists};
-use upward_order::{NumberSet, empty_sets};
+use upward_sets::{MarkedSet, NumberSet, empty_sets, upward_lists};
 
 /// What stands above each class.
 #[derive(Drop)]
@@ -89,7 +87,8 @@ fn inherited_list(
     requires class { class < length classes.now }
     requires table { length table.now ≡ length classes.now }
     requires through { IsTransitive interfaces.now }
-    ensures { IfOk result (λ set. IsSameSearch set (flat_map (entry interfaces.now) (superinterfaces classes.now class) ++ option_map_or (entry table.now) (superclass classes.now class) [])) }
+    ensures { IfOk result (λ set. IsSameSearch set (flat_map (entry interfaces.now) (superinterfaces classes.now class)
+        ++ option_map_or (entry table.now) (superclass classes.now class) [])) }
 {
     let mut set = MarkedSet::new(alloc, table.len())?;
     set.insert_lists(classes.superinterfaces(class), interfaces)?;

@@ -1,15 +1,14 @@
-//! Whether some class is its own superclass or superinterface (JVM Specification SE 8, 4.1 and 5.3.5).
+//! Classes in an order in which each stands behind its supertypes (JVM Specification SE 8, 4.1 and 5.3.5).
 
-ghost use Rattle.std.specs.Prelude.{◌≡◌, ◌↔◌, ℕ, ◌^◌, ◌<◌, ◌≤◌, length, IsTrue, IfOk};
+ghost use Rattle.std.specs.Prelude.{◌≡◌, ℕ, ◌^◌, ◌<◌, ◌≤◌, length, IfOk};
 ghost use Rattle.class_lookup.specs.Hierarchy.{direct_supertypes, IsAcyclic};
-ghost use Rattle.upward_order.specs.Numbers.{entry};
+ghost use Rattle.upward_sets.specs.Numbers.{entry};
 ghost use Rattle.class_hierarchy.specs.TopDown.{IsTopDown};
 
+use base::{Items, NoMemory};
 use class_lookup::Classes;
-use items::Items;
-use jop_base::NoMemory;
 use std::alloc::Global;
-use upward_order::{NumberSet, has_all, order_of};
+use upward_sets::{NumberSet, order_of};
 
 /// What stands directly above a class: its direct superinterfaces in order, and then its direct superclass.
 fn supertypes_of(alloc: Global, classes: &Classes, class: u32) -> Result<Vec<u32>, NoMemory>
@@ -34,16 +33,6 @@ pub(crate) fn direct_of(alloc: Global, classes: &Classes) -> Result<Vec<Items<u3
         above.push(Items::new(supertypes_of(alloc, classes, class)?))?;
     }
     Ok(above)
-}
-
-/// Whether there are classes, and none is its own superclass or superinterface. The time is linear in what the classes name.
-pub fn is_acyclic(alloc: Global, classes: &Classes) -> Result<bool, NoMemory>
-    ensures { IfOk result (λ holds. IsTrue holds ↔ IsAcyclic classes.now) }
-{
-    let count = classes.class_count();
-    let above = direct_of(alloc, classes)?;
-    let order = order_of(alloc, &above)?;
-    Ok(count > 0 && has_all(&order, count))
 }
 
 /// The classes in an order in which each stands behind all that are directly above it.

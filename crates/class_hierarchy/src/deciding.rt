@@ -3,14 +3,14 @@
 
 ghost use Rattle.std.specs.Prelude.{◌≡◌, ◌<◌, length, IsTrue};
 ghost use Rattle.class_lookup.specs.Hierarchy.{is_among};
-ghost use Rattle.upward_order.specs.Numbers.{entry};
+ghost use Rattle.upward_sets.specs.Numbers.{entry};
 ghost use Rattle.class_hierarchy.specs.Deciding.{is_overridable};
 ghost use Rattle.class_hierarchy.specs.Members.{IsNamed};
 
 use crate::members::{Named, declared_as};
 use crate::methods::is_open;
+use base::Items;
 use class_lookup::Classes;
-use items::Items;
 
 /// Whether the method is the one of its name and descriptor that its class declares, and each class below may override it.
 pub(crate) fn is_overridable(classes: &Classes, method: &Named) -> bool

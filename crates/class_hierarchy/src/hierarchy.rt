@@ -1,3 +1,5 @@
+//! Classes with tables of what stands above each.
+
 ghost use Rattle.std.specs.Prelude.{◌≡◌, ℕ, ◌<◌, List, Some, ◌++◌, length, map, slice_index_or, nat_eq, IfOk};
 ghost use Rattle.std.specs.List.{IsDistinct};
 ghost use Rattle.class_lookup.specs.Hierarchy.{is_subclass, extends, supertypes, superclasses, all_superinterfaces, IsAcyclic};
@@ -5,7 +7,7 @@ ghost use Rattle.class_lookup.specs.Lists.{first_some};
 ghost use Rattle.class_lookup.specs.Lookup.{declared_method, find_field, find_method};
 ghost use Rattle.class_lookup.specs.Parts.{Signature, is_init};
 ghost use Rattle.class_lookup.specs.Selection.{select, is_of_superclass, special};
-ghost use Rattle.upward_order.specs.Numbers.{IsSameSearch};
+ghost use Rattle.upward_sets.specs.Numbers.{IsSameSearch};
 ghost use Rattle.class_lookup.specs.Symbols.{symbol};
 ghost use Rattle.class_hierarchy.specs.EachOnce.{each_once};
 
@@ -14,12 +16,12 @@ use crate::marks::{field_marks, method_marks};
 use crate::members::{first_field, first_method, named_at};
 use crate::receivers::{Resolved, places_for};
 use crate::selecting::{first_instance, first_overriding, first_public};
+use base::NoMemory;
 use bit_rows::BitRows;
 use class_lookup::laws::members_have_symbols;
 use class_lookup::parts::has_flags;
 use class_lookup::{Classes, Place};
 use descriptors::names::is_instance_initializer;
-use jop_base::NoMemory;
 use std::alloc::Global;
 use std::marker::Model;
 
@@ -54,7 +56,7 @@ impl Model for Hierarchy {
 }
 
 impl Hierarchy {
-    /// The tables of these classes. That none is above itself is known where `is_acyclic` says so.
+    /// The tables of these classes.
     pub fn new(alloc: Global, classes: Classes) -> Result<Self, NoMemory>
         requires { IsAcyclic classes }
         ensures { IfOk result (λ made. made ≡ classes) }
@@ -158,7 +160,8 @@ impl Hierarchy {
     /// The method of the name and the descriptor of these symbols, looked up in a class, its superclasses and superinterfaces.
     fn find_in_class(&self, class: u32, name: u32, descriptor: u32) -> Option<Place>
         requires { class < length self.now }
-        ensures { (s : Signature) → symbol self.now s.name ≡ Some name → symbol self.now s.descriptor ≡ Some descriptor → result ≡ first_some (map (declared_method self.now s) (superclasses self.now class ++ all_superinterfaces self.now class)) }
+        ensures { (s : Signature) → symbol self.now s.name ≡ Some name → symbol self.now s.descriptor ≡ Some descriptor
+            → result ≡ first_some (map (declared_method self.now s) (superclasses self.now class ++ all_superinterfaces self.now class)) }
     {
         let index = class as usize;
         let list = self.above.superclasses[index].as_slice();
@@ -174,7 +177,8 @@ impl Hierarchy {
     /// The method of the name and the descriptor of these symbols, looked up from the class (5.4.3.3, 5.4.3.4).
     pub fn find_method_by(&self, class: u32, name: u32, descriptor: u32) -> Option<Place>
         requires { class < length self.now }
-        ensures { (s : Signature) → symbol self.now s.name ≡ Some name → symbol self.now s.descriptor ≡ Some descriptor → result ≡ find_method self.now class s }
+        ensures { (s : Signature) → symbol self.now s.name ≡ Some name → symbol self.now s.descriptor ≡ Some descriptor
+            → result ≡ find_method self.now class s }
     {
         if self.is_initializer(name) {
             self.classes.declared_method(class, name, descriptor)

@@ -13,7 +13,6 @@ mod methods;
 mod receivers;
 mod selecting;
 
-pub use acyclic::is_acyclic;
 pub use class_lookup::Place;
 pub use cycles::first_on_cycle;
 pub use hierarchy::Hierarchy;

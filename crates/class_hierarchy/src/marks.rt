@@ -9,10 +9,10 @@ ghost use Rattle.class_lookup.specs.Parts.{Signature};
 ghost use Rattle.class_lookup.specs.Symbols.{symbol};
 ghost use Rattle.class_hierarchy.specs.Marks.{HasMore, AreMarked};
 
+use base::NoMemory;
 use bit_rows::BitRows;
 use class_lookup::Classes;
 use class_pool::Member;
-use jop_base::NoMemory;
 use std::alloc::Global;
 
 /// Marks a class in the rows of its members, of which these are some.
@@ -24,7 +24,8 @@ fn mark_members(
 ) -> Result<(), NoMemory>
     requires class { class < length classes.now }
     requires wide { length classes.now ≤ columns marks.old }
-    ensures marked { OnOk result ((k : ClassFile) (s : Signature) (a b : ℕ) → slice_get classes.now class ≡ Some k → symbol classes.now s.name ≡ Some a → symbol classes.now s.descriptor ≡ Some b → IsTrue (is_some (declared_in (λ c. members.now) s k)) → has marks.new (a, b) class ≡ true) }
+    ensures marked { OnOk result ((k : ClassFile) (s : Signature) (a b : ℕ) → slice_get classes.now class ≡ Some k → symbol classes.now s.name ≡ Some a
+        → symbol classes.now s.descriptor ≡ Some b → IsTrue (is_some (declared_in (λ c. members.now) s k)) → has marks.new (a, b) class ≡ true) }
     ensures more { OnOk result (HasMore marks.old marks.new) }
 {
     for member in members {

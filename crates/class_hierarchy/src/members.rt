@@ -8,9 +8,8 @@ ghost use Rattle.class_lookup.specs.Parts.{Signature};
 ghost use Rattle.class_lookup.specs.Symbols.{symbol};
 ghost use Rattle.class_hierarchy.specs.Members.{declared_as, IsNamed, IsNamedAt};
 
-use crate::methods::method_at;
 use bit_rows::{BitRows, Row};
-use class_lookup::{Classes, Place};
+use class_lookup::{Classes, Place, method_at};
 
 /// A method with the symbols of its name and of its descriptor.
 #[derive(Clone, Copy)]
@@ -67,7 +66,8 @@ fn marked_field(
     descriptor: u32,
 ) -> Option<Place>
     requires { Tells (λ k. k.fields) classes.now name descriptor row }
-    ensures { (s : Signature) → symbol classes.now s.name ≡ Some name → symbol classes.now s.descriptor ≡ Some descriptor → result ≡ declared_field classes.now s class }
+    ensures { (s : Signature) → symbol classes.now s.name ≡ Some name → symbol classes.now s.descriptor ≡ Some descriptor
+        → result ≡ declared_field classes.now s class }
 {
     if row.has(class) {
         classes.declared_field(class, name, descriptor)
@@ -85,7 +85,8 @@ fn marked_method(
     descriptor: u32,
 ) -> Option<Place>
     requires { Tells (λ k. k.methods) classes.now name descriptor row }
-    ensures { (s : Signature) → symbol classes.now s.name ≡ Some name → symbol classes.now s.descriptor ≡ Some descriptor → result ≡ declared_method classes.now s class }
+    ensures { (s : Signature) → symbol classes.now s.name ≡ Some name → symbol classes.now s.descriptor ≡ Some descriptor
+        → result ≡ declared_method classes.now s class }
 {
     if row.has(class) {
         classes.declared_method(class, name, descriptor)
@@ -103,7 +104,8 @@ pub(crate) fn first_field(
     descriptor: u32,
 ) -> Option<Place>
     requires { AreMarked (λ k. k.fields) classes.now marks.now }
-    ensures { (s : Signature) → symbol classes.now s.name ≡ Some name → symbol classes.now s.descriptor ≡ Some descriptor → result ≡ first_some (map (declared_field classes.now s) list.now) }
+    ensures { (s : Signature) → symbol classes.now s.name ≡ Some name → symbol classes.now s.descriptor ≡ Some descriptor
+        → result ≡ first_some (map (declared_field classes.now s) list.now) }
 {
     let row = marks.row((name, descriptor))?;
     for class in list {
@@ -123,7 +125,8 @@ pub(crate) fn first_method(
     descriptor: u32,
 ) -> Option<Place>
     requires { AreMarked (λ k. k.methods) classes.now marks.now }
-    ensures { (s : Signature) → symbol classes.now s.name ≡ Some name → symbol classes.now s.descriptor ≡ Some descriptor → result ≡ first_some (map (declared_method classes.now s) list.now) }
+    ensures { (s : Signature) → symbol classes.now s.name ≡ Some name → symbol classes.now s.descriptor ≡ Some descriptor
+        → result ≡ first_some (map (declared_method classes.now s) list.now) }
 {
     let row = marks.row((name, descriptor))?;
     for class in list {

@@ -1,29 +1,13 @@
 //! What the methods of the classes are, by their places.
 
-ghost use Rattle.std.specs.Prelude.{◌≡◌, option_copied};
+ghost use Rattle.std.specs.Prelude.{◌≡◌};
 ghost use Rattle.class_lookup.specs.Lookup.{method_at};
 ghost use Rattle.class_lookup.specs.Selection.{is_virtual, is_public_instance, is_instance};
 ghost use Rattle.class_hierarchy.specs.Selecting.{is_open, is_near, is_joining};
 
 use class_lookup::parts::has_flags;
-use class_lookup::{Classes, Place};
-use class_pool::Member;
+use class_lookup::{Classes, Place, method_at};
 use class_rules::flags::{ACC_ACCESS, ACC_PRIVATE, ACC_PROTECTED, ACC_PUBLIC, ACC_STATIC};
-
-/// The method of this place.
-pub(crate) fn method_at(classes: &Classes, place: Place) -> Option<&Member>
-    ensures { option_copied result ≡ method_at classes.now place }
-{
-    if place.class < classes.class_count() {
-        classes
-            .class(place.class)
-            .methods
-            .as_slice()
-            .get(place.index)
-    } else {
-        None
-    }
-}
 
 /// Whether there is such a method, and it is public and isn't static.
 pub fn is_public_instance(classes: &Classes, place: Place) -> bool

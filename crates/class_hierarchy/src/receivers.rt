@@ -13,9 +13,8 @@ ghost use Rattle.class_hierarchy.specs.Selecting.{selected_of, selected_at, sele
 use crate::deciding::{is_at_or_below, is_overridable};
 use crate::members::{Named, declared_as};
 use crate::methods::{is_joining, is_open, is_public_instance, is_virtual};
+use base::{Items, NoMemory};
 use class_lookup::{Classes, Place};
-use items::Items;
-use jop_base::NoMemory;
 use std::alloc::Global;
 
 /// What is selected for a receiver of a class.
@@ -37,7 +36,8 @@ pub(crate) struct Resolved<'a> {
 
 /// What is selected where a class declares this method, by what is selected for its superclass.
 fn with_method(resolved: &Resolved<'_>, above: &Selected, place: Place) -> Selected
-    ensures { (ms : List APlace) → above.now ≡ selected_of resolved.now.classes.now resolved.now.of_interface resolved.now.method.place ms → result ≡ selected_of resolved.now.classes.now resolved.now.of_interface resolved.now.method.place (place ∷ ms) }
+    ensures { (ms : List APlace) → above.now ≡ selected_of resolved.now.classes.now resolved.now.of_interface resolved.now.method.place ms
+        → result ≡ selected_of resolved.now.classes.now resolved.now.of_interface resolved.now.method.place (place ∷ ms) }
 {
     let classes = resolved.classes;
     if resolved.of_interface {
@@ -83,7 +83,8 @@ fn known_at(table: &[Option<Selected>], class: u32) -> Selected
 fn selected_above(resolved: &Resolved<'_>, table: &[Option<Selected>], class: u32) -> Selected
     requires class { class < length resolved.now.classes.now }
     requires table { length table.now ≡ length resolved.now.classes.now }
-    requires known { (d : ℕ) → superclass resolved.now.classes.now class ≡ Some d → slice_index_or table.now d None ≡ Some (selected_at resolved.now.classes.now resolved.now.of_interface resolved.now.method.place d) }
+    requires known { (d : ℕ) → superclass resolved.now.classes.now class ≡ Some d
+        → slice_index_or table.now d None ≡ Some (selected_at resolved.now.classes.now resolved.now.of_interface resolved.now.method.place d) }
     ensures { result ≡ selected_above resolved.now.classes.now resolved.now.of_interface resolved.now.method.place class }
 {
     match resolved.classes.superclass(class) {
@@ -101,7 +102,8 @@ fn selected_for(resolved: &Resolved<'_>, table: &[Option<Selected>], class: u32)
     requires class { class < length resolved.now.classes.now }
     requires acyclic { IsAcyclic resolved.now.classes.now }
     requires table { length table.now ≡ length resolved.now.classes.now }
-    requires known { (d : ℕ) → superclass resolved.now.classes.now class ≡ Some d → slice_index_or table.now d None ≡ Some (selected_at resolved.now.classes.now resolved.now.of_interface resolved.now.method.place d) }
+    requires known { (d : ℕ) → superclass resolved.now.classes.now class ≡ Some d
+        → slice_index_or table.now d None ≡ Some (selected_at resolved.now.classes.now resolved.now.of_interface resolved.now.method.place d) }
     ensures { result ≡ selected_at resolved.now.classes.now resolved.now.of_interface resolved.now.method.place class }
 {
     let above = selected_above(resolved, table, class);
@@ -115,7 +117,8 @@ fn selected_for(resolved: &Resolved<'_>, table: &[Option<Selected>], class: u32)
 fn is_deciding(resolved: &Resolved<'_>, class: u32, place: Place) -> bool
     requires class { class < length resolved.now.classes.now }
     requires chains { AreChains resolved.now.classes.now resolved.now.superclasses.now }
-    ensures { IsTrue result → IsTrue (is_deciding resolved.now.classes.now resolved.now.of_interface resolved.now.method.place (superclasses resolved.now.classes.now class) place) }
+    ensures { IsTrue result → IsTrue (is_deciding resolved.now.classes.now resolved.now.of_interface resolved.now.method.place
+        (superclasses resolved.now.classes.now class) place) }
 {
     if resolved.of_interface {
         is_public_instance(resolved.classes, place)
@@ -172,8 +175,10 @@ fn is_settled(
     requires class { class < length resolved.now.classes.now }
     requires chains { AreChains resolved.now.classes.now resolved.now.superclasses.now }
     requires early { IsTrue early → IsTrue (is_early resolved.now.classes.now resolved.now.of_interface resolved.now.method.place) }
-    requires known { AreKnown (selected_at resolved.now.classes.now resolved.now.of_interface resolved.now.method.place) (length resolved.now.classes.now) table.old.items }
-    ensures known { AreKnown (selected_at resolved.now.classes.now resolved.now.of_interface resolved.now.method.place) (length resolved.now.classes.now) table.new.items }
+    requires known { AreKnown (selected_at resolved.now.classes.now resolved.now.of_interface resolved.now.method.place)
+        (length resolved.now.classes.now) table.old.items }
+    ensures known { AreKnown (selected_at resolved.now.classes.now resolved.now.of_interface resolved.now.method.place)
+        (length resolved.now.classes.now) table.new.items }
     ensures there { IsTrue result → IsTrue (is_some (slice_index_or table.new.items class None)) }
 {
     if table[class as usize].is_some() {
@@ -203,9 +208,11 @@ fn first_settled(
     requires list { (i : ℕ) → i < length list.now → slice_index_or list.now i 0 < length resolved.now.classes.now }
     requires chains { AreChains resolved.now.classes.now resolved.now.superclasses.now }
     requires early { IsTrue early → IsTrue (is_early resolved.now.classes.now resolved.now.of_interface resolved.now.method.place) }
-    requires known { AreKnown (selected_at resolved.now.classes.now resolved.now.of_interface resolved.now.method.place) (length resolved.now.classes.now) table.old.items }
+    requires known { AreKnown (selected_at resolved.now.classes.now resolved.now.of_interface resolved.now.method.place)
+        (length resolved.now.classes.now) table.old.items }
     ensures within { result ≤ length list.now }
-    ensures known { AreKnown (selected_at resolved.now.classes.now resolved.now.of_interface resolved.now.method.place) (length resolved.now.classes.now) table.new.items }
+    ensures known { AreKnown (selected_at resolved.now.classes.now resolved.now.of_interface resolved.now.method.place)
+        (length resolved.now.classes.now) table.new.items }
     ensures there { result < length list.now → IsTrue (is_some (slice_index_or table.new.items (slice_index_or list.now result 0) None)) }
 {
     for (i, class) in list.iter().enumerate() {
@@ -222,8 +229,10 @@ fn fill(resolved: &Resolved<'_>, early: bool, table: &mut Vec<Option<Selected>>,
     requires class { class < length resolved.now.classes.now }
     requires early { IsTrue early → IsTrue (is_early resolved.now.classes.now resolved.now.of_interface resolved.now.method.place) }
     requires chains { AreChains resolved.now.classes.now resolved.now.superclasses.now }
-    requires known { AreKnown (selected_at resolved.now.classes.now resolved.now.of_interface resolved.now.method.place) (length resolved.now.classes.now) table.old.items }
-    ensures known { AreKnown (selected_at resolved.now.classes.now resolved.now.of_interface resolved.now.method.place) (length resolved.now.classes.now) table.new.items }
+    requires known { AreKnown (selected_at resolved.now.classes.now resolved.now.of_interface resolved.now.method.place)
+        (length resolved.now.classes.now) table.old.items }
+    ensures known { AreKnown (selected_at resolved.now.classes.now resolved.now.of_interface resolved.now.method.place)
+        (length resolved.now.classes.now) table.new.items }
     ensures there { IsTrue (is_some (slice_index_or table.new.items class None)) }
 {
     let list = resolved.superclasses[class as usize].as_slice();
@@ -246,8 +255,10 @@ fn place_for(
     requires class { receiver < length resolved.now.classes.now }
     requires early { IsTrue early → IsTrue (is_early resolved.now.classes.now resolved.now.of_interface resolved.now.method.place) }
     requires chains { AreChains resolved.now.classes.now resolved.now.superclasses.now }
-    requires known { AreKnown (selected_at resolved.now.classes.now resolved.now.of_interface resolved.now.method.place) (length resolved.now.classes.now) table.old.items }
-    ensures known { AreKnown (selected_at resolved.now.classes.now resolved.now.of_interface resolved.now.method.place) (length resolved.now.classes.now) table.new.items }
+    requires known { AreKnown (selected_at resolved.now.classes.now resolved.now.of_interface resolved.now.method.place)
+        (length resolved.now.classes.now) table.old.items }
+    ensures known { AreKnown (selected_at resolved.now.classes.now resolved.now.of_interface resolved.now.method.place)
+        (length resolved.now.classes.now) table.new.items }
     ensures place { result ≡ (selected_at resolved.now.classes.now resolved.now.of_interface resolved.now.method.place receiver).place }
 {
     fill(resolved, early, table, receiver);
@@ -265,7 +276,8 @@ fn decided_each(
     requires receivers { (i : ℕ) → i < length receivers.now → slice_index_or receivers.now i 0 < length resolved.now.classes.now }
     requires chains { AreChains resolved.now.classes.now resolved.now.superclasses.now }
     requires early { IsTrue early → IsTrue (is_early resolved.now.classes.now resolved.now.of_interface resolved.now.method.place) }
-    ensures { IfOk result (λ found. IfSome found (λ places. places.items ≡ map (λ c. (selected_at resolved.now.classes.now resolved.now.of_interface resolved.now.method.place c).place) receivers.now)) }
+    ensures { IfOk result (λ found. IfSome found (λ places. places.items ≡ map
+        (λ c. (selected_at resolved.now.classes.now resolved.now.of_interface resolved.now.method.place c).place) receivers.now)) }
 {
     if !early {
         return Ok(None);
@@ -291,7 +303,8 @@ fn tabled_each(
     requires receivers { (i : ℕ) → i < length receivers.now → slice_index_or receivers.now i 0 < length resolved.now.classes.now }
     requires chains { AreChains resolved.now.classes.now resolved.now.superclasses.now }
     requires early { IsTrue early → IsTrue (is_early resolved.now.classes.now resolved.now.of_interface resolved.now.method.place) }
-    ensures { IfOk result (λ places. places.items ≡ map (λ c. (selected_at resolved.now.classes.now resolved.now.of_interface resolved.now.method.place c).place) receivers.now) }
+    ensures { IfOk result (λ places. places.items ≡ map (λ c.
+        (selected_at resolved.now.classes.now resolved.now.of_interface resolved.now.method.place c).place) receivers.now) }
 {
     let mut table = vec![in alloc; None; resolved.superclasses.len()]?;
     let mut places = Vec::new(alloc);
@@ -310,7 +323,8 @@ pub(crate) fn places_for(
     requires named { IsNamed resolved.now.classes.now resolved.now.method }
     requires receivers { (i : ℕ) → i < length receivers.now → slice_index_or receivers.now i 0 < length resolved.now.classes.now }
     requires chains { AreChains resolved.now.classes.now resolved.now.superclasses.now }
-    ensures { IfOk result (λ places. places.items ≡ map (λ c. (selected_at resolved.now.classes.now resolved.now.of_interface resolved.now.method.place c).place) receivers.now) }
+    ensures { IfOk result (λ places. places.items ≡ map (λ c.
+        (selected_at resolved.now.classes.now resolved.now.of_interface resolved.now.method.place c).place) receivers.now) }
 {
     let early = resolved.of_interface || is_overridable(resolved.classes, &resolved.method);
     match decided_each(alloc, resolved, early, receivers)? {

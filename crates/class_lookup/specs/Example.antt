@@ -58,7 +58,8 @@ worked_classes =
     -- 1
     ∷ class_of 33 (codes "java/lang/Object" ∷ []) (codes "p/A")
     ((0, codes "x", codes "I") ∷ (12, codes "s", codes "I") ∷ [])
-    ((1, codes "<init>", codes "()V") ∷ (0, codes "f", codes "()V") ∷ (1, codes "g", codes "()V") ∷ (2, codes "h", codes "()V") ∷ (9, codes "st", codes "()V") ∷ (4, codes "t", codes "()V") ∷ [])
+    ((1, codes "<init>", codes "()V") ∷ (0, codes "f", codes "()V") ∷ (1, codes "g", codes "()V") ∷ (2, codes "h", codes "()V") ∷ (9, codes "st", codes "()V")
+    ∷ (4, codes "t", codes "()V") ∷ [])
     -- 2
     ∷ class_of 33 (codes "p/A" ∷ []) (codes "q/B")
     ((1, codes "x", codes "I") ∷ [])

@@ -7,7 +7,8 @@ use Rattle.class_pool.specs.declared.class.ClassFile.{ClassFile}
 use Rattle.class_lookup.specs.Lists.{first_some}
 use Rattle.class_lookup.specs.Parts.{Signature, signature_of, same_text, same_signature, is_init, text_at}
 use Rattle.class_lookup.specs.Symbols.{symbol}
-use Rattle.class_lookup.specs.Hierarchy.{superclass, superinterfaces, direct_supertypes, superclasses, with_superinterfaces, is_interface, is_among, is_subclass, extends, is_on_a_cycle, IsAcyclic}
+use Rattle.class_lookup.specs.Hierarchy.{superclass, superinterfaces, direct_supertypes, superclasses, with_superinterfaces, is_interface, is_among}
+use Rattle.class_lookup.specs.Hierarchy.{is_subclass, extends, is_on_a_cycle, IsAcyclic}
 use Rattle.class_lookup.specs.Lookup.{Place, same_place, declared_field, declared_method, find_field, find_method}
 use Rattle.class_lookup.specs.Selection.{signature_at, MayOverride, Overrides, overrides, upwards, is_public_instance, select}
 
@@ -34,7 +35,8 @@ pub record IsHierarchy (cs : List ClassFile) : Type 0 where
   pub through : (a b c : ℕ) → IsTrue (extends cs a b) → IsTrue (extends cs b c) → IsTrue (extends cs a c)
   pub least : (c d : ℕ) → IsTrue (extends cs c d) → (c ≡ d) ⊎ ((x : ℕ) × IsDirectlyAbove cs c x × IsTrue (extends cs x d))
   -- what each class hands to those directly above it comes to all above
-  pub kept : (test : ℕ → Bool) → ((x y : ℕ) → IsTrue (test x) → IsDirectlyAbove cs x y → IsTrue (test y)) → (c d : ℕ) → IsTrue (test c) → IsTrue (extends cs c d) → IsTrue (test d)
+  pub kept : (test : ℕ → Bool) → ((x y : ℕ) → IsTrue (test x) → IsDirectlyAbove cs x y → IsTrue (test y)) → (c d : ℕ) → IsTrue (test c)
+      → IsTrue (extends cs c d) → IsTrue (test d)
   pub one_way : (c d : ℕ) → IsTrue (extends cs c d) → IsTrue (extends cs d c) → c ≡ d
   pub acyclic : (c : ℕ) → is_on_a_cycle cs c ≡ false
   -- a superclass is the direct superclass or a superclass of that; what is its own superclass is none
@@ -174,7 +176,8 @@ pub record IsSelection (cs : List ClassFile) (receiver : ℕ) (a : Place) (s : S
       → (m : Place) → signature_at cs m ≡ Some s → IsTrue (is_public_instance cs m) → IsUpwardOf cs receiver m.0 → ⊥
 
 abbrev pub SelectionLaw : Type 0
-SelectionLaw = (cs : List ClassFile) → IsAcyclic cs → AreDistinct cs → (receiver : ℕ) (a : Place) (s : Signature) → signature_at cs a ≡ Some s → IsSelection cs receiver a s
+SelectionLaw = (cs : List ClassFile) → IsAcyclic cs → AreDistinct cs → (receiver : ℕ) (a : Place) (s : Signature) → signature_at cs a ≡ Some s
+    → IsSelection cs receiver a s
 
 -- ---- symbols
 

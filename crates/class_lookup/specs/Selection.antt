@@ -81,8 +81,8 @@ select cs receiver a =
 abbrev pub is_of_superclass : List ClassFile → (current named : ℕ) → Signature → Bool
 is_of_superclass cs current named s = not (is_init s) && option_map_or is_super_class (slice_get cs current) false && is_subclass cs current named
 
--- The method that invokespecial runs (6.5.invokespecial): the resolved one, or, where it is named through a superclass, the first instance method of its name and
--- descriptor from the direct superclass of the current class upwards.
+-- The method that invokespecial runs (6.5.invokespecial): the resolved one, or, where it is named through a superclass, the first instance method of
+-- its name and descriptor from the direct superclass of the current class upwards.
 unfoldable pub special : List ClassFile → (current named : ℕ) → (resolved : Place) → Option Place
 special cs current named a =
     onto (signature_at cs a) (λ s.

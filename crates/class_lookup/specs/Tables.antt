@@ -25,7 +25,8 @@ pub record AreNamed (cs named : List ClassFile) (numbers : List (Option ℕ)) : 
 -- classes have one number exactly where they are of one package
 pub record ArePackages (cs : List ClassFile) (numbers : List ℕ) : Type 0 where
   pub long : length numbers ≡ length cs
-  pub each : (c d : ℕ) (k l : ClassFile) → slice_get cs c ≡ Some k → slice_get cs d ≡ Some l → (slice_index_or numbers c 0 == slice_index_or numbers d 0) ≡ same_package k l
+  pub each : (c d : ℕ) (k l : ClassFile) → slice_get cs c ≡ Some k → slice_get cs d ≡ Some l
+      → (slice_index_or numbers c 0 == slice_index_or numbers d 0) ≡ same_package k l
 
 pub record AreNames (cs : List ClassFile) (names : Names) : Type 0 where
   pub classes : AreNamed cs cs names.classes.items

@@ -1,3 +1,5 @@
+//! A list of class files with tables of what they name.
+
 ghost use Rattle.std.specs.Prelude.{◌≡◌, ℕ, List, ◌<◌, ◌^◌, length, map, Some, slice_get, IfOk};
 ghost use Rattle.std.specs.List.{filter_map};
 ghost use Rattle.class_pool.specs.declared.class.ClassFile.{ClassFile};
@@ -12,9 +14,8 @@ use crate::names::{Names, class_named, names_of};
 use crate::parts::has_flags;
 use crate::place::Place;
 use crate::symbols::{Symbols, symbols_of, text_symbol};
+use base::{Items, NoMemory};
 use class_pool::ClassFile;
-use items::Items;
-use jop_base::NoMemory;
 use std::alloc::Global;
 use std::marker::Model;
 
@@ -191,14 +192,16 @@ impl Classes {
 
     /// The field that the class declares of the name and the descriptor of these symbols.
     pub fn declared_field(&self, class: u32, name: u32, descriptor: u32) -> Option<Place>
-        ensures { (s : Signature) → symbol self.now s.name ≡ Some name → symbol self.now s.descriptor ≡ Some descriptor → result ≡ declared_field self.now s class }
+        ensures { (s : Signature) → symbol self.now s.name ≡ Some name → symbol self.now s.descriptor ≡ Some descriptor
+            → result ≡ declared_field self.now s class }
     {
         place_in(&self.members.fields, (name, descriptor), class)
     }
 
     /// The method that the class declares of the name and the descriptor of these symbols.
     pub fn declared_method(&self, class: u32, name: u32, descriptor: u32) -> Option<Place>
-        ensures { (s : Signature) → symbol self.now s.name ≡ Some name → symbol self.now s.descriptor ≡ Some descriptor → result ≡ declared_method self.now s class }
+        ensures { (s : Signature) → symbol self.now s.name ≡ Some name → symbol self.now s.descriptor ≡ Some descriptor
+            → result ≡ declared_method self.now s class }
     {
         place_in(&self.members.methods, (name, descriptor), class)
     }

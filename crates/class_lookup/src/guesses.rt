@@ -1,5 +1,5 @@
 //! Guesses at the numbers of texts, which spare most searches for a text.
-use jop_base::NoMemory;
+use base::NoMemory;
 use std::alloc::Global;
 
 /// How many guesses there are at first. Their number stays a power of two.

@@ -2,7 +2,8 @@
 //! an order, lookups go as the standard says, and the tests of overriding and selection are what they are called. The
 //! functions do nothing; a caller whose proof needs a law calls its function.
 
-ghost use Rattle.class_lookup.specs.Laws.{Comparisons, HierarchyLaw, SuperclassesLaw, FieldsAreLookedUp, MethodLookupLaw, FoundFields, FoundMethods, MembersHaveSymbols, MethodsLaw, OverridingLaw, OverridingNeeds, SelectionLaw, SymbolsStandForTexts};
+ghost use Rattle.class_lookup.specs.Laws.{Comparisons, HierarchyLaw, SuperclassesLaw, FieldsAreLookedUp, MethodLookupLaw, FoundFields, FoundMethods};
+ghost use Rattle.class_lookup.specs.Laws.{MembersHaveSymbols, MethodsLaw, OverridingLaw, OverridingNeeds, SelectionLaw, SymbolsStandForTexts};
 ghost use Rattle.class_lookup.specs.Example.{WorkedLookups};
 
 /// The tests of texts, of names with descriptors, and of places say whether both are equal.

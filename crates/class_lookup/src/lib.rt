@@ -6,6 +6,7 @@ mod classes;
 mod guesses;
 pub mod laws;
 mod members;
+mod methods;
 mod names;
 pub mod parts;
 mod place;
@@ -14,4 +15,5 @@ mod texts;
 
 pub use class_pool::ClassFile;
 pub use classes::Classes;
+pub use methods::method_at;
 pub use place::Place;

@@ -7,9 +7,9 @@ ghost use Rattle.class_lookup.specs.Tables.{AreSymbols, AreIndexed, AreMembers};
 
 use crate::place::Place;
 use crate::symbols::{Symbols, text_symbol};
+use base::NoMemory;
 use class_pool::{ClassFile, Member};
 use indexmap::IndexMap;
-use jop_base::NoMemory;
 use std::alloc::Global;
 use std::marker::Model;
 

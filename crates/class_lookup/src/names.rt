@@ -9,9 +9,8 @@ ghost use Rattle.class_lookup.specs.Tables.{AreSymbols, AreNamed, AreNames, AreP
 use crate::parts::{name_of, package_in};
 use crate::symbols::{Symbols, class_symbol};
 use crate::texts::Texts;
+use base::{Items, NoMemory};
 use class_pool::ClassFile;
-use items::Items;
-use jop_base::NoMemory;
 use std::alloc::Global;
 
 /// Tables of what classes name.
@@ -92,7 +91,8 @@ fn superinterfaces_of(
     requires symbols { AreSymbols classes.now symbols.now }
     requires named { AreNamed classes.now classes.now named.now }
     requires class { class < length classes.now }
-    ensures { IfOk result (λ found. (c : ClassFile) → slice_get classes.now class ≡ Some c → found.items ≡ filter_map (find_class classes.now) (superinterface_names c)) }
+    ensures { IfOk result (λ found. (c : ClassFile) → slice_get classes.now class ≡ Some c
+        → found.items ≡ filter_map (find_class classes.now) (superinterface_names c)) }
 {
     let mut found = Vec::new(alloc);
     for index in classes[class].interfaces.as_slice() {

@@ -1,5 +1,8 @@
+//! Parts of class files by name: flags, texts, members.
+
 ghost use Rattle.std.specs.Prelude.{◌≡◌};
-ghost use Rattle.class_lookup.specs.Parts.{has, text_at, class_text, name_of, superclass_name, package_in, same_package, Signature, signature_of, same_signature};
+ghost use Rattle.class_lookup.specs.Parts.{has, text_at, class_text, name_of, package_in, signature_of};
+ghost use Rattle.class_lookup.specs.Parts.{same_signature};
 
 use class_pool::{ClassFile, Member, Pool};
 
@@ -37,13 +40,6 @@ pub fn name_of(class: &ClassFile) -> &[u16]
     class_text(&class.pool, class.this_class)
 }
 
-/// The name of its superclass.
-pub fn superclass_name(class: &ClassFile) -> &[u16]
-    ensures { result.now ≡ superclass_name class.now }
-{
-    class_text(&class.pool, class.super_class)
-}
-
 /// The part of a class's name before its last `/`.
 pub fn package_in(name: &[u16]) -> &[u16]
     ensures { result.now ≡ package_in name.now }
@@ -55,13 +51,6 @@ pub fn package_in(name: &[u16]) -> &[u16]
         }
     }
     &name[..length]
-}
-
-/// Whether the classes are of one package.
-pub fn is_in_package_of(class: &ClassFile, other: &ClassFile) -> bool
-    ensures { result ≡ same_package class.now other.now }
-{
-    package_in(name_of(class)) == package_in(name_of(other))
 }
 
 /// Whether a member of the class has this name and this descriptor.

@@ -1,3 +1,5 @@
+//! The place of a member: its class and its index there.
+
 use std::marker::Model;
 
 /// A field or a method: the number of its class, and its index in that class's list of fields or of methods. Contracts see it

@@ -1,3 +1,5 @@
+//! The numbers of the texts that class files name.
+
 ghost use Rattle.std.specs.Prelude.{◌≡◌, ◌<◌, [], ◌∷◌, length, Some, slice_get, IfOk, OnOk};
 ghost use Rattle.class_pool.specs.declared.class.ClassFile.{ClassFile};
 ghost use Rattle.class_lookup.specs.Parts.{same_text, text_at, class_text};
@@ -7,9 +9,8 @@ ghost use Rattle.class_lookup.specs.Numbered.{number_in, entry_text, HaveNumbers
 ghost use Rattle.class_lookup.specs.Tables.{AreSymbols};
 
 use crate::texts::Texts;
+use base::{Items, NoMemory};
 use class_pool::{ClassFile, Entry};
-use items::Items;
-use jop_base::NoMemory;
 use std::alloc::Global;
 
 /// The texts of classes, and for each class the number of the text of each entry of its pool, by place; that of the empty

@@ -1,10 +1,13 @@
-ghost use Rattle.std.specs.Prelude.{◌≡◌, ℕ, ◌+◌, ◌<◌, ◌^◌, List, [], ◌∷◌, ◌++◌, length, None, Some, slice_get, IfOk, OnOk, OnErr, IfSome, IsTrue, unwrap_or, if◌then◌else◌};
+//! Texts, each once, by number.
+
+ghost use Rattle.std.specs.Prelude.{◌≡◌, ℕ, ◌+◌, ◌<◌, ◌^◌, List, [], ◌∷◌, ◌++◌, length, None, Some, slice_get, IfOk, OnOk, OnErr, IfSome, IsTrue, unwrap_or};
+ghost use Rattle.std.specs.Prelude.{if◌then◌else◌};
 ghost use Rattle.class_lookup.specs.Parts.{same_text};
 ghost use Rattle.class_lookup.specs.Lists.{with_item};
 ghost use Rattle.class_lookup.specs.Numbered.{number_in, number_of};
 
 use crate::guesses::Guesses;
-use jop_base::NoMemory;
+use base::NoMemory;
 use std::alloc::Global;
 use std::collections::BTreeMap;
 use std::marker::Model;

@@ -27,8 +27,10 @@ expanded (Class name) = Class name ∷ Text name ∷ []
 expanded (Str text) = Str text ∷ Text text ∷ []
 expanded (NameAndType name descriptor) = NameAndType name descriptor ∷ Text name ∷ Text descriptor ∷ []
 expanded (Field owner name descriptor) = Field owner name descriptor ∷ Class owner ∷ Text owner ∷ NameAndType name descriptor ∷ Text name ∷ Text descriptor ∷ []
-expanded (Method owner name descriptor) = Method owner name descriptor ∷ Class owner ∷ Text owner ∷ NameAndType name descriptor ∷ Text name ∷ Text descriptor ∷ []
-expanded (InterfaceMethod owner name descriptor) = InterfaceMethod owner name descriptor ∷ Class owner ∷ Text owner ∷ NameAndType name descriptor ∷ Text name ∷ Text descriptor ∷ []
+expanded (Method owner name descriptor) = Method owner name descriptor ∷ Class owner ∷ Text owner ∷ NameAndType name descriptor ∷ Text name ∷ Text descriptor
+    ∷ []
+expanded (InterfaceMethod owner name descriptor) = InterfaceMethod owner name descriptor ∷ Class owner ∷ Text owner ∷ NameAndType name descriptor ∷ Text name
+    ∷ Text descriptor ∷ []
 
 -- the item goes last, unless it is there
 abbrev pub with_item : List Item → Item → List Item

@@ -5,7 +5,8 @@ use Rattle.std.specs.List.{AllByRecursion}
 use Rattle.class_pool.specs.Utf8.{utf8_bytes, AreUnits}
 use Rattle.class_pool.specs.Structure.{IsHalf}
 use Rattle.class_rules.specs.Flags.{acc_public, acc_static, acc_final, acc_interface, acc_abstract, acc_native, IsSet}
-use Rattle.class_rules.specs.Rules.{IsField, IsArray, IsMethod, IsClassName, IsUnqualified, IsMethodName, IsDeclaredName, HasOneAccess, IsPlain, TakesFewWords, ReturnsNothing}
+use Rattle.class_rules.specs.Rules.{IsField, IsArray, IsMethod, IsClassName, IsUnqualified, IsMethodName, IsDeclaredName, HasOneAccess, IsPlain, TakesFewWords}
+use Rattle.class_rules.specs.Rules.{ReturnsNothing}
 use Rattle.class_making.specs.declared.item.Item.{Item}
 use Rattle.class_making.specs.declared.item.Item.TheVariants.{Text, Integer, Class, Str, NameAndType, Field, Method, InterfaceMethod}
 use Rattle.class_making.specs.declared.plan.Piece.{Piece}

@@ -6,9 +6,8 @@ use crate::maker::{MOST_ENTRIES, PoolMaker};
 use crate::members::{fields, methods};
 use crate::mentions::mention_plan;
 use crate::plan::ClassPlan;
+use base::{Items, NoMemory};
 use class_pool::{ClassFile, Units};
-use items::Items;
-use jop_base::NoMemory;
 use std::alloc::Global;
 
 /// Why no class file was made.
@@ -50,7 +49,7 @@ fn class_indexes(maker: &PoolMaker, alloc: Global, names: &[Units]) -> Result<Ve
     Ok(indexes)
 }
 
-// The class file over the items of the pool.
+/// The class file over the items of the pool.
 fn class_in(maker: &PoolMaker, alloc: Global, plan: &ClassPlan) -> Result<ClassFile, NoMemory>
     ensures { IfOk result (λ class. class ≡ class_in maker.now plan.now) }
 {
@@ -73,7 +72,7 @@ fn class_in(maker: &PoolMaker, alloc: Global, plan: &ClassPlan) -> Result<ClassF
     })
 }
 
-// The same, with a pool of no entries.
+/// The same, with a pool of no entries.
 #[tactic(auto, unfolding(crate::specs::Plans::items_of, crate::specs::Plans::class_of))]
 fn make_with(maker: &mut PoolMaker, alloc: Global, plan: &ClassPlan) -> Result<ClassFile, MakeFault>
     requires { maker.old ≡ [] }

@@ -1,7 +1,9 @@
+//! What a plan names in place of an index of the pool.
+
 ghost use Rattle.std.specs.Prelude.{◌≡◌, IfOk};
 
+use base::NoMemory;
 use class_pool::Units;
-use jop_base::NoMemory;
 use std::alloc::Global;
 
 /// What a pool has an entry for.
@@ -32,7 +34,7 @@ pub fn copy_of(alloc: Global, text: &Units) -> Result<Units, NoMemory>
     Ok(Units::new(Vec::from_slice(alloc, text.as_slice())?))
 }
 
-// The same three texts once more.
+/// The same three texts once more.
 fn copies_of(
     alloc: Global,
     first: &Units,

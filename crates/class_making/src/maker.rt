@@ -3,9 +3,9 @@ ghost use Rattle.std.specs.Prelude.{◌≡◌, [], length, IfOk, OnOk};
 ghost use Rattle.class_making.specs.Making.{with_item, mention, index_of, entry_of, pool_of};
 
 use crate::item::{Item, copy_of};
+use base::NoMemory;
 use class_pool::{Entry, Pool, Units};
 use indexmap::IndexSet;
-use jop_base::NoMemory;
 use std::alloc::Global;
 use std::marker::Model;
 
@@ -45,7 +45,7 @@ impl PoolMaker {
         self.items.len()
     }
 
-    // Puts the item last, unless it is there.
+    /// Puts the item last, unless it is there.
     fn put(&mut self, item: Item) -> Result<(), NoMemory>
         ensures { OnOk result (self.new ≡ with_item self.old item) }
     {
@@ -68,7 +68,7 @@ impl PoolMaker {
         self.mention_text(alloc, name)
     }
 
-    // Mentions a name and a descriptor.
+    /// Mentions a name and a descriptor.
     fn mention_pair(
         &mut self,
         alloc: Global,
@@ -134,7 +134,7 @@ impl PoolMaker {
         Ok(self.index_of(&Item::NameAndType(name, descriptor)))
     }
 
-    // The indexes of two texts.
+    /// The indexes of two texts.
     fn text_indexes(
         &self,
         alloc: Global,
@@ -147,7 +147,7 @@ impl PoolMaker {
         Ok((first, self.text_index(alloc, second)?))
     }
 
-    // The indexes of a member's class, and of its name and descriptor.
+    /// The indexes of a member's class, and of its name and descriptor.
     fn member_indexes(
         &self,
         alloc: Global,
@@ -161,7 +161,7 @@ impl PoolMaker {
         Ok((owner, self.pair_index(alloc, name, descriptor)?))
     }
 
-    // The entry of an item.
+    /// The entry of an item.
     fn entry_of(&self, alloc: Global, item: &Item) -> Result<Entry, NoMemory>
         ensures { IfOk result (λ e. e ≡ entry_of self.now item.now) }
     {

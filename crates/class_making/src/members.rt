@@ -8,10 +8,9 @@ use crate::item::Item;
 use crate::maker::PoolMaker;
 use crate::parts::text;
 use crate::plan::{CodePlan, FieldPlan, MethodPlan, Piece};
+use base::{Items, NoMemory};
 use byteorder::{BigEndian, ByteOrder};
 use class_pool::{Attribute, Body, Code, Member};
-use items::Items;
-use jop_base::NoMemory;
 use std::alloc::Global;
 
 fn put_piece(maker: &PoolMaker, out: &mut Vec<u8>, piece: &Piece) -> Result<(), NoMemory>
@@ -38,14 +37,14 @@ fn bytes_of(maker: &PoolMaker, alloc: Global, pieces: &[Piece]) -> Result<Vec<u8
     Ok(bytes)
 }
 
-// The index of an ASCII text.
+/// The index of an ASCII text.
 fn ascii_index(maker: &PoolMaker, alloc: Global, ascii: &str) -> Result<u16, NoMemory>
     ensures { IfOk result (λ i. i ≡ index_of maker.now (Item.Text ascii.now)) }
 {
     maker.text_index(alloc, &text(alloc, ascii)?)
 }
 
-// The attributes of code: its StackMapTable, if it has one.
+/// The attributes of code: its StackMapTable, if it has one.
 fn stack_map(
     maker: &PoolMaker,
     alloc: Global,

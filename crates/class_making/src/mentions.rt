@@ -8,9 +8,8 @@ use crate::item::Item;
 use crate::maker::PoolMaker;
 use crate::parts::text;
 use crate::plan::{ClassPlan, CodePlan, FieldPlan, MethodPlan, Piece};
+use base::{Items, NoMemory};
 use class_pool::Units;
-use items::Items;
-use jop_base::NoMemory;
 use std::alloc::Global;
 
 #[tactic(auto, using(crate::proofs::MentionLemmas::each_append))]
@@ -42,14 +41,14 @@ fn mention_pieces(maker: &mut PoolMaker, alloc: Global, pieces: &[Piece]) -> Res
     Ok(())
 }
 
-// Mentions an ASCII text.
+/// Mentions an ASCII text.
 fn mention_ascii(maker: &mut PoolMaker, alloc: Global, ascii: &str) -> Result<(), NoMemory>
     ensures { OnOk result (maker.new ≡ mention maker.old (Item.Text ascii.now)) }
 {
     maker.mention_text(alloc, &text(alloc, ascii)?)
 }
 
-// Mentions the name of the table of frames, if there is one.
+/// Mentions the name of the table of frames, if there is one.
 fn mention_stack_map(
     maker: &mut PoolMaker,
     alloc: Global,
@@ -119,7 +118,7 @@ fn mention_methods(
     Ok(())
 }
 
-// The superclass, if there is one, and the superinterfaces.
+/// The superclass, if there is one, and the superinterfaces.
 #[tactic(auto, using(crate::proofs::MentionLemmas::each_append))]
 fn mention_supertypes(
     maker: &mut PoolMaker,

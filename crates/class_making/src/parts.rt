@@ -4,9 +4,8 @@ ghost use Rattle.class_making.specs.Plans.{field_plan, method_plan, bare_class};
 
 use crate::item::Item;
 use crate::plan::{ClassPlan, CodePlan, FieldPlan, MethodPlan, Piece};
+use base::{Items, NoMemory};
 use class_pool::Units;
-use items::Items;
-use jop_base::NoMemory;
 use std::alloc::Global;
 
 /// The units of an ASCII text.

@@ -1,8 +1,8 @@
 //! Classes as plans: what a class file says, with items where it has indexes.
 
 use crate::item::Item;
+use base::Items;
 use class_pool::Units;
-use items::Items;
 
 /// A class or an interface.
 #[derive(Drop)]

@@ -7,7 +7,7 @@ use Rattle.class_pool.specs.declared.tag.Tag.TheVariants.{Utf8, Integer, Float, 
 use Rattle.class_pool.specs.Utf8.{utf8_bytes, AreUnits}
 use Rattle.class_pool.specs.Spelling.{u2, u4, u8, entry_bytes, IsInRange}
 use Rattle.class_pool.specs.Grammar.{is_second}
-use Rattle.jop_base.specs.Reading.{◌>>=◌}
+use Rattle.base.specs.Reading.{◌>>=◌}
 use Rattle.class_pool.specs.Reading.{number_in, byte_in, utf8_in, indexes_in, handle_in, tag_number, tags, first_with, tag_in, as_entry, parts_in, place_in}
 use Rattle.class_pool.specs.NumberLaws.{IsBytes, IsBytes-rest, bind_some, same_some, Takes, Takes-then, wide_2, wide_4, wide_8, number_takes, number_again, byte_takes}
 use Rattle.class_pool.proofs.TextLaws.{utf8_takes, utf8_again}

@@ -2,10 +2,10 @@
 use Rattle.std.proofs.Common.{◌≡◌, ℕ, suc, ◌+◌, ◌-◌, ◌<◌, ◌≤◌, Bool, true, false, List, [], ◌∷◌, ◌++◌, Option, Some, None, refl, sym, ap, ◌∙◌, append_assoc, arith}
 use Rattle.std.proofs.lemmas.List.{append-nil}
 use Rattle.class_pool.specs.declared.entry.Entry.{Entry}
-use Rattle.jop_base.specs.declared.fault.FormatFault.{FormatFault}
-use Rattle.jop_base.specs.declared.fault.FormatFault.TheVariants as faults
+use Rattle.base.specs.declared.fault.FormatFault.{FormatFault}
+use Rattle.base.specs.declared.fault.FormatFault.TheVariants as faults
 use Rattle.class_pool.specs.Grammar.{takes_two}
-use Rattle.jop_base.specs.Reading.{◌>>=◌, Fails}
+use Rattle.base.specs.Reading.{◌>>=◌, Fails}
 use Rattle.class_pool.specs.Reading.{place_in, places_in}
 
 abbrev Found : Type 0

@@ -6,11 +6,11 @@ use Rattle.std.specs.List.{flat_map, list_all, AllByRecursion}
 use Rattle.std.proofs.lemmas.List.{take_at, length-append}
 use Rattle.std.proofs.lemmas.List.Concat.{flat_map-cons}
 use Rattle.class_pool.specs.declared.entry.Entry.{Entry}
-use Rattle.jop_base.specs.declared.fault.FormatFault.{FormatFault}
-use Rattle.jop_base.specs.declared.fault.FormatFault.TheVariants as faults
+use Rattle.base.specs.declared.fault.FormatFault.{FormatFault}
+use Rattle.base.specs.declared.fault.FormatFault.TheVariants as faults
 use Rattle.class_pool.specs.Spelling.{u2, entry_bytes, IsInRange, pool_bytes}
 use Rattle.class_pool.specs.Grammar.{takes_two, HaveSeconds, points_rightly, IsPool, IsPoolOf}
-use Rattle.jop_base.specs.Reading.{◌>>=◌, Fails}
+use Rattle.base.specs.Reading.{◌>>=◌, Fails}
 use Rattle.class_pool.specs.Reading.{number_in, place_in, places_in, pool_in}
 use Rattle.class_pool.specs.NumberLaws.{IsBytes, bind_some, same_some, Takes, Takes-then, wide_2, number_takes, number_again}
 use Rattle.class_pool.proofs.EntryLaws.{place_takes, place_again}

@@ -3,7 +3,7 @@ use Rattle.std.proofs.Common.{◌≡◌, ℕ, zero, suc, ◌+◌, ◌*◌, ◌/�
 use Rattle.std.proofs.lemmas.Bool.{ltb-true, ltb-false, lt-ltb, le-ltb, and_parts, and_from, or_cases}
 use Rattle.std.proofs.lemmas.List.Concat.{flat_map-cons}
 use Rattle.class_pool.specs.Utf8.{is_single, two_bytes, three_bytes, unit_bytes, utf8_bytes, AreUnits}
-use Rattle.jop_base.specs.Reading.{◌>>=◌}
+use Rattle.base.specs.Reading.{◌>>=◌}
 use Rattle.class_pool.specs.Reading.{is_pair, pair, is_triple, triple, unit_in, units_in, with_unit, utf8_in, number_in, front_in}
 use Rattle.class_pool.specs.Spelling.{u2}
 use Rattle.class_pool.specs.NumberLaws.{IsBytes, IsBytes-behind, bind_some, same_some, Takes, Takes-then, wide_2, number_takes, number_again, front_takes, front_again}

@@ -2,7 +2,7 @@
 use Rattle.std.proofs.Common.{◌≡◌, ℕ, suc, ◌<◌, Bool, true, false, cond, List, [], ◌∷◌, ◌++◌, length, Option, Some, None, refl, sym, ap, subst, ◌∙◌, append_assoc, arith}
 use Rattle.std.proofs.lemmas.List.{append-nil}
 use Rattle.class_pool.specs.Utf8.{is_single}
-use Rattle.jop_base.specs.Reading.{◌>>=◌}
+use Rattle.base.specs.Reading.{◌>>=◌}
 use Rattle.class_pool.specs.Reading.{is_pair, pair, is_triple, triple, unit_in, units_in, with_unit}
 
 pub some_is : {A : Type 0} (x y : A) → Some x ≡ Some y → x ≡ y

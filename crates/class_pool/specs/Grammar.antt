@@ -1,8 +1,10 @@
 -- Which entries are a pool, and what its indexes point at: JVM Specification SE 8, 4.4.
-use Rattle.std.specs.Prelude.{◌≡◌, ℕ, zero, suc, ◌+◌, ◌<◌, ◌^◌, Bool, true, false, ◌&&◌, ◌||◌, ◌==◌, nat_le, if◌then◌else◌, IsTrue, Option, Some, None, List, [], ◌∷◌, length, slice_get}
+use Rattle.std.specs.Prelude.{◌≡◌, ℕ, zero, suc, ◌+◌, ◌<◌, ◌^◌, Bool, true, false, ◌&&◌, ◌||◌, ◌==◌, nat_le, if◌then◌else◌, IsTrue, Option, Some, None, List}
+use Rattle.std.specs.Prelude.{[], ◌∷◌, length, slice_get}
 use Rattle.std.specs.List.{AllByRecursion}
 use Rattle.class_pool.specs.declared.entry.Entry.{Entry}
-use Rattle.class_pool.specs.declared.entry.Entry.TheVariants.{Utf8, Long, Double, Class, Text, Field, Method, InterfaceMethod, NameAndType, Handle, MethodType, Dynamic, Second}
+use Rattle.class_pool.specs.declared.entry.Entry.TheVariants.{Utf8, Long, Double, Class, Text, Field, Method, InterfaceMethod, NameAndType, Handle, MethodType}
+use Rattle.class_pool.specs.declared.entry.Entry.TheVariants.{Dynamic, Second}
 use Rattle.class_pool.specs.Spelling.{pool_bytes, IsInRange}
 
 -- Long and Double take two places (4.4.5)

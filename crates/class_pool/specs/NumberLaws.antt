@@ -1,11 +1,12 @@
 -- A part that is read is the part that was spelled, and what was spelled is read again: numbers and runs of bytes.
-use Rattle.std.proofs.Common.{◌≡◌, ℕ, suc, ◌+◌, ◌^◌, ◌<◌, ◌≤◌, Bool, true, false, cond, ltb, List, [], ◌∷◌, ◌++◌, length, get_or, take, drop, Option, Some, None, refl, sym, ap, subst, ◌∙◌, append_assoc, arith, inl, inr}
+use Rattle.std.proofs.Common.{◌≡◌, ℕ, suc, ◌+◌, ◌^◌, ◌<◌, ◌≤◌, Bool, true, false, cond, ltb, List, [], ◌∷◌, ◌++◌, length, get_or, take, drop, Option, Some}
+use Rattle.std.proofs.Common.{None, refl, sym, ap, subst, ◌∙◌, append_assoc, arith, inl, inr}
 use Rattle.std.proofs.lemmas.Bool.{cases_lt, ltb-false, le-ltb}
 use Rattle.std.proofs.lemmas.List.{take_at, drop_at, take-append-drop, length-append, length-take, get_or-drop, get_or-take, get_or_past}
 use Rattle.std.proofs.lemmas.Nat.{be_bytes_2, be_bytes_4, be_bytes_8}
 use Rattle.byteorder.specs.Endian.{big_bytes, big_number}
 use Rattle.byteorder.specs.Numbers.{big_number-reads_back, big_from-append, big_from-lt}
-use Rattle.jop_base.specs.Reading.{◌>>=◌}
+use Rattle.base.specs.Reading.{◌>>=◌}
 use Rattle.class_pool.specs.Reading.{number_in, byte_in, front_in}
 
 abbrev pub IsBytes : List ℕ → Type 0
@@ -64,7 +65,8 @@ wide_4 = record { len = λ x. refl; back = λ bytes len fits. be_bytes_4 bytes (
 pub wide_8 : IsWide 8
 wide_8 = record { len = λ x. refl; back = λ bytes len fits. be_bytes_8 bytes (big_number 8 bytes) len fits (omega arith) }
 
-pub number_takes : (n : ℕ) (wide : IsWide n) (bytes : List ℕ) (x : ℕ) (rest : List ℕ) → IsBytes bytes → number_in n bytes ≡ Some (x, rest) → Takes bytes (big_bytes n x) rest × (x < 256 ^ n)
+pub number_takes : (n : ℕ) (wide : IsWide n) (bytes : List ℕ) (x : ℕ) (rest : List ℕ) → IsBytes bytes → number_in n bytes ≡ Some (x, rest)
+    → Takes bytes (big_bytes n x) rest × (x < 256 ^ n)
 number_takes n wide bytes x rest fits e =
     let g = guard_some (ltb (length bytes) n) (big_number n bytes, drop n bytes) (x, rest) e in
     let long : n ≤ length bytes = ltb-false _ _ g.0 in
@@ -72,9 +74,11 @@ number_takes n wide bytes x rest fits e =
     let rest-is : drop n bytes ≡ rest = ap (λ (p : ℕ × List ℕ). p.1) g.1 in
     let len : length (take n bytes) ≡ n = omega (arith, length-take n bytes) in
     let whole : take n bytes ++ drop n bytes ≡ bytes = take-append-drop n bytes in
-    let same : big_number n bytes ≡ big_number n (take n bytes) = ap (big_number n) (sym whole) ∙ big_from-append n (take n bytes) (drop n bytes) (omega arith) in
+    let same : big_number n bytes ≡ big_number n (take n bytes) = ap (big_number n) (sym whole) ∙ big_from-append n (take n bytes) (drop n bytes)
+    (omega arith) in
     let front : big_bytes n (big_number n bytes) ≡ take n bytes = ap (big_bytes n) same ∙ wide.back (take n bytes) len (IsBytes-take n bytes fits) in
-    let made : Takes bytes (big_bytes n (big_number n bytes)) (drop n bytes) = record { parts = sym whole ∙ ap (λ (t : List ℕ). t ++ drop n bytes) (sym front); rest_fits = IsBytes-drop n bytes fits } in
+    let made : Takes bytes (big_bytes n (big_number n bytes))
+    (drop n bytes) = record { parts = sym whole ∙ ap (λ (t : List ℕ). t ++ drop n bytes) (sym front); rest_fits = IsBytes-drop n bytes fits } in
     let P : ℕ × List ℕ → Type 0 = λ p. Takes bytes (big_bytes n p.0) p.1 × (p.0 < 256 ^ n) in
     subst P g.1 (made, big_from-lt 0 n bytes fits)
 
@@ -91,7 +95,8 @@ byte_takes (b ∷ bytes) x rest fits e =
     subst P (same_some (b, bytes) (x, rest) e) (record { parts = refl; rest_fits = IsBytes-rest b bytes fits }, fits 0)
 
 -- so many bytes
-pub front_takes : (n : ℕ) (bytes text rest : List ℕ) → IsBytes bytes → front_in n bytes ≡ Some (text, rest) → Takes bytes text rest × (length text ≡ n) × IsBytes text
+pub front_takes : (n : ℕ) (bytes text rest : List ℕ) → IsBytes bytes → front_in n bytes ≡ Some (text, rest)
+    → Takes bytes text rest × (length text ≡ n) × IsBytes text
 front_takes n bytes text rest fits e =
     let g = guard_some (ltb (length bytes) n) (take n bytes, drop n bytes) (text, rest) e in
     let long : n ≤ length bytes = ltb-false _ _ g.0 in

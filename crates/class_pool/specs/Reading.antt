@@ -1,12 +1,14 @@
 -- Reading a pool from the front of bytes: what was read and the bytes behind it, or nothing.
-use Rattle.std.specs.Prelude.{ℕ, zero, suc, ◌+◌, ◌-◌, ◌*◌, ◌%◌, ◌/◌, Bool, true, false, ◌&&◌, ◌||◌, ◌==◌, nat_lt, nat_le, if◌then◌else◌, List, [], ◌∷◌, length, take, drop, Option, Some, None}
+use Rattle.std.specs.Prelude.{ℕ, zero, suc, ◌+◌, ◌-◌, ◌*◌, ◌%◌, ◌/◌, Bool, true, false, ◌&&◌, ◌||◌, ◌==◌, nat_lt, nat_le, if◌then◌else◌, List, [], ◌∷◌, length}
+use Rattle.std.specs.Prelude.{take, drop, Option, Some, None}
 use Rattle.std.specs.List.{list_all}
 use Rattle.byteorder.specs.Endian.{big_number}
 use Rattle.class_pool.specs.declared.entry.Entry.{Entry}
 use Rattle.class_pool.specs.declared.entry.Entry.TheVariants as entries
 use Rattle.class_pool.specs.declared.tag.Tag.{Tag}
-use Rattle.class_pool.specs.declared.tag.Tag.TheVariants.{Utf8, Integer, Float, Long, Double, Class, Text, Field, Method, InterfaceMethod, NameAndType, Handle, MethodType, Dynamic}
-use Rattle.jop_base.specs.Reading.{◌>>=◌}
+use Rattle.class_pool.specs.declared.tag.Tag.TheVariants.{Utf8, Integer, Float, Long, Double, Class, Text, Field, Method, InterfaceMethod, NameAndType, Handle}
+use Rattle.class_pool.specs.declared.tag.Tag.TheVariants.{MethodType, Dynamic}
+use Rattle.base.specs.Reading.{◌>>=◌}
 use Rattle.class_pool.specs.Utf8.{is_single}
 use Rattle.class_pool.specs.Grammar.{takes_two, points_rightly}
 
@@ -36,7 +38,8 @@ unit_in [] = None
 unit_in (a ∷ []) = if is_single a then Some (a, []) else None
 unit_in (a ∷ b ∷ []) = if is_single a then Some (a, b ∷ []) else if is_pair a b then Some (pair a b, []) else None
 unit_in (a ∷ b ∷ c ∷ rest) =
-    if is_single a then Some (a, b ∷ c ∷ rest) else if is_pair a b then Some (pair a b, c ∷ rest) else if is_triple a b c then Some (triple a b c, rest) else None
+    if is_single a then Some (a, b ∷ c ∷ rest) else if is_pair a b then Some (pair a b, c ∷ rest) else if is_triple a b c then Some
+    (triple a b c, rest) else None
 
 abbrev pub with_unit : ℕ → Option (List ℕ) → Option (List ℕ)
 with_unit unit read = read >>= λ units. Some (unit ∷ units)
@@ -47,7 +50,8 @@ units_in [] = Some []
 units_in (a ∷ []) = if is_single a then Some (a ∷ []) else None
 units_in (a ∷ b ∷ []) = if is_single a then with_unit a (units_in (b ∷ [])) else if is_pair a b then Some (pair a b ∷ []) else None
 units_in (a ∷ b ∷ c ∷ rest) =
-    if is_single a then with_unit a (units_in (b ∷ c ∷ rest)) else if is_pair a b then with_unit (pair a b) (units_in (c ∷ rest)) else if is_triple a b c then with_unit (triple a b c) (units_in rest) else None
+    if is_single a then with_unit a (units_in (b ∷ c ∷ rest)) else if is_pair a b then with_unit (pair a b)
+    (units_in (c ∷ rest)) else if is_triple a b c then with_unit (triple a b c) (units_in rest) else None
 
 -- so many bytes
 abbrev pub front_in : ℕ → List ℕ → Option (List ℕ × List ℕ)

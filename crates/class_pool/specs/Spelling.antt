@@ -3,7 +3,8 @@ use Rattle.std.specs.Prelude.{ℕ, ◌+◌, ◌<◌, ◌^◌, List, [], ◌∷�
 use Rattle.std.specs.List.{flat_map}
 use Rattle.byteorder.specs.Endian.{big_bytes}
 use Rattle.class_pool.specs.declared.entry.Entry.{Entry}
-use Rattle.class_pool.specs.declared.entry.Entry.TheVariants.{Utf8, Integer, Float, Long, Double, Class, Text, Field, Method, InterfaceMethod, NameAndType, Handle, MethodType, Dynamic, Second}
+use Rattle.class_pool.specs.declared.entry.Entry.TheVariants.{Utf8, Integer, Float, Long, Double, Class, Text, Field, Method, InterfaceMethod, NameAndType}
+use Rattle.class_pool.specs.declared.entry.Entry.TheVariants.{Handle, MethodType, Dynamic, Second}
 use Rattle.class_pool.specs.Utf8.{utf8_bytes, AreUnits}
 
 -- numbers of 2, 4 and 8 bytes, the highest byte first

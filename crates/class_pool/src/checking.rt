@@ -14,7 +14,7 @@ const MOST_BYTES: usize = 0xFFFF;
 
 const MOST_ENTRIES: usize = 0xFFFE;
 
-// The bytes of a unit.
+/// The bytes of a unit.
 fn unit_length(unit: u16) -> usize
     ensures { result ≡ length (unit_bytes unit) }
 {
@@ -25,7 +25,7 @@ fn unit_length(unit: u16) -> usize
     }
 }
 
-// Whether the text takes at most 65,535 bytes.
+/// Whether the text takes at most 65,535 bytes.
 fn has_bytes(units: &[u16]) -> bool
     ensures { IsTrue result ↔ (AreUnits units.now × (length (utf8_bytes units.now) < 2 ^ 16)) }
 {
@@ -39,7 +39,7 @@ fn has_bytes(units: &[u16]) -> bool
     true
 }
 
-// All but texts fit by their types, which the proof learns where they are read.
+/// All but texts fit by their types, which the proof learns where they are read.
 fn is_in_range(entry: &Entry) -> bool
     ensures { IsTrue result ↔ IsInRange entry.now }
 {
@@ -64,7 +64,7 @@ fn are_in_range(entries: &[Entry]) -> bool
     entries.iter().all(is_in_range)
 }
 
-// Whether a second place stands exactly behind each entry that takes two.
+/// Whether a second place stands exactly behind each entry that takes two.
 fn have_seconds(entries: &[Entry]) -> bool
     ensures { IsTrue result ↔ HaveSeconds false entries.now }
 {

@@ -1,5 +1,7 @@
+//! A class file as a value (4.1 and 4.5 to 4.7).
+
 use crate::pool::Pool;
-use items::Items;
+use base::Items;
 
 /// A class file (JVM Specification SE 8, 4.1). The indexes are those of entries of the pool.
 #[derive(Drop)]

@@ -1,3 +1,5 @@
+//! Entries of a constant pool (4.4).
+
 use crate::units::Units;
 
 /// An entry of a pool, or the second place of one that takes two (JVM Specification SE 8, 4.4).

@@ -3,7 +3,7 @@ ghost use Rattle.std.specs.Prelude.{◌≡◌};
 ghost use Rattle.class_pool.specs.Kind.{is_named, kind_of};
 
 use crate::pool::Pool;
-use items::is_text;
+use base::is_text;
 
 /// What an attribute is an attribute of.
 #[derive(Clone, Copy)]

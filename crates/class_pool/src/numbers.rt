@@ -1,11 +1,11 @@
 //! Big-endian numbers at the front of bytes, each with the bytes behind it.
 ghost use Rattle.std.specs.Prelude.{◌≡◌, IfErr};
-ghost use Rattle.jop_base.specs.declared.fault.FormatFault.TheVariants.{Bad};
-ghost use Rattle.jop_base.specs.Reading.{Gives};
+ghost use Rattle.base.specs.declared.fault.FormatFault.TheVariants.{Bad};
+ghost use Rattle.base.specs.Reading.{Gives};
 ghost use Rattle.class_pool.specs.Reading.{number_in, byte_in};
 
+use base::FormatFault;
 use byteorder::{BigEndian, ByteOrder};
-use jop_base::FormatFault;
 
 pub fn u8_at(bytes: &[u8]) -> Result<(u8, &[u8]), FormatFault>
     ensures read { Gives (λ x. (x.0, x.1.now)) result (byte_in bytes.now) }

@@ -1,15 +1,17 @@
+//! A constant pool (4.4).
+
 ghost use Rattle.std.specs.Prelude.{◌≡◌, ℕ, ◌+◌, ◌-◌, ◌≤◌, ◌++◌, List, length, take, IfOk, Err, MatchResult, option_map};
 ghost use Rattle.class_pool.specs.declared.entry.Entry.{Entry};
 ghost use Rattle.class_pool.specs.Spelling.{pool_bytes};
 ghost use Rattle.class_pool.specs.Grammar.{IsPool, IsPoolOf, entry_at, utf8_of, class_name_of, name_and_type_of};
-ghost use Rattle.jop_base.specs.Reading.{Gives};
+ghost use Rattle.base.specs.Reading.{Gives};
 ghost use Rattle.class_pool.specs.Reading.{pool_in};
 
 use crate::entry::Entry;
 use crate::numbers::u16_at;
 use crate::reading::places_at;
 use crate::references::{all_point_rightly, entry_at};
-use jop_base::FormatFault;
+use base::FormatFault;
 use std::alloc::Global;
 use std::marker::Model;
 
@@ -41,13 +43,6 @@ impl Pool {
         ensures { result.now ≡ self.now }
     {
         &self.entries
-    }
-
-    /// The entries, given back.
-    pub fn into_entries(self) -> Vec<Entry>
-        ensures { result.items ≡ self }
-    {
-        self.entries
     }
 
     /// The units of a text, and `None` where the index is that of no text.

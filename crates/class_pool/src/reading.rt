@@ -1,14 +1,14 @@
 //! Entries at the front of bytes.
 ghost use Rattle.std.specs.Prelude.{◌≡◌, false};
 ghost use Rattle.class_pool.specs.Grammar.{takes_two};
-ghost use Rattle.jop_base.specs.Reading.{Gives};
+ghost use Rattle.base.specs.Reading.{Gives};
 ghost use Rattle.class_pool.specs.Reading.{indexes_in, handle_in, parts_in, place_in, places_in};
 
 use crate::entry::Entry;
 use crate::numbers::{u8_at, u16_at, u32_at, u64_at};
 use crate::tag::{Tag, tag_of};
 use crate::text::utf8_at;
-use jop_base::FormatFault;
+use base::FormatFault;
 use std::alloc::Global;
 
 #[tactic(auto, unfolding(crate::specs::Reading::indexes_in))]
@@ -29,7 +29,7 @@ fn handle_at(bytes: &[u8]) -> Result<((u8, u16), &[u8]), FormatFault>
     Ok(((kind, reference), rest))
 }
 
-// The parts of an entry behind its tag.
+/// The parts of an entry behind its tag.
 #[tactic(auto, unfolding(crate::specs::Reading::parts_in))]
 fn parts_at(alloc: Global, tag: Tag, bytes: &[u8]) -> Result<(Entry, &[u8]), FormatFault>
     ensures { Gives (λ x. (x.0, x.1.now)) result (parts_in tag bytes.now) }
@@ -100,7 +100,7 @@ pub(crate) fn takes_two(entry: &Entry) -> bool
     matches!(entry, Entry::Long(_) | Entry::Double(_))
 }
 
-// The entry of the next place, which may be due as the second one.
+/// The entry of the next place, which may be due as the second one.
 #[tactic(auto, unfolding(crate::specs::Reading::place_in))]
 fn place_at(alloc: Global, due: bool, bytes: &[u8]) -> Result<(Entry, &[u8]), FormatFault>
     ensures { Gives (λ x. (x.0, x.1.now)) result (place_in due bytes.now) }
@@ -115,7 +115,7 @@ fn place_at(alloc: Global, due: bool, bytes: &[u8]) -> Result<(Entry, &[u8]), Fo
     parts_at(alloc, tag, rest)
 }
 
-// So many places.
+/// So many places.
 pub(crate) fn places_at(
     alloc: Global,
     count: u16,

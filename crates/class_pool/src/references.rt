@@ -52,7 +52,7 @@ fn is_name_and_type(entries: &[Entry], index: u16) -> bool
     matches!(entry_at(entries, index), Some(Entry::NameAndType(_, _)))
 }
 
-// Whether a method handle of this kind may refer to the entry (JVM Specification SE 8, 4.4.8).
+/// Whether a method handle of this kind may refer to the entry (JVM Specification SE 8, 4.4.8).
 fn is_handled(entries: &[Entry], kind: u8, index: u16) -> bool
     ensures { result ≡ is_handled kind (entry_at entries.now index) }
 {
@@ -64,7 +64,7 @@ fn is_handled(entries: &[Entry], kind: u8, index: u16) -> bool
     }
 }
 
-// Whether each index of the entry points at an entry of the right tag.
+/// Whether each index of the entry points at an entry of the right tag.
 fn points_rightly(entries: &[Entry], entry: &Entry) -> bool
     ensures { result ≡ points_rightly entries.now entry.now }
 {

@@ -1,3 +1,5 @@
+//! Tags of entries of a constant pool (table 4.4-A).
+
 ghost use Rattle.std.specs.Prelude.{◌≡◌};
 ghost use Rattle.class_pool.specs.Reading.{tag_in};
 

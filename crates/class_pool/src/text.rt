@@ -1,12 +1,12 @@
 //! Texts in their one spelling (JVM Specification SE 8, 4.4.7).
 ghost use Rattle.std.specs.Prelude.{◌≡◌, option_map};
 ghost use Rattle.class_pool.specs.Utf8.{is_single};
-ghost use Rattle.jop_base.specs.Reading.{Gives};
+ghost use Rattle.base.specs.Reading.{Gives};
 ghost use Rattle.class_pool.specs.Reading.{is_pair, is_triple, unit_in, units_in, utf8_in};
 
 use crate::numbers::u16_at;
 use crate::units::Units;
-use jop_base::FormatFault;
+use base::FormatFault;
 use std::alloc::Global;
 
 fn is_single(a: u8) -> bool
@@ -27,7 +27,7 @@ fn is_triple(a: u8, b: u8, c: u8) -> bool
     a / 16 == 14 && b / 64 == 2 && c / 64 == 2 && (225 <= a || 160 <= b)
 }
 
-// The unit at the front, and the bytes behind it.
+/// The unit at the front, and the bytes behind it.
 #[tactic(auto, unfolding(crate::specs::Reading::unit_in))]
 fn unit_at(bytes: &[u8]) -> Option<(u16, &[u8])>
     ensures { option_map (λ x. (x.0, x.1.now)) result ≡ unit_in bytes.now }
@@ -45,7 +45,7 @@ fn unit_at(bytes: &[u8]) -> Option<(u16, &[u8])>
     }
 }
 
-// The text that all of the bytes spell.
+/// The text that all of the bytes spell.
 fn units_of(alloc: Global, bytes: &[u8]) -> Result<Units, FormatFault>
     ensures { Gives (λ x. x) result (units_in bytes.now) }
 {
@@ -61,7 +61,7 @@ fn units_of(alloc: Global, bytes: &[u8]) -> Result<Units, FormatFault>
     Ok(Units::new(units))
 }
 
-// The number of bytes, and the text that they spell.
+/// The number of bytes, and the text that they spell.
 #[tactic(auto, unfolding(crate::specs::Reading::utf8_in))]
 pub(crate) fn utf8_at(alloc: Global, bytes: &[u8]) -> Result<(Units, &[u8]), FormatFault>
     ensures { Gives (λ x. (x.0, x.1.now)) result (utf8_in bytes.now) }

@@ -2,7 +2,7 @@
 ghost use Rattle.std.specs.Prelude.{◌≡◌, ◌++◌, IfOk, OnOk};
 ghost use Rattle.class_pool.specs.Utf8.{unit_bytes, utf8_bytes};
 
-use jop_base::NoMemory;
+use base::NoMemory;
 use std::alloc::Global;
 
 fn put_unit(out: &mut Vec<u8>, unit: u16) -> Result<(), NoMemory>

@@ -1,5 +1,6 @@
 -- What a text of a pool is: JVM Specification SE 8, 4.2 and 4.3.
-use Rattle.std.specs.Prelude.{ℕ, zero, suc, Bool, false, not, ◌==◌, if◌then◌else◌, nat_eq, List, map, codes, Option, Some, None, option_map, is_none, is_some, slice_get}
+use Rattle.std.specs.Prelude.{ℕ, zero, suc, Bool, false, not, ◌==◌, if◌then◌else◌, nat_eq, List, map, codes, Option, Some, None, option_map, is_none, is_some}
+use Rattle.std.specs.Prelude.{slice_get}
 use lib.Pointwise.{pointwise}
 use Rattle.class_pool.specs.declared.entry.Entry.{Entry}
 use Rattle.class_pool.specs.declared.entry.Entry.TheVariants as entries

@@ -24,4 +24,5 @@ MethodsHaveCode = (c : ClassFile) (m : Member) → IsRightMethod c m →
 -- the constant that a field has is right
 abbrev pub FieldsHaveConstants : Type 0
 FieldsHaveConstants = (c : ClassFile) (m : Member) → IsRightField c m → (index : ℕ) → constant_value_of m ≡ Some index →
-    (IsSet m.flags acc_static → HasText c.pool m.descriptor (IsConstantOf (entry_at c.pool index))) × (¬ IsSet m.flags acc_static → IsConstant (entry_at c.pool index))
+    (IsSet m.flags acc_static → HasText c.pool m.descriptor (IsConstantOf (entry_at c.pool index)))
+    × (¬ IsSet m.flags acc_static → IsConstant (entry_at c.pool index))

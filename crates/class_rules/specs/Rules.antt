@@ -17,7 +17,8 @@ use Rattle.descriptors.specs.declared.descriptor.MethodType.{MethodType}
 use Rattle.descriptors.specs.Names.{is_class_name, is_unqualified, is_method_name, has_no_parenthesis}
 use Rattle.descriptors.specs.Descriptors.{IsFieldDescriptor, IsMethodDescriptor, argument_words}
 use Rattle.class_rules.specs.Tests.{is_code, is_constant_value, is_frame_table}
-use Rattle.class_rules.specs.Flags.{acc_public, acc_private, acc_protected, acc_static, acc_final, acc_synchronized, acc_native, acc_interface, acc_abstract, acc_strict, IsSet}
+use Rattle.class_rules.specs.Flags.{acc_public, acc_private, acc_protected, acc_static, acc_final, acc_synchronized, acc_native, acc_interface, acc_abstract}
+use Rattle.class_rules.specs.Flags.{acc_strict, IsSet}
 
 -- ---- texts of the pool
 
@@ -147,7 +148,8 @@ IsConstant entry = IsInteger entry ⊎ IsFloat entry ⊎ IsLong entry ⊎ IsDoub
 -- a ConstantValue names a constant, that of a static field one of its descriptor's type (4.7.2)
 abbrev pub IsRightConstant : List Entry → Member → Body → Type 0
 IsRightConstant pool m (ConstantValue index) =
-    (IsSet m.flags acc_static → HasText pool m.descriptor (IsConstantOf (entry_at pool index))) × (¬ IsSet m.flags acc_static → IsConstant (entry_at pool index))
+    (IsSet m.flags acc_static → HasText pool m.descriptor (IsConstantOf (entry_at pool index)))
+    × (¬ IsSet m.flags acc_static → IsConstant (entry_at pool index))
 IsRightConstant pool m body = Unit {0}
 
 -- a field (4.5)
@@ -163,7 +165,8 @@ pub record IsRightField (c : ClassFile) (m : Member) : Type 0 where
 -- a method's arguments take at most 255 words, `this` among them (4.3.3)
 abbrev pub TakesFewWords : ℕ → List ℕ → Type 0
 TakesFewWords flags units =
-    (t : MethodType) × IsMethodDescriptor units t × ((IsSet flags acc_static → argument_words t.parameters ≤ 255) × (¬ IsSet flags acc_static → argument_words t.parameters + 1 ≤ 255))
+    (t : MethodType) × IsMethodDescriptor units t × ((IsSet flags acc_static → argument_words t.parameters ≤ 255)
+    × (¬ IsSet flags acc_static → argument_words t.parameters + 1 ≤ 255))
 
 -- what an abstract method is not (4.6)
 pub record IsPlain (flags : ℕ) : Type 0 where

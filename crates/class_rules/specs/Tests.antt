@@ -1,6 +1,7 @@
 -- The rules as the code tests them, over what each text is (Forms). What they say stands in Rules, and that the two
 -- are the same is a law.
-use Rattle.std.specs.Prelude.{ℕ, ◌+◌, Bool, true, false, not, ◌&&◌, ◌||◌, ◌==◌, nat_le, nat_eq, if◌then◌else◌, List, [], ◌∷◌, length, codes, count_by, Option, Some, None, is_some, unwrap_or, bit_and}
+use Rattle.std.specs.Prelude.{ℕ, ◌+◌, Bool, true, false, not, ◌&&◌, ◌||◌, ◌==◌, nat_le, nat_eq, if◌then◌else◌, List, [], ◌∷◌, length, codes, count_by, Option}
+use Rattle.std.specs.Prelude.{Some, None, is_some, unwrap_or, bit_and}
 use Rattle.std.specs.List.{list_all, list_any}
 use lib.Pointwise.{pointwise}
 use Rattle.class_pool.specs.declared.entry.Entry.{Entry}
@@ -18,7 +19,8 @@ use Rattle.class_rules.specs.declared.forms.Call.{Call}
 use Rattle.class_rules.specs.declared.forms.Form.{Form}
 use Rattle.class_pool.specs.Kind.{is_named}
 use Rattle.class_rules.specs.Forms.{form_at, no_form}
-use Rattle.class_rules.specs.Flags.{acc_public, acc_private, acc_protected, acc_static, acc_final, acc_synchronized, acc_native, acc_interface, acc_abstract, acc_strict}
+use Rattle.class_rules.specs.Flags.{acc_public, acc_private, acc_protected, acc_static, acc_final, acc_synchronized, acc_native, acc_interface, acc_abstract}
+use Rattle.class_rules.specs.Flags.{acc_strict}
 
 -- some of these flags are set
 abbrev pub has : ℕ → ℕ → Bool
@@ -99,7 +101,8 @@ is_right_body pool body = true
 
 -- at most one of public, private and protected (4.5, 4.6)
 abbrev pub has_one_access : ℕ → Bool
-has_one_access flags = not (has flags acc_public && has flags acc_private) && not (has flags acc_public && has flags acc_protected) && not (has flags acc_private && has flags acc_protected)
+has_one_access flags = not (has flags acc_public && has flags acc_private) && not (has flags acc_public && has flags acc_protected)
+    && not (has flags acc_private && has flags acc_protected)
 
 -- the fields of an interface are public, static and final (4.5)
 abbrev pub is_interface_field : ℕ → ℕ → Bool
@@ -125,7 +128,8 @@ fits_field (Some constant) entry = fits_constant constant entry
 
 -- a ConstantValue points at a constant, that of a static field at one of its descriptor's kind (4.7.2)
 abbrev pub is_right_constant : List Entry → ℕ → Option Constant → Body → Bool
-is_right_constant pool flags constant (ConstantValue index) = if has flags acc_static then fits_field constant (entry_at pool index) else is_constant (entry_at pool index)
+is_right_constant pool flags constant (ConstantValue index) = if has flags acc_static then fits_field constant (entry_at pool index) else is_constant
+    (entry_at pool index)
 is_right_constant pool flags constant body = true
 
 -- a field (4.5)
@@ -158,7 +162,8 @@ is_right_initializer class_flags flags call = not (has class_flags acc_interface
 -- one Code exactly where the method is neither abstract nor native (4.7.3)
 abbrev pub has_right_code : List Entry → Member → Bool
 has_right_code pool m =
-    (count_by is_code m.attributes == (if has m.flags acc_abstract || has m.flags acc_native then 0 else 1)) && list_all (λ a. is_right_body pool a.body) m.attributes
+    (count_by is_code m.attributes == (if has m.flags acc_abstract || has m.flags acc_native then 0 else 1))
+    && list_all (λ a. is_right_body pool a.body) m.attributes
 
 -- a method (4.6)
 abbrev pub is_right_method : List Entry → List Form → ℕ → Member → Bool

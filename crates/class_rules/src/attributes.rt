@@ -5,9 +5,9 @@ ghost use Rattle.class_pool.specs.Grammar.{entry_at, is_utf8};
 ghost use Rattle.class_rules.specs.Tests.{are_named, is_code, is_constant_value, catches_class, is_frame_table, is_right_code, is_right_body};
 
 use crate::pool::{is_class, is_utf8};
+use base::Items;
 use class_pool::kind::is_named;
 use class_pool::{Attribute, Body, Code, Pool};
-use items::Items;
 
 pub(crate) fn are_named(pool: &Pool, attributes: &[Attribute]) -> bool
     ensures { result ≡ are_named pool.now attributes.now }
@@ -56,7 +56,7 @@ pub(crate) fn constants_of(attributes: &[Attribute]) -> usize
     count
 }
 
-// Whether the class of an exception entry is 0 or a class.
+/// Whether the class of an exception entry is 0 or a class.
 fn catches_class(pool: &Pool, caught: u16) -> bool
     ensures { result ≡ catches_class pool.now caught }
 {
@@ -103,7 +103,7 @@ fn frame_tables(pool: &Pool, attributes: &[(u16, Items<u8>)]) -> usize
     count
 }
 
-// Whether a method may have the code.
+/// Whether a method may have the code.
 fn is_right_code(pool: &Pool, code: &Code) -> bool
     ensures { result ≡ is_right_code pool.now code.now }
 {

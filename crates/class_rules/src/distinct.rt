@@ -7,12 +7,12 @@ ghost use Rattle.class_pool.specs.Grammar.{utf8_of};
 ghost use Rattle.class_rules.specs.Tests.{are_distinct};
 ghost use Rattle.class_rules.specs.Distinct.{number_in, AreNumbers, key_of};
 
+use base::NoMemory;
 use class_pool::{Entry, Member, Pool};
-use jop_base::NoMemory;
 use std::alloc::Global;
 use std::collections::{BTreeMap, BTreeSet};
 
-// The units of a text, and none for any other entry.
+/// The units of a text, and none for any other entry.
 fn text_of(entry: &Entry) -> &[u16]
     ensures { result.now ≡ unwrap_or (utf8_of (Some entry.now)) [] }
 {
@@ -22,7 +22,7 @@ fn text_of(entry: &Entry) -> &[u16]
     }
 }
 
-// The number of a text: the one that it has, or the next one, which it then has.
+/// The number of a text: the one that it has, or the next one, which it then has.
 fn number_of<'a>(
     numbers: &mut BTreeMap<&'a [u16], usize>,
     text: &'a [u16],
@@ -63,7 +63,7 @@ fn number_at(numbers: &[usize], index: u16) -> usize
     }
 }
 
-// The numbers of a member's name and descriptor.
+/// The numbers of a member's name and descriptor.
 fn key_of(numbers: &[usize], m: &Member) -> (usize, usize)
     ensures { result ≡ key_of numbers.now m.now }
 {

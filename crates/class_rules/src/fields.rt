@@ -17,7 +17,7 @@ fn is_interface_field(class_flags: u16, flags: u16) -> bool
         || (has(flags, ACC_PUBLIC) && has(flags, ACC_STATIC) && has(flags, ACC_FINAL))
 }
 
-// Whether the entry is a constant of the kind.
+/// Whether the entry is a constant of the kind.
 fn fits_constant(pool: &Pool, constant: Constant, index: u16) -> bool
     ensures { result ≡ fits_constant constant (entry_at pool.now index) }
 {
@@ -61,7 +61,7 @@ fn fits_field(pool: &Pool, constant: Option<Constant>, index: u16) -> bool
     }
 }
 
-// Whether a field of these flags, of a type of this constant, may have the body.
+/// Whether a field of these flags, of a type of this constant, may have the body.
 fn is_right_constant(pool: &Pool, flags: u16, constant: Option<Constant>, body: &Body) -> bool
     ensures { result ≡ is_right_constant pool.now flags constant body.now }
 {

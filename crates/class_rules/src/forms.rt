@@ -4,13 +4,12 @@ ghost use Rattle.descriptors.specs.Parsing.{field_in, method_in};
 ghost use Rattle.class_rules.specs.Forms.{constant_of, field_constant, is_array, call_of, is_string, form_of, no_form, entry_form, form_in, form_at};
 ghost use Rattle.std.specs.Option.{option_copied};
 
+use base::{FormatFault, NoMemory, is_text};
 use class_pool::Entry;
 use descriptors::names::{
     has_no_parenthesis, is_class_name, is_instance_initializer, is_method_name, is_unqualified,
 };
 use descriptors::{Element, FieldType, argument_words, field_type, method_type};
-use items::is_text;
-use jop_base::{FormatFault, NoMemory};
 use std::alloc::Global;
 
 /// The constant that a field of a type may have (JVM Specification SE 8, table 4.7.2-A).
@@ -53,7 +52,7 @@ pub struct Form {
     pub method: Option<Call>,
 }
 
-// Whether the units are `java/lang/String`.
+/// Whether the units are `java/lang/String`.
 fn is_string(units: &[u16]) -> bool
     ensures { result ≡ is_string units.now }
 {
@@ -101,7 +100,7 @@ fn field_constant(field: &Option<FieldType>) -> Option<Constant>
     }
 }
 
-// What a field's descriptor says, and whether it is of an array.
+/// What a field's descriptor says, and whether it is of an array.
 fn field_of(alloc: Global, units: &[u16]) -> Result<Option<FieldType>, NoMemory>
     ensures { IfOk result (λ x. x ≡ field_in units.now) }
 {
@@ -143,7 +142,7 @@ fn form_of(alloc: Global, units: &[u16]) -> Result<Form, NoMemory>
     })
 }
 
-// What an entry that is no text is.
+/// What an entry that is no text is.
 fn no_form() -> Form
     ensures { result ≡ no_form }
 {

@@ -11,7 +11,7 @@ use crate::flags::{
 use crate::forms::{Call, Form, form_at};
 use class_pool::{Member, Pool};
 
-// At most 255 words, with `this`.
+/// At most 255 words, with `this`.
 fn takes_words(flags: u16, call: Option<Call>) -> bool
     ensures { result ≡ takes_words flags call }
 {

@@ -19,7 +19,7 @@ pub(crate) fn is_class(pool: &Pool, index: u16) -> bool
     pool.class_name(index).is_some()
 }
 
-// What the descriptor of a name and type is.
+/// What the descriptor of a name and type is.
 fn described(pool: &Pool, forms: &[Form], index: u16) -> Form
     ensures { result ≡ described forms.now (entry_at pool.now index) }
 {
@@ -29,7 +29,7 @@ fn described(pool: &Pool, forms: &[Form], index: u16) -> Form
     }
 }
 
-// Whether the name and the descriptor of an entry have their forms.
+/// Whether the name and the descriptor of an entry have their forms.
 fn names_rightly(pool: &Pool, forms: &[Form], entry: &Entry) -> bool
     ensures { result ≡ names_rightly pool.now forms.now entry.now }
 {

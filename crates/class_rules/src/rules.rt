@@ -12,8 +12,8 @@ use crate::forms::{Form, forms_of};
 use crate::laws::rules_are_tests;
 use crate::methods::are_right_methods;
 use crate::pool::{all_name_classes, all_name_rightly, names_class};
+use base::NoMemory;
 use class_pool::ClassFile;
-use jop_base::NoMemory;
 use std::alloc::Global;
 
 fn has_class_flags(flags: u16) -> bool
@@ -40,7 +40,7 @@ fn have_right_members(forms: &[Form], class: &ClassFile) -> bool
         && are_named(pool, class.attributes.as_slice())
 }
 
-// Whether no two members are alike.
+/// Whether no two members are alike.
 fn have_distinct(alloc: Global, class: &ClassFile) -> Result<bool, NoMemory>
     ensures { IfOk result (λ b. b ≡ have_distinct class.now) }
 {
@@ -50,7 +50,7 @@ fn have_distinct(alloc: Global, class: &ClassFile) -> Result<bool, NoMemory>
     Ok(fields && methods)
 }
 
-// Whether the other tests pass, where the forms are those of the pool.
+/// Whether the other tests pass, where the forms are those of the pool.
 fn are_right(forms: &[Form], class: &ClassFile) -> bool
     ensures { result ≡ are_right forms.now class.now }
 {
@@ -60,7 +60,7 @@ fn are_right(forms: &[Form], class: &ClassFile) -> bool
         && have_right_members(forms, class)
 }
 
-// Whether the class file passes the tests.
+/// Whether the class file passes the tests.
 fn passes(alloc: Global, class: &ClassFile) -> Result<bool, NoMemory>
     ensures { IfOk result (λ b. b ≡ passes (forms_of class.now.pool) class.now) }
 {

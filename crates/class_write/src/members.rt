@@ -7,8 +7,8 @@ ghost use Rattle.class_write.specs.Room.{IsRoomy, IsRoomyMember};
 
 use crate::numbers::put_u16;
 use crate::parts::{bytes_of, put_framed};
+use base::NoMemory;
 use class_pool::{Attribute, Member};
-use jop_base::NoMemory;
 use std::alloc::Global;
 
 fn put_attribute(alloc: Global, out: &mut Vec<u8>, a: &Attribute) -> Result<(), NoMemory>

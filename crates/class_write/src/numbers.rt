@@ -2,8 +2,8 @@
 ghost use Rattle.std.specs.Prelude.{◌≡◌, ◌++◌, OnOk};
 ghost use Rattle.class_pool.specs.Spelling.{u2, u4, u8 as u8_bytes};
 
+use base::NoMemory;
 use byteorder::{BigEndian, ByteOrder};
-use jop_base::NoMemory;
 
 pub(crate) fn put_u16(out: &mut Vec<u8>, n: u16) -> Result<(), NoMemory>
     ensures { OnOk result (out.new.items ≡ out.old.items ++ u2 n) }

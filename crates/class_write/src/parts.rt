@@ -6,9 +6,8 @@ ghost use Rattle.class_pool.specs.Structure.{AreCounted, IsHandler, IsNamed, IsC
 ghost use Rattle.class_write.specs.Room.{HasRoom};
 
 use crate::numbers::{put_u16, put_u32};
+use base::{Items, NoMemory};
 use class_pool::{Body, Code};
-use items::Items;
-use jop_base::NoMemory;
 use std::alloc::Global;
 
 fn put_handler(out: &mut Vec<u8>, h: &(u16, u16, u16, u16)) -> Result<(), NoMemory>

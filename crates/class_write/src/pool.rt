@@ -6,9 +6,9 @@ ghost use Rattle.class_pool.specs.Spelling.{u2, entry_bytes, IsInRange, pool_byt
 ghost use Rattle.class_pool.specs.Grammar.{IsPool};
 
 use crate::numbers::{put_u16, put_u32, put_u64};
+use base::NoMemory;
 use class_pool::utf8::text_bytes;
 use class_pool::{Entry, Pool};
-use jop_base::NoMemory;
 use std::alloc::Global;
 
 fn put_text(alloc: Global, out: &mut Vec<u8>, units: &[u16]) -> Result<(), NoMemory>
@@ -36,7 +36,7 @@ fn put_two(out: &mut Vec<u8>, tag: u8, first: u16, second: u16) -> Result<(), No
     put_u16(out, second)
 }
 
-// An entry, its tag first.
+/// An entry, its tag first.
 fn put_entry(alloc: Global, out: &mut Vec<u8>, entry: &Entry) -> Result<(), NoMemory>
     requires { IsInRange entry.now }
     ensures { OnOk result (out.new.items ≡ out.old.items ++ entry_bytes entry.now) }

@@ -7,9 +7,9 @@ ghost use Rattle.class_rules.specs.Grammar.{IsClass, IsClassOf};
 use crate::members::{put_attributes, put_indexes, put_members};
 use crate::numbers::{put_u16, put_u32};
 use crate::pool::put_pool;
+use base::NoMemory;
 use class_file::laws::one_class;
 use class_pool::ClassFile;
-use jop_base::NoMemory;
 use std::alloc::Global;
 
 fn put_header(out: &mut Vec<u8>, minor: u16, major: u16) -> Result<(), NoMemory>

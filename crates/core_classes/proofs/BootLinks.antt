@@ -10,7 +10,7 @@ use Rattle.lists.specs.Numbers.{reached}
 use Rattle.lists.specs.Lemmas.{index_append}
 use Rattle.class_pool.specs.declared.class.Member.{Member}
 use Rattle.class_pool.specs.declared.class.ClassFile.{ClassFile}
-use Rattle.jop_opcodes.specs.declared.instruction.Instr.{Instr}
+use Rattle.opcodes.specs.declared.instruction.Instr.{Instr}
 use Rattle.descriptors.specs.declared.descriptor.Element.TheVariants as elements
 use Rattle.descriptors.specs.Names.{is_class_name}
 use Rattle.descriptors.specs.Parsing.{field_in}

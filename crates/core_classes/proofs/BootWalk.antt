@@ -6,14 +6,14 @@ use Rattle.std.proofs.Math.Seq.{drop-cons}
 use Rattle.std.proofs.lemmas.List.{drop_all}
 use Rattle.std.proofs.lemmas.Option.{slice_get_cases}
 use Rattle.class_pool.specs.Spelling as spelling
-use Rattle.jop_opcodes.specs.declared.instruction.Instr.{Instr}
-use Rattle.jop_opcodes.specs.declared.instruction.DecodeFault.{DecodeFault}
-use Rattle.jop_opcodes.specs.declared.instruction.DecodeFault.TheVariants.{Short}
-use Rattle.jop_opcodes.specs.Bytes.{u1}
-use Rattle.jop_opcodes.specs.Form.{Absent, UnsignedShort, Fixed, Operands, one}
-use Rattle.jop_opcodes.specs.Row.{row_of}
-use Rattle.jop_opcodes.specs.Instruction.{decoded, within, spelled_at, fixed_at}
-use Rattle.jop_opcodes.specs.Start.{starts_of, starts_from, place_behind}
+use Rattle.opcodes.specs.declared.instruction.Instr.{Instr}
+use Rattle.opcodes.specs.declared.instruction.DecodeFault.{DecodeFault}
+use Rattle.opcodes.specs.declared.instruction.DecodeFault.TheVariants.{Short}
+use Rattle.opcodes.specs.Bytes.{u1}
+use Rattle.opcodes.specs.Form.{Absent, UnsignedShort, Fixed, Operands, one}
+use Rattle.opcodes.specs.Row.{row_of}
+use Rattle.opcodes.specs.Instruction.{decoded, within, spelled_at, fixed_at}
+use Rattle.opcodes.specs.Start.{starts_of, starts_from, place_behind}
 use Rattle.bytecode_model.specs.Program.{as_instr}
 use Rattle.class_making.specs.declared.item.Item.{Item}
 use Rattle.class_making.specs.declared.item.Item.TheVariants.{Class, Method}

@@ -10,9 +10,9 @@ use Rattle.class_lookup.specs.Hierarchy.{find_class, superclass, superinterfaces
 use Rattle.class_lookup.specs.Lookup.{find_field, find_method}
 use Rattle.class_lookup.specs.Selection.{select, special}
 use Rattle.descriptors.specs.Parsing.{primitive_in, split_in, class_in, element_in, type_from, types_in, field_in, result_in, method_in}
-use Rattle.jop_opcodes.specs.Row.{row_of}
-use Rattle.jop_opcodes.specs.Instruction.{decoded}
-use Rattle.jop_opcodes.specs.Start.{starts_of}
+use Rattle.opcodes.specs.Row.{row_of}
+use Rattle.opcodes.specs.Instruction.{decoded}
+use Rattle.opcodes.specs.Start.{starts_of}
 use Rattle.program_tables.specs.Instructions.{instructions_in}
 use Rattle.program_tables.specs.Placed.{duplicate_of}
 use Rattle.program_tables.specs.Unsupported.{unsupported_in}

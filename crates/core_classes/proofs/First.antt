@@ -17,9 +17,9 @@ use Rattle.class_lookup.specs.Hierarchy.{find_class, superclass, superinterfaces
 use Rattle.class_lookup.specs.Lookup.{Place, method_at, find_field, find_method}
 use Rattle.class_lookup.specs.Selection.{select, special}
 use Rattle.descriptors.specs.Parsing.{primitive_in, split_in, class_in, element_in, type_from, types_in, field_in, result_in, method_in}
-use Rattle.jop_opcodes.specs.Row.{row_of}
-use Rattle.jop_opcodes.specs.Instruction.{decoded}
-use Rattle.jop_opcodes.specs.Start.{starts_of}
+use Rattle.opcodes.specs.Row.{row_of}
+use Rattle.opcodes.specs.Instruction.{decoded}
+use Rattle.opcodes.specs.Start.{starts_of}
 use Rattle.program_tables.specs.Core.{core_names, raised_classes}
 use Rattle.program_tables.specs.Numbers.{own_instance_fields, instance_fields}
 use Rattle.program_tables.specs.Instructions.{instructions_in}

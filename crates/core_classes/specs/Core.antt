@@ -125,7 +125,8 @@ throwable_plan = serializable_class open_class throwable_name message_field (pla
 
 -- aload_0, aload_1, invokespecial the superclass's, return
 unfoldable pub handing_init : (superclass : List ℕ) → MethodPlan
-handing_init superclass = public_method init_name takes_string 2 2 (Byte 0x2A ∷ Byte 0x2B ∷ Byte 0xB7 ∷ Index (Method superclass init_name takes_string) ∷ Byte 0xB1 ∷ [])
+handing_init superclass = public_method init_name takes_string 2 2
+    (Byte 0x2A ∷ Byte 0x2B ∷ Byte 0xB7 ∷ Index (Method superclass init_name takes_string) ∷ Byte 0xB1 ∷ [])
 
 unfoldable pub error_plan : (flags : ℕ) (name superclass : List ℕ) → ClassPlan
 error_plan flags name superclass = bare_class flags name (Some superclass) (plain_init superclass ∷ handing_init superclass ∷ [])
@@ -189,7 +190,8 @@ call_pieces name = Byte 0xB8 ∷ Index (Method name (codes "<clinit>") no_argume
 
 -- iconst_0, anewarray String, invokestatic main, return
 unfoldable pub main_pieces : List ℕ → List Piece
-main_pieces main = Byte 0x03 ∷ Byte 0xBD ∷ Index (Class string_name) ∷ Byte 0xB8 ∷ Index (Method main (codes "main") (codes "([Ljava/lang/String;)V")) ∷ Byte 0xB1 ∷ []
+main_pieces main = Byte 0x03 ∷ Byte 0xBD ∷ Index (Class string_name) ∷ Byte 0xB8 ∷ Index (Method main (codes "main") (codes "([Ljava/lang/String;)V"))
+    ∷ Byte 0xB1 ∷ []
 
 unfoldable pub boot_pieces : (calls : List (List ℕ)) (main : List ℕ) → List Piece
 boot_pieces calls main = flat_map call_pieces calls ++ main_pieces main

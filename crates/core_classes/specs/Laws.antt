@@ -24,7 +24,8 @@ IsCalled name = IsClassName name × IsPoolText name
 
 -- so is the class that is run, whichever classes it calls
 abbrev pub BootIsAClass : Type 0
-BootIsAClass = (calls : List (List ℕ)) (main : List ℕ) → length calls ≤ 10000 → AllByRecursion IsCalled calls → IsCalled main → IsClass (boot calls main) × HasBytes (boot calls main)
+BootIsAClass = (calls : List (List ℕ)) (main : List ℕ) → length calls ≤ 10000 → AllByRecursion IsCalled calls → IsCalled main
+    → IsClass (boot calls main) × HasBytes (boot calls main)
 
 -- ---- what they say
 

@@ -19,7 +19,8 @@ CoreIsLinkable = (others : List ClassFile) → find_class others [] ≡ None →
 -- before other classes, of which the last has such a method
 abbrev pub CoreStandsFirst : Type 0
 CoreStandsFirst = (others : List ClassFile) (last : ClassFile) (boot : Member) → find_class (others ++ last ∷ []) [] ≡ None
-    → slice_get last.methods 0 ≡ Some boot → IsTrue (is_static boot && has_code boot) → signature_of last boot ≡ record { name = boot_method; descriptor = boot_descriptor }
+    → slice_get last.methods 0 ≡ Some boot → IsTrue (is_static boot && has_code boot)
+    → signature_of last boot ≡ record { name = boot_method; descriptor = boot_descriptor }
     → HasCore (core ++ (others ++ last ∷ []))
 
 abbrev pub CoreIsSupported : Type 0
@@ -48,12 +49,14 @@ BootIsSupported = (calls : List (List ℕ)) (main : List ℕ) → length calls �
 
 -- if no other class has its name, and each has one, and it calls methods that are there
 abbrev pub BootIsLinkable : Type 0
-BootIsLinkable = (ks : List ClassFile) (calls : List (List ℕ)) (main : List ℕ) → length calls ≤ 10000 → find_class (core ++ ks) boot_name ≡ None → find_class ks [] ≡ None
+BootIsLinkable = (ks : List ClassFile) (calls : List (List ℕ)) (main : List ℕ) → length calls ≤ 10000 → find_class (core ++ ks) boot_name ≡ None
+    → find_class ks [] ≡ None
     → AllByRecursion (λ name. DeclaresStatic (core ++ (ks ++ boot calls main ∷ [])) name initializer) calls
     → DeclaresStatic (core ++ (ks ++ boot calls main ∷ [])) main main_signature
     → IsLinkable (core ++ (ks ++ boot calls main ∷ [])) (length (core ++ ks)) (boot calls main)
 
 -- it isn't above itself, whatever it calls
 abbrev pub BootIsOnNoCycle : Type 0
-BootIsOnNoCycle = (ks : List ClassFile) (calls : List (List ℕ)) (main : List ℕ) → length calls ≤ 10000 → find_class (core ++ ks) boot_name ≡ None → find_class ks [] ≡ None
+BootIsOnNoCycle = (ks : List ClassFile) (calls : List (List ℕ)) (main : List ℕ) → length calls ≤ 10000 → find_class (core ++ ks) boot_name ≡ None
+    → find_class ks [] ≡ None
     → is_on_a_cycle (core ++ (ks ++ boot calls main ∷ [])) (length (core ++ ks)) ≡ false

@@ -3,11 +3,11 @@ ghost use Rattle.std.specs.Prelude.{◌≡◌, ◌≤◌, length, IfOk};
 ghost use Rattle.core_classes.specs.Core.{call_pieces, main_pieces, boot_pieces, boot_method, boot_plan, boot};
 
 use crate::table::made;
+use base::NoMemory;
 use class_making::laws::items_are_few;
 use class_making::parts::{Room, class, method, method_item, text};
 use class_making::{ClassPlan, Item, MethodPlan, Piece, copy_of};
 use class_pool::{ClassFile, Units};
-use jop_base::NoMemory;
 use std::alloc::Global;
 
 /// The flags of the class: final, with ACC_SUPER, and not public.
@@ -16,7 +16,7 @@ const FINAL: u16 = 0x0030;
 /// The flags of its method: private and static.
 const PRIVATE_STATIC: u16 = 0x000A;
 
-// The call of a class's initialization method.
+/// The call of a class's initialization method.
 #[tactic(auto, unfolding(crate::specs::Core::call_pieces))]
 fn call_pieces(alloc: Global, name: &Units) -> Result<Vec<Piece>, NoMemory>
     ensures { IfOk result (λ pieces. pieces.items ≡ call_pieces name.now) }
@@ -25,7 +25,7 @@ fn call_pieces(alloc: Global, name: &Units) -> Result<Vec<Piece>, NoMemory>
     Ok(vec![in alloc; Piece::Byte(0xB8), Piece::Index(initializer)]?)
 }
 
-// The call of main with an array of no strings, and the return.
+/// The call of main with an array of no strings, and the return.
 #[tactic(auto, unfolding(crate::specs::Core::main_pieces))]
 fn main_pieces(alloc: Global, main: &Units) -> Result<Vec<Piece>, NoMemory>
     ensures { IfOk result (λ pieces. pieces.items ≡ main_pieces main.now) }

@@ -1,14 +1,15 @@
 //! The core classes, which stand before all others.
 ghost use Rattle.std.specs.Prelude.{◌≡◌, ◌≤◌, ◌++◌, length, map, IfOk, OnOk};
 ghost use Rattle.class_making.specs.Plans.{items_of, class_of};
-ghost use Rattle.core_classes.specs.Core.{serializable_class, empty_init, object_plan, interface_plan, length_method, char_at_method, string_plan, plain_init, keeping_init, get_message_method, throwable_plan, handing_init, error_of, read_method, write_method, io_plan, first_plans, core_plans, core};
+ghost use Rattle.core_classes.specs.Core.{serializable_class, empty_init, object_plan, interface_plan, length_method, char_at_method, string_plan, plain_init};
+ghost use Rattle.core_classes.specs.Core.{keeping_init, get_message_method, throwable_plan, handing_init, error_of, read_method, write_method, io_plan};
+ghost use Rattle.core_classes.specs.Core.{first_plans, core_plans, core};
 
+use base::{Items, NoMemory};
 use class_making::laws::items_are_few;
 use class_making::parts::{Room, class, field, field_item, method, method_item, text};
 use class_making::{ClassPlan, FieldPlan, MakeFault, MethodPlan, Piece, make};
 use class_pool::ClassFile;
-use items::Items;
-use jop_base::NoMemory;
 use std::alloc::Global;
 
 /// The flags of a class that may have subclasses, of an abstract and of a final one, and of an interface: public, and
@@ -94,7 +95,7 @@ static ERRORS: [ErrorClass; 17] = errors! {
     OPEN_CLASS "java/lang/StackOverflowError" "java/lang/VirtualMachineError";
 };
 
-// The constructor of java/lang/Object.
+/// The constructor of java/lang/Object.
 #[tactic(auto, unfolding(crate::specs::Core::empty_init))]
 fn empty_init(alloc: Global) -> Result<MethodPlan, NoMemory>
     ensures { IfOk result (λ method. method ≡ empty_init) }
@@ -107,7 +108,7 @@ fn empty_init(alloc: Global) -> Result<MethodPlan, NoMemory>
     method(alloc, PUBLIC, INIT, NO_ARGUMENTS, room, pieces)
 }
 
-// The constructor that calls that of the superclass.
+/// The constructor that calls that of the superclass.
 #[tactic(auto, unfolding(crate::specs::Core::plain_init))]
 fn plain_init(alloc: Global, superclass: &str) -> Result<MethodPlan, NoMemory>
     ensures { IfOk result (λ method. method ≡ plain_init superclass.now) }
@@ -122,7 +123,7 @@ fn plain_init(alloc: Global, superclass: &str) -> Result<MethodPlan, NoMemory>
     method(alloc, PUBLIC, INIT, NO_ARGUMENTS, ONE, pieces)
 }
 
-// The constructor that hands its message on to the superclass.
+/// The constructor that hands its message on to the superclass.
 #[tactic(auto, unfolding(crate::specs::Core::handing_init))]
 fn handing_init(alloc: Global, superclass: &str) -> Result<MethodPlan, NoMemory>
     ensures { IfOk result (λ method. method ≡ handing_init superclass.now) }
@@ -138,7 +139,7 @@ fn handing_init(alloc: Global, superclass: &str) -> Result<MethodPlan, NoMemory>
     method(alloc, PUBLIC, INIT, TAKES_STRING, TWO, pieces)
 }
 
-// The constructor of java/lang/Throwable that keeps its message.
+/// The constructor of java/lang/Throwable that keeps its message.
 #[tactic(auto, unfolding(crate::specs::Core::keeping_init))]
 fn keeping_init(alloc: Global) -> Result<MethodPlan, NoMemory>
     ensures { IfOk result (λ method. method ≡ keeping_init) }
@@ -230,7 +231,7 @@ fn write(alloc: Global) -> Result<MethodPlan, NoMemory>
     method(alloc, PUBLIC_STATIC, "write", "(I)V", ONE, pieces)
 }
 
-// A serializable class with a field.
+/// A serializable class with a field.
 fn serializable_class(
     alloc: Global,
     flags: u16,
@@ -312,7 +313,7 @@ fn io_plan(alloc: Global) -> Result<ClassPlan, NoMemory>
     class(alloc, FINAL_CLASS, "jop/Io", Some(object), methods)
 }
 
-// Adds the classes before the exceptions.
+/// Adds the classes before the exceptions.
 fn add_first_plans(plans: &mut Vec<ClassPlan>, alloc: Global) -> Result<(), NoMemory>
     ensures { OnOk result (plans.new.items ≡ plans.old.items ++ first_plans) }
 {
@@ -324,7 +325,7 @@ fn add_first_plans(plans: &mut Vec<ClassPlan>, alloc: Global) -> Result<(), NoMe
     Ok(())
 }
 
-// The classes of a table.
+/// The classes of a table.
 fn plans_of(alloc: Global, errors: &[ErrorClass]) -> Result<Vec<ClassPlan>, NoMemory>
     ensures { IfOk result (λ plans. plans.items ≡ map error_of errors.now) }
 {
@@ -335,7 +336,7 @@ fn plans_of(alloc: Global, errors: &[ErrorClass]) -> Result<Vec<ClassPlan>, NoMe
     Ok(plans)
 }
 
-// Adds the plans of the core classes.
+/// Adds the plans of the core classes.
 fn add_core_plans(plans: &mut Vec<ClassPlan>, alloc: Global) -> Result<(), NoMemory>
     ensures { OnOk result (plans.new.items ≡ plans.old.items ++ core_plans) }
 {
@@ -371,7 +372,7 @@ pub(crate) fn made(alloc: Global, plan: &ClassPlan) -> Result<ClassFile, NoMemor
     }
 }
 
-// The class files of the plans of the core classes.
+/// The class files of the plans of the core classes.
 fn classes_of(alloc: Global, plans: &[ClassPlan]) -> Result<Vec<ClassFile>, NoMemory>
     requires { plans.now ≡ core_plans }
     ensures { IfOk result (λ classes. classes.items ≡ map class_of plans.now) }

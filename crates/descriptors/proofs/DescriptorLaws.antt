@@ -6,14 +6,14 @@ use Rattle.std.proofs.lemmas.Bool.{ltb-true, lt-ltb, and_parts}
 use Rattle.std.proofs.lemmas.Option.{same_Some}
 use Rattle.std.proofs.lemmas.List.{append-nil, length-append, nil_from_length}
 use Rattle.std.proofs.lemmas.List.Concat.{flat_map-cons}
-use Rattle.jop_base.specs.Reading.{◌>>=◌}
+use Rattle.base.specs.Reading.{◌>>=◌}
 use Rattle.descriptors.specs.declared.descriptor.Element.{Element}
 use Rattle.descriptors.specs.declared.descriptor.Element.TheVariants.{Byte, Char, Double, Float, Int, Long, Class, Short, Boolean}
 use Rattle.descriptors.specs.declared.descriptor.FieldType.{FieldType}
 use Rattle.descriptors.specs.declared.descriptor.MethodType.{MethodType}
 use Rattle.descriptors.specs.Names.{is_plain, is_path, is_class_name}
 use Rattle.descriptors.specs.Descriptors.{letter_of, behind_letter, type_units, IsElement, IsType, argument_words, result_units, IsResult, IsFieldDescriptor, IsMethodDescriptor}
-use Rattle.jop_base.specs.Reading.{whole}
+use Rattle.base.specs.Reading.{whole}
 use Rattle.descriptors.specs.Parsing.{behind, primitives, first_with, primitive_in, split_in, class_in, element_in, with_dimensions, type_from, type_in, types_in, field_in, result_in, method_in}
 use Rattle.descriptors.proofs.TypeLemmas.{types_more}
 

@@ -6,9 +6,9 @@ use Rattle.descriptors.specs.Descriptors.{argument_words}
 use Rattle.std.proofs.lemmas.List.{append-nil}
 use Rattle.std.proofs.Common.{ne_eqb}
 use Rattle.std.proofs.lemmas.Bool.{lt-ltb, le-ltb}
-use Rattle.jop_base.specs.declared.fault.FormatFault.{FormatFault}
-use Rattle.jop_base.specs.declared.fault.FormatFault.TheVariants as faults
-use Rattle.jop_base.specs.Reading.{◌>>=◌, Fails}
+use Rattle.base.specs.declared.fault.FormatFault.{FormatFault}
+use Rattle.base.specs.declared.fault.FormatFault.TheVariants as faults
+use Rattle.base.specs.Reading.{◌>>=◌, Fails}
 use Rattle.descriptors.specs.declared.descriptor.FieldType.{FieldType}
 use Rattle.descriptors.specs.Parsing.{behind, split_in, element_in, with_dimensions, type_from, type_in, types_in}
 

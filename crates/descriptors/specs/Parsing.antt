@@ -1,6 +1,6 @@
 -- Reading types from the front of units: what was read and the units behind it, or nothing.
 use Rattle.std.specs.Prelude.{ℕ, zero, suc, ◌+◌, ◌&&◌, ◌==◌, nat_lt, nat_le, if◌then◌else◌, List, [], ◌∷◌, length, Option, Some, None}
-use Rattle.jop_base.specs.Reading.{◌>>=◌, whole}
+use Rattle.base.specs.Reading.{◌>>=◌, whole}
 use Prim.Native.Char.{code}
 use Rattle.descriptors.specs.declared.descriptor.Element.{Element}
 use Rattle.descriptors.specs.declared.descriptor.Element.TheVariants.{Byte, Char, Double, Float, Int, Long, Class, Short, Boolean}
@@ -44,7 +44,8 @@ with_dimensions n read = read >>= λ x. Some (record { dimensions = n; element =
 -- behind so many [
 unfoldable pub type_from : ℕ → List ℕ → Option (FieldType × List ℕ)
 type_from n [] = None
-type_from n (unit ∷ units) = if unit == code "[" then (if nat_lt n 255 then type_from (n + 1) units else None) else with_dimensions n (element_in (unit ∷ units))
+type_from n (unit ∷ units) = if unit == code "[" then (if nat_lt n 255 then type_from (n + 1) units else None) else with_dimensions n
+    (element_in (unit ∷ units))
 
 abbrev pub type_in : List ℕ → Option (FieldType × List ℕ)
 type_in units = type_from 0 units

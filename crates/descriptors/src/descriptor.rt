@@ -1,12 +1,11 @@
 //! Types and their descriptors (JVM Specification SE 8, 4.3).
 ghost use Rattle.std.specs.Prelude.{◌≡◌, ◌≤◌, option_map, length, nat_le, if◌then◌else◌, Some, None, IfOk};
-ghost use Rattle.jop_base.specs.Reading.{Gives};
+ghost use Rattle.base.specs.Reading.{Gives};
 ghost use Rattle.descriptors.specs.Descriptors.{words_of, argument_words};
 ghost use Rattle.descriptors.specs.Parsing.{behind, primitive_in, split_in, class_in, element_in, type_in, types_in, field_in, result_in, method_in};
 
 use crate::names::is_class_name;
-use items::Items;
-use jop_base::FormatFault;
+use base::{FormatFault, Items};
 use std::alloc::Global;
 
 /// A type that is no array: a primitive type, or a class or an interface by its name.
@@ -38,7 +37,7 @@ pub struct MethodType {
     pub result: Option<FieldType>,
 }
 
-// The letters of tables 4.3-A and 4.3.3, and what stands around them.
+/// The letters of tables 4.3-A and 4.3.3, and what stands around them.
 const BYTE: u16 = b'B' as u16;
 
 const CHAR: u16 = b'C' as u16;
@@ -85,7 +84,7 @@ fn primitive_of(letter: u16) -> Option<Element>
     Some(element)
 }
 
-// The units before the first `;` and those behind it.
+/// The units before the first `;` and those behind it.
 fn split_at_semicolon(units: &[u16]) -> Option<(&[u16], &[u16])>
     ensures { option_map (λ x. (x.0.now, x.1.now)) result ≡ split_in units.now }
 {
@@ -127,7 +126,7 @@ fn element_at(alloc: Global, units: &[u16]) -> Result<(Element, &[u16]), FormatF
     }
 }
 
-// What stands behind this unit, if it is the first.
+/// What stands behind this unit, if it is the first.
 fn behind(wanted: u16, units: &[u16]) -> Option<&[u16]>
     ensures { option_map (λ x. x.now) result ≡ behind wanted units.now }
 {
@@ -137,7 +136,7 @@ fn behind(wanted: u16, units: &[u16]) -> Option<&[u16]>
     }
 }
 
-// The type at the front, and the units behind it.
+/// The type at the front, and the units behind it.
 #[tactic(auto, unfolding(crate::specs::Parsing::type_from))]
 fn type_at(alloc: Global, units: &[u16]) -> Result<(FieldType, &[u16]), FormatFault>
     ensures { Gives (λ x. (x.0, x.1.now)) result (type_in units.now) }
@@ -188,7 +187,7 @@ impl FieldType {
     }
 }
 
-// The types before the first `)` in a type's place, and the units behind it.
+/// The types before the first `)` in a type's place, and the units behind it.
 fn types_at(alloc: Global, units: &[u16]) -> Result<(Vec<FieldType>, &[u16]), FormatFault>
     ensures { Gives (λ x. (x.0.items, x.1.now)) result (types_in (length units.now) units.now) }
 {

@@ -1,11 +1,12 @@
 //! The forms of names (JVM Specification SE 8, 4.2).
 ghost use Rattle.std.specs.Prelude.{◌≡◌};
 ghost use Rattle.std.specs.List.{list_all};
-ghost use Rattle.descriptors.specs.Names.{is_plain, is_not_angle, is_unqualified, is_instance_initializer, is_class_initializer, is_method_name, has_no_parenthesis, is_class_name};
+ghost use Rattle.descriptors.specs.Names.{is_plain, is_not_angle, is_unqualified, is_instance_initializer, is_class_initializer, is_method_name};
+ghost use Rattle.descriptors.specs.Names.{has_no_parenthesis, is_class_name};
 
-use items::is_text;
+use base::is_text;
 
-// What stands between the parts of a name of a class.
+/// What stands between the parts of a name of a class.
 const SLASH: u16 = b'/' as u16;
 
 fn is_plain(unit: u16) -> bool

@@ -4,8 +4,8 @@ use Rattle.std.specs.Prelude.{◌↔◌}
 use Rattle.std.proofs.lemmas.Bool.{cases_lt, both_ways, eq-eqb}
 use Rattle.std.proofs.lemmas.List.{get_or_past}
 use Rattle.std.proofs.lemmas.List.Elements.{Contains-get_or}
-use Rattle.jop_opcodes.specs.Start.{AreStarts}
-use Rattle.jop_opcodes.specs.Instruction.{decoded}
+use Rattle.opcodes.specs.Start.{AreStarts}
+use Rattle.opcodes.specs.Instruction.{decoded}
 use Rattle.lists.specs.Tests.{and_left, and_right}
 use Rattle.loop_nest.specs.Digraph.{Digraph, IsDigraph}
 use Rattle.loop_nest.proofs.Elements.{filter_contains, from_filter}

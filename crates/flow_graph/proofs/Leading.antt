@@ -7,16 +7,16 @@ use Rattle.std.proofs.lemmas.List.Elements.{Contains-append_right}
 use Rattle.std.proofs.lemmas.List.FromFn.{length-map-range_with_len}
 use Rattle.std.proofs.lemmas.Option.{get_or_from_slice_get}
 use Rattle.lists.specs.Members.{at_head, cons_cases}
-use Rattle.jop_opcodes.specs.declared.instruction.Instr.{Instr}
-use Rattle.jop_opcodes.specs.declared.instruction.Case.{Case}
-use Rattle.jop_opcodes.specs.declared.instruction.DecodeFault.{DecodeFault}
-use Rattle.jop_opcodes.specs.declared.table.Kind.{Kind}
-use Rattle.jop_opcodes.specs.declared.table.Kind.TheVariants.{Plain, Branch, Jump, Switch, Return, Throw, Invoke}
-use Rattle.jop_opcodes.specs.Form.{Form, NotAnOpcode, Fixed, Widened, TableSwitch, LookupSwitch, Wide}
-use Rattle.jop_opcodes.specs.Instruction.{decoded}
-use Rattle.jop_opcodes.specs.Row as opcodes
-use Rattle.jop_opcodes.specs.Start.{IsStart}
-use Rattle.jop_opcodes.specs.Target.{cases_by, cases_of, table_case, lookup_case}
+use Rattle.opcodes.specs.declared.instruction.Instr.{Instr}
+use Rattle.opcodes.specs.declared.instruction.Case.{Case}
+use Rattle.opcodes.specs.declared.instruction.DecodeFault.{DecodeFault}
+use Rattle.opcodes.specs.declared.table.Kind.{Kind}
+use Rattle.opcodes.specs.declared.table.Kind.TheVariants.{Plain, Branch, Jump, Switch, Return, Throw, Invoke}
+use Rattle.opcodes.specs.Form.{Form, NotAnOpcode, Fixed, Widened, TableSwitch, LookupSwitch, Wide}
+use Rattle.opcodes.specs.Instruction.{decoded}
+use Rattle.opcodes.specs.Row as opcodes
+use Rattle.opcodes.specs.Start.{IsStart}
+use Rattle.opcodes.specs.Target.{cases_by, cases_of, table_case, lookup_case}
 use Rattle.method_flow.specs.Kinds.{LeadsByKind}
 use Rattle.flow_graph.specs.Edges.{InstructionLeads, IsEdgeFrom, Leads}
 use Rattle.flow_graph.specs.Growing.{Grows}

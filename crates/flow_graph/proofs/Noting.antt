@@ -10,8 +10,8 @@ use Rattle.std.proofs.lemmas.Option.{slice_get-get_or}
 use Rattle.lists.specs.Lemmas.{some_same}
 use Rattle.lists.specs.Members.{place_of, map_contains, nil_contains}
 use Rattle.loop_nest.proofs.Elements.{filter_contains, from_filter}
-use Rattle.jop_opcodes.specs.Instruction.{decoded}
-use Rattle.jop_opcodes.specs.Start.{IsStart, AreStarts, starts_of}
+use Rattle.opcodes.specs.Instruction.{decoded}
+use Rattle.opcodes.specs.Start.{IsStart, AreStarts, starts_of}
 use Rattle.method_flow.specs.declared.flow.Call.{Call}
 use Rattle.method_flow.specs.declared.flow.HandlerRange.{HandlerRange}
 use Rattle.method_flow.specs.Flow.{Coded, IsCoded}

@@ -7,7 +7,7 @@ use Rattle.lists.specs.Lemmas.{some_is, some_in, holds_at}
 use Rattle.lists.specs.Members.{map_contains, nil_contains}
 use Rattle.std.specs.Option.{option_map_or}
 use Rattle.loop_nest.proofs.Elements.{from_map}
-use Rattle.jop_opcodes.specs.Start.{IsStart, AreStarts}
+use Rattle.opcodes.specs.Start.{IsStart, AreStarts}
 use Rattle.bytecode_model.specs.Program.{Program, Body, body_of}
 use Rattle.bytecode_model.specs.Rows as rows
 use Rattle.bytecode_model.specs.Rows.{Row}

@@ -1,13 +1,13 @@
 -- The edges and exits of a method, told by its code and its exception table alone (JVM Specification SE 8, 2.6.4, 2.10, 4.7.3 and 6.5).
 use Rattle.std.specs.Prelude.{◌≡◌, ◌↔◌, ℕ, ◌+◌, ◌*◌, ◌/◌, ◌%◌, ◌<◌, ◌≤◌, ◌==◌, ◌&&◌, ◌||◌, Bool, true, false, List, length, Contains, Result, Ok, Err}
-use Rattle.jop_opcodes.specs.declared.instruction.Instr.{Instr}
-use Rattle.jop_opcodes.specs.declared.instruction.DecodeFault.{DecodeFault}
-use Rattle.jop_opcodes.specs.declared.table.Kind.{Kind}
-use Rattle.jop_opcodes.specs.declared.table.Kind.TheVariants.{Return}
-use Rattle.jop_opcodes.specs.Instruction.{decoded}
-use Rattle.jop_opcodes.specs.Row as opcodes
-use Rattle.jop_opcodes.specs.Start.{IsStart}
-use Rattle.jop_opcodes.specs.Target as operands
+use Rattle.opcodes.specs.declared.instruction.Instr.{Instr}
+use Rattle.opcodes.specs.declared.instruction.DecodeFault.{DecodeFault}
+use Rattle.opcodes.specs.declared.table.Kind.{Kind}
+use Rattle.opcodes.specs.declared.table.Kind.TheVariants.{Return}
+use Rattle.opcodes.specs.Instruction.{decoded}
+use Rattle.opcodes.specs.Row as opcodes
+use Rattle.opcodes.specs.Start.{IsStart}
+use Rattle.opcodes.specs.Target as operands
 use Rattle.method_flow.specs.declared.flow.HandlerRange.{HandlerRange}
 use Rattle.method_flow.specs.Flow.{Coded}
 use Rattle.method_flow.specs.Kinds.{LeadsByKind}
@@ -63,7 +63,8 @@ pub record IsCaught (ranges : List HandlerRange) (p q : ℕ) : Type 0 where
 
 -- ---- nodes
 
--- An instruction leads to its successors, where the calls there go on, and to its raise step, if it may raise; the raise step leads to each handler that covers it.
+-- An instruction leads to its successors, where the calls there go on, and to its raise step, if it may raise; the raise step leads to each handler
+-- that covers it.
 abbrev pub CodeEdge : Coded → (goes : List Bool) → Node → Node → Type 0
 CodeEdge k goes (At p) (At q) = Leads k.code p q × CallsGoOn k.calls goes p
 CodeEdge k goes (At p) (RaiseAt q) = (q ≡ p) × RaisesAt k.code p

@@ -1,9 +1,9 @@
 -- The places that an instruction names, and whether control goes to them and to the next instruction (JVM Specification SE 8, 6.5).
 use Rattle.std.specs.Prelude.{◌≡◌, ℕ, ◌<◌, Bool, true, false, List, map, Contains, ℤ, pos, ◌+ℤ◌}
-use Rattle.jop_opcodes.specs.declared.instruction.Instr.{Instr}
-use Rattle.jop_opcodes.specs.declared.table.Kind.{Kind}
-use Rattle.jop_opcodes.specs.declared.table.Kind.TheVariants.{Plain, Branch, Jump, Switch, Return, Throw, Invoke}
-use Rattle.jop_opcodes.specs.Target.{cases_of}
+use Rattle.opcodes.specs.declared.instruction.Instr.{Instr}
+use Rattle.opcodes.specs.declared.table.Kind.{Kind}
+use Rattle.opcodes.specs.declared.table.Kind.TheVariants.{Plain, Branch, Jump, Switch, Return, Throw, Invoke}
+use Rattle.opcodes.specs.Target.{cases_of}
 
 -- the places of the cases of a switch
 abbrev pub case_places : (code : List ℕ) → (place : ℕ) → Instr → List ℤ

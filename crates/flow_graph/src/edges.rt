@@ -1,7 +1,7 @@
 //! The edges of a method's code, by number.
 ghost use Rattle.std.specs.Prelude.{◌≡◌, ◌<◌, length, filter, All, IfOk, OnOk};
-ghost use Rattle.jop_opcodes.specs.Instruction.{decoded};
-ghost use Rattle.jop_opcodes.specs.Start.{IsStart, starts_of};
+ghost use Rattle.opcodes.specs.Instruction.{decoded};
+ghost use Rattle.opcodes.specs.Start.{IsStart, starts_of};
 ghost use Rattle.flow_graph.specs.Edges.{raises_in, AreCodeEdges, IsEdgeFrom, IsEdgeWhereOn, IsLeadEdge, Leads};
 ghost use Rattle.flow_graph.specs.Growing.{Grows};
 ghost use Rattle.flow_graph.specs.Raising.{IsRaiseEdge, IsRaisingEdge};
@@ -9,9 +9,9 @@ ghost use Rattle.flow_graph.specs.Where.{AreGoingOn, noted};
 
 use super::handlers::add_handlers;
 use super::leads::add_leads;
-use jop_base::NoMemory;
-use jop_opcodes::{decode, raises, starts};
+use base::NoMemory;
 use method_flow::{Call, FlowMethod};
+use opcodes::{decode, raises, starts};
 use std::alloc::Global;
 
 /// Notes whether a call goes on at its place.
@@ -47,7 +47,7 @@ fn add_from(m: &FlowMethod, pc: u32, edges: &mut Vec<(u32, u32)>) -> Result<(), 
     requires { IsStart m.now.code pc }
     ensures { OnOk result (Grows edges.old.items edges.new.items (IsEdgeFrom pc (Leads m.now.code pc))) }
 {
-    jop_opcodes::laws::starts_follow_one_another();
+    opcodes::laws::starts_follow_one_another();
     let code = m.code();
     match decode(code, pc) {
         Ok(instr) => add_leads(code, pc, &instr, edges),
@@ -84,7 +84,7 @@ fn add_going_on(
     requires flags { AreGoingOn m.now.calls goes.now (length m.now.code) flags.now }
     ensures { OnOk result (Grows edges.old.items edges.new.items (IsLeadEdge m.now goes.now)) }
 {
-    jop_opcodes::laws::starts_follow_one_another();
+    opcodes::laws::starts_follow_one_another();
     for pc in starts {
         add_where(m, *pc, flags[*pc as usize], edges)?;
     }
@@ -103,7 +103,7 @@ fn add_all_leads(
     requires starts { starts.now ≡ starts_of m.now.code }
     ensures { OnOk result (Grows edges.old.items edges.new.items (IsLeadEdge m.now goes.now)) }
 {
-    jop_opcodes::laws::starts_follow_one_another();
+    opcodes::laws::starts_follow_one_another();
     let code = m.code();
     let calls = m.calls();
     let flags = going_on(alloc, code.len(), calls, goes)?;
@@ -158,7 +158,7 @@ fn add_raises(
     requires { starts.now ≡ starts_of m.now.code }
     ensures { OnOk result (Grows edges.old.items edges.new.items (IsRaisingEdge m.now)) }
 {
-    jop_opcodes::laws::starts_follow_one_another();
+    opcodes::laws::starts_follow_one_another();
     let code = m.code();
     let ranges = m.ranges();
     let places = raising(alloc, code, starts)?;

@@ -5,7 +5,7 @@ ghost use Rattle.std.specs.List.Sorted.{IsStrictlyIncreasing};
 ghost use Rattle.flow_graph.specs.Growing.{Grows};
 ghost use Rattle.flow_graph.specs.Raising.{uncovered_from, IsEdgeWithin, IsHandlerEdge, IsCovered, AreSameRanges, IsFirstFrom};
 
-use jop_base::NoMemory;
+use base::NoMemory;
 use method_flow::HandlerRange;
 use std::alloc::Global;
 

@@ -6,7 +6,7 @@ ghost use Rattle.flow_graph.specs.Laws.{CodeGraphsAreGraphs, GraphsWhereAllGoOn}
 pub fn code_graphs_are_graphs()
     ensures { CodeGraphsAreGraphs }
 {
-    jop_opcodes::laws::starts_follow_one_another();
+    opcodes::laws::starts_follow_one_another();
     method_flow::laws::rows_are_of_their_kinds();
 }
 

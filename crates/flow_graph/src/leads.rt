@@ -1,15 +1,15 @@
 //! Where an instruction leads without a raise (JVM Specification SE 8, 6.5).
 ghost use Rattle.std.specs.Prelude.{◌≡◌, ℕ, ◌<◌, true, length, Ok, OnOk, Some, slice_get, pos, ◌+ℤ◌};
-ghost use Rattle.jop_opcodes.specs.Instruction.{decoded};
-ghost use Rattle.jop_opcodes.specs.Row.{row_of};
-ghost use Rattle.jop_opcodes.specs.Target.{targets_of};
+ghost use Rattle.opcodes.specs.Instruction.{decoded};
+ghost use Rattle.opcodes.specs.Row.{row_of};
+ghost use Rattle.opcodes.specs.Target.{targets_of};
 ghost use Rattle.method_flow.specs.Flow.{StaysInCode};
 ghost use Rattle.flow_graph.specs.Edges.{InstructionLeads, IsEdgeFrom};
 ghost use Rattle.flow_graph.specs.Growing.{Grows};
 ghost use Rattle.flow_graph.specs.Naming.{AreNear, IsNamed, IsNamedBy, IsNextBy, case_places, goes_on, goes_to_targets};
 
-use jop_base::NoMemory;
-use jop_opcodes::{Instr, Kind, case, kind, target};
+use base::NoMemory;
+use opcodes::{Instr, Kind, case, kind, target};
 
 /// Adds the edge from the instruction at `pc` to the one at a place; a place below 0 is none.
 fn add_edge(pc: u32, place: i64, edges: &mut Vec<(u32, u32)>) -> Result<(), NoMemory>
@@ -142,8 +142,8 @@ pub fn add_leads(
     requires source { pc < length code.now }
     ensures { OnOk result (Grows edges.old.items edges.new.items (IsEdgeFrom pc (InstructionLeads code.now pc instr.now))) }
 {
-    jop_opcodes::laws::instructions_end_within();
-    jop_opcodes::laws::starts_follow_one_another();
+    opcodes::laws::instructions_end_within();
+    opcodes::laws::starts_follow_one_another();
     add_targets(code, pc, instr, edges)?;
     add_next(pc, kind(instr.op), pc + instr.length, edges)
 }

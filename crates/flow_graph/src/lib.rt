@@ -19,7 +19,7 @@ mod reach;
 mod sorting;
 mod whole;
 
-use jop_base::NoMemory;
+use base::NoMemory;
 use loop_nest::Graph;
 use method_flow::FlowMethod;
 pub use numbering::{Compact, MethodGraph};

@@ -6,8 +6,7 @@ ghost use Rattle.flow_graph.specs.Reach.{AreReached, AreWithin};
 
 use super::reach::reached;
 use super::sorting::graph_from;
-use items::Items;
-use jop_base::NoMemory;
+use base::{Items, NoMemory};
 use loop_nest::Graph;
 use std::alloc::Global;
 

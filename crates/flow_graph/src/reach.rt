@@ -3,7 +3,7 @@ ghost use Rattle.std.specs.Prelude.{◌≡◌, ◌↔◌, ◌<◌, ℕ, true, le
 ghost use Rattle.loop_nest.specs.Digraph.{AreSources, turned};
 ghost use Rattle.flow_graph.specs.Reach.{AreWithin, AreReached, flag_at};
 
-use jop_base::NoMemory;
+use base::NoMemory;
 use loop_nest::digraph::{Sources, turned};
 use std::alloc::Global;
 

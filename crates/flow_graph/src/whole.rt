@@ -1,6 +1,6 @@
 //! The graph of a method, by number of node.
 ghost use Rattle.std.specs.Prelude.{◌≡◌, ◌↔◌, ◌*◌, ◌<◌, ℕ, true, length, Contains, IfOk, OnOk};
-ghost use Rattle.jop_opcodes.specs.Instruction.{decoded};
+ghost use Rattle.opcodes.specs.Instruction.{decoded};
 ghost use Rattle.flow_graph.specs.Edges.{AreCodeEdges, IsExitAt, exits_at, leaves_at, returns_in};
 ghost use Rattle.flow_graph.specs.Growing.{Grows};
 ghost use Rattle.flow_graph.specs.Laws.{IsGraphWhere};
@@ -11,10 +11,10 @@ use super::edges::code_edges;
 use super::laws;
 use super::reach::reached;
 use super::sorting::graph_from;
-use jop_base::NoMemory;
-use jop_opcodes::{Kind, decode, kind};
+use base::NoMemory;
 use loop_nest::Graph;
 use method_flow::FlowMethod;
+use opcodes::{Kind, decode, kind};
 use std::alloc::Global;
 
 /// Whether the instruction at a place is a return.
@@ -103,7 +103,7 @@ fn cut(
     ensures graph { IfOk result (IsGraphWhere m.now goes.now) }
     ensures nodes { IfOk result (λ g. g.nodes ≡ 2 * length m.now.code) }
 {
-    jop_opcodes::laws::starts_follow_one_another();
+    opcodes::laws::starts_follow_one_another();
     laws::code_graphs_are_graphs();
     let code = m.code();
     let nodes = 2 * code.len();

@@ -6,13 +6,13 @@ use Rattle.std.specs.List.{AllByRecursion, filter, filter_map, cons_option}
 use Rattle.std.specs.List.Sorted.{IsStrictlyIncreasing}
 use Rattle.std.proofs.lemmas.Bool.{false≢true}
 use Rattle.std.proofs.lemmas.List.Kept.{IsStrictlyIncreasing-filter}
-use Rattle.jop_opcodes.specs.declared.instruction.Instr.{Instr}
-use Rattle.jop_opcodes.specs.declared.instruction.Case.{Case}
-use Rattle.jop_opcodes.specs.declared.instruction.DecodeFault.{DecodeFault}
-use Rattle.jop_opcodes.specs.declared.table.Kind.TheVariants.{Invoke}
-use Rattle.jop_opcodes.specs.Instruction.{decoded}
-use Rattle.jop_opcodes.specs.Row as opcodes
-use Rattle.jop_opcodes.specs.Start.{starts_of, IsStart, AreStarts}
+use Rattle.opcodes.specs.declared.instruction.Instr.{Instr}
+use Rattle.opcodes.specs.declared.instruction.Case.{Case}
+use Rattle.opcodes.specs.declared.instruction.DecodeFault.{DecodeFault}
+use Rattle.opcodes.specs.declared.table.Kind.TheVariants.{Invoke}
+use Rattle.opcodes.specs.Instruction.{decoded}
+use Rattle.opcodes.specs.Row as opcodes
+use Rattle.opcodes.specs.Start.{starts_of, IsStart, AreStarts}
 use Rattle.lists.specs.Lists.{onto}
 use Rattle.lists.specs.Lemmas.{none≢some, some_same, holds_at}
 use Rattle.lists.specs.Members.{at_head, in_tail, map_contains}
@@ -21,8 +21,8 @@ use Rattle.bytecode_model.specs.Rows as rows
 use Rattle.bytecode_model.specs.Rows.{Row}
 use Rattle.bytecode_model.specs.Steps.{row_in}
 use Rattle.bytecode_model.specs.WellFormed.{is_call}
-use Rattle.well_placed.specs.Laws.{MayGoTo, ControlStays}
-use Rattle.well_placed.specs.WellPlaced.{IsWellPlacedAt, IsWellPlacedHandler, WellPlaced}
+use Rattle.bytecode_typing.specs.PlacedLaws.{MayGoTo, ControlStays}
+use Rattle.bytecode_typing.specs.WellPlaced.{IsWellPlacedAt, IsWellPlacedHandler, WellPlaced}
 use Rattle.method_flow.specs.declared.flow.HandlerRange.{HandlerRange}
 use Rattle.method_flow.specs.declared.flow.Call.{Call}
 use Rattle.method_flow.specs.Flow.{StaysInCode, IsRangeOf, IsInvokeStart, places_of, IsCoded, range_of}

@@ -5,7 +5,7 @@ use Rattle.std.specs.Option.{option_map_or}
 use Rattle.std.specs.List.Sorted.{IsStrictlyIncreasing}
 use Rattle.std.proofs.lemmas.Bool.{cases_lt}
 use Rattle.std.proofs.lemmas.Option.{slice_get_within, slice_get-get_or, get_or_from_slice_get}
-use Rattle.jop_opcodes.specs.Start.{starts_of, IsStart}
+use Rattle.opcodes.specs.Start.{starts_of, IsStart}
 use Rattle.lists.specs.Lists.{onto}
 use Rattle.lists.specs.Lemmas.{none≢some, some_same, onto_some, map_some, some_is, some_in, if_at}
 use Rattle.class_pool.specs.declared.class.ClassFile.{ClassFile}
@@ -14,7 +14,7 @@ use Rattle.bytecode_model.specs.Rows as rows
 use Rattle.bytecode_model.specs.Rows.{Row}
 use Rattle.bytecode_model.specs.Steps.{row_in}
 use Rattle.bytecode_typing.specs.Lawful.{Lawful, IsThere, IsStaticCall, IsSpecialCall, IsVirtualCall, IsInterfaceCall, IsResolvedRow}
-use Rattle.well_placed.specs.WellPlaced.{WellPlaced}
+use Rattle.bytecode_typing.specs.WellPlaced.{WellPlaced}
 use Rattle.method_flow.specs.declared.flow.Call.{Call}
 use Rattle.method_flow.specs.Calls.{selected_for, targets_of_row, targets_of}
 use Rattle.method_flow.specs.Flow.{Coded, Flow, targets_of_call, range_of, IsFlow, IsCodedOf, IsFlowOf}

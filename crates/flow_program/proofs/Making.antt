@@ -6,7 +6,7 @@ use Rattle.std.proofs.lemmas.Bool.{cases_lt}
 use Rattle.std.proofs.lemmas.List.{length-map}
 use Rattle.std.proofs.lemmas.List.FromFn.{length-map-range_with_len, get_or-map-range_with_len}
 use Rattle.std.proofs.lemmas.Option.{slice_get_within, slice_get-get_or, get_or_from_slice_get}
-use Rattle.jop_opcodes.specs.Start.{IsStart, AreStarts}
+use Rattle.opcodes.specs.Start.{IsStart, AreStarts}
 use Rattle.lists.specs.Lemmas.{none≢some, some_same, onto_some, some_is, some_in, holds_at}
 use Rattle.class_pool.specs.declared.class.ClassFile.{ClassFile}
 use Rattle.class_pool.specs.declared.class.Code.{Code}
@@ -14,8 +14,8 @@ use Rattle.class_rules.specs.Found.{MethodsHaveCode}
 use Rattle.class_lookup.specs.Lookup.{Place}
 use Rattle.bytecode_model.specs.Program.{Program, Method, Body, body_of}
 use Rattle.bytecode_typing.specs.Lawful.{Lawful}
-use Rattle.well_placed.specs.Laws.{ControlStays}
-use Rattle.well_placed.specs.WellPlaced.{WellPlaced}
+use Rattle.bytecode_typing.specs.PlacedLaws.{ControlStays}
+use Rattle.bytecode_typing.specs.WellPlaced.{WellPlaced}
 use Rattle.method_flow.specs.declared.flow.HandlerRange.{HandlerRange}
 use Rattle.method_flow.specs.declared.flow.Call.{Call}
 use Rattle.method_flow.specs.Flow.{Coded, IsCoded, range_of}

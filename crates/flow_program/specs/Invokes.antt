@@ -3,7 +3,7 @@
 use Rattle.std.specs.Prelude.{◌≡◌, ℕ, ◌+◌, ◌==◌, ◌||◌, List, Option, Some, None, if◌then◌else◌}
 use Rattle.std.specs.Option.{option_map, IsSomeAnd}
 use Rattle.std.specs.List.{filter_map}
-use Rattle.jop_opcodes.specs.Start.{starts_of}
+use Rattle.opcodes.specs.Start.{starts_of}
 use Rattle.bytecode_model.specs.Lists.{onto}
 use Rattle.bytecode_model.specs.Program.{Program, Operand, AMethod, body_of}
 use Rattle.bytecode_model.specs.Rows as rows

@@ -1,16 +1,17 @@
 //! The invokes of a method (JVM Specification SE 8, 6.5.invokestatic, 6.5.invokespecial, 6.5.invokevirtual, 6.5.invokeinterface).
 ghost use Rattle.std.specs.Prelude.{◌≡◌, ◌↔◌, ℕ, ◌<◌, ◌≤◌, ◌^◌, length, IsTrue, IfOk, IfSome};
-ghost use Rattle.jop_opcodes.specs.Start.{IsStart};
+ghost use Rattle.base.specs.Sizes.{longest_file};
+ghost use Rattle.opcodes.specs.Start.{IsStart};
 ghost use Rattle.program_tables.specs.Meanings.{operand_seen};
 ghost use Rattle.program_tables.specs.Numbers.{methods_by_number};
 ghost use Rattle.program_tables.specs.Resolved.{resolved};
 ghost use Rattle.flow_program.specs.Invokes.{IsCodeOf, invoked_as, invoked_at, list_number, call_of, call_at, calls_in};
 
-use jop_base::NoMemory;
-use jop_opcodes::laws::starts_follow_one_another;
-use jop_opcodes::starts;
+use base::NoMemory;
 use method_flow::Call;
 use method_flow::laws::calls_are_invokes;
+use opcodes::laws::starts_follow_one_another;
+use opcodes::starts;
 use program_tables::Operand;
 use resolved_program::Program;
 use std::alloc::Global;
@@ -99,7 +100,7 @@ pub(crate) fn calls_of(
 ) -> Result<Vec<Call>, NoMemory>
     requires method { method < length (methods_by_number program.now) }
     requires code { IsCodeOf (resolved program.now) method code.now }
-    requires short { length code.now ≤ 33554432 }
+    requires short { length code.now ≤ longest_file }
     requires few { (p : ℕ) → IsStart code.now p → IfSome (invoked_at (resolved program.now) method p) (λ i. list_number coded i < 2 ^ 32) }
     ensures { IfOk result (λ calls. calls.items ≡ calls_in (resolved program.now) coded method code.now) }
 {

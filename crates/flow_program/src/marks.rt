@@ -4,7 +4,7 @@ ghost use Rattle.method_flow.specs.declared.flow.Call.{Call};
 ghost use Rattle.method_flow.specs.Flow.{Coded};
 ghost use Rattle.flow_program.specs.Marks.{AreMarked, HasMarks};
 
-use jop_base::NoMemory;
+use base::NoMemory;
 use method_flow::{Call, FlowMethod};
 use std::alloc::Global;
 

@@ -1,22 +1,22 @@
 //! The methods of the table.
 ghost use Rattle.std.specs.Prelude.{◌≡◌, [], map, IfOk};
 ghost use Rattle.bytecode_typing.specs.Lawful.{Lawful};
-ghost use Rattle.well_placed.specs.WellPlaced.{WellPlaced};
+ghost use Rattle.bytecode_typing.specs.WellPlaced.{WellPlaced};
 ghost use Rattle.program_tables.specs.Numbers.{method_text};
 ghost use Rattle.program_tables.specs.Resolved.{at_method, resolved};
 ghost use Rattle.flow_program.specs.Made.{range_at, AreCoded, HasCode, IsMade, AreMade};
 
 use crate::invokes::calls_of;
+use base::NoMemory;
+use bytecode_typing::control_stays_at_instructions;
 use class_pool::Code;
 use class_rules::laws::methods_have_code;
-use jop_base::NoMemory;
-use jop_opcodes::laws::{instructions_end_within, starts_follow_one_another};
 use method_flow::laws::rows_are_of_their_kinds;
 use method_flow::{FlowMethod, HandlerRange};
+use opcodes::laws::{instructions_end_within, starts_follow_one_another};
 use program_tables::laws::methods_stand_by_number;
 use resolved_program::Program;
 use std::alloc::Global;
-use well_placed::control_stays_at_instructions;
 
 /// The entries of an exception table, what they catch apart.
 fn ranges_of(alloc: Global, entries: &[(u16, u16, u16, u16)]) -> Result<Vec<HandlerRange>, NoMemory>

@@ -4,14 +4,14 @@ ghost use Rattle.bytecode_typing.specs.Lawful.{Lawful};
 ghost use Rattle.method_flow.specs.Flow.{Coded, IsFlowOf};
 ghost use Rattle.program_tables.specs.Numbers.{method_text};
 ghost use Rattle.program_tables.specs.Resolved.{at_method, resolved};
-ghost use Rattle.well_placed.specs.WellPlaced.{WellPlaced};
+ghost use Rattle.bytecode_typing.specs.WellPlaced.{WellPlaced};
 ghost use Rattle.flow_program.specs.Names.{IsFirstNamed};
 
 use crate::coded::coded_count;
 use crate::methods::methods_of;
 use crate::targets::target_lists;
+use base::NoMemory;
 use class_hierarchy::Place;
-use jop_base::NoMemory;
 use method_flow::FlowProgram;
 use program_tables::laws::methods_stand_by_number;
 use resolved_program::Program;

@@ -3,10 +3,10 @@ ghost use Rattle.std.specs.Prelude.{◌≡◌, ◌<◌, [], length, replicate, I
 ghost use Rattle.class_lookup.specs.Hierarchy.{is_concrete};
 ghost use Rattle.flow_program.specs.Receivers.{lists_of, AreBelow, IsPut};
 
+use base::NoMemory;
 use class_hierarchy::Hierarchy;
 use class_lookup::Classes;
 use class_lookup::parts::has_flags;
-use jop_base::NoMemory;
 use std::alloc::Global;
 
 /// Whether the class is neither an abstract class nor an interface.

@@ -6,16 +6,15 @@ ghost use Rattle.bytecode_model.specs.Lists.{onto};
 ghost use Rattle.bytecode_typing.specs.Lawful.{Lawful};
 ghost use Rattle.program_tables.specs.Numbers.{methods_by_number, method_number};
 ghost use Rattle.program_tables.specs.Resolved.{resolved};
-ghost use Rattle.well_placed.specs.WellPlaced.{WellPlaced};
+ghost use Rattle.bytecode_typing.specs.WellPlaced.{WellPlaced};
 ghost use Rattle.flow_program.specs.Made.{AreCoded, AreMade};
 ghost use Rattle.flow_program.specs.Receivers.{lists_of, AreBelow};
 ghost use Rattle.flow_program.specs.Targets.{IsVirtual, IsSelectedList, AreReceivers, AreSelected, AreTargets};
 
 use crate::marks::marks_of;
 use crate::receivers::receivers_of;
+use base::{Items, NoMemory};
 use class_hierarchy::Place;
-use items::Items;
-use jop_base::NoMemory;
 use method_flow::FlowMethod;
 use program_tables::MethodShape;
 use program_tables::laws::{members_are_there, methods_stand_by_number};

@@ -2,14 +2,14 @@
 use Rattle.std.proofs.Common.{◌≡◌, ℕ, zero, suc, ◌+◌, ◌*◌, Bool, true, false, List, [], ◌∷◌, ◌++◌, length, Option, Some, None, refl, sym, ap, ◌∙◌, subst, append_assoc, arith}
 use Rattle.std.specs.Prelude.{nat_lt, if◌then◌else◌, ◌==◌}
 use Rattle.std.proofs.lemmas.Bool.{eqb-true}
-use Rattle.class_reader.proofs.PartLaws.{step}
+use Rattle.class_file.proofs.PartLaws.{step}
 use Rattle.lists.specs.Lemmas.{none≢some, some_same}
-use Rattle.jop_base.specs.Reading.{◌>>=◌}
+use Rattle.base.specs.Reading.{◌>>=◌}
 use Rattle.class_pool.specs.declared.entry.Entry.{Entry}
 use Rattle.class_pool.specs.Grammar.{entry_at, class_name_of}
 use Rattle.class_pool.specs.Reading.{number_in}
 use Rattle.class_pool.specs.NumberLaws.{bind_some}
-use Rattle.class_reader.specs.Reading.{many_in, counted_in}
+use Rattle.class_file.specs.InsideReading.{many_in, counted_in}
 use Rattle.class_lookup.specs.Parts.{text_at}
 use Rattle.frame_types.specs.declared.types.VarType.{VarType}
 use Rattle.frame_types.specs.declared.types.VarType.TheVariants.{Top, Integer, Null, UninitializedThis, Object, Uninitialized, Long}

@@ -3,13 +3,13 @@ use Rattle.std.proofs.Common.{◌≡◌, ◌≢◌, ℕ, zero, suc, ◌+◌, ◌
 use Rattle.std.specs.Prelude.{nat_lt, if◌then◌else◌, ◌==◌}
 use Rattle.std.proofs.lemmas.Bool.{eqb-true, ltb-true, lt-ltb}
 use Rattle.std.proofs.lemmas.List.{append-nil, nil_from_length}
-use Rattle.class_reader.proofs.PartLaws.{step}
+use Rattle.class_file.proofs.PartLaws.{step}
 use Rattle.lists.specs.Lemmas.{none≢some, some_same}
-use Rattle.jop_base.specs.Reading.{◌>>=◌, whole}
+use Rattle.base.specs.Reading.{◌>>=◌, whole}
 use Rattle.class_pool.specs.declared.entry.Entry.{Entry}
 use Rattle.class_pool.specs.Reading.{number_in}
 use Rattle.class_pool.specs.NumberLaws.{IsBytes, IsBytes-behind, bind_some}
-use Rattle.class_reader.specs.Reading.{many_in, counted_in}
+use Rattle.class_file.specs.InsideReading.{many_in, counted_in}
 use Rattle.frame_types.specs.declared.types.VarType.{VarType}
 use Rattle.frame_types.specs.declared.read.Change.{Change}
 use Rattle.frame_types.specs.declared.read.Change.TheVariants.{Same, OneItem, Chop, Append, Full}

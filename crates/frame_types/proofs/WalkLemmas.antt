@@ -1,7 +1,7 @@
 -- The entries of a StackMapTable, one after the other, as a loop does.
 use Rattle.std.proofs.Common.{◌≡◌, ℕ, suc, ◌+◌, ◌<◌, ◌≤◌, true, List, [], ◌∷◌, ◌++◌, length, get_or, drop, Some, Result, Ok, Err, refl, sym, ap, subst, ◌∙◌, append_assoc, arith}
 use Rattle.std.proofs.Math.Seq.{drop-cons}
-use Rattle.jop_opcodes.specs.Start.{starts_of, AreStarts}
+use Rattle.opcodes.specs.Start.{starts_of, AreStarts}
 use Rattle.class_pool.specs.declared.class.Code.{Code}
 use Rattle.frame_types.specs.declared.types.VarType.{VarType}
 use Rattle.frame_types.specs.declared.types.TypeFrame.{TypeFrame}

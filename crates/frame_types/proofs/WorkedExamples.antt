@@ -1,9 +1,9 @@
 -- The worked frames, computed.
 use Rattle.std.proofs.Common.{refl}
-use Rattle.jop_opcodes.specs.Row.{row_of}
-use Rattle.jop_opcodes.specs.Start.{starts_of}
-use Rattle.jop_opcodes.specs.Instruction.{decoded}
-use Rattle.class_reader.specs.Reading.{many_in, counted_in}
+use Rattle.opcodes.specs.Row.{row_of}
+use Rattle.opcodes.specs.Start.{starts_of}
+use Rattle.opcodes.specs.Instruction.{decoded}
+use Rattle.class_file.specs.InsideReading.{many_in, counted_in}
 use Rattle.descriptors.specs.Parsing.{primitive_in, split_in, class_in, element_in, type_from, types_in, field_in, result_in, method_in}
 use Rattle.frame_types.specs.Table.{object_in, uninitialized_in, tagged_in, type_in, one_item_in, append_in, full_in, change_in, frame_in, map_entry_in, table_in}
 use Rattle.frame_types.specs.Locals.{first_locals}

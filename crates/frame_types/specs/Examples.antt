@@ -33,7 +33,8 @@ code_with max_stack max_locals code table = record { max_stack = max_stack; max_
 
 -- the frames of a static method
 abbrev pub static_frames : (descriptor : List ℕ) → (max_stack max_locals : ℕ) → (code table : List ℕ) → Result Frames ℕ
-static_frames descriptor max_stack max_locals code table = frames_of (class_with (codes "m") descriptor) (member_with 8) (code_with max_stack max_locals code table)
+static_frames descriptor max_stack max_locals code table = frames_of (class_with (codes "m") descriptor) (member_with 8)
+    (code_with max_stack max_locals code table)
 
 abbrev pub frame : (locals stack : List VarType) → TypeFrame
 frame locals stack = record { locals = locals; stack = stack; flag = false }
@@ -69,17 +70,20 @@ switch = 0x03 ∷ 0xAB ∷ 0x00 ∷ 0x00 ∷ 0x00 ∷ 0x00 ∷ 0x00 ∷ 0x0B ∷
 
 pub record WorkedFrames : Type 0 where
   -- no StackMapTable
-  pub none : frames_of (class_with (codes "m") (codes "()V")) (member_with 8) (record (code_with 0 0 nops []) { attributes = [] }) ≡ Ok (frames (frame [] []) [])
+  pub none : frames_of (class_with (codes "m") (codes "()V")) (member_with 8) (record (code_with 0 0 nops []) { attributes = [] }) ≡ Ok
+      (frames (frame [] []) [])
   -- one same_frame, at 4
   pub same : static_frames (codes "([Ljava/lang/String;)V") 1 1 branch (0 ∷ 1 ∷ 4 ∷ []) ≡ Ok (frames strings ((4, strings) ∷ []))
-  pub two : static_frames (codes "(I)V") 1 1 crossed (0 ∷ 2 ∷ 4 ∷ 2 ∷ []) ≡ Ok (frames (frame (Integer ∷ []) []) ((4, frame (Integer ∷ []) []) ∷ (7, frame (Integer ∷ []) []) ∷ []))
+  pub two : static_frames (codes "(I)V") 1 1 crossed (0 ∷ 2 ∷ 4 ∷ 2 ∷ []) ≡ Ok
+      (frames (frame (Integer ∷ []) []) ((4, frame (Integer ∷ []) []) ∷ (7, frame (Integer ∷ []) []) ∷ []))
   pub behind_switch : static_frames (codes "()V") 1 0 switch (0 ∷ 1 ∷ 12 ∷ []) ≡ Ok (frames (frame [] []) ((12, frame [] []) ∷ []))
   -- chop_frame takes away a Long as one
   pub chop : static_frames (codes "(JI)V") 0 4 nops (0 ∷ 2 ∷ 250 ∷ 0 ∷ 1 ∷ 250 ∷ 0 ∷ 0 ∷ [])
       ≡ Ok (frames (frame (Long ∷ Top ∷ Integer ∷ Top ∷ []) []) ((1, frame (Long ∷ Top ∷ Top ∷ Top ∷ []) []) ∷ (2, frame (Top ∷ Top ∷ Top ∷ Top ∷ []) []) ∷ []))
   pub chop_absent : static_frames (codes "(JI)V") 0 4 nops (0 ∷ 1 ∷ 248 ∷ 0 ∷ 1 ∷ []) ≡ Err 1
   -- append_frame: a Long takes two local variables
-  pub append : static_frames (codes "()V") 0 3 nops (0 ∷ 1 ∷ 253 ∷ 0 ∷ 1 ∷ 4 ∷ 5 ∷ []) ≡ Ok (frames (frame (Top ∷ Top ∷ Top ∷ []) []) ((1, frame (Long ∷ Top ∷ Null ∷ []) []) ∷ []))
+  pub append : static_frames (codes "()V") 0 3 nops (0 ∷ 1 ∷ 253 ∷ 0 ∷ 1 ∷ 4 ∷ 5 ∷ []) ≡ Ok
+      (frames (frame (Top ∷ Top ∷ Top ∷ []) []) ((1, frame (Long ∷ Top ∷ Null ∷ []) []) ∷ []))
   pub append_too_many : static_frames (codes "()V") 0 2 nops (0 ∷ 1 ∷ 253 ∷ 0 ∷ 1 ∷ 4 ∷ 5 ∷ []) ≡ Err 1
   -- full_frame: a Long on the operand stack takes two words
   pub full : static_frames (codes "()V") 3 1 nops (0 ∷ 1 ∷ 255 ∷ 0 ∷ 1 ∷ 0 ∷ 1 ∷ 1 ∷ 0 ∷ 2 ∷ 4 ∷ 7 ∷ 0 ∷ 2 ∷ [])
@@ -89,7 +93,8 @@ pub record WorkedFrames : Type 0 where
   pub made : static_frames (codes "()V") 1 0 making (0 ∷ 1 ∷ 67 ∷ 8 ∷ 0 ∷ 0 ∷ []) ≡ Ok (frames (frame [] []) ((3, frame [] (Uninitialized 0 ∷ [])) ∷ []))
   pub not_made : static_frames (codes "()V") 1 0 making (0 ∷ 1 ∷ 67 ∷ 8 ∷ 0 ∷ 3 ∷ []) ≡ Err 3
   -- an `<init>`, and same_frame_extended
-  pub init : frames_of (class_with (codes "<init>") (codes "()V")) (member_with 1) (code_with 0 2 nops (0 ∷ 1 ∷ 251 ∷ 0 ∷ 2 ∷ [])) ≡ Ok (frames uninitialized_this ((2, uninitialized_this) ∷ []))
+  pub init : frames_of (class_with (codes "<init>") (codes "()V")) (member_with 1) (code_with 0 2 nops (0 ∷ 1 ∷ 251 ∷ 0 ∷ 2 ∷ [])) ≡ Ok
+      (frames uninitialized_this ((2, uninitialized_this) ∷ []))
   -- a place within an instruction; the earlier of two faults
   pub no_start : static_frames (codes "()V") 0 0 branch (0 ∷ 1 ∷ 2 ∷ []) ≡ Err 2
   pub earlier : static_frames (codes "()V") 0 0 branch (0 ∷ 2 ∷ 2 ∷ 5 ∷ []) ≡ Err 2

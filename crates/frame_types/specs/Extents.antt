@@ -71,7 +71,8 @@ pub record AreLocals (k : Code) (ls : List VarType) (es : List Extent) : Type 0 
 -- a frame, and the local variables behind it; or none
 abbrev pub Makes : Code → Change → (before : List VarType) → (after : List Extent) → Bool → Type 0
 Makes k change before es true =
-    (after : List VarType) × (stack : List VarType) × (f : TypeFrame) × (changed change before ≡ Some (after, stack)) × (frame_of k after stack ≡ Some f) × (f.flag ≡ list_any is_this after) × AreLocals k after es
+    (after : List VarType) × (stack : List VarType) × (f : TypeFrame) × (changed change before ≡ Some (after, stack)) × (frame_of k after stack ≡ Some f)
+    × (f.flag ≡ list_any is_this after) × AreLocals k after es
 Makes k change before es false = onto (changed change before) (λ x. frame_of k x.0 x.1) ≡ None
 
 -- the same at a place, where an instruction begins if it makes one

@@ -1,6 +1,6 @@
 -- Why a method has no frames.
-use Rattle.jop_base.specs.declared.fault.FormatFault.{FormatFault}
-use Rattle.jop_base.specs.declared.fault.FormatFault.TheVariants as format
+use Rattle.base.specs.declared.fault.FormatFault.{FormatFault}
+use Rattle.base.specs.declared.fault.FormatFault.TheVariants as format
 use Rattle.frame_types.specs.declared.types.MapFault.{MapFault}
 use Rattle.frame_types.specs.declared.types.MapFault.TheVariants.{Bad, NoMemory}
 

@@ -28,7 +28,8 @@ changed (Chop n) locals = if nat_le n (length locals) then Some (take (length lo
 changed (Append more) locals = Some (locals ++ more, [])
 changed (Full all stack) locals = Some (all, stack)
 
--- the local variables are at most the method's, and the rest of those are Top; the stack has room; each `new` that is named is there. The flag is set exactly where one of the local variables is UninitializedThis.
+-- the local variables are at most the method's, and the rest of those are Top; the stack has room; each `new` that is named is there. The flag is set
+-- exactly where one of the local variables is UninitializedThis.
 abbrev pub frame_of : Code → (locals stack : List VarType) → Option TypeFrame
 frame_of k locals stack =
     if nat_le (stack_words stack) k.max_stack && (list_all (names_new k.code) locals && list_all (names_new k.code) stack)

@@ -46,7 +46,8 @@ pub data HasNoFrame (k : Code) (locals stack : List VarType) : Type 0 where
   TooDeep : k.max_stack < stack_words stack → HasNoFrame k locals stack
   NoNew : NamesNoNew k.code (locals ++ stack) → HasNoFrame k locals stack
 
--- why an entry at a place gives none, where these are the local variables before it: no instruction begins there, it takes away absent ones, or what it makes has no frame
+-- why an entry at a place gives none, where these are the local variables before it: no instruction begins there, it takes away absent ones, or what
+-- it makes has no frame
 pub data BreaksEntry (k : Code) (place : ℕ) (change : Change) (before : List VarType) : Type 0 where
   NoInstruction : is_start k.code place ≡ false → BreaksEntry k place change before
   TakesAbsent : (n : ℕ) → change ≡ Chop n → length before < n → BreaksEntry k place change before
@@ -54,13 +55,14 @@ pub data BreaksEntry (k : Code) (place : ℕ) (change : Change) (before : List V
 
 -- ---- all entries
 
--- The entries give these frames: the first stands at its offset from `next`, each later one at its offset from the place behind the one before. What is left behind
--- them is the least place of a further entry, and the local variables before it.
+-- The entries give these frames: the first stands at its offset from `next`, each later one at its offset from the place behind the one before. What
+-- is left behind them is the least place of a further entry, and the local variables before it.
 abbrev pub Give : Code → (next : ℕ) → (locals : List VarType) → List MapEntry → List (ℕ × TypeFrame) → (left : ℕ × List VarType) → Type 0
 Give k next locals [] [] left = (next, locals) ≡ left
 Give k next locals (e ∷ es) (x ∷ xs) left =
     (x.0 ≡ next + e.offset) × (is_start k.code x.0 ≡ true)
-    × ((after : List VarType) × (stack : List VarType) × Changes e.change locals after stack × (HasNoFrame k after stack → ⊥) × IsFrame k after stack x.1 × Give k (x.0 + 1) after es xs left)
+    × ((after : List VarType) × (stack : List VarType) × Changes e.change locals after stack × (HasNoFrame k after stack → ⊥) × IsFrame k after stack x.1
+    × Give k (x.0 + 1) after es xs left)
 Give k next locals es xs left = ⊥
 
 -- the entries before one give frames, and it gives none at its place
@@ -75,12 +77,14 @@ pub record BreakAt (k : Code) (next : ℕ) (locals : List VarType) (entries : Li
   pub stands : place ≡ left.0 + here.offset
   pub breaks : BreaksEntry k place here.change left.1
 
--- The rule `map` fails at this place: the StackMapTable is no list of frames; a parameter has no type here; the first frame passes the method's local variables; or an entry gives no frame.
+-- The rule `map` fails at this place: the StackMapTable is no list of frames; a parameter has no type here; the first frame passes the method's local
+-- variables; or an entry gives no frame.
 pub data BreaksMap (c : ClassFile) (m : Member) (k : Code) (place : ℕ) : Type 0 where
   NoTable : place ≡ 0 → entries_of c.pool k ≡ None → BreaksMap c m k place
   NoTypes : place ≡ 0 → first_locals c m ≡ None → BreaksMap c m k place
   NoFirst : (locals : List VarType) → place ≡ 0 → first_locals c m ≡ Some locals → k.max_locals < stack_words locals → BreaksMap c m k place
-  NoEntry : (entries : List MapEntry) (locals : List VarType) → entries_of c.pool k ≡ Some entries → first_locals c m ≡ Some locals → stack_words locals ≤ k.max_locals → BreakAt k 0 locals entries place → BreaksMap c m k place
+  NoEntry : (entries : List MapEntry) (locals : List VarType) → entries_of c.pool k ≡ Some entries → first_locals c m ≡ Some locals
+      → stack_words locals ≤ k.max_locals → BreakAt k 0 locals entries place → BreaksMap c m k place
 
 -- the frames of the method
 pub record GivesFrames (c : ClassFile) (m : Member) (k : Code) (f : Frames) : Type 0 where

@@ -25,7 +25,8 @@ AreSpaced [] = Unit {0}
 AreSpaced (t ∷ []) = is_long t ≡ false
 AreSpaced (t ∷ u ∷ ts) = (is_long t ≡ true → u ≡ Top) × AreSpaced (u ∷ ts)
 
--- all of the method's local variables, and an operand stack that is no deeper than its; each type that isn't initialised names a `new`, and the flag is set exactly where one of the local variables is UninitializedThis
+-- all of the method's local variables, and an operand stack that is no deeper than its; each type that isn't initialised names a `new`, and the flag
+-- is set exactly where one of the local variables is UninitializedThis
 pub record IsOfCode (k : Code) (f : TypeFrame) : Type 0 where
   pub locals : length f.locals ≡ k.max_locals
   pub spaced : AreSpaced f.locals

@@ -52,7 +52,8 @@ IsEntry pool offset Same bytes = ((offset < 64) × IsByte offset bytes) ⊎ Join
 IsEntry pool offset (OneItem item) bytes =
     ((offset < 64) × Joined (IsByte (64 + offset)) (IsType pool item) bytes) ⊎ Joined (IsByte 247) (Joined (IsTwo offset) (IsType pool item)) bytes
 IsEntry pool offset (Chop n) bytes = (0 < n) × (n ≤ 3) × Joined (IsByte (251 - n)) (IsTwo offset) bytes
-IsEntry pool offset (Append more) bytes = (0 < length more) × (length more ≤ 3) × Joined (IsByte (251 + length more)) (Joined (IsTwo offset) (AreTypes pool more)) bytes
+IsEntry pool offset (Append more) bytes = (0 < length more) × (length more ≤ 3)
+    × Joined (IsByte (251 + length more)) (Joined (IsTwo offset) (AreTypes pool more)) bytes
 IsEntry pool offset (Full all operands) bytes = Joined (IsByte 255) (Joined (IsTwo offset) (Joined (AreCounted pool all) (AreCounted pool operands))) bytes
 
 abbrev pub AreEntries : List Entry → List MapEntry → List ℕ → Type 0

@@ -58,5 +58,6 @@ BeginsWith c m first = (locals : List VarType) × (first_locals c m ≡ Some loc
 
 -- the steps of a method give its frames, from the local variables with which it begins; or it has none
 abbrev pub IsStepwise : ClassFile → Member → Code → Result (List MapStep) MapFault → (found : Result Frames ℕ) → Type 0
-IsStepwise c m k (Ok at) found = (f : Frames) × (locals : List VarType) × (found ≡ Ok f) × (first_locals c m ≡ Some locals) × (frame_of k locals [] ≡ Some f.first) × AreSteps c.pool k locals at f.at
+IsStepwise c m k (Ok at) found = (f : Frames) × (locals : List VarType) × (found ≡ Ok f) × (first_locals c m ≡ Some locals)
+    × (frame_of k locals [] ≡ Some f.first) × AreSteps c.pool k locals at f.at
 IsStepwise c m k (Err fault) found = IsMapFault fault found

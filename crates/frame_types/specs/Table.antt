@@ -1,12 +1,13 @@
--- A StackMapTable as it is read: JVM Specification SE 8, 4.7.4. Of each part what was read and the bytes behind it, or nothing where the bytes are no such part.
+-- A StackMapTable as it is read: JVM Specification SE 8, 4.7.4. Of each part what was read and the bytes behind it, or nothing where the bytes are no
+-- such part.
 use Rattle.std.specs.Prelude.{ℕ, ◌-◌, ◌==◌, nat_lt, if◌then◌else◌, List, [], Option, Some, None}
-use Rattle.jop_base.specs.Reading.{◌>>=◌, whole}
+use Rattle.base.specs.Reading.{◌>>=◌, whole}
 use Rattle.class_pool.specs.declared.entry.Entry.{Entry}
 use Rattle.class_pool.specs.declared.class.Code.{Code}
 use Rattle.class_pool.specs.Grammar.{entry_at, class_name_of}
 use Rattle.class_pool.specs.Found.{stack_map_of}
 use Rattle.class_pool.specs.Reading.{number_in, byte_in}
-use Rattle.class_reader.specs.Reading.{many_in, counted_in}
+use Rattle.class_file.specs.InsideReading.{many_in, counted_in}
 use Rattle.class_lookup.specs.Parts.{text_at}
 use Rattle.frame_types.specs.declared.types.VarType.{VarType}
 use Rattle.frame_types.specs.declared.types.VarType.TheVariants.{Top, Integer, Null, UninitializedThis, Object, Uninitialized, Long}

@@ -1,7 +1,7 @@
 -- Verification types by names: JVM Specification SE 8, 4.10.1.2 and 4.10.1.4.
 use Rattle.std.specs.Prelude.{ℕ, Bool, true, false, ◌&&◌, ◌==◌, if◌then◌else◌, List, sum_by, slice_index}
 use Rattle.lists.specs.Numbers.{is_among}
-use Rattle.jop_opcodes.specs.Start.{starts_of}
+use Rattle.opcodes.specs.Start.{starts_of}
 use Rattle.frame_types.specs.declared.types.VarType.{VarType}
 use Rattle.frame_types.specs.declared.types.VarType.TheVariants.{UninitializedThis, Uninitialized, Long}
 

@@ -3,13 +3,13 @@ ghost use Rattle.std.specs.Prelude.{◌≡◌, map, nat_le};
 ghost use Rattle.std.specs.List.{list_all};
 ghost use Rattle.std.specs.List.Sorted.{IsStrictlyIncreasing};
 ghost use Rattle.lists.specs.Numbers.{is_among};
-ghost use Rattle.jop_opcodes.specs.Start.{starts_of};
+ghost use Rattle.opcodes.specs.Start.{starts_of};
 ghost use Rattle.frame_types.specs.Types.{stack_words, is_start, is_new, names_new};
 ghost use Rattle.frame_types.specs.Extents.{shape, fit};
 
 use crate::steps::EntryType;
-use jop_opcodes::laws::starts_follow_one_another;
-use jop_opcodes::mnemonics::NEW;
+use opcodes::laws::starts_follow_one_another;
+use opcodes::mnemonics::NEW;
 
 /// A code with the places at which its instructions begin.
 #[derive(Clone, Copy)]
@@ -18,7 +18,7 @@ pub(crate) struct Placed<'a> {
     pub starts: &'a [u32],
 }
 
-// Whether the number is among these, which rise.
+/// Whether the number is among these, which rise.
 fn is_among(numbers: &[u32], number: u32) -> bool
     requires { IsStrictlyIncreasing numbers.now }
     ensures { result ≡ is_among numbers.now number }
@@ -35,7 +35,7 @@ pub(crate) fn is_start(placed: Placed<'_>, place: u32) -> bool
     is_among(placed.starts, place)
 }
 
-// Whether it is a `new`.
+/// Whether it is a `new`.
 fn is_new(placed: Placed<'_>, place: u32) -> bool
     requires { placed.starts.now ≡ starts_of placed.code.now }
     ensures { result ≡ is_new placed.entry.code.now place }
@@ -45,7 +45,7 @@ fn is_new(placed: Placed<'_>, place: u32) -> bool
         && placed.code[place as usize] == NEW
 }
 
-// Whether a type that isn't initialised was made by a `new`.
+/// Whether a type that isn't initialised was made by a `new`.
 fn names_new(placed: Placed<'_>, t: &EntryType) -> bool
     requires { placed.starts.now ≡ starts_of placed.code.now }
     ensures { result ≡ names_new placed.entry.code.now (shape t.now) }
@@ -56,7 +56,7 @@ fn names_new(placed: Placed<'_>, t: &EntryType) -> bool
     }
 }
 
-// Whether each of them that isn't initialised was.
+/// Whether each of them that isn't initialised was.
 fn all_name_new(placed: Placed<'_>, types: &[EntryType]) -> bool
     requires { placed.starts.now ≡ starts_of placed.code.now }
     ensures { result ≡ list_all (λ t. names_new placed.entry.code.now (shape t)) types.now }
@@ -64,7 +64,7 @@ fn all_name_new(placed: Placed<'_>, types: &[EntryType]) -> bool
     types.iter().all(|t| names_new(placed, t))
 }
 
-// Whether values of these types take at most so many words.
+/// Whether values of these types take at most so many words.
 fn have_room(types: &[EntryType], most: u16) -> bool
     ensures { result ≡ nat_le (stack_words (map shape types.now)) most }
 {

@@ -5,7 +5,7 @@ ghost use Rattle.std.specs.Option.{option_map};
 ghost use Rattle.frame_types.specs.Extents.{shape, whole_extent, extents_behind, last_extent, first_words, first_extents};
 
 use crate::steps::{EntryType, FirstLocal};
-use jop_base::NoMemory;
+use base::NoMemory;
 use std::alloc::Global;
 
 /// What is known behind a type of local variables.
@@ -28,7 +28,7 @@ impl Extent {
         }
     }
 
-    // Behind one more that takes so many words.
+    /// Behind one more that takes so many words.
     fn behind(self, words: u16, this: bool) -> Extent
         ensures left { result.left ≡ self.left - words }
         ensures this { result.this ≡ (self.this || this) }
@@ -72,7 +72,8 @@ pub(crate) fn first_extents(
     most: u16,
     first: &[FirstLocal],
 ) -> Result<Option<Vec<Extent>>, NoMemory>
-    ensures { IfOk result (λ found. option_map (λ x. x.items) found ≡ (if nat_le (first_words first.now) most then Some (first_extents (whole_extent most) first.now) else None)) }
+    ensures { IfOk result (λ found. option_map (λ x. x.items) found ≡
+        (if nat_le (first_words first.now) most then Some (first_extents (whole_extent most) first.now) else None)) }
 {
     let mut extents = Vec::new(alloc);
     let mut last = Extent::whole(most);

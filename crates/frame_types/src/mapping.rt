@@ -1,11 +1,12 @@
 //! The frames of a method, each as the change of the one before it (JVM Specification SE 8, 4.7.4 and 4.10.1.6).
 ghost use Rattle.std.specs.Prelude.{◌≡◌, ◌≤◌, ◌<◌, ◌-◌, ◌∷◌, [], List, length, take, map, IfOk, IsSomeAnd, IsTrue, Some, slice_get, nat_le, if◌then◌else◌};
+ghost use Rattle.base.specs.Sizes.{longest_file};
 ghost use Rattle.class_pool.specs.declared.entry.Entry.{Entry};
 ghost use Rattle.class_pool.specs.declared.class.Code.{Code};
 ghost use Rattle.class_pool.specs.declared.class.ClassFile.{ClassFile};
 ghost use Rattle.class_pool.specs.declared.class.Member.{Member};
 ghost use Rattle.class_pool.specs.Found.{code_of};
-ghost use Rattle.jop_opcodes.specs.Start.{starts_of};
+ghost use Rattle.opcodes.specs.Start.{starts_of};
 ghost use Rattle.frame_types.specs.declared.types.VarType.{VarType};
 ghost use Rattle.frame_types.specs.declared.read.Change.TheVariants.{Append, Full};
 ghost use Rattle.frame_types.specs.Types.{is_start};
@@ -18,14 +19,13 @@ use crate::extents::{Extent, first_extents, last_of, push_all};
 use crate::read::{StepEntry, entries_of};
 use crate::steps::{EntryType, FirstLocal, MapStep, StepChange};
 use crate::types::MapFault;
+use base::{Items, NoMemory};
 use class_pool::{ClassFile, Code, Member};
-use items::Items;
-use jop_base::NoMemory;
-use jop_opcodes::laws::starts_follow_one_another;
-use jop_opcodes::starts;
+use opcodes::laws::starts_follow_one_another;
+use opcodes::starts;
 use std::alloc::Global;
 
-// chop_frame: without so many of the last local variables, if they are there.
+/// chop_frame: without so many of the last local variables, if they are there.
 fn chop(extents: &mut Vec<Extent>, n: u8) -> bool
     ensures there { result ≡ nat_le n (length extents.old.items) }
     ensures fewer { extents.new.items ≡ (if result then take (length extents.old.items - n) extents.old.items else extents.old.items) }
@@ -37,7 +37,7 @@ fn chop(extents: &mut Vec<Extent>, n: u8) -> bool
     true
 }
 
-// append_frame: with more of them.
+/// append_frame: with more of them.
 fn append(
     code: &Code,
     placed: Placed<'_>,
@@ -46,7 +46,8 @@ fn append(
 ) -> Result<bool, NoMemory>
     requires code { placed.code.now ≡ code.now.code }
     requires starts { placed.starts.now ≡ starts_of placed.code.now }
-    ensures { IfOk result (λ made. (pool : List Entry) (ls : List VarType) → AreLocals code.now ls extents.old.items → Makes code.now (Append (map (named pool) more.now)) ls extents.new.items made) }
+    ensures { IfOk result (λ made. (pool : List Entry) (ls : List VarType) → AreLocals code.now ls extents.old.items
+        → Makes code.now (Append (map (named pool) more.now)) ls extents.new.items made) }
 {
     let last = last_of(code.max_locals, extents);
     if !fit(placed, last.left, more) {
@@ -56,7 +57,7 @@ fn append(
     Ok(true)
 }
 
-// full_frame: all of them, and the operand stack.
+/// full_frame: all of them, and the operand stack.
 fn replace(
     code: &Code,
     placed: Placed<'_>,
@@ -66,7 +67,8 @@ fn replace(
 ) -> Result<bool, NoMemory>
     requires code { placed.code.now ≡ code.now.code }
     requires starts { placed.starts.now ≡ starts_of placed.code.now }
-    ensures { IfOk result (λ made. (pool : List Entry) (ls : List VarType) → AreLocals code.now ls extents.old.items → Makes code.now (Full (map (named pool) all.now) (map (named pool) stack.now)) ls extents.new.items made) }
+    ensures { IfOk result (λ made. (pool : List Entry) (ls : List VarType) → AreLocals code.now ls extents.old.items
+        → Makes code.now (Full (map (named pool) all.now) (map (named pool) stack.now)) ls extents.new.items made) }
 {
     if !fit(placed, code.max_locals, all) || !fit(placed, code.max_stack, stack) {
         return Ok(false);
@@ -76,7 +78,7 @@ fn replace(
     Ok(true)
 }
 
-// Whether an entry makes a frame. The local variables are then those behind it.
+/// Whether an entry makes a frame. The local variables are then those behind it.
 fn makes(
     code: &Code,
     placed: Placed<'_>,
@@ -85,7 +87,8 @@ fn makes(
 ) -> Result<bool, NoMemory>
     requires code { placed.code.now ≡ code.now.code }
     requires starts { placed.starts.now ≡ starts_of placed.code.now }
-    ensures { IfOk result (λ made. (pool : List Entry) (ls : List VarType) → AreLocals code.now ls extents.old.items → Makes code.now (change_named pool change.now) ls extents.new.items made) }
+    ensures { IfOk result (λ made. (pool : List Entry) (ls : List VarType) → AreLocals code.now ls extents.old.items
+        → Makes code.now (change_named pool change.now) ls extents.new.items made) }
 {
     match change {
         StepChange::Same => Ok(true),
@@ -98,7 +101,7 @@ fn makes(
     }
 }
 
-// The same of an entry at a place, at which an instruction is to begin.
+/// The same of an entry at a place, at which an instruction is to begin.
 fn makes_at(
     code: &Code,
     placed: Placed<'_>,
@@ -109,7 +112,8 @@ fn makes_at(
     requires code { placed.code.now ≡ code.now.code }
     requires starts { placed.starts.now ≡ starts_of placed.code.now }
     ensures start { IfOk result (λ made. IsTrue made → IsTrue (is_start code.now.code place)) }
-    ensures made { IfOk result (λ made. (pool : List Entry) (ls : List VarType) → AreLocals code.now ls extents.old.items → MakesAt code.now place (change_named pool change.now) ls extents.new.items made) }
+    ensures made { IfOk result (λ made. (pool : List Entry) (ls : List VarType) → AreLocals code.now ls extents.old.items
+        → MakesAt code.now place (change_named pool change.now) ls extents.new.items made) }
 {
     if !is_start(placed, place) {
         return Ok(false);
@@ -117,7 +121,7 @@ fn makes_at(
     makes(code, placed, change, extents)
 }
 
-// The steps of the entries, where the method begins with these local variables.
+/// The steps of the entries, where the method begins with these local variables.
 fn steps_from(
     alloc: Global,
     code: &Code,
@@ -127,8 +131,9 @@ fn steps_from(
 ) -> Result<Items<MapStep>, MapFault>
     requires code { placed.code.now ≡ code.now.code }
     requires starts { placed.starts.now ≡ starts_of placed.code.now }
-    requires small { length code.now.code ≤ 33554432 }
-    ensures { (pool : List Entry) (ls : List VarType) → AreLocals code.now ls first.items → StepsGive pool code.now ls result (frames_from code.now 0 ls (map (entry_named pool) entries.items)) }
+    requires small { length code.now.code ≤ longest_file }
+    ensures { (pool : List Entry) (ls : List VarType) → AreLocals code.now ls first.items
+        → StepsGive pool code.now ls result (frames_from code.now 0 ls (map (entry_named pool) entries.items)) }
 {
     starts_follow_one_another();
     let mut at = Vec::new(alloc);
@@ -149,7 +154,7 @@ fn steps_from(
     Ok(Items::new(at))
 }
 
-// The frames of a method whose StackMapTable has these entries, where it begins with these local variables.
+/// The frames of a method whose StackMapTable has these entries, where it begins with these local variables.
 fn steps_with(
     alloc: Global,
     code: &Code,
@@ -159,8 +164,9 @@ fn steps_with(
 ) -> Result<Items<MapStep>, MapFault>
     requires code { placed.code.now ≡ code.now.code }
     requires starts { placed.starts.now ≡ starts_of placed.code.now }
-    requires small { length code.now.code ≤ 33554432 }
-    ensures { (c : ClassFile) (m : Member) → BeginsWith c m first.now → IsStepwise c m code.now result (frames_with c m code.now (map (entry_named c.pool) entries.items)) }
+    requires small { length code.now.code ≤ longest_file }
+    ensures { (c : ClassFile) (m : Member) → BeginsWith c m first.now
+        → IsStepwise c m code.now result (frames_with c m code.now (map (entry_named c.pool) entries.items)) }
 {
     let Some(extents) = first_extents(alloc, code.max_locals, first)? else {
         return Err(MapFault::Bad(0));
@@ -168,7 +174,7 @@ fn steps_with(
     steps_from(alloc, code, placed, extents, entries)
 }
 
-// The frames of a method of the class that has this code and begins with these local variables.
+/// The frames of a method of the class that has this code and begins with these local variables.
 #[tactic(auto, unfolding(crate::specs::Frames::frames_of))]
 fn steps_of(
     alloc: Global,
@@ -176,7 +182,7 @@ fn steps_of(
     code: &Code,
     first: &[FirstLocal],
 ) -> Result<Items<MapStep>, MapFault>
-    requires { length code.now.code ≤ 33554432 }
+    requires { length code.now.code ≤ longest_file }
     ensures { (m : Member) → BeginsWith class.now m first.now → IsStepwise class.now m code.now result (frames_of class.now m code.now) }
 {
     let bytes = code.code.as_slice();
@@ -202,9 +208,10 @@ pub fn map_steps(
     first: &[FirstLocal],
 ) -> Result<Items<MapStep>, MapFault>
     requires there { method < length class.now.methods }
-    requires coded { (m : Member) → slice_get class.now.methods method ≡ Some m → IsSomeAnd (code_of m) (λ k. length k.code ≤ 33554432) }
+    requires coded { (m : Member) → slice_get class.now.methods method ≡ Some m → IsSomeAnd (code_of m) (λ k. length k.code ≤ longest_file) }
     requires first { (m : Member) → slice_get class.now.methods method ≡ Some m → BeginsWith class.now m first.now }
-    ensures { (m : Member) (k : Code) → slice_get class.now.methods method ≡ Some m → code_of m ≡ Some k → IsStepwise class.now m k result (frames_of class.now m k) }
+    ensures { (m : Member) (k : Code) → slice_get class.now.methods method ≡ Some m → code_of m ≡ Some k
+        → IsStepwise class.now m k result (frames_of class.now m k) }
 {
     let member = &class.methods.as_slice()[method as usize];
     let code = member.code().unwrap();

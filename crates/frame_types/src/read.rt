@@ -1,17 +1,17 @@
 //! A StackMapTable as it is read (JVM Specification SE 8, 4.7.4).
 ghost use Rattle.std.specs.Prelude.{◌≡◌, ◌-◌, ◌≤◌, ◌<◌, map};
-ghost use Rattle.jop_base.specs.Reading.{Gives};
-ghost use Rattle.class_reader.specs.Reading.{many_in, counted_in};
-ghost use Rattle.frame_types.specs.Table.{object_in, uninitialized_in, tagged_in, type_in, one_item_in, append_in, full_in, change_in, frame_in, map_entry_in, table_in, entries_of};
+ghost use Rattle.base.specs.Reading.{Gives};
+ghost use Rattle.class_file.specs.InsideReading.{many_in, counted_in};
+ghost use Rattle.frame_types.specs.Table.{object_in, uninitialized_in, tagged_in, type_in, one_item_in, append_in, full_in, change_in, frame_in, map_entry_in};
+ghost use Rattle.frame_types.specs.Table.{table_in, entries_of};
 ghost use Rattle.frame_types.specs.Steps.{named, change_named};
 ghost use Rattle.frame_types.specs.Extents.{entry_named};
 
 use crate::steps::{EntryType, StepChange};
 use crate::types::VarType;
+use base::{FormatFault, Items};
 use class_pool::numbers::{u8_at, u16_at};
 use class_pool::{Code, Pool};
-use items::Items;
-use jop_base::FormatFault;
 use std::alloc::Global;
 
 /// A change with the names of classes, as contracts see a [`StepChange`].
@@ -64,7 +64,7 @@ fn uninitialized_at<'a>(pool: &Pool, bytes: &'a [u8]) -> Result<(EntryType, &'a 
     Ok((EntryType::Uninitialized(u32::from(place)), rest))
 }
 
-// What stands behind a tag.
+/// What stands behind a tag.
 #[tactic(auto, unfolding(crate::specs::Table::tagged_in))]
 fn tagged_at<'a>(
     pool: &Pool,
@@ -111,7 +111,7 @@ fn many_types<'a>(
     Ok((types, rest))
 }
 
-#[tactic(auto, unfolding(class_reader::specs::Reading::counted_in))]
+#[tactic(auto, unfolding(class_file::specs::InsideReading::counted_in))]
 fn types_at<'a>(
     alloc: Global,
     pool: &Pool,
@@ -158,7 +158,7 @@ fn full_at<'a>(
     Ok((StepChange::Full(locals, stack), rest))
 }
 
-// What stands behind the offset of a frame that has one of two bytes.
+/// What stands behind the offset of a frame that has one of two bytes.
 #[tactic(auto, unfolding(crate::specs::Table::change_in))]
 fn change_at<'a>(
     alloc: Global,
@@ -178,7 +178,7 @@ fn change_at<'a>(
     }
 }
 
-// What stands behind the tag of a frame.
+/// What stands behind the tag of a frame.
 #[tactic(auto, unfolding(crate::specs::Table::frame_in))]
 fn frame_at<'a>(
     alloc: Global,
@@ -230,7 +230,7 @@ fn many_entries<'a>(
     Ok((entries, rest))
 }
 
-#[tactic(auto, unfolding(crate::specs::Table::table_in, class_reader::specs::Reading::counted_in))]
+#[tactic(auto, unfolding(crate::specs::Table::table_in, class_file::specs::InsideReading::counted_in))]
 fn table_of(alloc: Global, pool: &Pool, bytes: &[u8]) -> Result<Vec<StepEntry>, FormatFault>
     ensures { Gives (λ x. map (entry_named pool.now) x.items) result (table_in pool.now bytes.now) }
 {

@@ -3,7 +3,7 @@ ghost use Rattle.std.specs.Prelude.{◌≡◌};
 ghost use Rattle.frame_types.specs.Types.{words_of, is_this};
 ghost use Rattle.frame_types.specs.Extents.{shape};
 
-use items::Items;
+use base::Items;
 
 /// A verification type as a StackMapTable has it: a class is an index of the constant pool.
 #[derive(Clone, Copy)]

@@ -1,5 +1,6 @@
-use items::Items;
-use jop_base::{FormatFault, NoMemory};
+//! Types and frames that a StackMapTable names (4.7.4).
+
+use base::{FormatFault, Items, NoMemory};
 use std::alloc::{AllocError, AllocFailed};
 
 /// A verification type (JVM Specification SE 8, 4.10.1.2). Of the numbers, `int` and `long`.

@@ -1,6 +1,6 @@
 -- Bytes packed word by word.
 use Rattle.std.proofs.Common.{◌≡◌, ℕ, suc, ◌+◌, ◌-◌, ◌*◌, ◌<◌, List, [], ◌∷◌, ◌++◌, length, append-nil, append_assoc, sym, ap, ap₂, ◌∙◌, arith}
-use Rattle.word32.specs.Packed.{word_at_bytes, words_from, words_for, words_of_bytes}
+use Rattle.base.specs.Packed.{word_at_bytes, words_from, words_for, words_of_bytes}
 
 abbrev pub Packing : (bytes before words : List ℕ) → (k : ℕ) → Type 0
 Packing bytes before words k = words ++ words_from bytes (4 * k) (words_for (length bytes) - k) ≡ before ++ words_of_bytes bytes

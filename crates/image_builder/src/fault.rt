@@ -3,7 +3,7 @@ ghost use Rattle.std.specs.Prelude.{◌≡◌, Some, None, IfErr, OnOk};
 ghost use Rattle.image_builder.specs.declared.fault.LayFault.TheVariants.{TooLarge};
 ghost use Rattle.image_builder.specs.Passed.{passed};
 
-use jop_base::NoMemory;
+use base::NoMemory;
 
 /// What an image has at most so many of.
 #[derive(Clone, Copy)]

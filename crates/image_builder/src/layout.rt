@@ -20,7 +20,15 @@ impl Model for Layout {
 
     ghost Value = { Laid };
 
-    ghost view = { λ a. record { words = a.words.items; methods = a.methods.items; types = a.types.items; pools = a.pools.items; fields = a.fields.items; strings = a.strings.items } };
+    ghost view = { λ a. record {
+      words = a.words.items;
+      methods = a.methods.items;
+      types = a.types.items;
+      pools = a.pools.items;
+      fields
+          = a.fields.items;
+      strings = a.strings.items;
+    } };
 }
 
 impl Layout {
@@ -61,13 +69,5 @@ impl Layout {
         ensures { slice_get self.now.fields field ≡ Some result }
     {
         self.fields[field as usize]
-    }
-
-    /// The place of the string of this number.
-    pub fn string_place(&self, string: u32) -> u32
-        requires { string < length self.now.strings }
-        ensures { slice_get self.now.strings string ≡ Some result }
-    {
-        self.strings[string as usize]
     }
 }

@@ -1,8 +1,8 @@
 //! Bytes among words.
 ghost use Rattle.std.specs.Prelude.{◌≡◌, ◌++◌, ◌<◌, ◌^◌, slice_index, OnOk};
-ghost use Rattle.word32.specs.Packed.{word_at_bytes, words_of_bytes};
+ghost use Rattle.base.specs.Packed.{word_at_bytes, words_of_bytes};
 
-use jop_base::NoMemory;
+use base::NoMemory;
 
 /// A byte of these; past their end, 0.
 fn byte_at(bytes: &[u8], k: usize) -> u8

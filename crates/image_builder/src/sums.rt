@@ -2,7 +2,7 @@
 ghost use Rattle.std.specs.Prelude.{◌≡◌, ℕ, ◌+◌, ◌*◌, List, take, sum, IfOk};
 ghost use Rattle.image_builder.specs.Runs.{IsRun};
 
-use jop_base::NoMemory;
+use base::NoMemory;
 use std::alloc::Global;
 
 /// The sum, where it is a number of 32 bits; so many words are more than memory has.

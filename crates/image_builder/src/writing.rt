@@ -1,7 +1,7 @@
 //! Words put behind others.
 ghost use Rattle.std.specs.Prelude.{◌≡◌, ◌++◌, ◌+◌, ◌*◌, ◌^◌, replicate, OnOk};
 
-use jop_base::NoMemory;
+use base::NoMemory;
 
 /// What stands in the upper half of a word counts so many times.
 const UPPER: u32 = 65536;

@@ -17,14 +17,16 @@ use Rattle.image_facts.specs.Places.{Places, AreFixed, static_place, object_plac
 
 -- Words that lie in a list are read there word by word, and as a range.
 abbrev pub WordsAreRead : Type 0
-WordsAreRead = (whole : List ℕ) (place : ℕ) (words : List ℕ) (k : ℕ) → LieAt whole place words → k < length words → slice_index whole (place + k) ≡ slice_index words k
+WordsAreRead = (whole : List ℕ) (place : ℕ) (words : List ℕ) (k : ℕ) → LieAt whole place words → k < length words
+    → slice_index whole (place + k) ≡ slice_index words k
 
 abbrev pub RangesAreRead : Type 0
 RangesAreRead = (whole : List ℕ) (place : ℕ) (words : List ℕ) → LieAt whole place words → slice_range whole place (place + length words) ≡ words
 
 -- A list in which one of them differs comes of writing this one.
 abbrev pub WordsAreWritten : Type 0
-WordsAreWritten = (whole other : List ℕ) (place : ℕ) (words : List ℕ) (k word : ℕ) → k < length words → DifferAt whole other place words (slice_set words k word)
+WordsAreWritten = (whole other : List ℕ) (place : ℕ) (words : List ℕ) (k word : ℕ) → k < length words
+    → DifferAt whole other place words (slice_set words k word)
     → slice_set whole (place + k) word ≡ other
 
 -- So where two differ, as those of a long do.
@@ -45,11 +47,13 @@ PiecesDiffer = (pieces others : List (List ℕ)) (i : ℕ) (words instead : List
 
 -- What lies in words that lie in others lies in these.
 abbrev pub LieThrough : Type 0
-LieThrough = (whole : List ℕ) (place : ℕ) (middle : List ℕ) (part : ℕ) (words : List ℕ) → LieAt whole place middle → LieAt middle part words → LieAt whole (place + part) words
+LieThrough = (whole : List ℕ) (place : ℕ) (middle : List ℕ) (part : ℕ) (words : List ℕ) → LieAt whole place middle → LieAt middle part words
+    → LieAt whole (place + part) words
 
 -- Words that follow do not matter.
 abbrev pub ListsGoOn : Type 0
-ListsGoOn = (whole other back : List ℕ) (place : ℕ) (words instead : List ℕ) → DifferAt whole other place words instead → DifferAt (whole ++ back) (other ++ back) place words instead
+ListsGoOn = (whole other back : List ℕ) (place : ℕ) (words instead : List ℕ) → DifferAt whole other place words instead
+    → DifferAt (whole ++ back) (other ++ back) place words instead
 
 -- ---- the words of an image, where the static fields and the objects have some values
 
@@ -59,27 +63,34 @@ part_place P pl objects p o k = object_place P pl objects p + (header_words (kin
 
 -- What is fixed is there.
 abbrev pub FixedWordsLie : Type 0
-FixedWordsLie = (P : Program) (pl : Places) (statics : List Value) (objects : List Object) (place : ℕ) (words : List ℕ) → AreAlike statics (map default P.statics)
+FixedWordsLie = (P : Program) (pl : Places) (statics : List Value) (objects : List Object) (place : ℕ) (words : List ℕ)
+    → AreAlike statics (map default P.statics)
     → AreFixed P pl place words → LieAt (words_with P pl statics objects) place words
 
 -- Each object lies at its place, and its values at theirs.
 abbrev pub ObjectsLie : Type 0
 ObjectsLie = (P : Program) (pl : Places) (statics : List Value) (objects : List Object) (p : ℕ) (o : Object) → AreAlike statics (map default P.statics)
-    → slice_get objects p ≡ Some o → LieAt (words_with P pl statics objects) (object_place P pl objects p) (object_image P pl.type (object_place P pl objects) o)
+    → slice_get objects p ≡ Some o → LieAt (words_with P pl statics objects) (object_place P pl objects p)
+    (object_image P pl.type (object_place P pl objects) o)
 
 abbrev pub PartsLie : Type 0
-PartsLie = (P : Program) (pl : Places) (statics : List Value) (objects : List Object) (p : ℕ) (o : Object) (k : ℕ) (v : Value) → AreAlike statics (map default P.statics)
-    → slice_get objects p ≡ Some o → slice_get o.parts k ≡ Some v → LieAt (words_with P pl statics objects) (part_place P pl objects p o k) (words_of (object_place P pl objects) v)
+PartsLie = (P : Program) (pl : Places) (statics : List Value) (objects : List Object) (p : ℕ) (o : Object) (k : ℕ) (v : Value)
+    → AreAlike statics (map default P.statics)
+    → slice_get objects p ≡ Some o → slice_get o.parts k ≡ Some v
+    → LieAt (words_with P pl statics objects) (part_place P pl objects p o k) (words_of (object_place P pl objects) v)
 
 -- Where a value of an object is written by one of its width, its words alone differ.
 abbrev pub PartsDiffer : Type 0
-PartsDiffer = (P : Program) (pl : Places) (statics : List Value) (objects changed : List Object) (p : ℕ) (o : Object) (k : ℕ) (v w : Value) → AreAlike statics (map default P.statics)
+PartsDiffer = (P : Program) (pl : Places) (statics : List Value) (objects changed : List Object) (p : ℕ) (o : Object) (k : ℕ) (v w : Value)
+    → AreAlike statics (map default P.statics)
     → slice_get objects p ≡ Some o → slice_get o.parts k ≡ Some v → value_words w ≡ value_words v → written objects p k w ≡ Some changed
-    → DifferAt (words_with P pl statics objects) (words_with P pl statics changed) (part_place P pl objects p o k) (words_of (object_place P pl objects) v) (words_of (object_place P pl objects) w)
+    → DifferAt (words_with P pl statics objects) (words_with P pl statics changed) (part_place P pl objects p o k) (words_of (object_place P pl objects) v)
+    (words_of (object_place P pl objects) w)
 
 -- The first so many fields take as many words as they are declared to.
 abbrev pub FieldsAreWide : Type 0
-FieldsAreWide = (vs : List Value) (ds : List Declared) (k : ℕ) → AreAlike vs (map default ds) → sum_by value_words (take k vs) ≡ sum_by declared_words (take k ds)
+FieldsAreWide = (vs : List Value) (ds : List Declared) (k : ℕ) → AreAlike vs (map default ds)
+    → sum_by value_words (take k vs) ≡ sum_by declared_words (take k ds)
 
 -- So of static fields.
 abbrev pub StaticsLie : Type 0
@@ -87,19 +98,25 @@ StaticsLie = (P : Program) (pl : Places) (statics : List Value) (objects : List 
     → slice_get statics k ≡ Some v → LieAt (words_with P pl statics objects) (static_place P pl k) (words_of (object_place P pl objects) v)
 
 abbrev pub StaticsDiffer : Type 0
-StaticsDiffer = (P : Program) (pl : Places) (statics changed : List Value) (objects : List Object) (k : ℕ) (v w : Value) → AreAlike statics (map default P.statics)
+StaticsDiffer = (P : Program) (pl : Places) (statics changed : List Value) (objects : List Object) (k : ℕ) (v w : Value)
+    → AreAlike statics (map default P.statics)
     → slice_get statics k ≡ Some v → replaced statics k w ≡ Some changed
-    → DifferAt (words_with P pl statics objects) (words_with P pl changed objects) (static_place P pl k) (words_of (object_place P pl objects) v) (words_of (object_place P pl objects) w)
+    → DifferAt (words_with P pl statics objects) (words_with P pl changed objects) (static_place P pl k) (words_of (object_place P pl objects) v)
+    (words_of (object_place P pl objects) w)
 
 -- The words end behind the last object, and those of an object that is made follow there.
 abbrev pub WordsEnd : Type 0
-WordsEnd = (P : Program) (pl : Places) (statics : List Value) (objects : List Object) → AreAlike statics (map default P.statics) → length (words_with P pl statics objects) ≡ end_of P pl objects
+WordsEnd = (P : Program) (pl : Places) (statics : List Value) (objects : List Object) → AreAlike statics (map default P.statics)
+    → length (words_with P pl statics objects) ≡ end_of P pl objects
 
 abbrev pub ObjectsFollow : Type 0
-ObjectsFollow = (P : Program) (pl : Places) (statics : List Value) (objects : List Object) (o : Object) → AreValues (length objects) statics → AreObjects P (length objects) objects
-    → AreValues (length objects) o.parts → words_with P pl statics (objects ++ o ∷ []) ≡ words_with P pl statics objects ++ object_image P pl.type (object_place P pl objects) o
+ObjectsFollow = (P : Program) (pl : Places) (statics : List Value) (objects : List Object) (o : Object) → AreValues (length objects) statics
+    → AreObjects P (length objects) objects
+    → AreValues (length objects) o.parts → words_with P pl statics (objects ++ o ∷ []) ≡ words_with P pl statics objects
+    ++ object_image P pl.type (object_place P pl objects) o
 
 -- The first objects of a state lie where those of the start do, and so does what follows them.
 abbrev pub FirstObjectsStay : Type 0
-FirstObjectsStay = (P : Program) (pl : Places) (limits : Limits) (s : State) (p : ℕ) → AreObjects P (length P.first_objects) P.first_objects → IsWellFormed P limits s
+FirstObjectsStay = (P : Program) (pl : Places) (limits : Limits) (s : State) (p : ℕ) → AreObjects P (length P.first_objects) P.first_objects
+    → IsWellFormed P limits s
     → p ≤ length P.first_objects → object_place P pl s.objects p ≡ object_place P pl P.first_objects p

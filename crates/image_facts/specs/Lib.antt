@@ -3,3 +3,4 @@ pub mod Words
 pub mod Places
 pub mod Says
 pub mod Laws
+pub mod Methods

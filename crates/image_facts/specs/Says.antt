@@ -1,13 +1,15 @@
 -- What the words of an image say of a program.
-use Rattle.std.specs.Prelude.{◌≡◌, ◌⊎◌, ℕ, ◌+◌, ◌*◌, ◌/◌, ◌%◌, ◌^◌, ◌<◌, ◌≤◌, pos, Bool, true, false, List, [], ◌∷◌, ◌++◌, length, replicate, take, sum_by, All, slice_get, slice_index, Ok, Option, Some, None, IsSome, IfSome, IsSomeAnd, if◌then◌else◌}
+use Rattle.std.specs.Prelude.{◌≡◌, ◌⊎◌, ℕ, ◌+◌, ◌*◌, ◌/◌, ◌%◌, ◌^◌, ◌<◌, ◌≤◌, pos, Bool, true, false, List, [], ◌∷◌, ◌++◌, length, replicate, take, sum_by, All}
+use Rattle.std.specs.Prelude.{slice_get, slice_index, Ok, Option, Some, None, IsSome, IfSome, IsSomeAnd, if◌then◌else◌}
 use Rattle.std.specs.List.{flat_map}
 use Rattle.std.specs.Int.{div_ceil}
-use Rattle.word32.specs.Packed.{words_for, words_of_bytes}
-use Rattle.jop_opcodes.specs.declared.instruction.Instr.{Instr}
-use Rattle.jop_opcodes.specs.Instruction.{decoded}
-use Rattle.jop_opcodes.specs.Start.{IsStart}
+use Rattle.base.specs.Packed.{words_for, words_of_bytes}
+use Rattle.opcodes.specs.declared.instruction.Instr.{Instr}
+use Rattle.opcodes.specs.Instruction.{decoded}
+use Rattle.opcodes.specs.Start.{IsStart}
 use Rattle.bytecode_model.specs.Types.{Kind, OfClass, OfNumbers, OfReferences, t_boolean}
-use Rattle.bytecode_model.specs.Program.{Program, Method, Body, Handler, Operand, NoOperand, AnInt, ALong, AString, AStatic, AField, AMethod, AType, body_of, instr_at, type_number, is_of}
+use Rattle.bytecode_model.specs.Program.{Program, Method, Body, Handler, Operand, NoOperand, AnInt, ALong, AString, AStatic, AField, AMethod, AType, body_of}
+use Rattle.bytecode_model.specs.Program.{instr_at, type_number, is_of}
 use Rattle.bytecode_model.specs.Effects.{Fault, fault_object, component_of, has_class, selected}
 use Rattle.bytecode_model.specs.Steps.{taken_types}
 use Rattle.bytecode_model.specs.WellFormed.{AreObjects}
@@ -74,7 +76,8 @@ instance_words P k = 0
 -- the type of each number is this one or a supertype. No instance has so many words that the place behind it would be none.
 pub record SaysType (P : Program) (pl : Places) (t : ℕ) (k : Kind) : Type 0 where
   pub supertypes : List ℕ
-  pub words : AreFixed P pl (pl.type t) (t ∷ instance_words P k ∷ counted_type P (component_of (Some k)) ∷ pl.method_table t ∷ pl.interface_table t ∷ supertypes)
+  pub words : AreFixed P pl (pl.type t) (t ∷ instance_words P k ∷ counted_type P (component_of (Some k)) ∷ pl.method_table t ∷ pl.interface_table t
+      ∷ supertypes)
   pub count : length supertypes ≡ div_ceil (length P.types) 32
   pub size : instance_words P k < 2 ^ 31
   pub bits : (u : ℕ) → IfSome (slice_get P.types u) (λ l. slice_index supertypes (u / 32) / 2 ^ (u % 32) % 2 ≡ bit_of (is_of P k l))
@@ -111,7 +114,8 @@ IsSlot P pl named m slot =
 pub record IsInterfaceNumber (P : Program) (pl : Places) (m interface number : ℕ) : Type 0 where
   pub implements : (t u : ℕ) (k : Kind) → slice_get P.types t ≡ Some k → has_class P (Some k) interface ≡ true → selected P (Some k) m ≡ Some u
       → FindsMethod P pl (pl.interface_table t + number) u
-  pub other : (t : ℕ) (k : Kind) → slice_get P.types t ≡ Some k → has_class P (Some k) interface ≡ false → AreFixed P pl (pl.interface_table t + number) (0 ∷ [])
+  pub other : (t : ℕ) (k : Kind) → slice_get P.types t ≡ Some k → has_class P (Some k) interface ≡ false
+      → AreFixed P pl (pl.interface_table t + number) (0 ∷ [])
 
 -- The two words of a method: where it runs without a selection, its place; else the words of its arguments, and a slot or an interface method's number.
 -- What invokespecial names isn't abstract (6.5.invokespecial).

@@ -1,9 +1,18 @@
-//! What the words of an image say of a program: where its methods, types, pools and tables lie, and what stands there. The
-//! definitions stand in `specs/`, over a resolved program, without bytes and class files. The functions here do nothing; a
-//! caller whose proof needs a law calls its function.
+//! What the words of an image say of a program: where its methods, types, pools and tables lie, and what stands there; and the methods
+//! that have code as a run of the image looks them up, by the place of a method's record and by the place of a byte in a method's
+//! code. The definitions stand in `specs/`, over a resolved program, without bytes and class files. A function without a body is a
+//! law; a caller whose proof needs it calls it.
 #![tactic(auto)]
 
-ghost use Rattle.image_facts.specs.Laws.{FieldsAreWide, FirstObjectsStay, FixedWordsLie, LieThrough, ListsGoOn, ObjectsFollow, ObjectsLie, PairsAreWritten, PartsDiffer, PartsLie, PiecesDiffer, PiecesLie, RangesAreRead, StaticsDiffer, StaticsLie, WordsAreRead, WordsAreWritten, WordsEnd};
+ghost use Rattle.image_facts.specs.Laws.{FieldsAreWide, FirstObjectsStay, FixedWordsLie, LieThrough, ListsGoOn, ObjectsFollow, ObjectsLie, PairsAreWritten};
+ghost use Rattle.image_facts.specs.Laws.{PartsDiffer, PartsLie, PiecesDiffer, PiecesLie, RangesAreRead, StaticsDiffer, StaticsLie, WordsAreRead};
+ghost use Rattle.image_facts.specs.Laws.{WordsAreWritten, WordsEnd};
+
+mod code;
+mod method;
+
+pub use code::instruction_with;
+pub use method::{CodedMethod, number_at};
 
 /// Words that lie in others are read from there, and written there.
 pub fn words_are_read_and_written()

@@ -9,7 +9,7 @@ use Rattle.std.proofs.lemmas.Bool.{and_from, eq-eqb, eqb-true, cond-false, false
 use Rattle.std.proofs.lemmas.Option.{slice_get_within}
 use Rattle.class_pool.specs.Grammar.{entry_at}
 use Rattle.class_pool.specs.declared.class.ClassFile.{ClassFile}
-use Rattle.word32.specs.Packed.{PackedHasWords}
+use Rattle.base.specs.Packed.{PackedHasWords}
 use Rattle.bytecode_model.specs.Types.{OfReferences}
 use Rattle.bytecode_model.specs.Program.{type_number}
 use Rattle.lists.specs.Lemmas.{none≢some, some_same, index_found}

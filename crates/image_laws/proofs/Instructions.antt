@@ -13,9 +13,9 @@ use Rattle.class_pool.specs.Found.{code_of}
 use Rattle.class_pool.specs.declared.class.Code.{Code}
 use Rattle.class_pool.specs.declared.class.Member.{Member}
 use Rattle.class_pool.specs.declared.class.ClassFile.{ClassFile}
-use Rattle.jop_opcodes.specs.declared.instruction.Instr.{Instr}
-use Rattle.jop_opcodes.specs.Instruction.{decoded}
-use Rattle.jop_opcodes.specs.Start.{starts_of, IsStart}
+use Rattle.opcodes.specs.declared.instruction.Instr.{Instr}
+use Rattle.opcodes.specs.Instruction.{decoded}
+use Rattle.opcodes.specs.Start.{starts_of, IsStart}
 use Rattle.bytecode_model.specs.Program.{as_instr}
 use Rattle.lists.specs.Lemmas.{none≢some, some_same}
 use Rattle.class_lookup.specs.Parts.{Signature, signature_of}

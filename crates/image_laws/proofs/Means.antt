@@ -13,9 +13,9 @@ use Rattle.class_pool.specs.Found.{code_of}
 use Rattle.class_pool.specs.declared.class.ClassFile.{ClassFile}
 use Rattle.class_rules.specs.Found.{MethodsHaveCode}
 use Rattle.class_rules.specs.Grammar.{IsClass}
-use Rattle.jop_opcodes.specs.declared.instruction.Instr.{Instr}
-use Rattle.jop_opcodes.specs.Instruction.{decoded}
-use Rattle.jop_opcodes.specs.Start.{IsStart}
+use Rattle.opcodes.specs.declared.instruction.Instr.{Instr}
+use Rattle.opcodes.specs.Instruction.{decoded}
+use Rattle.opcodes.specs.Start.{IsStart}
 use Rattle.bytecode_model.specs.Types.{OfReferences}
 use Rattle.bytecode_model.specs.Program.{Method, Body, NoOperand, as_instr, body_of}
 use Rattle.lists.specs.Lists.{onto}

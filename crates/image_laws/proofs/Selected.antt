@@ -7,7 +7,7 @@ use Rattle.std.proofs.lemmas.Bool.{false≢true, not_from_false}
 use Rattle.std.proofs.lemmas.Option.{slice_get_within}
 use Rattle.std.proofs.lemmas.List.Sums.{sum_by-cons}
 use Rattle.class_pool.specs.declared.class.ClassFile.{ClassFile}
-use Rattle.word32.specs.Packed.{PackedHasWords}
+use Rattle.base.specs.Packed.{PackedHasWords}
 use Rattle.bytecode_model.specs.Program.{Method}
 use Rattle.bytecode_typing.specs.Lawful.{IsVirtualCall, IsInterfaceCall}
 use Rattle.lists.specs.Lists.{onto}

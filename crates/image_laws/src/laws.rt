@@ -1,7 +1,12 @@
 //! Laws of the words of an image. The functions do nothing; a caller whose proof needs a law calls its function.
-ghost use Rattle.image_laws.specs.InterfaceEntries.{BootHasNoInterfaceEntry, BootStandsLast, InterfaceEntriesBeginWithZero, InterfaceEntriesTakeNothing, InterfaceWordsBeginWithZero};
-ghost use Rattle.image_laws.specs.Laws.{CallsHaveSlots, ClassesAreSaid, CodesAreSaid, ComponentsAreNumbered, EntriesAreNamed, FirstObjectsLaw, ImagesSayPrograms, InstanceFieldsAreSaid, InstancesAreSmall, InterfaceCallsAreSaid, InterfaceNumbersAreSaid, IntsAreSaid, MethodsAreApart, MethodsAreSaid, OperandsLaw, SlotsAreInherited, SlotsAreSaid, StaticFieldsAreSaid, StringsAreSaid, SupertypesAreSaid, VirtualCallsAreSaid};
+ghost use Rattle.image_laws.specs.InterfaceEntries.{BootHasNoInterfaceEntry, BootStandsLast, InterfaceEntriesBeginWithZero, InterfaceEntriesTakeNothing};
+ghost use Rattle.image_laws.specs.InterfaceEntries.{InterfaceWordsBeginWithZero};
+ghost use Rattle.image_laws.specs.Laws.{CallsHaveSlots, ClassesAreSaid, CodesAreSaid, ComponentsAreNumbered, EntriesAreNamed, FirstObjectsLaw};
+ghost use Rattle.image_laws.specs.Laws.{ImagesSayPrograms, InstanceFieldsAreSaid, InstancesAreSmall, InterfaceCallsAreSaid, InterfaceNumbersAreSaid};
+ghost use Rattle.image_laws.specs.Laws.{IntsAreSaid, MethodsAreApart, MethodsAreSaid, OperandsLaw, SlotsAreInherited, SlotsAreSaid, StaticFieldsAreSaid};
+ghost use Rattle.image_laws.specs.Laws.{StringsAreSaid, SupertypesAreSaid, VirtualCallsAreSaid};
 
+use base::laws::packed_has_words;
 use class_lookup::laws::{
     classes_extend_what_is_above, equals_are_compared, members_are_found_above,
     methods_are_looked_up, methods_have_signatures, overriding_is_decided,
@@ -11,7 +16,6 @@ use class_rules::laws::methods_have_code;
 use descriptors::laws::field_descriptors;
 use image_words::laws::image_words_lie;
 use program_laws::laws::{fields_come_after_those_above, resolved_programs_are_lawful};
-use word32::laws::packed_has_words;
 
 /// The slots of a class begin with those of its superclasses.
 pub fn slots_are_inherited()

@@ -27,7 +27,7 @@ use Rattle.program_tables.specs.Tables.{base_kind}
 use Rattle.class_pool.specs.Grammar.{entry_at}
 use Rattle.class_pool.specs.declared.class.Member.{Member}
 use Rattle.class_pool.specs.declared.class.ClassFile.{ClassFile}
-use Rattle.jop_opcodes.specs.declared.instruction.Instr.{Instr}
+use Rattle.opcodes.specs.declared.instruction.Instr.{Instr}
 use Rattle.program_tables.specs.Instructions.{Placed, placed_at, instructions_of, signature_in}
 use Rattle.program_tables.specs.Entries.{found_from, field_found, method_found}
 use Rattle.program_tables.specs.Operands.{string_object, operand_in, class_named, field_named, method_named}

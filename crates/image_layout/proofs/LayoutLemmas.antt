@@ -5,7 +5,7 @@ use Rattle.std.specs.Option.{option_map_or}
 use Rattle.std.specs.List.{range_with_len}
 use Rattle.std.proofs.lemmas.List.{length-map, length-replicate}
 use Rattle.class_pool.specs.declared.class.ClassFile.{ClassFile}
-use Rattle.word32.specs.Packed.{PackedHasWords}
+use Rattle.base.specs.Packed.{PackedHasWords}
 use Rattle.lists.specs.Lists.{index_of}
 use Rattle.image_facts.specs.Places.{static_place}
 use Rattle.image_facts.specs.Words.{declared_words}

@@ -10,7 +10,7 @@ use Rattle.class_pool.specs.declared.class.Code.{Code}
 use Rattle.class_pool.specs.declared.class.Member.{Member}
 use Rattle.class_pool.specs.declared.class.ClassFile.{ClassFile}
 use Rattle.class_pool.specs.Found.{code_of}
-use Rattle.word32.specs.Packed.{words_for, words_of_bytes}
+use Rattle.base.specs.Packed.{words_for, words_of_bytes}
 use Rattle.bytecode_model.specs.Program.{Method, Handler}
 use Rattle.bytecode_model.specs.Types as model
 use Rattle.image_facts.specs.Words.{declared_words}

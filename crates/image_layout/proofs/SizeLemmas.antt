@@ -8,7 +8,7 @@ use Rattle.class_pool.specs.declared.class.Code.{Code}
 use Rattle.class_pool.specs.declared.class.Member.{Member}
 use Rattle.class_pool.specs.declared.class.ClassFile.{ClassFile}
 use Rattle.class_pool.specs.Found.{code_of}
-use Rattle.word32.specs.Packed.{words_for}
+use Rattle.base.specs.Packed.{words_for}
 use Rattle.bytecode_model.specs.Program.{Method}
 use Rattle.lists.specs.Lists.{onto}
 use Rattle.class_lookup.specs.Lookup.{Place, method_at}

@@ -14,7 +14,8 @@ ghost use Rattle.program_tables.specs.Operands.{class_named, field_named, method
 ghost use Rattle.program_tables.specs.Resolved.{declared_at, resolved_method};
 ghost use Rattle.program_tables.specs.Tables.{kind_seen};
 ghost use Rattle.image_words.specs.Layout.{outline_of};
-ghost use Rattle.image_words.specs.Pools.{no_words, string_words, class_words, static_word, instance_word, field_words, method_word, interface_word, taken_place, words_of_entry, entry_words, pool_image, instructions_in};
+ghost use Rattle.image_words.specs.Pools.{no_words, string_words, class_words, static_word, instance_word, field_words, method_word, interface_word};
+ghost use Rattle.image_words.specs.Pools.{taken_place, words_of_entry, entry_words, pool_image, instructions_in};
 ghost use Rattle.image_words.specs.Regions.{pools_region};
 ghost use Rattle.image_words.specs.Slots.{slot_of};
 ghost use Rattle.image_words.specs.Outline.{IsOutline};
@@ -23,11 +24,11 @@ ghost use Rattle.image_layout.specs.Uses.{instr_of, use_of};
 use crate::methods::argument_words;
 use crate::statics::long_words;
 use crate::uses::{Use, uses_of};
+use base::NoMemory;
 use class_lookup::Place;
 use class_pool::Entry;
 use image_builder::{add, count, times};
 use image_words::{Outline, index_of_place};
-use jop_base::NoMemory;
 use program_tables::laws::{members_are_there, methods_stand_by_number};
 use program_tables::{Declared, ObjectKind, is_static_field};
 use resolved_program::Program;
@@ -40,7 +41,8 @@ const ARGUMENTS: u32 = 1 << 24;
 fn string_words(program: &Program, outline: &Outline, class: u32, index: u16) -> [u32; 2]
     requires outline { IsOutline program.now outline.now }
     requires class { class < length program.now }
-    ensures { (k : ClassFile) (units : ℕ) → slice_get program.now class ≡ Some k → entry_at k.pool index ≡ Some (Entry.Text units) → result ≡ string_words program.now (outline_of program.now) (text_at k.pool units) }
+    ensures { (k : ClassFile) (units : ℕ) → slice_get program.now class ≡ Some k → entry_at k.pool index ≡ Some (Entry.Text units)
+        → result ≡ string_words program.now (outline_of program.now) (text_at k.pool units) }
 {
     match program.string_object(class, index) {
         Some(object) => [outline.object_place(object), 0],
@@ -151,7 +153,8 @@ fn method_word(
 ) -> Result<u32, NoMemory>
     requires outline { IsOutline program.now outline.now }
     requires class { class < length program.now }
-    ensures { IfOk result (λ word. (k : ClassFile) → slice_get program.now class ≡ Some k → word ≡ method_word program.now (class_named program.now k owner) (onto (signature_in k.pool member) (method_named program.now k owner))) }
+    ensures { IfOk result (λ word. (k : ClassFile) → slice_get program.now class ≡ Some k
+        → word ≡ method_word program.now (class_named program.now k owner) (onto (signature_in k.pool member) (method_named program.now k owner))) }
 {
     match program.method_found(class, owner, member) {
         Some(found) => {
@@ -173,7 +176,8 @@ fn interface_word(
 ) -> Result<u32, NoMemory>
     requires outline { IsOutline program.now outline.now }
     requires class { class < length program.now }
-    ensures { IfOk result (λ word. (k : ClassFile) → slice_get program.now class ≡ Some k → word ≡ interface_word program.now (onto (signature_in k.pool member) (method_named program.now k owner))) }
+    ensures { IfOk result (λ word. (k : ClassFile) → slice_get program.now class ≡ Some k
+        → word ≡ interface_word program.now (onto (signature_in k.pool member) (method_named program.now k owner))) }
 {
     match program.method_found(class, owner, member) {
         Some(found) => {
@@ -195,7 +199,9 @@ fn field_entry(
 ) -> [u32; 2]
     requires outline { IsOutline program.now outline.now }
     requires class { class < length program.now }
-    ensures { (k : ClassFile) → slice_get program.now class ≡ Some k → result ≡ option_map_or (field_words program.now (outline_of program.now)) (onto (signature_in k.pool member) (field_named program.now k owner)) no_words }
+    ensures { (k : ClassFile) → slice_get program.now class ≡ Some k
+        → result ≡ option_map_or (field_words program.now (outline_of program.now)) (onto (signature_in k.pool member)
+        (field_named program.now k owner)) no_words }
 {
     match program.field_found(class, owner, member) {
         Some(found) => field_words(program, outline, found.1),
@@ -214,7 +220,8 @@ fn words_of_entry(
 ) -> Result<[u32; 2], NoMemory>
     requires outline { IsOutline program.now outline.now }
     requires class { number < length program.now }
-    ensures { IfOk result (λ words. (k : ClassFile) → slice_get program.now number ≡ Some k → entry_at k.pool index ≡ Some entry.now → taken ≡ taken_place program.now (outline_of program.now) number k index
+    ensures { IfOk result (λ words. (k : ClassFile) → slice_get program.now number ≡ Some k → entry_at k.pool index ≡ Some entry.now
+        → taken ≡ taken_place program.now (outline_of program.now) number k index
         → words ≡ words_of_entry program.now (outline_of program.now) number k index (Some entry.now)) }
 {
     match entry {
@@ -253,7 +260,8 @@ fn entry_words(
 ) -> Result<[u32; 2], NoMemory>
     requires outline { IsOutline program.now outline.now }
     requires class { number < length program.now }
-    ensures { IfOk result (λ words. (k : ClassFile) → slice_get program.now number ≡ Some k → entry_at k.pool index ≡ Some entry.now → used ≡ use_of program.now number k (map instr_of (instructions_in k)) index
+    ensures { IfOk result (λ words. (k : ClassFile) → slice_get program.now number ≡ Some k → entry_at k.pool index ≡ Some entry.now
+        → used ≡ use_of program.now number k (map instr_of (instructions_in k)) index
         → words ≡ entry_words program.now (outline_of program.now) number k index) }
 {
     if used.named {
@@ -275,8 +283,10 @@ fn add_entries(
 ) -> Result<(), NoMemory>
     requires outline { IsOutline program.now outline.now }
     requires class { number < length program.now }
-    requires uses { (k : ClassFile) → slice_get program.now number ≡ Some k → uses.now ≡ map (use_of program.now number k (map instr_of (instructions_in k))) (range_with_len 0 (1 + length k.pool)) }
-    ensures { OnOk result ((k : ClassFile) → slice_get program.now number ≡ Some k → words.new.items ≡ words.old.items ++ pool_image program.now (outline_of program.now) number k) }
+    requires uses { (k : ClassFile) → slice_get program.now number ≡ Some k
+        → uses.now ≡ map (use_of program.now number k (map instr_of (instructions_in k))) (range_with_len 0 (1 + length k.pool)) }
+    ensures { OnOk result ((k : ClassFile) → slice_get program.now number ≡ Some k
+        → words.new.items ≡ words.old.items ++ pool_image program.now (outline_of program.now) number k) }
 {
     program.is_within_bounds();
     words.extend_from_slice(&[0, 0])?;
@@ -300,7 +310,8 @@ fn add_pool(
 ) -> Result<(), NoMemory>
     requires outline { IsOutline program.now outline.now }
     requires class { number < length program.now }
-    ensures { OnOk result ((k : ClassFile) → slice_get program.now number ≡ Some k → words.new.items ≡ words.old.items ++ pool_image program.now (outline_of program.now) number k) }
+    ensures { OnOk result ((k : ClassFile) → slice_get program.now number ≡ Some k
+        → words.new.items ≡ words.old.items ++ pool_image program.now (outline_of program.now) number k) }
 {
     let uses = uses_of(alloc, program, outline, number)?;
     add_entries(words, program, outline, number, &uses)

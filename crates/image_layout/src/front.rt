@@ -8,9 +8,9 @@ ghost use Rattle.image_words.specs.Layout.{type_place, outline_of};
 ghost use Rattle.image_words.specs.Regions.{first_place, header_region, lists_region, front_of};
 ghost use Rattle.image_words.specs.Outline.{IsOutline};
 
+use base::NoMemory;
 use class_lookup::Place;
 use image_words::Outline;
-use jop_base::NoMemory;
 use program_tables::laws::{members_are_there, methods_stand_by_number};
 use resolved_program::Program;
 
@@ -70,7 +70,8 @@ pub(crate) fn add_type_places(
     outline: &Outline,
     many: u32,
 ) -> Result<(), NoMemory>
-    ensures { (cs : List ClassFile) → IsOutline cs outline.now → OnOk result (words.new.items ≡ words.old.items ++ map (type_place cs) (range_with_len 0 many)) }
+    ensures { (cs : List ClassFile) → IsOutline cs outline.now
+        → OnOk result (words.new.items ≡ words.old.items ++ map (type_place cs) (range_with_len 0 many)) }
 {
     for number in 0..many {
         words.push(outline.type_place(number)?)?;
@@ -80,7 +81,8 @@ pub(crate) fn add_type_places(
 
 /// The places of the first so many objects.
 fn add_object_places(words: &mut Vec<u32>, outline: &Outline, many: u32) -> Result<(), NoMemory>
-    ensures { (cs : List ClassFile) → IsOutline cs outline.now → OnOk result (words.new.items ≡ words.old.items ++ map (first_place cs (outline_of cs)) (range_with_len 0 many)) }
+    ensures { (cs : List ClassFile) → IsOutline cs outline.now
+        → OnOk result (words.new.items ≡ words.old.items ++ map (first_place cs (outline_of cs)) (range_with_len 0 many)) }
 {
     for object in 0..many {
         words.push(outline.object_place(object))?;

@@ -18,12 +18,12 @@ use crate::methods::add_methods;
 use crate::outline::outline_of;
 use crate::statics::add_statics;
 use crate::tables::{add_interfaces, add_tables};
+use base::NoMemory;
+use base::laws::packed_has_words;
 use image_builder::{LayFault, Layout};
 use image_words::{Outline, add_raised, add_strings, add_types};
-use jop_base::NoMemory;
 use resolved_program::Program;
 use std::alloc::Global;
-use word32::laws::packed_has_words;
 
 /// What lies between the static fields and the objects: the types, their tables, the pools and the methods with code.
 fn add_middle(
@@ -46,7 +46,8 @@ fn add_middle(
 /// The objects that instructions raise, and the strings.
 fn add_objects(words: &mut Vec<u32>, program: &Program, outline: &Outline) -> Result<(), NoMemory>
     requires { IsOutline program.now outline.now }
-    ensures { OnOk result (words.new.items ≡ words.old.items ++ (raised_region program.now (outline_of program.now) ++ strings_region program.now (outline_of program.now))) }
+    ensures { OnOk result (words.new.items ≡ words.old.items
+        ++ (raised_region program.now (outline_of program.now) ++ strings_region program.now (outline_of program.now))) }
 {
     program.is_resolved();
     add_raised(words, outline)?;
@@ -92,7 +93,8 @@ fn field_places(alloc: Global, program: &Program, outline: &Outline) -> Result<V
 /// The places of the strings.
 fn string_places(alloc: Global, program: &Program, outline: &Outline) -> Result<Vec<u32>, NoMemory>
     requires { IsOutline program.now outline.now }
-    ensures { IfOk result (λ places. places.items ≡ map (λ n. first_place program.now (outline_of program.now) (string_object n)) (range_with_len 0 (length (strings_of program.now)))) }
+    ensures { IfOk result (λ places. places.items ≡ map (λ n. first_place program.now (outline_of program.now) (string_object n))
+        (range_with_len 0 (length (strings_of program.now)))) }
 {
     let mut places = Vec::new(alloc);
     for string in 0..program.strings().count() {
@@ -117,7 +119,8 @@ fn write_image(alloc: Global, program: &Program, outline: &Outline) -> Result<Wr
     ensures words { IfOk result (λ made. made.words.items ≡ image_words_of program.now) }
     ensures types { IfOk result (λ made. made.types.items ≡ map (type_place program.now) (range_with_len 0 (length (types_of program.now)))) }
     ensures fields { IfOk result (λ made. made.fields.items ≡ map (static_word program.now (outline_of program.now)) (fields_by_number program.now)) }
-    ensures strings { IfOk result (λ made. made.strings.items ≡ map (λ n. first_place program.now (outline_of program.now) (string_object n)) (range_with_len 0 (length (strings_of program.now)))) }
+    ensures strings { IfOk result (λ made. made.strings.items ≡ map (λ n. first_place program.now (outline_of program.now) (string_object n))
+        (range_with_len 0 (length (strings_of program.now)))) }
     ensures within { OnOk result (first_passed program.now ≡ None) }
     ensures too_large { (what : Counted) (count limit : ℕ) → result ≡ Err (TooLarge what count limit) → first_passed program.now ≡ Some (what, count, limit) }
 {
@@ -136,7 +139,15 @@ fn write_image(alloc: Global, program: &Program, outline: &Outline) -> Result<Wr
 
 /// The layout of what is written by an outline.
 fn layout_of(outline: Outline, written: Written) -> Layout
-    ensures { result ≡ record { words = written.words.items; methods = outline.methods.places.items; types = written.types.items; pools = outline.pools.places.items; fields = written.fields.items; strings = written.strings.items } }
+    ensures { result ≡ record {
+      words = written.words.items;
+      methods = outline.methods.places.items;
+      types = written.types.items;
+      pools
+          = outline.pools.places.items;
+      fields = written.fields.items;
+      strings = written.strings.items;
+    } }
 {
     Layout {
         words: written.words,

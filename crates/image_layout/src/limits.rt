@@ -9,15 +9,15 @@ ghost use Rattle.image_words.specs.Slots.{interface_methods};
 ghost use Rattle.image_layout.specs.Layout.{counts_passed, first_passed};
 
 use crate::tables::is_coded;
+use base::NoMemory;
+use base::laws::packed_has_words;
 use image_builder::{Counted, LayFault, within};
 use image_facts::image_words_grow;
 use image_words::laws::image_words_lie;
 use image_words::{Outline, interface_methods};
-use jop_base::NoMemory;
 use program_laws::laws::resolved_programs_are_lawful;
 use resolved_program::Program;
 use std::alloc::Global;
-use word32::laws::packed_has_words;
 
 const MOST_TYPES: u64 = 2048;
 

@@ -3,7 +3,7 @@ ghost use Rattle.std.specs.Prelude.{◌≡◌, ◌++◌, ◌∷◌, [], ◌+◌,
 ghost use Rattle.std.specs.List.{flat_map};
 ghost use Rattle.bytecode_model.specs.Program.{Method};
 ghost use Rattle.class_pool.specs.declared.class.ClassFile.{ClassFile};
-ghost use Rattle.word32.specs.Packed.{words_for};
+ghost use Rattle.base.specs.Packed.{words_for};
 ghost use Rattle.image_facts.specs.Says.{argument_words, handler_words};
 ghost use Rattle.image_facts.specs.Words.{declared_words};
 ghost use Rattle.program_tables.specs.Meanings.{declared_seen};
@@ -13,10 +13,10 @@ ghost use Rattle.image_words.specs.Layout.{outline_of, pool_place};
 ghost use Rattle.image_words.specs.Regions.{method_image, methods_region};
 ghost use Rattle.image_words.specs.Outline.{IsOutline};
 
+use base::NoMemory;
 use class_pool::Code;
 use image_builder::{add, add_bytes, count, halves, times};
 use image_words::{Outline, counted_type, declared_words};
-use jop_base::NoMemory;
 use program_tables::Declared;
 use program_tables::laws::{members_are_there, methods_stand_by_number};
 use resolved_program::Program;
@@ -88,7 +88,8 @@ fn add_handlers(
 /// The words of a method's arguments, in the upper half of a word, and those of its code.
 fn argument_and_code_words(program: &Program, method: u32, code: &[u8]) -> Result<u32, NoMemory>
     requires { method < length (methods_by_number program.now) }
-    ensures { IfOk result (λ word. (k : Method) → slice_get (resolved program.now).methods method ≡ Some k → word ≡ argument_words k * 2 ^ 16 + words_for (length code.now)) }
+    ensures { IfOk result (λ word. (k : Method) → slice_get (resolved program.now).methods method ≡ Some k
+        → word ≡ argument_words k * 2 ^ 16 + words_for (length code.now)) }
 {
     let arguments = times(argument_words(program, method)?, UPPER)?;
     add(arguments, count(code.len().div_ceil(4))?)
@@ -106,7 +107,8 @@ fn add_sizes(
     requires outline { IsOutline program.now outline.now }
     requires method { method < length (methods_by_number program.now) }
     ensures { OnOk result ((k : Method) → slice_get (resolved program.now).methods method ≡ Some k
-        → words.new.items ≡ words.old.items ++ (code.now.max_locals * 2 ^ 16 + code.now.max_stack) ∷ (argument_words k * 2 ^ 16 + words_for (length code.now.code)) ∷ pool_place program.now class ∷ length code.now.handlers ∷ []) }
+        → words.new.items ≡ words.old.items ++ (code.now.max_locals * 2 ^ 16 + code.now.max_stack)
+        ∷ (argument_words k * 2 ^ 16 + words_for (length code.now.code)) ∷ pool_place program.now class ∷ length code.now.handlers ∷ []) }
 {
     let limits = halves(code.max_locals, code.max_stack);
     let sizes = argument_and_code_words(program, method, code.code.as_slice())?;
@@ -125,7 +127,8 @@ fn add_method(
 ) -> Result<(), NoMemory>
     requires outline { IsOutline program.now outline.now }
     requires method { method < length (methods_by_number program.now) }
-    ensures { OnOk result ((k : Method) → slice_get (resolved program.now).methods method ≡ Some k → words.new.items ≡ words.old.items ++ method_image program.now (outline_of program.now) k) }
+    ensures { OnOk result ((k : Method) → slice_get (resolved program.now).methods method ≡ Some k
+        → words.new.items ≡ words.old.items ++ method_image program.now (outline_of program.now) k) }
 {
     methods_stand_by_number();
     members_are_there();

@@ -3,20 +3,21 @@ ghost use Rattle.std.specs.Prelude.{◌≡◌, ◌+◌, length, map, IfOk};
 ghost use Rattle.image_builder.specs.Runs.{IsRun};
 ghost use Rattle.image_facts.specs.Words.{declared_words};
 ghost use Rattle.bytecode_model.specs.Sizes.{object_words};
-ghost use Rattle.image_words.specs.Layout.{front_size, type_words, table_words, interface_words, pool_words, method_size, methods_size, classes_of, types_place, tables_place, interfaces_place, pools_place, methods_place};
+ghost use Rattle.image_words.specs.Layout.{front_size, type_words, table_words, interface_words, pool_words, method_size, methods_size, classes_of};
+ghost use Rattle.image_words.specs.Layout.{types_place, tables_place, interfaces_place, pools_place, methods_place};
 ghost use Rattle.image_words.specs.Outline.{AreInstances, IsOutline};
 ghost use Rattle.image_words.specs.Slots.{interface_methods};
 ghost use Rattle.image_words.specs.Tables.{AreSlots};
 ghost use Rattle.program_tables.specs.Resolved.{resolved};
 
 use crate::sizes::{instances_of, method_sizes, static_sizes};
+use base::NoMemory;
 use class_lookup::Place;
 use image_builder::{Run, add, count, run_from, times};
 use image_words::{
     Outline, Slots, interface_methods, interface_sizes, object_sizes, pool_sizes, table_sizes,
     type_words,
 };
-use jop_base::NoMemory;
 use resolved_program::Program;
 use std::alloc::Global;
 
@@ -58,7 +59,8 @@ fn interface_table_places(
 ) -> Result<Run, NoMemory>
     requires methods { methods.now ≡ interface_methods program.now }
     requires zeros { zeros ≡ interfaces_place program.now }
-    ensures { IfOk result (IsRun (interfaces_place program.now + length (interface_methods program.now)) (map (interface_words program.now) (classes_of program.now))) }
+    ensures { IfOk result (IsRun (interfaces_place program.now + length (interface_methods program.now))
+        (map (interface_words program.now) (classes_of program.now))) }
 {
     let many = count(methods.len())?;
     let start = add(zeros, many)?;
@@ -93,7 +95,8 @@ fn object_places(
 ) -> Result<Run, NoMemory>
     requires instances { AreInstances program.now instances.now }
     requires start { start ≡ methods_place program.now + methods_size program.now }
-    ensures { IfOk result (IsRun (methods_place program.now + methods_size program.now) (map (object_words (resolved program.now)) (resolved program.now).first_objects)) }
+    ensures { IfOk result (IsRun (methods_place program.now + methods_size program.now)
+        (map (object_words (resolved program.now)) (resolved program.now).first_objects)) }
 {
     program.is_resolved();
     let sizes = object_sizes(alloc, program.strings(), instances)?;
@@ -121,7 +124,8 @@ fn places_of_tables(
     ensures statics { IfOk result (λ made. IsRun front_size (map declared_words (resolved program.now).statics) made.statics) }
     ensures words { IfOk result (λ made. made.type_words ≡ type_words program.now) }
     ensures tables { IfOk result (λ made. IsRun (tables_place program.now) (map (table_words program.now) (classes_of program.now)) made.tables) }
-    ensures interface_tables { IfOk result (λ made. IsRun (interfaces_place program.now + length (interface_methods program.now)) (map (interface_words program.now) (classes_of program.now)) made.interface_tables) }
+    ensures interface_tables { IfOk result (λ made. IsRun (interfaces_place program.now + length (interface_methods program.now))
+        (map (interface_words program.now) (classes_of program.now)) made.interface_tables) }
 {
     let statics = static_places(alloc, program)?;
     let type_words = type_words(program.kinds());
@@ -154,7 +158,8 @@ fn places_of_records(
     requires start { start ≡ pools_place program.now }
     ensures pools { IfOk result (λ made. IsRun (pools_place program.now) (map pool_words program.now) made.pools) }
     ensures methods { IfOk result (λ made. IsRun (methods_place program.now) (map method_size (resolved program.now).methods) made.methods) }
-    ensures objects { IfOk result (λ made. IsRun (methods_place program.now + methods_size program.now) (map (object_words (resolved program.now)) (resolved program.now).first_objects) made.objects) }
+    ensures objects { IfOk result (λ made. IsRun (methods_place program.now + methods_size program.now)
+        (map (object_words (resolved program.now)) (resolved program.now).first_objects) made.objects) }
 {
     let pools = pool_places(alloc, program, start)?;
     let methods = method_places(alloc, program, pools.end)?;
@@ -187,10 +192,12 @@ fn places_of(
     ensures statics { IfOk result (λ made. IsRun front_size (map declared_words (resolved program.now).statics) made.tables.statics) }
     ensures words { IfOk result (λ made. made.tables.type_words ≡ type_words program.now) }
     ensures tables { IfOk result (λ made. IsRun (tables_place program.now) (map (table_words program.now) (classes_of program.now)) made.tables.tables) }
-    ensures interface_tables { IfOk result (λ made. IsRun (interfaces_place program.now + length (interface_methods program.now)) (map (interface_words program.now) (classes_of program.now)) made.tables.interface_tables) }
+    ensures interface_tables { IfOk result (λ made. IsRun (interfaces_place program.now + length (interface_methods program.now))
+        (map (interface_words program.now) (classes_of program.now)) made.tables.interface_tables) }
     ensures pools { IfOk result (λ made. IsRun (pools_place program.now) (map pool_words program.now) made.records.pools) }
     ensures methods { IfOk result (λ made. IsRun (methods_place program.now) (map method_size (resolved program.now).methods) made.records.methods) }
-    ensures objects { IfOk result (λ made. IsRun (methods_place program.now + methods_size program.now) (map (object_words (resolved program.now)) (resolved program.now).first_objects) made.records.objects) }
+    ensures objects { IfOk result (λ made. IsRun (methods_place program.now + methods_size program.now)
+        (map (object_words (resolved program.now)) (resolved program.now).first_objects) made.records.objects) }
 {
     let tables = places_of_tables(alloc, program, methods, slots)?;
     let records = places_of_records(alloc, program, instances, tables.interface_tables.end)?;

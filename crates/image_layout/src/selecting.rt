@@ -1,49 +1,20 @@
 //! What is selected for the slots of each class, by what is selected for those of its superclass.
-ghost use Rattle.std.specs.Prelude.{◌≡◌, ◌<◌, ◌^◌, ℕ, List, [], length, map, Some, slice_get, slice_index_or, IfOk};
-ghost use Rattle.std.specs.List.{range_with_len};
-ghost use Rattle.std.specs.Option.{option_to_list};
+ghost use Rattle.std.specs.Prelude.{◌≡◌, ◌<◌, ℕ, [], length, Some, slice_get, slice_index_or, IfOk};
 ghost use Rattle.class_lookup.specs.Hierarchy.{superclass};
 ghost use Rattle.class_lookup.specs.Lookup.{Place as APlace};
-ghost use Rattle.selected_below.specs.Selecting.{IsSelectedAbove};
+ghost use Rattle.method_selection.specs.Selecting.{IsSelectedAbove};
 ghost use Rattle.image_words.specs.Order.{IsSuperclassFirst};
 ghost use Rattle.image_words.specs.Slots as numbered;
 ghost use Rattle.image_words.specs.Tables.{AreSlots};
 ghost use Rattle.image_layout.specs.Rows.{AreSelected, AreSelectedAbove, AreRows, AreAllRows, table_methods};
 
+use base::{Items, NoMemory};
 use class_hierarchy::Hierarchy;
+use class_lookup::Place;
 use class_lookup::laws::superclasses_stand_above;
-use class_lookup::{Classes, Place};
-use image_words::Slots;
-use items::Items;
-use jop_base::NoMemory;
-use selected_below::{Selected, selected_above, selected_with};
+use image_words::{Slots, superclass_order};
+use method_selection::{Selected, selected_above, selected_with};
 use std::alloc::Global;
-use upward_order::{NumberSet, order_of};
-
-/// The superclass of each class, as a list of one or none.
-fn superclass_lists(alloc: Global, classes: &Classes) -> Result<Vec<Items<u32>>, NoMemory>
-    ensures short { IfOk result (λ lists. length lists.items < 2 ^ 32) }
-    ensures lists { IfOk result (λ lists. lists.items ≡ map (λ c. option_to_list (superclass classes.now c)) (range_with_len 0 (length classes.now))) }
-{
-    let mut lists = Vec::new(alloc);
-    for class in 0..classes.class_count() {
-        let mut list = Vec::new(alloc);
-        if let Some(upper) = classes.superclass(class) {
-            list.push(upper)?;
-        }
-        lists.push(Items::new(list))?;
-    }
-    Ok(lists)
-}
-
-/// All classes, each behind its superclass.
-fn superclass_order(alloc: Global, classes: &Hierarchy) -> Result<NumberSet, NoMemory>
-    ensures { IfOk result (λ order. IsSuperclassFirst classes.now order) }
-{
-    classes.is_without_cycle();
-    let lists = superclass_lists(alloc, classes.classes())?;
-    order_of(alloc, &lists)
-}
 
 /// No rows yet, for so many classes.
 fn empty_rows(alloc: Global, count: u32) -> Result<Vec<Items<Selected>>, NoMemory>
@@ -108,7 +79,8 @@ fn slot_row(
     requires class { class < length hierarchy.now }
     requires slots { AreSlots hierarchy.now slots.now }
     requires long { length rows.now ≡ length hierarchy.now }
-    requires above { (d : ℕ) → superclass hierarchy.now class ≡ Some d → AreSelected hierarchy.now d (numbered.slots hierarchy.now d) (slice_index_or rows.now d []) }
+    requires above { (d : ℕ) → superclass hierarchy.now class ≡ Some d
+        → AreSelected hierarchy.now d (numbered.slots hierarchy.now d) (slice_index_or rows.now d []) }
     ensures { IfOk result (λ row. AreSelected hierarchy.now class (numbered.slots hierarchy.now class) row) }
 {
     hierarchy.is_without_cycle();
@@ -170,7 +142,8 @@ fn interface_row(
     requires class { class < length hierarchy.now }
     requires methods { methods.now ≡ numbered.interface_methods hierarchy.now }
     requires long { length rows.now ≡ length hierarchy.now }
-    requires above { (d : ℕ) → superclass hierarchy.now class ≡ Some d → AreSelected hierarchy.now d (table_methods hierarchy.now d) (slice_index_or rows.now d []) }
+    requires above { (d : ℕ) → superclass hierarchy.now class ≡ Some d
+        → AreSelected hierarchy.now d (table_methods hierarchy.now d) (slice_index_or rows.now d []) }
     ensures { IfOk result (λ row. AreSelected hierarchy.now class (table_methods hierarchy.now class) row) }
 {
     if hierarchy.classes().is_interface(class) {

@@ -10,9 +10,9 @@ ghost use Rattle.program_tables.specs.Meanings.{declared_seen};
 ghost use Rattle.program_tables.specs.Numbers.{methods_by_number};
 ghost use Rattle.program_tables.specs.Resolved.{resolved};
 
+use base::NoMemory;
 use image_builder::{Run, add, count, run_from, times};
 use image_words::declared_words;
-use jop_base::NoMemory;
 use program_tables::Declared;
 use program_tables::laws::{members_are_there, methods_stand_by_number};
 use resolved_program::Program;

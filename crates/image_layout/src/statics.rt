@@ -15,10 +15,10 @@ ghost use Rattle.image_words.specs.Regions.{first_place, statics_region};
 ghost use Rattle.image_words.specs.Outline.{IsOutline};
 ghost use Rattle.program_tables.specs.Meanings.{declared_seen};
 
+use base::NoMemory;
 use class_lookup::Place;
 use class_pool::Entry;
 use image_words::Outline;
-use jop_base::NoMemory;
 use program_tables::{Declared, entry_of, field_at};
 use resolved_program::Program;
 
@@ -50,8 +50,10 @@ fn add_constant(
     requires outline { IsOutline program.now outline.now }
     requires class { class < length program.now }
     ensures words { OnOk result ((c : ClassFile) → slice_get program.now class ≡ Some c
-        → words.new.items ≡ words.old.items ++ flat_map (words_of (first_place program.now (outline_of program.now))) (option_to_list (onto (entry_at c.pool index) (constant_of program.now c.pool)))) }
-    ensures is { IfOk result (λ is. (c : ClassFile) → slice_get program.now class ≡ Some c → is ≡ is_some (onto (entry_at c.pool index) (constant_of program.now c.pool))) }
+        → words.new.items ≡ words.old.items ++ flat_map (words_of (first_place program.now (outline_of program.now)))
+        (option_to_list (onto (entry_at c.pool index) (constant_of program.now c.pool)))) }
+    ensures is { IfOk result (λ is. (c : ClassFile) → slice_get program.now class ≡ Some c
+        → is ≡ is_some (onto (entry_at c.pool index) (constant_of program.now c.pool))) }
 {
     match entry_of(&program.class(class).pool, u32::from(index)) {
         Some(Entry::Integer(n)) => add_known(words, &[*n]),
@@ -72,7 +74,8 @@ fn add_constant_of(
     place: Place,
 ) -> Result<bool, NoMemory>
     requires { IsOutline program.now outline.now }
-    ensures words { OnOk result (words.new.items ≡ words.old.items ++ flat_map (words_of (first_place program.now (outline_of program.now))) (option_to_list (constant_at program.now place))) }
+    ensures words { OnOk result (words.new.items ≡ words.old.items
+        ++ flat_map (words_of (first_place program.now (outline_of program.now))) (option_to_list (constant_at program.now place))) }
     ensures is { IfOk result (λ is. is ≡ is_some (constant_at program.now place)) }
 {
     let Some(field) = field_at(program.hierarchy().classes(), place) else {
@@ -106,7 +109,8 @@ fn add_first_value(
     place: Place,
 ) -> Result<(), NoMemory>
     requires { IsOutline program.now outline.now }
-    ensures { OnOk result (words.new.items ≡ words.old.items ++ flat_map (words_of (first_place program.now (outline_of program.now))) (option_to_list (first_value program.now place))) }
+    ensures { OnOk result (words.new.items ≡ words.old.items
+        ++ flat_map (words_of (first_place program.now (outline_of program.now))) (option_to_list (first_value program.now place))) }
 {
     let Some(declared) = program.field_type(place) else {
         return Ok(());

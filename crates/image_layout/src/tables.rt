@@ -7,17 +7,15 @@ ghost use Rattle.image_words.specs.Slots.{interface_methods};
 ghost use Rattle.image_words.specs.Regions.{code_place, selected_place, implemented_place, table_image, tables_region, interface_image, interfaces_region};
 ghost use Rattle.image_words.specs.Outline.{IsOutline};
 ghost use Rattle.image_layout.specs.Rows.{AreSelected, AreAllRows, table_methods};
-ghost use Rattle.selected_below.specs.Selecting.{IsSelected};
+ghost use Rattle.method_selection.specs.Selecting.{IsSelected};
 
 use crate::selecting::{interface_rows, slot_rows};
-use class_lookup::{Classes, Place};
+use base::{Items, NoMemory};
+use class_lookup::{Classes, Place, method_at};
 use image_builder::add_zeros;
 use image_words::{Outline, is_interface};
-use items::Items;
-use jop_base::NoMemory;
-use program_tables::method_at;
+use method_selection::Selected;
 use resolved_program::Program;
-use selected_below::Selected;
 use std::alloc::Global;
 
 /// Whether the method has code.

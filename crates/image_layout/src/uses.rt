@@ -1,21 +1,22 @@
 //! What the instructions of a class name in its pool.
 ghost use Rattle.std.specs.Prelude.{◌≡◌, ◌++◌, ◌∷◌, [], ◌+◌, ◌<◌, ◌≤◌, ◌^◌, ℕ, List, length, map, is_some, Some, IfOk, IfSome, OnOk, slice_get};
 ghost use Rattle.std.specs.List.{range_with_len};
+ghost use Rattle.base.specs.Sizes.{longest_file};
 ghost use Rattle.class_pool.specs.declared.class.ClassFile.{ClassFile};
 ghost use Rattle.class_pool.specs.Found.{code_of};
-ghost use Rattle.jop_opcodes.specs.declared.instruction.Instr.{Instr};
+ghost use Rattle.opcodes.specs.declared.instruction.Instr.{Instr};
 ghost use Rattle.program_tables.specs.Instructions as definitions;
 ghost use Rattle.program_tables.specs.Tables.{HasBounds};
 ghost use Rattle.image_words.specs.Pools.{instructions_in};
 ghost use Rattle.image_words.specs.Outline.{IsOutline};
 ghost use Rattle.image_layout.specs.Uses.{instr_of, use_of, again, fixed_place};
 
+use base::NoMemory;
 use class_pool::{ClassFile, Member};
 use image_words::Outline;
-use jop_base::NoMemory;
-use jop_opcodes::laws::starts_follow_one_another;
-use jop_opcodes::mnemonics::{INVOKESPECIAL, INVOKESTATIC};
-use jop_opcodes::{Instr, starts};
+use opcodes::laws::starts_follow_one_another;
+use opcodes::mnemonics::{INVOKESPECIAL, INVOKESTATIC};
+use opcodes::{Instr, starts};
 use program_tables::{Named, Operand, entry_of, named_in, naming_at};
 use resolved_program::Program;
 use std::alloc::Global;
@@ -77,7 +78,8 @@ fn is_named(class: &ClassFile, instr: &Instr) -> bool
 fn note_use(uses: &mut Vec<Use>, program: &Program, outline: &Outline, number: u32, instr: &Instr)
     requires outline { IsOutline program.now outline.now }
     requires class { number < length program.now }
-    ensures { (k : ClassFile) (before : List Instr) (many : ℕ) → slice_get program.now number ≡ Some k → uses.old.items ≡ map (use_of program.now number k before) (range_with_len 0 many)
+    ensures { (k : ClassFile) (before : List Instr) (many : ℕ) → slice_get program.now number ≡ Some k
+        → uses.old.items ≡ map (use_of program.now number k before) (range_with_len 0 many)
         → uses.new.items ≡ map (use_of program.now number k (before ++ instr.now ∷ [])) (range_with_len 0 many) }
 {
     program.is_within_bounds();
@@ -117,8 +119,9 @@ fn note_code(
 ) -> Result<(), NoMemory>
     requires outline { IsOutline program.now outline.now }
     requires class { number < length program.now }
-    requires small { length code.now ≤ 33554432 }
-    ensures { OnOk result ((k : ClassFile) (before : List Instr) (many : ℕ) → slice_get program.now number ≡ Some k → uses.old.items ≡ map (use_of program.now number k before) (range_with_len 0 many)
+    requires small { length code.now ≤ longest_file }
+    ensures { OnOk result ((k : ClassFile) (before : List Instr) (many : ℕ) → slice_get program.now number ≡ Some k
+        → uses.old.items ≡ map (use_of program.now number k before) (range_with_len 0 many)
         → uses.new.items ≡ map (use_of program.now number k (before ++ map instr_of (definitions.instructions_in code.now))) (range_with_len 0 many)) }
 {
     starts_follow_one_another();
@@ -142,8 +145,9 @@ fn note_method(
 ) -> Result<(), NoMemory>
     requires outline { IsOutline program.now outline.now }
     requires class { number < length program.now }
-    requires small { IfSome (code_of method.now) (λ k. length k.code ≤ 33554432) }
-    ensures { OnOk result ((k : ClassFile) (before : List Instr) (many : ℕ) → slice_get program.now number ≡ Some k → uses.old.items ≡ map (use_of program.now number k before) (range_with_len 0 many)
+    requires small { IfSome (code_of method.now) (λ k. length k.code ≤ longest_file) }
+    ensures { OnOk result ((k : ClassFile) (before : List Instr) (many : ℕ) → slice_get program.now number ≡ Some k
+        → uses.old.items ≡ map (use_of program.now number k before) (range_with_len 0 many)
         → uses.new.items ≡ map (use_of program.now number k (before ++ map instr_of (definitions.instructions_of method.now))) (range_with_len 0 many)) }
 {
     match method.code() {
@@ -161,7 +165,8 @@ pub(crate) fn uses_of(
 ) -> Result<Vec<Use>, NoMemory>
     requires outline { IsOutline program.now outline.now }
     requires class { number < length program.now }
-    ensures { IfOk result (λ uses. (k : ClassFile) → slice_get program.now number ≡ Some k → uses.items ≡ map (use_of program.now number k (map instr_of (instructions_in k))) (range_with_len 0 (1 + length k.pool))) }
+    ensures { IfOk result (λ uses. (k : ClassFile) → slice_get program.now number ≡ Some k
+        → uses.items ≡ map (use_of program.now number k (map instr_of (instructions_in k))) (range_with_len 0 (1 + length k.pool))) }
 {
     program.is_within_bounds();
     let class = program.class(number);

@@ -5,7 +5,7 @@ use Rattle.std.specs.List.{flat_map, enumerate_from, range_with_len}
 use Rattle.std.proofs.lemmas.Grind.{flat_map-append}
 use Rattle.std.proofs.lemmas.List.{length-replicate}
 use Rattle.class_pool.specs.declared.class.ClassFile.{ClassFile}
-use Rattle.word32.specs.Packed.{PackedHasWords}
+use Rattle.base.specs.Packed.{PackedHasWords}
 use Rattle.bytecode_model.specs.State.{Object}
 use Rattle.bytecode_model.specs.Types.{OfNumbers, t_boolean}
 use Rattle.bytecode_model.specs.Program.{type_number}

@@ -9,7 +9,7 @@ use Rattle.class_pool.specs.declared.entry.Entry.{Entry}
 use Rattle.class_pool.specs.declared.entry.Entry.TheVariants as entries
 use Rattle.class_pool.specs.Grammar.{entry_at}
 use Rattle.class_pool.specs.declared.class.ClassFile.{ClassFile}
-use Rattle.word32.specs.Packed.{words_for, words_of_bytes, PackedHasWords}
+use Rattle.base.specs.Packed.{words_for, words_of_bytes, PackedHasWords}
 use Rattle.bytecode_model.specs.Program.{Method, Body, Handler}
 use Rattle.image_facts.specs.Places.{Places}
 use Rattle.image_facts.specs.Says.{argument_words, handler_words, method_words}

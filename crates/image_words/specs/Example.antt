@@ -1,4 +1,5 @@
--- A hierarchy of classes and interfaces, as a computed example of slots, of the numbers of interface methods, and of where the tables lie: JVM Specification SE 8, 5.4.5 and 6.5.
+-- A hierarchy of classes and interfaces, as a computed example of slots, of the numbers of interface methods, and of where the tables lie: JVM
+-- Specification SE 8, 5.4.5 and 6.5.
 use Rattle.std.specs.Prelude.{◌≡◌, List, [], ◌∷◌, codes, map, Some, None}
 use Rattle.class_pool.specs.declared.class.ClassFile.{ClassFile}
 use Rattle.class_lookup.specs.Lookup.{find_method}
@@ -29,7 +30,8 @@ worked_classes =
 -- by class, and then as they stand there
 abbrev pub InterfaceMethods : Type 0
 InterfaceMethods =
-    (interface_methods worked_classes ≡ (1, 0) ∷ (1, 1) ∷ (1, 2) ∷ (2, 0) ∷ (2, 1) ∷ []) × (interface_number worked_classes (2, 1) ≡ Some 4) × (interface_number worked_classes (3, 1) ≡ None)
+    (interface_methods worked_classes ≡ (1, 0) ∷ (1, 1) ∷ (1, 2) ∷ (2, 0) ∷ (2, 1) ∷ []) × (interface_number worked_classes (2, 1) ≡ Some 4)
+    × (interface_number worked_classes (3, 1) ≡ None)
 
 -- Object and interfaces have no slot; a class has its superclass's, its own, and one for each name and descriptor of its interfaces that is left
 abbrev pub Slots : Type 0
@@ -56,7 +58,8 @@ SlotNumbers =
 abbrev pub SelectedInTables : Type 0
 SelectedInTables =
     (map (select worked_classes 3) (table_slots worked_classes 3) ≡ Some (3, 1) ∷ None ∷ None ∷ None ∷ None ∷ [])
-    × (map (select worked_classes 4) (table_slots worked_classes 4) ≡ Some (4, 0) ∷ None ∷ Some (4, 1) ∷ Some (4, 2) ∷ None ∷ Some (4, 0) ∷ Some (4, 1) ∷ Some (4, 2) ∷ [])
+    × (map (select worked_classes 4) (table_slots worked_classes 4) ≡ Some (4, 0) ∷ None ∷ Some (4, 1) ∷ Some (4, 2) ∷ None ∷ Some (4, 0) ∷ Some (4, 1)
+    ∷ Some (4, 2) ∷ [])
     × (map (select worked_classes 5) (table_slots worked_classes 5)
     ≡ Some (4, 0) ∷ None ∷ Some (4, 1) ∷ Some (4, 2) ∷ Some (5, 0) ∷ Some (4, 0) ∷ Some (4, 1) ∷ Some (4, 2) ∷ Some (5, 0) ∷ [])
 

@@ -3,7 +3,7 @@ use Rattle.std.specs.Prelude.{ℕ, ◌+◌, ◌*◌, if◌then◌else◌, List, 
 use Rattle.std.specs.Option.{option_map_or}
 use Rattle.std.specs.List.{range_with_len}
 use Rattle.std.specs.Int.{div_ceil}
-use Rattle.word32.specs.Packed.{words_for}
+use Rattle.base.specs.Packed.{words_for}
 use Rattle.class_pool.specs.declared.class.ClassFile.{ClassFile}
 use Rattle.bytecode_model.specs.Types.{Kind, OfClass}
 use Rattle.bytecode_model.specs.Program.{Method, Body, object_class}

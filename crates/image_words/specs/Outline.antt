@@ -5,7 +5,8 @@ use Rattle.bytecode_model.specs.Sizes.{object_words}
 use Rattle.image_facts.specs.Words.{declared_words}
 use Rattle.program_tables.specs.Resolved.{resolved}
 use Rattle.image_words.specs.Slots as numbered
-use Rattle.image_words.specs.Layout.{front_size, type_words, table_words, interface_words, pool_words, method_size, methods_size, classes_of, tables_place, interfaces_place, pools_place, methods_place}
+use Rattle.image_words.specs.Layout.{front_size, type_words, table_words, interface_words, pool_words, method_size, methods_size, classes_of, tables_place}
+use Rattle.image_words.specs.Layout.{interfaces_place, pools_place, methods_place}
 use Rattle.image_words.specs.Tables.{AreSlots}
 use Rattle.image_words.specs.declared.outline.Outline.{Outline}
 use Rattle.image_builder.specs.declared.sums.Run.{Run}

@@ -51,7 +51,8 @@ supertype_words cs k = map (supertype_word cs k) (range_with_len 0 (div_ceil (le
 
 abbrev pub type_image : List ClassFile → Places → ℕ × Kind → List ℕ
 type_image cs pl e =
-    e.0 ∷ instance_words (resolved cs) e.1 ∷ counted_type (resolved cs) (component_of (Some e.1)) ∷ pl.method_table e.0 ∷ pl.interface_table e.0 ∷ supertype_words cs e.1
+    e.0 ∷ instance_words (resolved cs) e.1 ∷ counted_type (resolved cs) (component_of (Some e.1)) ∷ pl.method_table e.0 ∷ pl.interface_table e.0
+    ∷ supertype_words cs e.1
 
 abbrev pub types_region : List ClassFile → Places → List ℕ
 types_region cs pl = flat_map (type_image cs pl) (enumerate_from 0 (types_of cs))

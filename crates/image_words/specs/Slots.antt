@@ -1,4 +1,5 @@
--- The slots of method tables, and the numbers of interface methods: where what is selected for a receiver's class is found (JVM Specification SE 8, 5.4.5 and 6.5).
+-- The slots of method tables, and the numbers of interface methods: where what is selected for a receiver's class is found (JVM Specification SE 8,
+-- 5.4.5 and 6.5).
 use Rattle.std.specs.Prelude.{ℕ, Bool, false, not, ◌&&◌, if◌then◌else◌, List, [], ◌∷◌, ◌++◌, length, map, Option, slice_get}
 use Rattle.std.specs.Option.{option_map_or}
 use Rattle.std.specs.List.{filter, range_with_len}
@@ -41,8 +42,8 @@ has_slot cs m = is_virtual cs m && not (option_map_or is_init (signature_at cs m
 abbrev pub own_slots : List ClassFile → (class : ℕ) → List Place
 own_slots cs c = filter (has_slot cs) (own_methods cs c)
 
--- The methods for which the slots of a class are made, from the class upwards: first the slots of its superclass, then one for each own method that has one, and then
--- one for each method of a superinterface whose name and descriptor no slot has yet.
+-- The methods for which the slots of a class are made, from the class upwards: first the slots of its superclass, then one for each own method that
+-- has one, and then one for each method of a superinterface whose name and descriptor no slot has yet.
 abbrev pub slots_along : List ClassFile → (classes : List ℕ) → List Place
 slots_along cs [] = []
 slots_along cs (c ∷ above) = with_items (are_named_alike cs) (slots_along cs above ++ own_slots cs c) (inherited_methods cs c)

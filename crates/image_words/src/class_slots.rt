@@ -12,11 +12,11 @@ ghost use Rattle.image_words.specs.Tables.{above_slots, own_slot, AreSoFar, AreC
 
 use crate::members::{has_slot, method_count};
 use crate::signatures::{Signatures, symbols_at};
+use base::NoMemory;
 use class_hierarchy::Hierarchy;
 use class_lookup::laws::{members_have_symbols, superclasses_stand_above, symbols_stand_for_texts};
 use class_lookup::{Classes, Place};
 use image_builder::{add, count};
-use jop_base::NoMemory;
 use std::alloc::Global;
 
 /// The slots of a class.
@@ -34,7 +34,9 @@ pub(crate) struct ClassSlots {
 
 /// Puts down a slot for a name and a descriptor, unless one is there.
 fn put_first(first: &mut Vec<Option<u32>>, number: Option<usize>, slot: u32)
-    ensures { (cs : List ClassFile) (signatures : List (ℕ × ℕ)) (places : List APlace) (place : APlace) → number ≡ onto (symbols_at cs place) (number_of signatures) → slot ≡ length places → AreFirst cs signatures first.old.items places → AreFirst cs signatures first.new.items (places ++ place ∷ []) }
+    ensures { (cs : List ClassFile) (signatures : List (ℕ × ℕ)) (places : List APlace) (place : APlace)
+        → number ≡ onto (symbols_at cs place) (number_of signatures) → slot ≡ length places → AreFirst cs signatures first.old.items places
+        → AreFirst cs signatures first.new.items (places ++ place ∷ []) }
 {
     if let Some(number) = number {
         if number < first.len() && first[number].is_none() {
@@ -100,7 +102,8 @@ impl ClassSlots {
         ensures start { OnOk result (self.new.start ≡ self.old.start) }
         ensures added { OnOk result (self.new.added.items ≡ self.old.added.items ++ place ∷ []) }
         ensures own { OnOk result (self.new.own.items ≡ self.old.own.items) }
-        ensures first { OnOk result ((cs : List ClassFile) (signatures : List (ℕ × ℕ)) (above : List APlace) → number ≡ onto (symbols_at cs place) (number_of signatures) → AreSoFar cs signatures above self.old → AreSoFar cs signatures above self.new) }
+        ensures first { OnOk result ((cs : List ClassFile) (signatures : List (ℕ × ℕ)) (above : List APlace)
+            → number ≡ onto (symbols_at cs place) (number_of signatures) → AreSoFar cs signatures above self.old → AreSoFar cs signatures above self.new) }
     {
         let slot = self.count()?;
         self.added.push(place)?;
@@ -172,8 +175,10 @@ fn add_method(
     requires interface { is_interface classes.now method.0 ≡ true }
     requires signatures { HasSignatures classes.now signatures.now }
     ensures own { OnOk result (slots.new.own.items ≡ slots.old.own.items) }
-    ensures slots { OnOk result ((above : List APlace) → AreSoFar classes.now signatures.now above slots.old → above ++ slots.new.added.items ≡ with_item (are_named_alike classes.now) (above ++ slots.old.added.items) method) }
-    ensures so_far { OnOk result ((above : List APlace) → AreSoFar classes.now signatures.now above slots.old → AreSoFar classes.now signatures.now above slots.new) }
+    ensures slots { OnOk result ((above : List APlace) → AreSoFar classes.now signatures.now above slots.old
+        → above ++ slots.new.added.items ≡ with_item (are_named_alike classes.now) (above ++ slots.old.added.items) method) }
+    ensures so_far { OnOk result ((above : List APlace) → AreSoFar classes.now signatures.now above slots.old
+        → AreSoFar classes.now signatures.now above slots.new) }
 {
     symbols_stand_for_texts();
     members_have_symbols();
@@ -198,7 +203,9 @@ fn add_inherited(
     requires signatures { HasSignatures classes.now signatures.now }
     requires so_far { AreSoFar classes.now signatures.now (above_slots classes.now class) slots.old }
     ensures own { OnOk result (slots.new.own.items ≡ slots.old.own.items) }
-    ensures slots { OnOk result (above_slots classes.now class ++ slots.new.added.items ≡ with_items (are_named_alike classes.now) (above_slots classes.now class ++ slots.old.added.items) (inherited_methods classes.now class)) }
+    ensures slots { OnOk result (above_slots classes.now class
+        ++ slots.new.added.items ≡ with_items (are_named_alike classes.now) (above_slots classes.now class
+        ++ slots.old.added.items) (inherited_methods classes.now class)) }
     ensures so_far { OnOk result (AreSoFar classes.now signatures.now (above_slots classes.now class) slots.new) }
 {
     for method in numbered {

@@ -13,10 +13,10 @@ ghost use Rattle.program_tables.specs.Tables.{kind_seen};
 
 use crate::members::is_interface;
 use crate::slots::Slots;
+use base::NoMemory;
 use class_hierarchy::Hierarchy;
 use class_lookup::{ClassFile, Classes};
 use image_builder::{Run, add, count, times};
-use jop_base::NoMemory;
 use program_tables::{Declared, Types};
 use std::alloc::Global;
 

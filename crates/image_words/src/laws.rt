@@ -2,7 +2,7 @@
 ghost use Rattle.image_words.specs.Laws.{EntriesLie, FrontLaw, ImageWordsLie, MethodsLie, TypesLie};
 ghost use Rattle.image_words.specs.Example.{WorkedSlots};
 
-use word32::laws::packed_has_words;
+use base::laws::packed_has_words;
 
 /// The words of the image lie at its places: the header and the lists in front, the records of methods and types, and the
 /// entries of pools.

@@ -5,6 +5,7 @@
 //! start. The whole image is laid out in `image_layout`.
 #![tactic(auto)]
 
+mod class_order;
 mod class_slots;
 mod item_sizes;
 pub mod laws;
@@ -14,9 +15,9 @@ mod outline;
 mod signatures;
 mod slots;
 mod start;
-mod superclass_order;
 mod types;
 
+pub use class_order::superclass_order;
 pub use item_sizes::{
     class_words, declared_words, interface_sizes, pool_sizes, table_sizes, type_words,
 };

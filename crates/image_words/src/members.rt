@@ -4,11 +4,11 @@ ghost use Rattle.std.specs.Option.{option_copied};
 ghost use Rattle.class_lookup.specs.Hierarchy.{is_interface};
 ghost use Rattle.image_words.specs.Slots.{own_methods, has_slot};
 
+use base::NoMemory;
 use class_lookup::parts::{has_flags, text_at};
 use class_lookup::{ClassFile, Classes, Place};
 use class_rules::flags::{ACC_INTERFACE, ACC_PRIVATE, ACC_STATIC};
 use descriptors::names::is_instance_initializer;
-use jop_base::NoMemory;
 
 /// The class of this number, if there is one.
 pub(crate) fn class_at(classes: &Classes, number: u32) -> Option<&ClassFile>

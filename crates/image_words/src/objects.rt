@@ -10,8 +10,8 @@ ghost use Rattle.program_tables.specs.Resolving.{IsResolved};
 ghost use Rattle.image_words.specs.Outline.{AreInstances};
 
 use crate::item_sizes::class_words;
+use base::NoMemory;
 use image_builder::{Run, add, count};
-use jop_base::NoMemory;
 use program_tables::Strings;
 use std::alloc::Global;
 
@@ -29,7 +29,8 @@ fn add_raised_sizes(
     classes: &[u32],
 ) -> Result<(), NoMemory>
     requires { classes.now ≡ raised_classes }
-    ensures { (cs : List ClassFile) → IsResolved cs → AreInstances cs instances.now → OnOk result (sizes.new.items ≡ sizes.old.items ++ map (object_words (resolved cs)) (map (raised_object cs) raised_classes)) }
+    ensures { (cs : List ClassFile) → IsResolved cs → AreInstances cs instances.now
+        → OnOk result (sizes.new.items ≡ sizes.old.items ++ map (object_words (resolved cs)) (map (raised_object cs) raised_classes)) }
 {
     for class in classes {
         sizes.push(class_words(instances, *class))?;
@@ -39,7 +40,8 @@ fn add_raised_sizes(
 
 /// Puts the words of the strings, each with its array before it, behind others.
 fn add_string_sizes(sizes: &mut Vec<u32>, strings: &Strings) -> Result<(), NoMemory>
-    ensures { (cs : List ClassFile) → IsResolved cs → OnOk result (sizes.new.items ≡ sizes.old.items ++ map (object_words (resolved cs)) (flat_map string_objects (enumerate_from 0 strings.now))) }
+    ensures { (cs : List ClassFile) → IsResolved cs → OnOk result
+        (sizes.new.items ≡ sizes.old.items ++ map (object_words (resolved cs)) (flat_map string_objects (enumerate_from 0 strings.now))) }
 {
     for string in 0..strings.count() {
         let units = strings.at(string);
@@ -55,7 +57,8 @@ pub fn object_sizes(
     strings: &Strings,
     instances: &[Run],
 ) -> Result<Vec<u32>, NoMemory>
-    ensures { (cs : List ClassFile) → IsResolved cs → strings.now ≡ strings_of cs → AreInstances cs instances.now → IfOk result (λ sizes. sizes.items ≡ map (object_words (resolved cs)) (resolved cs).first_objects) }
+    ensures { (cs : List ClassFile) → IsResolved cs → strings.now ≡ strings_of cs → AreInstances cs instances.now
+        → IfOk result (λ sizes. sizes.items ≡ map (object_words (resolved cs)) (resolved cs).first_objects) }
 {
     let mut sizes = Vec::new(alloc);
     add_raised_sizes(&mut sizes, instances, &raised_classes())?;

@@ -12,9 +12,9 @@ ghost use Rattle.image_words.specs.Pools.{numbered_place};
 ghost use Rattle.image_words.specs.Regions.{first_place};
 
 use crate::slots::Slots;
+use base::NoMemory;
 use class_lookup::Place;
 use image_builder::{Run, add, times};
-use jop_base::NoMemory;
 use program_tables::{ObjectKind, Types};
 
 /// Where the parts of an image lie, and for which methods the tables have words.
@@ -51,7 +51,8 @@ impl Outline {
 
     /// The place of the type of this kind, 0 where it has no number.
     pub fn kind_place(&self, types: &Types, kind: Option<ObjectKind>) -> Result<u32, NoMemory>
-        ensures { (cs : List ClassFile) → IsOutline cs self.now → map kind_seen types.now ≡ types_of cs → IfOk result (λ place. place ≡ numbered_place cs (outline_of cs) (option_map kind_seen kind)) }
+        ensures { (cs : List ClassFile) → IsOutline cs self.now → map kind_seen types.now ≡ types_of cs
+            → IfOk result (λ place. place ≡ numbered_place cs (outline_of cs) (option_map kind_seen kind)) }
     {
         match kind {
             Some(kind) => match types.number(kind) {

@@ -4,9 +4,9 @@ ghost use Rattle.program_tables.specs.Lists.{with_item};
 ghost use Rattle.image_words.specs.Signatures.{same_symbols, symbols_at, number_of, IsNumbered, KeepsNumbers, HasSignatures};
 
 use crate::members::{class_at, is_interface, method_count};
+use base::NoMemory;
 use class_lookup::{Classes, Place};
 use indexmap::IndexSet;
-use jop_base::NoMemory;
 use std::alloc::Global;
 use std::marker::Model;
 

@@ -9,14 +9,14 @@ ghost use Rattle.image_words.specs.Signatures.{HasSignatures};
 ghost use Rattle.image_words.specs.Slots.{are_named_alike, interface_methods, slots, slot_of};
 ghost use Rattle.image_words.specs.Tables.{own_slot, AreMade, AreSlots};
 
+use crate::class_order::{superclass_chain, superclass_order};
 use crate::class_slots::{ClassSlots, class_slots, number_at};
 use crate::members::{add_methods, is_interface};
 use crate::signatures::{Signatures, interface_signatures};
-use crate::superclass_order::{superclass_chain, superclass_order};
+use base::NoMemory;
 use class_hierarchy::Hierarchy;
 use class_lookup::laws::{members_have_symbols, superclasses_stand_above, symbols_stand_for_texts};
 use class_lookup::{Classes, Place};
-use jop_base::NoMemory;
 use std::alloc::Global;
 
 /// The methods of interfaces by number: by class, and then as they stand there.

@@ -13,8 +13,8 @@ ghost use Rattle.image_words.specs.Regions.{first_place, raised_region, strings_
 use crate::item_sizes::class_words;
 use crate::objects::raised_classes;
 use crate::outline::Outline;
+use base::NoMemory;
 use image_builder::{add, add_units, add_zeros, count};
-use jop_base::NoMemory;
 use program_tables::Strings;
 
 /// Before the classes stand the eight arrays of numbers, of which the second are those of char.
@@ -26,7 +26,9 @@ const STRING: u32 = 8 + 3;
 
 /// The object of a class of errors, without values.
 fn add_raised_object(words: &mut Vec<u32>, outline: &Outline, class: u32) -> Result<(), NoMemory>
-    ensures { (cs : List ClassFile) → IsOutline cs outline.now → class < length cs → OnOk result (words.new.items ≡ words.old.items ++ object_image (resolved cs) (type_place cs) (first_place cs (outline_of cs)) (raised_object cs class)) }
+    ensures { (cs : List ClassFile) → IsOutline cs outline.now → class < length cs
+        → OnOk result (words.new.items ≡ words.old.items ++ object_image (resolved cs) (type_place cs) (first_place cs (outline_of cs))
+        (raised_object cs class)) }
 {
     let fields = class_words(&outline.instances, class).saturating_sub(1);
     words.push(outline.type_place(add(FIRST_CLASS, class)?)?)?;
@@ -36,7 +38,8 @@ fn add_raised_object(words: &mut Vec<u32>, outline: &Outline, class: u32) -> Res
 
 /// The objects that instructions raise, put behind other words.
 pub fn add_raised(words: &mut Vec<u32>, outline: &Outline) -> Result<(), NoMemory>
-    ensures { (cs : List ClassFile) → IsResolved cs → IsOutline cs outline.now → OnOk result (words.new.items ≡ words.old.items ++ raised_region cs (outline_of cs)) }
+    ensures { (cs : List ClassFile) → IsResolved cs → IsOutline cs outline.now
+        → OnOk result (words.new.items ≡ words.old.items ++ raised_region cs (outline_of cs)) }
 {
     let classes = raised_classes();
     for class in &classes {
@@ -54,7 +57,8 @@ fn add_string(
 ) -> Result<(), NoMemory>
     requires { string < length strings.now }
     ensures { (cs : List ClassFile) → IsResolved cs → IsOutline cs outline.now → OnOk result ((units : List ℕ) → slice_get strings.now string ≡ Some units
-        → words.new.items ≡ words.old.items ++ flat_map (object_image (resolved cs) (type_place cs) (first_place cs (outline_of cs))) (string_objects (string, units))) }
+        → words.new.items ≡ words.old.items ++ flat_map (object_image (resolved cs) (type_place cs) (first_place cs (outline_of cs)))
+        (string_objects (string, units))) }
 {
     let units = strings.at(string);
     let many = strings.count();
@@ -74,7 +78,8 @@ pub fn add_strings(
     strings: &Strings,
     outline: &Outline,
 ) -> Result<(), NoMemory>
-    ensures { (cs : List ClassFile) → IsResolved cs → strings.now ≡ strings_of cs → IsOutline cs outline.now → OnOk result (words.new.items ≡ words.old.items ++ strings_region cs (outline_of cs)) }
+    ensures { (cs : List ClassFile) → IsResolved cs → strings.now ≡ strings_of cs → IsOutline cs outline.now
+        → OnOk result (words.new.items ≡ words.old.items ++ strings_region cs (outline_of cs)) }
 {
     for string in 0..strings.count() {
         add_string(words, strings, outline, string)?;

@@ -18,9 +18,9 @@ ghost use Rattle.image_words.specs.Regions.{number_of_bits, supertype_words, typ
 use crate::item_sizes::class_words;
 use crate::members::is_interface;
 use crate::outline::Outline;
+use base::NoMemory;
 use class_hierarchy::Hierarchy;
 use image_builder::add;
-use jop_base::NoMemory;
 use program_tables::{Base, ObjectKind, Types};
 
 /// The classes that arrays are.
@@ -142,7 +142,8 @@ fn component_of(kind: ObjectKind) -> Option<ObjectKind>
 
 /// The number of a type and one, or 0 for none.
 pub fn counted_type(types: &Types, kind: Option<ObjectKind>) -> Result<u32, NoMemory>
-    ensures { (cs : List ClassFile) → map kind_seen types.now ≡ types_of cs → IfOk result (λ word. word ≡ counted_type (resolved cs) (option_map kind_seen kind)) }
+    ensures { (cs : List ClassFile) → map kind_seen types.now ≡ types_of cs
+        → IfOk result (λ word. word ≡ counted_type (resolved cs) (option_map kind_seen kind)) }
 {
     match kind {
         Some(kind) => match types.number(kind) {
@@ -216,7 +217,8 @@ fn add_type(
     requires types { map kind_seen types.now ≡ types_of classes.now }
     requires outline { IsOutline classes.now outline.now }
     requires number { number < length types.now }
-    ensures { OnOk result ((k : Kind) → slice_get (types_of classes.now) number ≡ Some k → words.new.items ≡ words.old.items ++ type_image classes.now (outline_of classes.now) (number, k)) }
+    ensures { OnOk result ((k : Kind) → slice_get (types_of classes.now) number ≡ Some k
+        → words.new.items ≡ words.old.items ++ type_image classes.now (outline_of classes.now) (number, k)) }
 {
     let kind = types.at(number);
     let instance = instance_words(classes, outline, kind);

@@ -2,14 +2,14 @@
 use Rattle.std.proofs.Common.{◌≡◌, ℕ, List, [], ◌∷◌, ◌++◌, length, Option, Some, map, refl, sym, ◌∙◌, ap, subst, arith, ◌⊎◌, inl, inr}
 use Rattle.std.specs.List.{flat_map}
 use Rattle.lists.specs.Lemmas.{none≢some}
-use Rattle.jop_outside.specs.Outside.{Grew}
-use Rattle.microcode_lines.specs.Statements.{Line}
+use Rattle.outside.specs.Outside.{Grew}
+use Rattle.microcode_asm.specs.Statements.{Line}
 use Rattle.microcode_asm.specs.declared.AsmKind.{AsmKind}
 use Rattle.microcode_asm.specs.declared.Rom.{Rom}
 use Rattle.microcode_asm.specs.Programs.{word_count, places_of, fault_of}
 use Rattle.microcode_asm.specs.Roms.{IsAssembled, IsFirstRefused, HasTooManyWords, words_of}
 use Rattle.microcode_asm.specs.Listing.{listing_of}
-use Rattle.jop_words.specs.declared.command.Command.TheVariants.{Asm as Assemble}
+use Rattle.command_line.specs.declared.command.Command.TheVariants.{Asm as Assemble}
 use Rattle.jop_cli.specs.declared.outcome.AsmRefusal.{AsmRefusal}
 use Rattle.jop_cli.specs.declared.outcome.AsmRefusal.TheVariants as asm
 use Rattle.jop_cli.specs.declared.outcome.Refusal.TheVariants as refusals

@@ -4,8 +4,8 @@ use Rattle.std.specs.Prelude.{Ok, Vec}
 use Rattle.std.specs.declared.alloc.Global.{Global}
 use Rattle.std.specs.List.{concat}
 use Rattle.lists.specs.Lemmas.{none≢some}
-use Rattle.jop_outside.specs.Outside.{Grew}
-use Rattle.operand_files.specs.Files.{AreFiles}
+use Rattle.outside.specs.Outside.{Grew}
+use Rattle.outside.specs.Files.{AreFiles}
 use Rattle.program_tables.specs.Resolved.{resolved}
 use Rattle.bytecode_model.specs.Program.{body_of}
 use Rattle.loop_bounds.specs.declared.BoundsFault.TheVariants as texts
@@ -16,8 +16,8 @@ use Rattle.bound_cert.specs.Texts.{text_of}
 use Rattle.bound_rules.specs.declared.faults.BoundRefusal.{BoundRefusal}
 use Rattle.bound_rules.specs.declared.faults.BoundRefusal.TheVariants as forbids
 use Rattle.bound_rules.specs.Bounding.{IsCause}
-use Rattle.analysis_lines.specs.declared.bound.BoundCause.{BoundCause}
-use Rattle.analysis_lines.specs.Lines.{cause_parts}
+use Rattle.answer_lines.specs.declared.bound.BoundCause.{BoundCause}
+use Rattle.answer_lines.specs.AnalysisLines.{cause_parts}
 use Rattle.analysis_commands.specs.declared.analysis.AnalysisFault.{AnalysisFault}
 use Rattle.analysis_commands.specs.declared.analysis.AnalysisFault.TheVariants as analysis
 use Rattle.analysis_commands.specs.declared.bound.NotBounded.{NotBounded}
@@ -25,8 +25,8 @@ use Rattle.analysis_commands.specs.declared.bound.NotBounded.TheVariants as boun
 use Rattle.analysis_commands.specs.Analysis.{timing_of, bounds_of, named_or_number, IsAnalysisFault}
 use Rattle.analysis_commands.specs.Bounding.{IsNamed, IsBoundBy, cause_of, subject_of, IsForbidden, IsNotBounded}
 use Rattle.activations.specs.Warrant.{BoundsActivations}
-use Rattle.jop_words.specs.declared.command.Settings.{Settings}
-use Rattle.jop_words.specs.declared.command.Command.TheVariants.{Bound}
+use Rattle.command_line.specs.declared.command.Settings.{Settings}
+use Rattle.command_line.specs.declared.command.Command.TheVariants.{Bound}
 use Rattle.jopizer.specs.Linked.{Parts, image_of}
 use Rattle.jopizer.specs.Laws.{OneLinked, LinkedImagesAreRead}
 use Rattle.jop_cli.specs.declared.outcome.Refusal.TheVariants.{Bound as Forbidden}

@@ -6,8 +6,8 @@ use Rattle.std.specs.declared.option.Option.{Option}
 use Rattle.std.proofs.lemmas.List.{get_or_past}
 use Rattle.std.proofs.lemmas.List.Elements.{All-get_or}
 use Rattle.std.proofs.lemmas.Bool.{cases_lt}
-use Rattle.jop_outside.specs.Host.{StreamState, told_at}
-use Rattle.jop_words.specs.Command.{texts}
+use Rattle.outside.specs.Host.{StreamState, told_at}
+use Rattle.command_line.specs.Command.{texts}
 use Rattle.jop_cli.specs.World.{World, world}
 use Rattle.jop_cli.specs.Process.{IsStatus, IsNewStatus, IsProcessStatus}
 

@@ -3,8 +3,8 @@ use Rattle.std.proofs.Common.{◌≡◌, ℕ, ◌+◌, true, false, List, [], �
 use Rattle.std.specs.Prelude.{Vec}
 use Rattle.std.specs.declared.alloc.Global.{Global}
 use Rattle.std.specs.List.{concat}
-use Rattle.jop_outside.specs.Outside.{Grew}
-use Rattle.operand_files.specs.Files.{AreFiles}
+use Rattle.outside.specs.Outside.{Grew}
+use Rattle.outside.specs.Files.{AreFiles}
 use Rattle.class_pool.specs.declared.class.ClassFile.{ClassFile}
 use Rattle.program_tables.specs.Resolved.{resolved}
 use Rattle.bytecode_model.specs.Program.{body_of}
@@ -13,12 +13,12 @@ use Rattle.loop_bounds.specs.Bounds.{LoopBound}
 use Rattle.loop_bounds.specs.Laws.{GivesOne, ReadIsNotRefused}
 use Rattle.bound_cert.specs.Certificate.{Certificate}
 use Rattle.bound_cert.specs.Laws.{HasOneCertificate}
-use Rattle.jop_text.specs.Line.{lines_of as text_lines}
+use Rattle.ascii_text.specs.Line.{lines_of as text_lines}
 use Rattle.bound_rules.specs.declared.faults.CheckFault.{CheckFault}
 use Rattle.bound_rules.specs.Conditions.{MeetsConditions}
 use Rattle.bound_rules.specs.Refused.{IsRefused}
 use Rattle.bound_rules.specs.Laws.{FaultsAreOne, RefusedIsNotMet}
-use Rattle.analysis_lines.specs.Lines.{held_parts, fault_parts}
+use Rattle.answer_lines.specs.AnalysisLines.{held_parts, fault_parts}
 use Rattle.analysis_commands.specs.declared.analysis.AnalysisFault.{AnalysisFault}
 use Rattle.analysis_commands.specs.declared.analysis.AnalysisFault.TheVariants as analysis
 use Rattle.analysis_commands.specs.declared.check.Held.{Held}
@@ -27,8 +27,8 @@ use Rattle.analysis_commands.specs.declared.check.CheckRefusal.TheVariants as ch
 use Rattle.analysis_commands.specs.Analysis.{timing_of, bounds_of, name_of, IsAnalysisFault}
 use Rattle.analysis_commands.specs.Checking.{FailsBy, IsRefusal, fault_name}
 use Rattle.activations.specs.Warrant.{BoundsActivations}
-use Rattle.jop_words.specs.declared.command.Settings.{Settings}
-use Rattle.jop_words.specs.declared.command.Command.TheVariants.{Check}
+use Rattle.command_line.specs.declared.command.Settings.{Settings}
+use Rattle.command_line.specs.declared.command.Command.TheVariants.{Check}
 use Rattle.jopizer.specs.Linked.{Parts, image_of}
 use Rattle.jopizer.specs.Laws.{OneLinked, LinkedImagesAreRead}
 use Rattle.jop_cli.specs.declared.outcome.Refusal.TheVariants.{Check as NotChecked}

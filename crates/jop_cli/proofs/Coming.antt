@@ -5,9 +5,9 @@ use Rattle.bytecode_model.specs.Types.{default}
 use Rattle.std.specs.declared.alloc.Global.{Global}
 use Rattle.lists.specs.Lemmas.{onto_some, some_same}
 use Rattle.class_pool.specs.declared.class.ClassFile.{ClassFile}
-use Rattle.jop_outside.specs.Outside.{Grew}
-use Rattle.jop_device.specs.Told.{Told, GivesEach}
-use Rattle.trace_lines.specs.Traced.{traced}
+use Rattle.outside.specs.Outside.{Grew}
+use Rattle.device_traits.specs.Told.{Told, GivesEach}
+use Rattle.run_devices.specs.Traced.{traced}
 use Rattle.jop_core.specs.State as machine
 use Rattle.jop_core.specs.Scene.{begun, output_during}
 use Rattle.bytecode_model.specs.declared.Ending.{Ending as Mode}
@@ -21,8 +21,8 @@ use Rattle.boundary.specs.Setting.{Setting}
 use Rattle.boundary.specs.Activations.{Stage}
 use Rattle.boundary.specs.Runs.{IsRun, RunsOn}
 use Rattle.boundary.specs.Traces.{TracesOn, unnoted, run_text}
-use Rattle.stream_devices.specs.Lent.{Lent, wired}
-use Rattle.outcome_lines.specs.declared.line.Counts.{Counts}
+use Rattle.run_devices.specs.Lent.{Lent, wired}
+use Rattle.answer_lines.specs.declared.line.Counts.{Counts}
 use Rattle.jop_cli.specs.declared.outcome.Ending.TheVariants as endings
 use Rattle.jop_cli.specs.Show.{Shown, Output, Trace}
 use Rattle.jop_cli.specs.Run.{AreCounts, RunsCounted}

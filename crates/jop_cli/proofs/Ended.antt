@@ -1,11 +1,11 @@
 -- How the run of a program ends.
 use Rattle.std.proofs.Common.{◌≡◌, ℕ, ◌<◌, ◌≤◌, Bool, List, length, Option, refl, sym, subst, arith, ◌⊎◌, inl, inr, ⊎_elim}
 use Rattle.jop_core.specs.State as machine
-use Rattle.jop_outside.specs.Outside.{Rose}
+use Rattle.outside.specs.Outside.{Rose}
 use Rattle.class_pool.specs.declared.class.ClassFile.{ClassFile}
-use Rattle.jop_device.specs.declared.seen.Seen.{Seen}
-use Rattle.jop_device.specs.Told.{Told}
-use Rattle.trace_lines.specs.Traced.{traced}
+use Rattle.device_traits.specs.declared.seen.Seen.{Seen}
+use Rattle.device_traits.specs.Told.{Told}
+use Rattle.run_devices.specs.Traced.{traced}
 use Rattle.boundary.specs.Activations.{Stage}
 use Rattle.boundary.specs.declared.runs.RunEnd.{RunEnd}
 use Rattle.boundary.specs.declared.runs.RunEnd.TheVariants as ends
@@ -13,9 +13,9 @@ use Rattle.boundary.specs.Answers.{IsUnbroken}
 use Rattle.boundary.specs.Setting.{Setting}
 use Rattle.boundary.specs.Session.{Session, Begins}
 use Rattle.boundary.specs.Runs.{RunsAll}
-use Rattle.outcome_lines.specs.declared.line.Counts.{Counts}
-use Rattle.linked_start.specs.Start.{UncaughtClassesAreThere}
-use Rattle.stream_devices.specs.Lent.{Lent, lent, wired}
+use Rattle.answer_lines.specs.declared.line.Counts.{Counts}
+use Rattle.boundary.specs.Start.{UncaughtClassesAreThere}
+use Rattle.run_devices.specs.Lent.{Lent, lent, wired}
 use Rattle.boundary.specs.Traces.{OutputFails, AtBoundary, AtWrite, AtCycle, TracesAll}
 use Rattle.jop_cli.specs.declared.show.NamedShow.{NamedShow}
 use Rattle.jop_cli.specs.declared.show.NamedShow.TheVariants as shows

@@ -8,8 +8,8 @@ use Rattle.bytecode_model.specs.Program.{Method, Body, body_of}
 use Rattle.program_tables.specs.Laws.{MethodsStandByNumber}
 use Rattle.program_tables.specs.Numbers.{methods_by_number}
 use Rattle.program_tables.specs.Resolved.{resolved_method, resolved_methods, resolved}
-use Rattle.linked_image.specs.Linked.{Image, OneImage}
-use Rattle.linked_image.specs.Linked as file
+use Rattle.image_file.specs.Linked.{Image, OneImage}
+use Rattle.image_file.specs.Linked as file
 use Rattle.jopizer.specs.declared.refusal.LinkRefusal.{LinkRefusal}
 use Rattle.jopizer.specs.declared.refusal.LinkRefusal.TheVariants as refusals
 use Rattle.jopizer.specs.declared.fault.ImageFault.TheVariants.{Link}

@@ -2,12 +2,12 @@
 use Rattle.std.proofs.Common.{◌≡◌, ℕ, ◌≤◌, Bool, true, false, List, refl, sym, subst, inl, inr, ⊎_elim}
 use Rattle.std.specs.declared.option.Option.{Option}
 use Rattle.std.specs.declared.result.Result.{Result}
-use Rattle.bare_image.specs.Bare.{Image}
+use Rattle.image_file.specs.Bare.{Image}
 use Rattle.jop_cli.specs.declared.settings.Plan.{Plan}
 use Rattle.jop_cli.specs.declared.show.Show.{Show}
 use Rattle.jop_cli.specs.Show.{bare_shown}
-use Rattle.jop_words.specs.declared.command.Settings.{Settings}
-use Rattle.jop_words.specs.declared.command.Command.{Command}
+use Rattle.command_line.specs.declared.command.Settings.{Settings}
+use Rattle.command_line.specs.declared.command.Command.{Command}
 use Rattle.jop_cli.specs.declared.outcome.Ending.{Ending}
 use Rattle.jop_cli.specs.declared.outcome.Ending.TheVariants as endings
 use Rattle.jop_cli.specs.Leaving.{FailsRisen}
@@ -19,13 +19,13 @@ use Rattle.analysis_commands.specs.declared.check.CheckRefusal.{CheckRefusal}
 use Rattle.analysis_commands.specs.declared.check.CheckRefusal.TheVariants as check
 use Rattle.analysis_commands.specs.declared.bound.NotBounded.{NotBounded}
 use Rattle.analysis_commands.specs.declared.bound.NotBounded.TheVariants as bound
-use Rattle.operand_files.specs.Files.{FilesTold}
+use Rattle.outside.specs.Files.{FilesTold}
 use Rattle.class_pool.specs.declared.class.ClassFile.{ClassFile}
 use Rattle.jop_cli.specs.Checking.{fault_ending, refusal_ending, Checks, ChecksLinked, ChecksBare, ChecksFiles}
 use Rattle.jop_cli.specs.Bounding.{cause_ending, NotBoundedBare, BoundFault, PutsBound, BoundsFiles}
 use Rattle.jop_core.specs.Reset.{bare_reset}
 use Rattle.boundary.specs.Setting.{bare_setting}
-use Rattle.stream_devices.specs.Lent.{Lent}
+use Rattle.run_devices.specs.Lent.{Lent}
 use Rattle.jop_cli.specs.Phase.{HasSettings, is_linked}
 use Rattle.jop_cli.specs.BareFile.{blocks_of_code, RanBare, RanWith, RunsBareBytes}
 use Rattle.jop_cli.specs.LinkedFile.{RunsLinkedBytes}

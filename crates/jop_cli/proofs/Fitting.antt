@@ -1,7 +1,7 @@
 -- The words of a microprogram are no more than the ROM has.
 use Rattle.std.proofs.Common.{◌≡◌, ℕ, ◌≤◌, List, [], ◌∷◌, length, refl, ap, arith, length-append}
 use Rattle.std.specs.List.{flat_map}
-use Rattle.microcode_lines.specs.Statements.{Statement, nothing, word, branch, entry, raise, constant, turns, size_of, Line}
+use Rattle.microcode_asm.specs.Statements.{Statement, nothing, word, branch, entry, raise, constant, turns, size_of, Line}
 use Rattle.microcode_asm.specs.declared.Rom.{Rom}
 use Rattle.microcode_asm.specs.Programs.{Places, places_of, word_count}
 use Rattle.microcode_asm.specs.Roms.{words_of, IsAssembled}

@@ -2,7 +2,7 @@
 use Rattle.std.proofs.Common.{◌≡◌, ℕ, ◌≤◌, List, length, sym, subst}
 use Rattle.jop_cli.specs.declared.settings.Plan.{Plan}
 use Rattle.jop_core.specs.Reset.{linked_reset}
-use Rattle.jop_words.specs.declared.command.Settings.{Settings}
+use Rattle.command_line.specs.declared.command.Settings.{Settings}
 use Rattle.class_pool.specs.declared.class.ClassFile.{ClassFile}
 use Rattle.image_builder.specs.Laid.{Laid}
 use Rattle.jopizer.specs.Linked.{Parts}
@@ -11,7 +11,7 @@ use Rattle.jop_cli.specs.LinkedSettings.{CodesFit, RanWith}
 use Rattle.jop_cli.specs.declared.show.Show.{Show}
 use Rattle.jop_cli.specs.Show.{linked_shown}
 use Rattle.jop_cli.specs.Phase.{HasSettings}
-use Rattle.stream_devices.specs.Lent.{Lent}
+use Rattle.run_devices.specs.Lent.{Lent}
 use Rattle.jop_cli.specs.Run.{Ran}
 use Rattle.jop_cli.specs.LinkedRun.{HasClass, linked_setting}
 

@@ -1,6 +1,6 @@
 -- Files that nothing refuses are linked.
 use Rattle.std.proofs.Common.{◌≡◌, ℕ, List, subst, ◌⊎◌, inl, inr, ⊎_elim}
-use Rattle.jop_words.specs.declared.command.Command.TheVariants.{Link as LinkTo}
+use Rattle.command_line.specs.declared.command.Command.TheVariants.{Link as LinkTo}
 use Rattle.jopizer.specs.declared.refusal.LinkRefusal.{LinkRefusal}
 use Rattle.jop_cli.specs.declared.outcome.Ending.{Ending}
 use Rattle.jop_cli.specs.declared.outcome.Ending.TheVariants as endings

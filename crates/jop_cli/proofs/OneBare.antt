@@ -1,6 +1,6 @@
 -- Bytes are those of one bare image.
 use Rattle.std.proofs.Common.{◌≡◌, ℕ, ◌/◌, ◌%◌, ◌^◌, List, drop, get_or, sym, ◌∙◌, ap, arith}
-use Rattle.bare_image.specs.Bare.{Image, bare_bytes}
+use Rattle.image_file.specs.Bare.{Image, bare_bytes}
 use Rattle.jop_cli.specs.Correct.{OneBareImage}
 
 -- a number has its high byte and its low one

@@ -4,12 +4,12 @@ use Rattle.std.specs.Prelude.{IfOk, Result, Ok, Err}
 use Rattle.std.specs.declared.option.Option.{Option}
 use Rattle.boundary.proofs.Starting.{boot_runs}
 use Rattle.memory_timing.specs.declared.Config.{Config}
-use Rattle.jop_words.specs.declared.command.Settings.{Settings}
+use Rattle.command_line.specs.declared.command.Settings.{Settings}
 use Rattle.method_cache.specs.Contents.{can_load, empty}
-use Rattle.bare_image.specs.Bare.{Image, IsImage, spelled, return_code}
+use Rattle.image_file.specs.Bare.{Image, IsImage, spelled, return_code}
 use Rattle.jop_core.specs.State as machine
 use Rattle.jop_core.specs.Reset.{words_for, bare_reset}
-use Rattle.coded_methods.specs.Methods.{AreMethods}
+use Rattle.image_facts.specs.Methods.{AreMethods}
 use Rattle.bytecode_model.specs.declared.Ending.{Ending}
 use Rattle.bytecode_model.specs.declared.Ending.TheVariants.{Running, Ended, Uncaught}
 use Rattle.bytecode_model.specs.Lists.{onto}
@@ -22,8 +22,8 @@ use Rattle.boundary.specs.BareLaws.{BareImagesStep}
 use Rattle.boundary.specs.Setting.{Setting, bare_setting}
 use Rattle.boundary.specs.Activations.{Stage}
 use Rattle.boundary.specs.Runs.{Goes}
-use Rattle.outcome_lines.specs.declared.line.Counts.{Counts}
-use Rattle.stream_devices.specs.Lent.{Lent}
+use Rattle.answer_lines.specs.declared.line.Counts.{Counts}
+use Rattle.run_devices.specs.Lent.{Lent}
 use Rattle.jop_cli.specs.declared.program_end.ProgramEnd.{ProgramEnd}
 use Rattle.jop_cli.specs.declared.program_end.ProgramEnd.TheVariants as ways
 use Rattle.jop_cli.specs.Show.{Shown, Output, Trace}

@@ -1,15 +1,15 @@
 -- The run of an image is that of its program.
 use Rattle.std.proofs.Common.{◌≡◌, ℕ, ◌≤◌, ◌<◌, true, false, List, [], length, Option, Some, None, refl, sym, ◌∙◌, ap, subst, arith, ◌⊎◌, inl, inr, ⊎_elim}
 use Rattle.std.specs.Prelude.{IfSome, IsSomeAnd}
-use Rattle.bare_image.specs.Bare.{Image, IsBare}
-use Rattle.linked_image.specs.Linked as file
+use Rattle.image_file.specs.Bare.{Image, IsBare}
+use Rattle.image_file.specs.Linked as file
 use Rattle.jop_core.specs.Reset.{bare_reset, linked_reset}
 use Rattle.boundary.specs.Setting.{bare_setting}
 use Rattle.bytecode_model.specs.Program.{Body, body_of}
 use Rattle.program_tables.specs.Resolved.{resolved}
 use Rattle.linked_methods.specs.Fitting.{code_blocks}
-use Rattle.jop_words.specs.declared.command.Settings.{Settings}
-use Rattle.jop_words.specs.declared.command.Command.TheVariants.{Run, Trace}
+use Rattle.command_line.specs.declared.command.Settings.{Settings}
+use Rattle.command_line.specs.declared.command.Command.TheVariants.{Run, Trace}
 use Rattle.jopizer.specs.declared.refusal.LinkRefusal.{LinkRefusal}
 use Rattle.jopizer.specs.declared.refusal.LinkRefusal.TheVariants as links
 use Rattle.jopizer.specs.declared.fault.ImageFault.TheVariants as faults

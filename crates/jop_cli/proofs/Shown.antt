@@ -4,7 +4,7 @@ use Rattle.class_pool.specs.declared.class.ClassFile.{ClassFile}
 use Rattle.program_tables.specs.Resolved.{resolved}
 use Rattle.activations.specs.Warrant.{BoundsActivations}
 use Rattle.bound_sound.specs.Laws.{CertificatesAreSound}
-use Rattle.jop_words.specs.declared.command.Settings.{Settings}
+use Rattle.command_line.specs.declared.command.Settings.{Settings}
 use Rattle.analysis_commands.specs.declared.check.Held.{Held}
 use Rattle.analysis_commands.specs.Analysis.{timing_of, bounds_of}
 use Rattle.analysis_commands.specs.Checking.{IsHeld}

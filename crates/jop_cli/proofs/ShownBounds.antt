@@ -4,10 +4,10 @@ use Rattle.std.specs.Prelude.{Result, Ok, Err, IfOk, IfErr, Vec}
 use Rattle.std.specs.declared.alloc.Global.{Global}
 use Rattle.class_pool.specs.declared.class.ClassFile.{ClassFile}
 use Rattle.program_tables.specs.Resolved.{resolved}
-use Rattle.linked_image.specs.Linked as file
+use Rattle.image_file.specs.Linked as file
 use Rattle.bound_sound.specs.Laws.{CertificatesAreSound}
-use Rattle.operand_files.specs.Files.{OnlyWords, AreFiles}
-use Rattle.jop_words.specs.declared.command.Settings.{Settings}
+use Rattle.outside.specs.Files.{OnlyWords, AreFiles}
+use Rattle.command_line.specs.declared.command.Settings.{Settings}
 use Rattle.jopizer.specs.Linked.{Parts, IsLinked, image_of}
 use Rattle.analysis_commands.specs.Analysis.{timing_of, bounds_of}
 use Rattle.analysis_commands.specs.Bounding.{IsBound}

@@ -2,13 +2,13 @@
 use Rattle.std.proofs.Common.{◌≡◌, ℕ, ◌-◌, ◌<◌, ◌≤◌, true, List, length, Option, Some, None, refl, sym, ◌∙◌, ap, subst, arith, inl, ⊎_elim, lt-ltb, le-leb}
 use Rattle.std.specs.Prelude.{IfSome, IsSomeAnd, IfOk, Result, Ok, Err}
 use Rattle.stack_cache.specs.Size.{IsSize}
-use Rattle.word32.specs.Packed.{words_for}
+use Rattle.base.specs.Packed.{words_for}
 use Rattle.method_cache.specs.Contents.{empty, can_load}
 use Rattle.memory_timing.specs.declared.Config.{Config}
 use Rattle.jop_core.specs.Reset.{linked_reset}
 use Rattle.class_pool.specs.declared.class.ClassFile.{ClassFile}
-use Rattle.coded_methods.specs.declared.method.CodedMethod.{CodedMethod}
-use Rattle.coded_methods.specs.Methods.{AreMethods}
+use Rattle.image_facts.specs.declared.method.CodedMethod.{CodedMethod}
+use Rattle.image_facts.specs.Methods.{AreMethods}
 use Rattle.bytecode_model.specs.Program.{Body, body_of}
 use Rattle.bytecode_model.specs.Sizes.{body_words}
 use Rattle.program_tables.specs.Resolving.{IsResolved}
@@ -21,7 +21,7 @@ use Rattle.boundary.specs.declared.answer.Boundary.TheVariants.{Bytecode}
 use Rattle.boundary.specs.Linked.{IsHeld, IsHeldImage, BeginsEach}
 use Rattle.boundary.specs.Session.{Session, Begins}
 use Rattle.linked_methods.specs.Fitting.{code_blocks}
-use Rattle.linked_start.specs.Start.{IsTold, VerifiedProgramsAreTold, BootTakesSixWords}
+use Rattle.boundary.specs.Start.{IsTold, VerifiedProgramsAreTold, BootTakesSixWords}
 use Rattle.jop_cli.specs.Run.{Started}
 use Rattle.jop_cli.specs.LinkedRun.{CanRun, linked_setting}
 

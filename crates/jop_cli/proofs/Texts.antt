@@ -3,8 +3,8 @@ use Rattle.std.proofs.Common.{◌≡◌, ℕ, zero, suc, ◌+◌, ◌<◌, ◌�
 use Rattle.std.specs.Prelude.{sum_by, Vec}
 use Rattle.std.specs.declared.alloc.Global.{Global}
 use Rattle.std.proofs.lemmas.List.Sums.{sum_by-cons}
-use Rattle.operand_files.specs.Files.{FilesTold, OnlyWords, AreFiles, contents}
-use Rattle.jop_words.specs.declared.command.Settings.{Settings}
+use Rattle.outside.specs.Files.{FilesTold, OnlyWords, AreFiles, contents}
+use Rattle.command_line.specs.declared.command.Settings.{Settings}
 use Rattle.jop_cli.specs.declared.outcome.Ending.{Ending}
 use Rattle.jop_cli.specs.Checking.{ChecksThree, ChecksRead}
 

@@ -3,12 +3,12 @@ use Rattle.std.proofs.Common.{◌≡◌, ℕ, ◌+◌, ◌<◌, ◌≤◌, Bool,
 use Rattle.std.specs.Prelude.{sum_by, Ok}
 use Rattle.std.proofs.lemmas.List.{ext_get_or, length-take-le, get_or-take}
 use Rattle.std.proofs.lemmas.List.Sums.{sum_by_more_le}
-use Rattle.jop_outside.specs.Outside.{Grew, Rose, IsWhole, HasLength}
-use Rattle.outcome_lines.specs.Said.{SaidLess}
-use Rattle.operand_files.specs.Files.{AreFiles, IsTooBigAt}
-use Rattle.stream_devices.specs.Lent.{Lent}
-use Rattle.jop_words.specs.declared.command.Command.{Command}
-use Rattle.jop_words.specs.Command.{command_of}
+use Rattle.outside.specs.Outside.{Grew, Rose, IsWhole, HasLength}
+use Rattle.answer_lines.specs.Said.{SaidLess}
+use Rattle.outside.specs.Files.{AreFiles, IsTooBigAt}
+use Rattle.run_devices.specs.Lent.{Lent}
+use Rattle.command_line.specs.declared.command.Command.{Command}
+use Rattle.command_line.specs.Command.{command_of}
 use Rattle.jop_cli.specs.declared.outcome.Refusal.TheVariants as refusals
 use Rattle.jop_cli.specs.declared.outcome.Ending.{Ending}
 use Rattle.jop_cli.specs.declared.outcome.Ending.TheVariants as endings

@@ -1,7 +1,7 @@
 -- The text of a word.
 use Rattle.std.proofs.Common.{◌≡◌, ℕ, zero, suc, ◌<◌, ◌≤◌, List, [], ◌∷◌, length, get_or, refl, arith}
 use Rattle.std.specs.Borrow.{Bor}
-use Rattle.jop_words.specs.Command.{texts}
+use Rattle.command_line.specs.Command.{texts}
 use Rattle.jop_cli.specs.Line.{text_at}
 
 pub text_at-texts : (words : List (Bor (List ℕ))) (k : ℕ) (d : Bor (List ℕ)) → k < length words → text_at (texts words) k ≡ (get_or words k d).now

@@ -10,20 +10,20 @@ use Rattle.linked_methods.specs.Fitting.{MethodFits, IsFirst, code_blocks}
 use Rattle.loop_bounds.specs.declared.BoundsFault.TheVariants as faults
 use Rattle.loop_bounds.specs.Bounds.{LoopBound}
 use Rattle.bound_sound.specs.Laws.{CertificatesAreSound}
-use Rattle.jop_words.specs.declared.command.Settings.{Settings}
+use Rattle.command_line.specs.declared.command.Settings.{Settings}
 use Rattle.work_gen.specs.Work.{bounds_text}
 use Rattle.work_gen.specs.Bounds.{main_text, adder_bounds}
 use Rattle.work_gen.specs.Laws.{OnlyTheseAreRead}
-use Rattle.analysis_lines.specs.declared.bound.BoundCause.{BoundCause}
+use Rattle.answer_lines.specs.declared.bound.BoundCause.{BoundCause}
 use Rattle.analysis_commands.specs.declared.analysis.AnalysisFault.{AnalysisFault}
 use Rattle.analysis_commands.specs.declared.analysis.AnalysisFault.TheVariants as analysis
 use Rattle.analysis_commands.specs.Analysis.{EachFits, timing_of, bounds_of, IsAnalysisFault}
 use Rattle.analysis_commands.specs.Bounding as bounding
 use Rattle.analysis_commands.specs.Bounding.{IsBoundNumber, IsBoundBy, IsNamed}
 use Rattle.bound_rules.specs.Bounding.{IsCause}
-use Rattle.outcome_lines.specs.declared.line.Counts.{Counts}
+use Rattle.answer_lines.specs.declared.line.Counts.{Counts}
 use Rattle.jopizer.specs.Linked.{Parts}
-use Rattle.jop_outside.specs.Outside.{Grew, Rose}
+use Rattle.outside.specs.Outside.{Grew, Rose}
 use Rattle.jop_cli.specs.declared.outcome.Ending.{Ending}
 use Rattle.jop_cli.specs.declared.outcome.Ending.TheVariants as endings
 use Rattle.jop_cli.specs.World.{World}

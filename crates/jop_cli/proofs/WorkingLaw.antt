@@ -1,8 +1,8 @@
 -- The line of `work`, on a call on which nothing fails.
 use Rattle.std.proofs.Common.{◌≡◌, ℕ, List, [], Option, refl, sym, ◌∙◌, ap, subst, ◌⊎◌, inl, inr, ⊎_elim}
-use Rattle.jop_outside.specs.Outside.{Grew}
-use Rattle.jop_words.specs.declared.command.Command.TheVariants.{Work}
-use Rattle.jop_words.specs.Command.{command_of}
+use Rattle.outside.specs.Outside.{Grew}
+use Rattle.command_line.specs.declared.command.Command.TheVariants.{Work}
+use Rattle.command_line.specs.Command.{command_of}
 use Rattle.jop_cli.specs.declared.outcome.Ending.{Ending}
 use Rattle.jop_cli.specs.declared.outcome.Ending.TheVariants as endings
 use Rattle.jop_cli.specs.declared.outcome.Outcome.{Outcome}

@@ -2,15 +2,16 @@
 use Rattle.std.specs.Prelude.{◌≡◌, ℕ, ◌≤◌, Bool, true, false, ◌⊎◌, List, [], Some, Ok, Err}
 use Rattle.std.specs.declared.option.Option.{Option}
 use Rattle.std.specs.declared.result.Result.{Result}
-use Rattle.jop_outside.specs.Outside.{Grew, Rose}
-use Rattle.jop_words.specs.declared.command.Settings.{Settings}
-use Rattle.jop_words.specs.declared.command.Command.{Command}
-use Rattle.jop_words.specs.declared.command.Command.TheVariants.{Run, Trace, Bound, Check, Asm as Assemble, Link as LinkTo, Work}
-use Rattle.jop_words.specs.Command.{command_of}
-use Rattle.outcome_lines.specs.Said.{SaidLess}
+use Rattle.outside.specs.Outside.{Grew, Rose}
+use Rattle.command_line.specs.declared.command.Settings.{Settings}
+use Rattle.command_line.specs.declared.command.Command.{Command}
+use Rattle.command_line.specs.declared.command.Command.TheVariants.{Run, Trace, Bound, Check, Asm as Assemble, Link as LinkTo, Work}
+use Rattle.command_line.specs.Command.{command_of}
+use Rattle.answer_lines.specs.Said.{SaidLess}
 use Rattle.jop_cli.specs.declared.outcome.Refusal.TheVariants.{Usage, TooBig, MethodTooLong, Link, Check as NotChecked, Bound as Forbidden}
 use Rattle.jop_cli.specs.declared.outcome.Ending.{Ending}
-use Rattle.jop_cli.specs.declared.outcome.Ending.TheVariants.{Ended, Written, Linked, Holds, Uncaught, Refused, TooLong, NotLinked, NotHeld, NotBounded, Spent, ReadFault, InputFault, WriteFault, NoMemory}
+use Rattle.jop_cli.specs.declared.outcome.Ending.TheVariants.{Ended, Written, Linked, Holds, Uncaught, Refused, TooLong, NotLinked, NotHeld, NotBounded, Spent}
+use Rattle.jop_cli.specs.declared.outcome.Ending.TheVariants.{ReadFault, InputFault, WriteFault, NoMemory}
 use Rattle.jop_cli.specs.declared.outcome.Outcome.{Outcome}
 use Rattle.jop_cli.specs.declared.outcome.Outcome.TheVariants as outcomes
 use Rattle.jop_cli.specs.declared.show.Show.{Show}
@@ -18,7 +19,7 @@ use Rattle.jop_cli.specs.declared.show.Show.TheVariants as shows
 use Rattle.jop_cli.specs.Line.{text_at, line_of, is_fault}
 use Rattle.jop_cli.specs.Phase.{is_linked}
 use Rattle.jop_cli.specs.BareFile.{RunsBareBytes}
-use Rattle.stream_devices.specs.Lent.{Lent, lent}
+use Rattle.run_devices.specs.Lent.{Lent, lent}
 use Rattle.jop_cli.specs.LinkedFile.{RunsLinkedBytes}
 use Rattle.jop_cli.specs.World.{World, IsQuiet, IsUntaken, FilesStayBut, IsUnchanged, Reads, IsTooBig}
 use Rattle.jop_cli.specs.Assembling.{Assembles}
@@ -65,7 +66,8 @@ pub record RunsLinked (settings : Settings) (show : Show) (word : ℕ) (old new 
 
 -- How the run of the image of a word ends, and the traced run, each ending with its cause.
 abbrev pub RunsFile : Settings → Show → (word : ℕ) → World → World → Ending → Type 0
-RunsFile settings show word old new ending = (FileFault word old new ending × IsQuiet old new) ⊎ (RunsBare settings show word old new ending ⊎ RunsLinked settings show word old new ending)
+RunsFile settings show word old new ending = (FileFault word old new ending × IsQuiet old new)
+    ⊎ (RunsBare settings show word old new ending ⊎ RunsLinked settings show word old new ending)
 
 -- ---- all commands
 
@@ -120,7 +122,8 @@ outcome_unsaid NoMemory = outcomes.NoMemory
 
 -- the words say `run` or `trace` of an image
 abbrev pub RunsImage : (words : List (List ℕ)) → (image : ℕ) → Type 0
-RunsImage words image = (settings : Settings) × ((command_of words ≡ Ok (Run settings image)) ⊎ ((micro : Bool) × (command_of words ≡ Ok (Trace settings micro image))))
+RunsImage words image = (settings : Settings) × ((command_of words ≡ Ok (Run settings image))
+    ⊎ ((micro : Bool) × (command_of words ≡ Ok (Trace settings micro image))))
 
 -- the words say `run` of an image
 abbrev pub RunsProgram : (words : List (List ℕ)) → Type 0

@@ -1,6 +1,6 @@
 -- What `asm` does: the text of an operand is assembled, and the text of its words is put.
 use Rattle.std.specs.Prelude.{◌≡◌, ℕ, ◌<◌, ◌≤◌, List, length, take}
-use Rattle.jop_outside.specs.Outside.{Grew, Rose}
+use Rattle.outside.specs.Outside.{Grew, Rose}
 use Rattle.microcode_asm.specs.declared.Rom.{Rom}
 use Rattle.microcode_asm.specs.Roms.{IsAssembled, IsFirstRefused, HasTooManyWords}
 use Rattle.microcode_asm.specs.Listing.{listing_of}

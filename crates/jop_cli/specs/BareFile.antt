@@ -1,15 +1,15 @@
 -- What `run` and `trace` do with the bytes of a file that don't begin as those of a linked image.
 use Rattle.std.specs.Prelude.{◌≡◌, ℕ, ◌<◌, ◌≤◌, ◌⊎◌, List, length}
-use Rattle.bare_image.specs.Bare.{Image, IsBare}
+use Rattle.image_file.specs.Bare.{Image, IsBare}
 use Rattle.memory_timing.specs.declared.Config.{Config}
 use Rattle.method_cache.specs.Contents.{blocks_for}
 use Rattle.jop_core.specs.State as machine
 use Rattle.jop_core.specs.Reset.{words_for, bare_reset}
-use Rattle.jop_words.specs.declared.command.Settings.{Settings}
+use Rattle.command_line.specs.declared.command.Settings.{Settings}
 use Rattle.boundary.specs.Setting.{Setting, bare_setting}
 use Rattle.jop_cli.specs.declared.show.Show.{Show}
 use Rattle.jop_cli.specs.Show.{Shown, bare_shown}
-use Rattle.stream_devices.specs.Lent.{Lent}
+use Rattle.run_devices.specs.Lent.{Lent}
 use Rattle.jop_cli.specs.declared.program_end.ProgramEnd.TheVariants as runs
 use Rattle.jop_cli.specs.declared.outcome.Refusal.TheVariants.{BadImage, MethodTooLong}
 use Rattle.jop_cli.specs.declared.outcome.Ending.{Ending}

@@ -1,14 +1,14 @@
 -- What `bound` does: a certificate of a method's bound is put, by an image and the bounds of its loops, which is the operand behind it.
 use Rattle.std.specs.Prelude.{◌≡◌, ℕ, ◌+◌, ◌<◌, ◌≤◌, true, false, ◌⊎◌, List, [], ◌∷◌, length, take}
 use Rattle.std.specs.declared.option.Option.{Option}
-use Rattle.jop_outside.specs.Outside.{Grew, Rose}
+use Rattle.outside.specs.Outside.{Grew, Rose}
 use Rattle.class_pool.specs.declared.class.ClassFile.{ClassFile}
-use Rattle.bare_image.specs.Bare.{Image, IsBare}
-use Rattle.linked_image.specs.Linked as file
+use Rattle.image_file.specs.Bare.{Image, IsBare}
+use Rattle.image_file.specs.Linked as file
 use Rattle.program_tables.specs.Resolved.{resolved}
 use Rattle.activations.specs.Warrant.{BoundsActivations}
-use Rattle.operand_files.specs.Files.{OnlyWords, AreFiles}
-use Rattle.jop_words.specs.declared.command.Settings.{Settings}
+use Rattle.outside.specs.Files.{OnlyWords, AreFiles}
+use Rattle.command_line.specs.declared.command.Settings.{Settings}
 use Rattle.jopizer.specs.Linked.{Parts, IsLinked, image_of}
 use Rattle.analysis_commands.specs.declared.bound.NotBounded.{NotBounded as Cause}
 use Rattle.analysis_commands.specs.declared.bound.NotBounded.TheVariants as causes
@@ -31,8 +31,8 @@ cause_ending s (causes.NoAnalysis fault) = fault_ending s fault
 cause_ending s (causes.Forbidden cause subject) = NotBounded cause subject
 cause_ending s causes.NoMemory = NoMemory
 
--- What the text says holds of the program and of the machine: it is that of a certificate that meets its conditions, so each ended activation of its method, which is the
--- one that is asked for, takes at most as many cycles as it says, whatever the method cache held, where it keeps the bounds.
+-- What the text says holds of the program and of the machine: it is that of a certificate that meets its conditions, so each ended activation of its
+-- method, which is the one that is asked for, takes at most as many cycles as it says, whatever the method cache held, where it keeps the bounds.
 pub record Bounds (cs : List ClassFile) (s : Settings) (bounds_text name text : List ℕ) : Type 0 where
   pub is : IsBound cs s bounds_text name text
   pub holds : BoundsActivations (resolved cs) (timing_of s) (bounds_of cs is.bounds) is.certificate.root is.certificate.bound
@@ -109,7 +109,8 @@ pub record PutsTextFront (s : Settings) (bytes bounds_text name : List ℕ) (old
 abbrev pub PutsBound : Settings → (bytes bounds_text name : List ℕ) → (old new : Option (List ℕ)) → (before now : ℕ) → Ending → Type 0
 PutsBound s bytes bounds_text name old new before now ending =
     ((ending ≡ Written) × PutsText s bytes bounds_text name old new before now)
-    ⊎ (((ending ≡ WriteFault) × PutsTextFront s bytes bounds_text name old new before now) ⊎ (BoundFault s bytes bounds_text name ending × (new ≡ old) × (now ≡ before)))
+    ⊎ (((ending ≡ WriteFault) × PutsTextFront s bytes bounds_text name old new before now)
+    ⊎ (BoundFault s bytes bounds_text name ending × (new ≡ old) × (now ≡ before)))
 
 -- of two texts: an image's bytes and bounds
 abbrev pub PutsTwo : Settings → (name : List ℕ) → (texts : List (List ℕ)) → (old new : Option (List ℕ)) → (before now : ℕ) → Ending → Type 0
@@ -130,4 +131,5 @@ pub record BoundsRead (s : Settings) (name : List ℕ) (image : ℕ) (old new : 
 
 -- How `bound` of the image of a word ends, with the bounds of the word behind it and a method of this name, each ending with its cause.
 abbrev pub BoundsFiles : Settings → (name : List ℕ) → (image : ℕ) → World → World → Ending → Type 0
-BoundsFiles s name image old new ending = (OperandsFault image (image + 2) (files_of old) (files_of new) ending × IsQuiet old new) ⊎ BoundsRead s name image old new ending
+BoundsFiles s name image old new ending = (OperandsFault image (image + 2) (files_of old) (files_of new) ending × IsQuiet old new)
+    ⊎ BoundsRead s name image old new ending

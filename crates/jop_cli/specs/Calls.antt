@@ -1,8 +1,8 @@
 -- Calls of the program: what `Correct` speaks of.
 use Rattle.std.specs.Prelude.{◌≡◌, ℕ, ◌+◌, ◌<◌, ◌≤◌, List, [], length, slice_index_or, sum_by, Some}
 use Rattle.std.specs.declared.option.Option.{Option}
-use Rattle.jop_outside.specs.Outside.{Grew, Rose}
-use Rattle.operand_files.specs.Files.{most_bytes}
+use Rattle.outside.specs.Outside.{Grew, Rose}
+use Rattle.outside.specs.Files.{most_bytes}
 use Rattle.jop_cli.specs.declared.outcome.Outcome.{Outcome}
 use Rattle.jop_cli.specs.declared.outcome.Outcome.TheVariants.{NoMemory}
 use Rattle.jop_cli.specs.World.{World, IsQuiet}
@@ -49,6 +49,18 @@ pub record AreTold (c : Call) (first : ℕ) (files : List (List ℕ)) : Type 0 w
   pub few : sum_by length files ≤ most_bytes
 
 -- What the contract of `jop` says of its arguments and of its outcome makes a call of them.
-abbrev pub call_of : (words : List (List ℕ)) → (old new : World) → (err_old err_new : Option (List ℕ)) → (before now : ℕ) → (outcome : Outcome) → Answered words old new err_old err_new before now outcome → Call
+abbrev pub call_of : (words : List (List ℕ)) → (old new : World) → (err_old err_new : Option (List ℕ)) → (before now : ℕ) → (outcome : Outcome)
+    → Answered words old new err_old err_new before now outcome → Call
 call_of words old new err_old err_new before now outcome answered =
-    record { words = words; old = old; new = new; err_old = err_old; err_new = err_new; err_faults_old = before; err_faults_new = now; outcome = outcome; answered = answered }
+    record {
+      words = words;
+      old = old;
+      new = new;
+      err_old = err_old;
+      err_new = err_new;
+      err_faults_old = before;
+      err_faults_new = now;
+      outcome
+          = outcome;
+      answered = answered;
+    }

@@ -1,12 +1,12 @@
 -- What `check` does: a certificate is checked against an image and the bounds of its loops, which are the operands before it.
 use Rattle.std.specs.Prelude.{◌≡◌, ℕ, ◌+◌, ◌<◌, ◌≤◌, true, false, ◌⊎◌, List, [], ◌∷◌}
 use Rattle.class_pool.specs.declared.class.ClassFile.{ClassFile}
-use Rattle.bare_image.specs.Bare.{Image, IsBare}
-use Rattle.linked_image.specs.Linked as file
+use Rattle.image_file.specs.Bare.{Image, IsBare}
+use Rattle.image_file.specs.Linked as file
 use Rattle.program_tables.specs.Resolved.{resolved}
 use Rattle.activations.specs.Warrant.{BoundsActivations}
-use Rattle.operand_files.specs.Files.{FilesTold, OnlyWords, AreFiles}
-use Rattle.jop_words.specs.declared.command.Settings.{Settings}
+use Rattle.outside.specs.Files.{FilesTold, OnlyWords, AreFiles}
+use Rattle.command_line.specs.declared.command.Settings.{Settings}
 use Rattle.jopizer.specs.Linked.{Parts, IsLinked, image_of}
 use Rattle.analysis_commands.specs.declared.analysis.AnalysisFault.{AnalysisFault}
 use Rattle.analysis_commands.specs.declared.analysis.AnalysisFault.TheVariants as analysis
@@ -38,8 +38,8 @@ refusal_ending s (check.BadCert line) = Refused (BadCert line)
 refusal_ending s (check.Fails fault name) = NotHeld fault name
 refusal_ending s check.NoMemory = NoMemory
 
--- What holds of the program and of the machine: the certificate of the text meets its conditions, so each ended activation of its method that keeps the bounds takes at
--- most as many cycles as it says, whatever the method cache held.
+-- What holds of the program and of the machine: the certificate of the text meets its conditions, so each ended activation of its method that keeps
+-- the bounds takes at most as many cycles as it says, whatever the method cache held.
 pub record Shows (cs : List ClassFile) (s : Settings) (bounds_text cert_text : List ℕ) (h : Held) : Type 0 where
   pub meets : IsHeld cs s bounds_text cert_text h
   pub holds : BoundsActivations (resolved cs) (timing_of s) (bounds_of cs meets.bounds) h.root h.bound
@@ -96,7 +96,8 @@ ChecksBareBytes s bytes bounds_text cert_text ending = ImageFault bytes ending �
 
 abbrev pub ChecksBytes : Settings → (bytes bounds_text cert_text : List ℕ) → Ending → Type 0
 ChecksBytes s bytes bounds_text cert_text ending =
-    ((is_linked bytes ≡ true) × ChecksLinkedBytes s bytes bounds_text cert_text ending) ⊎ ((is_linked bytes ≡ false) × ChecksBareBytes s bytes bounds_text cert_text ending)
+    ((is_linked bytes ≡ true) × ChecksLinkedBytes s bytes bounds_text cert_text ending)
+    ⊎ ((is_linked bytes ≡ false) × ChecksBareBytes s bytes bounds_text cert_text ending)
 
 -- of three texts: an image's bytes, bounds and a certificate
 abbrev pub ChecksThree : Settings → (texts : List (List ℕ)) → Ending → Type 0

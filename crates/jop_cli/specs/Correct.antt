@@ -7,22 +7,22 @@
 --   (the same of a bare image and of a microprogram), jop_words Command (what words say), and of this crate World, Linking, LinkedSettings, Calls and Courses.
 use Rattle.std.specs.Prelude.{◌≡◌, ℕ, ◌≤◌, ◌⊎◌, Bool, List, [], ◌∷◌, length, Some, Ok}
 use Rattle.std.specs.List.{concat}
-use Rattle.bare_image.specs.Bare.{Image, IsBare}
-use Rattle.linked_image.specs.Linked as file
+use Rattle.image_file.specs.Bare.{Image, IsBare}
+use Rattle.image_file.specs.Linked as file
 use Rattle.microcode_asm.specs.declared.Rom.{Rom}
 use Rattle.microcode_asm.specs.Roms.{IsAssembled}
 use Rattle.microcode_asm.specs.Listing.{listing_of}
-use Rattle.jop_words.specs.declared.command.Settings.{Settings}
-use Rattle.jop_words.specs.declared.command.Command.TheVariants.{Run, Trace, Bound, Check, Asm as Assemble, Link as LinkTo, Work}
-use Rattle.jop_words.specs.Command.{command_of}
+use Rattle.command_line.specs.declared.command.Settings.{Settings}
+use Rattle.command_line.specs.declared.command.Command.TheVariants.{Run, Trace, Bound, Check, Asm as Assemble, Link as LinkTo, Work}
+use Rattle.command_line.specs.Command.{command_of}
 use Rattle.jopizer.specs.declared.refusal.LinkRefusal.{LinkRefusal}
 use Rattle.jopizer.specs.Linked.{Parts, IsLinked, image_of}
-use Rattle.outcome_lines.specs.declared.line.Sizes.{Sizes}
+use Rattle.answer_lines.specs.declared.line.Sizes.{Sizes}
 use Rattle.activations.specs.Warrant.{BoundsActivations}
 use Rattle.jop_cli.specs.declared.outcome.Ending.{Ending}
 use Rattle.jop_cli.specs.declared.outcome.Ending.TheVariants as endings
 use Rattle.program_tables.specs.Resolved.{resolved}
-use Rattle.jop_text.specs.Line.{lines_of as text_lines}
+use Rattle.ascii_text.specs.Line.{lines_of as text_lines}
 use Rattle.loop_bounds.specs.Bounds.{LoopBound}
 use Rattle.loop_bounds.specs.Grammar.{IsRead}
 use Rattle.bound_cert.specs.Certificate.{Certificate, IsInGrammar}
@@ -33,8 +33,8 @@ use Rattle.bound_rules.specs.Refused.{IsRefused}
 use Rattle.bound_rules.specs.declared.faults.BoundRefusal.{BoundRefusal}
 use Rattle.bound_rules.specs.declared.faults.BoundRefusal.TheVariants.{NoMemory as Spent}
 use Rattle.bound_rules.specs.Bounding.{IsCause}
-use Rattle.analysis_lines.specs.declared.bound.BoundCause.{BoundCause}
-use Rattle.analysis_lines.specs.Lines.{held_parts, fault_parts, cause_parts}
+use Rattle.answer_lines.specs.declared.bound.BoundCause.{BoundCause}
+use Rattle.answer_lines.specs.AnalysisLines.{held_parts, fault_parts, cause_parts}
 use Rattle.analysis_commands.specs.Analysis.{timing_of, bounds_of, name_of, named_or_number}
 use Rattle.analysis_commands.specs.Checking.{fault_name}
 use Rattle.analysis_commands.specs.Bounding.{IsNamed, IsBoundBy, cause_of, subject_of}
@@ -46,7 +46,7 @@ use Rattle.jop_cli.specs.Line.{text_at, line_of}
 use Rattle.jop_cli.specs.Linking.{class_name, Refuses, AreLinkedTo}
 use Rattle.jop_cli.specs.LinkedSettings.{CodesFit}
 use Rattle.jop_cli.specs.BareFile.{blocks_of_code}
-use Rattle.jop_outside.specs.Outside.{Grew}
+use Rattle.outside.specs.Outside.{Grew}
 use Rattle.jop_cli.specs.World.{IsQuiet}
 use Rattle.jop_cli.specs.Calls.{Call, NothingFailed, LacksMemory, Puts, IsTold, AreTold}
 use Rattle.jop_cli.specs.Working.{IsWorkLine, NotWorked}
@@ -80,15 +80,18 @@ pub record HoldsLinked (c : Call) (settings : Settings) (word : ℕ) (l : Parts)
   pub codes : CodesFit settings l
   pub memory : length l.laid.words ≤ settings.memory
 
--- `run` of an image that `link` writes is the run of the program by the definition of the bytecode, on the machine, with its output and its end; or there is no memory.
+-- `run` of an image that `link` writes is the run of the program by the definition of the bytecode, on the machine, with its output and its end; or
+-- there is no memory.
 abbrev pub RunsAreTheBytecodes : Type 0
 RunsAreTheBytecodes =
-    (c : Call) (settings : Settings) (word : ℕ) (l : Parts) → command_of c.words ≡ Ok (Run settings word) → HoldsLinked c settings word l → NothingFailed c → RanLinked c settings shows.Output l ⊎ LacksMemory c
+    (c : Call) (settings : Settings) (word : ℕ) (l : Parts) → command_of c.words ≡ Ok (Run settings word) → HoldsLinked c settings word l → NothingFailed c
+    → RanLinked c settings shows.Output l ⊎ LacksMemory c
 
 -- `trace` is the same run, and puts its lines.
 abbrev pub TracesAreTheRuns : Type 0
 TracesAreTheRuns =
-    (c : Call) (settings : Settings) (micro : Bool) (word : ℕ) (l : Parts) → command_of c.words ≡ Ok (Trace settings micro word) → HoldsLinked c settings word l → NothingFailed c
+    (c : Call) (settings : Settings) (micro : Bool) (word : ℕ) (l : Parts) → command_of c.words ≡ Ok (Trace settings micro word) → HoldsLinked c settings word l
+    → NothingFailed c
     → RanLinked c settings (shows.Trace micro) l ⊎ LacksMemory c
 
 -- The bytes of the file of a word are a bare image, and its code fits the method cache.
@@ -101,11 +104,13 @@ pub record HoldsBare (c : Call) (settings : Settings) (word : ℕ) (image : Imag
 -- So it is of a bare image.
 abbrev pub BareRunsAreTheBytecodes : Type 0
 BareRunsAreTheBytecodes =
-    (c : Call) (settings : Settings) (word : ℕ) (image : Image) → command_of c.words ≡ Ok (Run settings word) → HoldsBare c settings word image → NothingFailed c → RanBare c settings shows.Output image ⊎ LacksMemory c
+    (c : Call) (settings : Settings) (word : ℕ) (image : Image) → command_of c.words ≡ Ok (Run settings word) → HoldsBare c settings word image
+    → NothingFailed c → RanBare c settings shows.Output image ⊎ LacksMemory c
 
 abbrev pub BareTracesAreTheRuns : Type 0
 BareTracesAreTheRuns =
-    (c : Call) (settings : Settings) (micro : Bool) (word : ℕ) (image : Image) → command_of c.words ≡ Ok (Trace settings micro word) → HoldsBare c settings word image → NothingFailed c
+    (c : Call) (settings : Settings) (micro : Bool) (word : ℕ) (image : Image) → command_of c.words ≡ Ok (Trace settings micro word)
+    → HoldsBare c settings word image → NothingFailed c
     → RanBare c settings (shows.Trace micro) image ⊎ LacksMemory c
 
 -- Bytes are those of one bare image.
@@ -122,7 +127,8 @@ pub record IsListed (c : Call) (listing : List ℕ) : Type 0 where
 -- The listing of the words that a text is assembled to is put; or there is no memory.
 abbrev pub AssemblingIsComplete : Type 0
 AssemblingIsComplete =
-    (c : Call) (word : ℕ) (text : List ℕ) (rom : Rom) → command_of c.words ≡ Ok (Assemble word) → IsTold c word text → NothingFailed c → IsAssembled text rom → IsListed c (listing_of rom.words) ⊎ LacksMemory c
+    (c : Call) (word : ℕ) (text : List ℕ) (rom : Rom) → command_of c.words ≡ Ok (Assemble word) → IsTold c word text → NothingFailed c → IsAssembled text rom
+    → IsListed c (listing_of rom.words) ⊎ LacksMemory c
 
 -- ---- `check`
 
@@ -150,23 +156,26 @@ pub record AnswersLine (c : Call) (outcome : Outcome) (parts : List (List ℕ)) 
 -- A certificate that meets the conditions holds, and the line says its method and its bound; or there is no memory.
 abbrev pub CheckingIsComplete : Type 0
 CheckingIsComplete =
-    (c : Call) (settings : Settings) (image : ℕ) (l : Parts) (lines : List LoopBound) (certificate : Certificate) → ChecksTexts c settings image l lines certificate → NothingFailed c
+    (c : Call) (settings : Settings) (image : ℕ) (l : Parts) (lines : List LoopBound) (certificate : Certificate)
+    → ChecksTexts c settings image l lines certificate → NothingFailed c
     → MeetsConditions (resolved l.classes) (timing_of settings) (bounds_of l.classes lines) certificate
     → AnswersLine c Holds (held_parts (name_of l.classes certificate.root) certificate.bound) ⊎ LacksMemory c
 
--- Where the answer is that it holds, the line says its method and its bound, and each ended activation of the method takes at most so many cycles, where its loops keep
--- the bounds: in every run of the program, on each machine with these waits and a method cache of these sizes, whatever the cache holds and whatever is read. Where the
--- bound is never, no such activation ends.
+-- Where the answer is that it holds, the line says its method and its bound, and each ended activation of the method takes at most so many cycles,
+-- where its loops keep the bounds: in every run of the program, on each machine with these waits and a method cache of these sizes, whatever the
+-- cache holds and whatever is read. Where the bound is never, no such activation ends.
 abbrev pub CheckedBoundsAreKept : Type 0
 CheckedBoundsAreKept =
-    (c : Call) (settings : Settings) (image : ℕ) (l : Parts) (lines : List LoopBound) (certificate : Certificate) → ChecksTexts c settings image l lines certificate → NothingFailed c → c.outcome ≡ Holds
+    (c : Call) (settings : Settings) (image : ℕ) (l : Parts) (lines : List LoopBound) (certificate : Certificate)
+    → ChecksTexts c settings image l lines certificate → NothingFailed c → c.outcome ≡ Holds
     → AnswersLine c Holds (held_parts (name_of l.classes certificate.root) certificate.bound)
     × BoundsActivations (resolved l.classes) (timing_of settings) (bounds_of l.classes lines) certificate.root certificate.bound
 
 -- One that doesn't is refused by the first condition that fails; or there is no memory.
 abbrev pub FaultsAreAnswered : Type 0
 FaultsAreAnswered =
-    (c : Call) (settings : Settings) (image : ℕ) (l : Parts) (lines : List LoopBound) (certificate : Certificate) (fault : CheckFault) → ChecksTexts c settings image l lines certificate → NothingFailed c
+    (c : Call) (settings : Settings) (image : ℕ) (l : Parts) (lines : List LoopBound) (certificate : Certificate) (fault : CheckFault)
+    → ChecksTexts c settings image l lines certificate → NothingFailed c
     → IsRefused (resolved l.classes) (timing_of settings) (bounds_of l.classes lines) certificate fault
     → AnswersLine c (Refused (NotChecked fault)) (fault_parts fault (fault_name l.classes fault)) ⊎ LacksMemory c
 
@@ -202,7 +211,8 @@ Forbids settings l lines name refusal = IsCause (resolved l.classes) (timing_of 
 -- Where nothing forbids it, a certificate of the method is put; or there is no memory.
 abbrev pub BoundingIsComplete : Type 0
 BoundingIsComplete =
-    (c : Call) (settings : Settings) (image : ℕ) (l : Parts) (lines : List LoopBound) (name : List ℕ) → BoundsTexts c settings image l lines name → NothingFailed c
+    (c : Call) (settings : Settings) (image : ℕ) (l : Parts) (lines : List LoopBound) (name : List ℕ) → BoundsTexts c settings image l lines name
+    → NothingFailed c
     → ((refusal : BoundRefusal) → ¬ Forbids settings l lines name refusal)
     → IsBounded c settings l lines name ⊎ LacksMemory c
 
@@ -216,14 +226,17 @@ pub record AnswersForbidden (c : Call) (settings : Settings) (l : Parts) (lines 
 -- Where none is given, this cause forbids it.
 abbrev pub BoundRefusalsAreCaused : Type 0
 BoundRefusalsAreCaused =
-    (c : Call) (settings : Settings) (image : ℕ) (l : Parts) (lines : List LoopBound) (name : List ℕ) (cause : BoundCause) → BoundsTexts c settings image l lines name → NothingFailed c
+    (c : Call) (settings : Settings) (image : ℕ) (l : Parts) (lines : List LoopBound) (name : List ℕ) (cause : BoundCause)
+    → BoundsTexts c settings image l lines name → NothingFailed c
     → c.outcome ≡ Refused (Forbidden cause) → AnswersForbidden c settings l lines name cause
 
 -- Where the answer is that a certificate is written, its bound is kept in the same way.
 abbrev pub WrittenBoundsAreKept : Type 0
 WrittenBoundsAreKept =
-    (c : Call) (settings : Settings) (image : ℕ) (l : Parts) (lines : List LoopBound) (name : List ℕ) → BoundsTexts c settings image l lines name → NothingFailed c → c.outcome ≡ Written
-    → (b : IsBounded c settings l lines name) × BoundsActivations (resolved l.classes) (timing_of settings) (bounds_of l.classes lines) b.certificate.root b.certificate.bound
+    (c : Call) (settings : Settings) (image : ℕ) (l : Parts) (lines : List LoopBound) (name : List ℕ) → BoundsTexts c settings image l lines name
+    → NothingFailed c → c.outcome ≡ Written
+    → (b : IsBounded c settings l lines name) × BoundsActivations (resolved l.classes) (timing_of settings)
+    (bounds_of l.classes lines) b.certificate.root b.certificate.bound
 
 -- So it is of `check` and of `bound`.
 abbrev pub BoundsAreKept : Type 0
@@ -245,7 +258,8 @@ Hinders n ending = NotWorked n ending
 
 -- Where nothing does, it is put; or there is no memory.
 abbrev pub WorkingIsComplete : Type 0
-WorkingIsComplete = (c : Call) (n : ℕ) → command_of c.words ≡ Ok (Work n) → NothingFailed c → ((ending : Ending) → ¬ Hinders n ending) → IsWorkedBy c n ⊎ LacksMemory c
+WorkingIsComplete = (c : Call) (n : ℕ) → command_of c.words ≡ Ok (Work n) → NothingFailed c → ((ending : Ending) → ¬ Hinders n ending)
+    → IsWorkedBy c n ⊎ LacksMemory c
 
 -- Where the answer is that it is written, it is true: of the run, and of the bound of main, which is kept.
 abbrev pub WorkLinesAreTrue : Type 0

@@ -3,10 +3,10 @@ use Rattle.std.specs.Prelude.{◌≡◌, ℕ, ◌≤◌, Bool, List, [], Some, V
 use Rattle.std.specs.declared.alloc.Global.{Global}
 use Rattle.class_pool.specs.declared.class.ClassFile.{ClassFile}
 use Rattle.memory_timing.specs.declared.Config.{Config}
-use Rattle.bare_image.specs.Bare.{Image}
-use Rattle.jop_device.specs.Told.{Told, GivesEach}
-use Rattle.jop_outside.specs.Outside.{Grew}
-use Rattle.trace_lines.specs.Traced.{traced}
+use Rattle.image_file.specs.Bare.{Image}
+use Rattle.device_traits.specs.Told.{Told, GivesEach}
+use Rattle.outside.specs.Outside.{Grew}
+use Rattle.run_devices.specs.Traced.{traced}
 use Rattle.jop_core.specs.State as machine
 use Rattle.jop_core.specs.Reset.{bare_reset, linked_reset}
 use Rattle.bytecode_model.specs.declared.Ending.{Ending as Mode}
@@ -17,9 +17,9 @@ use Rattle.boundary.specs.Setting.{Setting, bare_setting}
 use Rattle.boundary.specs.Activations.{Stage}
 use Rattle.boundary.specs.Runs.{IsRun}
 use Rattle.boundary.specs.Traces.{run_text, unnoted}
-use Rattle.stream_devices.specs.Lent.{Lent, wired}
-use Rattle.outcome_lines.specs.declared.line.Counts.{Counts}
-use Rattle.jop_words.specs.declared.command.Settings.{Settings}
+use Rattle.run_devices.specs.Lent.{Lent, wired}
+use Rattle.answer_lines.specs.declared.line.Counts.{Counts}
+use Rattle.command_line.specs.declared.command.Settings.{Settings}
 use Rattle.jopizer.specs.Linked.{Parts}
 use Rattle.jop_cli.specs.declared.outcome.Ending.{Ending}
 use Rattle.jop_cli.specs.declared.outcome.Ending.TheVariants as endings
@@ -82,12 +82,14 @@ pub record RanProgram (c : Call) (cs : List ClassFile) (g : Setting) (reset : ma
   pub answers : AnswersMode c cs limit last.machine last.state.mode
 
 -- The same run, of which the lines were put out and not the output. The watch is as it was.
-pub record TracedProgram (c : Call) (cs : List ClassFile) (cycles : Bool) (names : List (List ℕ)) (g : Setting) (reset : machine.State) (limit : ℕ) (old new : Lent) : Type 0 where
+pub record TracedProgram (c : Call) (cs : List ClassFile) (cycles : Bool) (names : List (List ℕ)) (g : Setting) (reset : machine.State) (limit : ℕ)
+    (old new : Lent) : Type 0 where
   pub boot : State
   pub is_boot : boot_state g.program ≡ Some boot
   pub last : Stage
   pub after : Told
-  pub run : IsRun g limit (record { machine = reset; state = boot }) last (unnoted (traced cycles old.left old.read_faults old.held old.write_faults old.write_faults)) (unnoted after)
+  pub run : IsRun g limit (record { machine = reset; state = boot }) last
+      (unnoted (traced cycles old.left old.read_faults old.held old.write_faults old.write_faults)) (unnoted after)
   pub text : Grew old.held new.held (run_text cycles names g limit (record { machine = reset; state = boot }) run.steps last run.stages)
   pub input : GivesEach old.left new.left last.state.answers
   pub watch : new.handed ≡ old.handed
@@ -103,11 +105,13 @@ RanShown (Trace cycles names) c cs g reset limit old new = TracedProgram c cs cy
 pub record RanLinked (c : Call) (settings : Settings) (show : Show) (l : Parts) : Type 0 where
   pub config : Config
   pub has : HasSettings settings config
-  pub ran : RanShown (linked_shown l.classes show) c l.classes (linked_setting l.classes settings.stack config.memory) (linked_reset settings.stack l.laid.words config) settings.cycles (lent_of c.old) (lent_of c.new)
+  pub ran : RanShown (linked_shown l.classes show) c l.classes (linked_setting l.classes settings.stack config.memory)
+      (linked_reset settings.stack l.laid.words config) settings.cycles (lent_of c.old) (lent_of c.new)
 
 -- a bare image ran so, with an input that has ended, and no class is uncaught; the input itself wasn't asked
 pub record RanBare (c : Call) (settings : Settings) (show : Show) (image : Image) : Type 0 where
   pub config : Config
   pub has : HasSettings settings config
-  pub ran : RanShown (bare_shown show) c [] (bare_setting image settings.stack config.memory) (bare_reset settings.stack image config) settings.cycles (lent_without_input c.old) (lent_without_input c.new)
+  pub ran : RanShown (bare_shown show) c [] (bare_setting image settings.stack config.memory) (bare_reset settings.stack image config) settings.cycles
+      (lent_without_input c.old) (lent_without_input c.new)
   pub input : IsUntaken c.old c.new

@@ -2,16 +2,18 @@
 use Rattle.std.specs.Prelude.{ℕ, Bool, true, false, List, [], ◌∷◌, get_or, codes, decimal}
 use Rattle.std.specs.List.{concat}
 use Rattle.jop_cli.specs.declared.outcome.Refusal.{Refusal}
-use Rattle.jop_cli.specs.declared.outcome.Refusal.TheVariants.{Usage, TooBig, BadImage, Differs, MethodTooLong, MemoryTooSmall, BadBounds, TwiceBound, BadCert, Check, Bound, Asm, Link}
+use Rattle.jop_cli.specs.declared.outcome.Refusal.TheVariants.{Usage, TooBig, BadImage, Differs, MethodTooLong, MemoryTooSmall, BadBounds, TwiceBound, BadCert}
+use Rattle.jop_cli.specs.declared.outcome.Refusal.TheVariants.{Check, Bound, Asm, Link}
 use Rattle.jop_cli.specs.declared.outcome.AsmRefusal.TheVariants as asm
 use Rattle.jop_cli.specs.declared.outcome.Ending.{Ending}
-use Rattle.jop_cli.specs.declared.outcome.Ending.TheVariants.{Ended, Written, Linked, Holds, Uncaught, Refused, TooLong, NotLinked, NotHeld, NotBounded, Spent, ReadFault, InputFault, WriteFault, NoMemory}
+use Rattle.jop_cli.specs.declared.outcome.Ending.TheVariants.{Ended, Written, Linked, Holds, Uncaught, Refused, TooLong, NotLinked, NotHeld, NotBounded, Spent}
+use Rattle.jop_cli.specs.declared.outcome.Ending.TheVariants.{ReadFault, InputFault, WriteFault, NoMemory}
 use Rattle.microcode_asm.specs.declared.AsmKind.{AsmKind}
 use Rattle.microcode_asm.specs.declared.AsmKind.TheVariants.{Form, NoLabel, LabelTwice, EntryTwice, ConstTwice, NoTurns}
-use Rattle.outcome_lines.specs.Line.{counts_parts, word_text}
+use Rattle.answer_lines.specs.Line.{counts_parts, word_text}
 use Rattle.jopizer.specs.declared.refusal.LinkRefusal.{LinkRefusal}
 use Rattle.jopizer.specs.declared.refusal.LinkRefusal.TheVariants as links
-use Rattle.analysis_lines.specs.Lines as analysis
+use Rattle.answer_lines.specs.AnalysisLines as analysis
 use Rattle.refusal_lines.specs.Lines as named
 use Rattle.refusal_lines.specs.Lines.{failure_parts, limit_parts}
 
@@ -33,7 +35,8 @@ abbrev pub link_parts : LinkRefusal → (name : List ℕ) → List (List ℕ)
 link_parts (links.Resolving refusal) name = named.refusal_parts refusal name
 link_parts (links.NotVerified file method pc rule) name = failure_parts file method pc rule
 link_parts (links.TooLarge what count limit) name = limit_parts what count limit
-link_parts (links.FileTooLarge count limit) name = codes "link: too large " ∷ codes "ImageBytes" ∷ codes " count=" ∷ decimal count ∷ codes " limit=" ∷ decimal limit ∷ codes "\n" ∷ []
+link_parts (links.FileTooLarge count limit) name = codes "link: too large " ∷ codes "ImageBytes" ∷ codes " count=" ∷ decimal count ∷ codes " limit="
+    ∷ decimal limit ∷ codes "\n" ∷ []
 link_parts links.NoMemory name = []
 
 -- want of memory refuses no files
@@ -50,7 +53,8 @@ abbrev pub refusal_parts : List (List ℕ) → Refusal → List (List ℕ)
 refusal_parts words (Usage k) = codes "usage: word " ∷ decimal k ∷ codes "\n" ∷ []
 refusal_parts words (TooBig operand sum) = codes "too big " ∷ text_at words operand ∷ codes " sum=" ∷ decimal sum ∷ codes "\n" ∷ []
 refusal_parts words BadImage = codes "bad image\n" ∷ []
-refusal_parts words (Differs word kept linked) = codes "differs word=" ∷ decimal word ∷ codes " kept=" ∷ word_text kept ∷ codes " linked=" ∷ word_text linked ∷ codes "\n" ∷ []
+refusal_parts words (Differs word kept linked) = codes "differs word=" ∷ decimal word ∷ codes " kept=" ∷ word_text kept ∷ codes " linked=" ∷ word_text linked
+    ∷ codes "\n" ∷ []
 refusal_parts words (MethodTooLong method blocks limit) = too_long_parts (codes "boot") blocks limit
 refusal_parts words (MemoryTooSmall count given) = codes "memory too small words=" ∷ decimal count ∷ codes " given=" ∷ decimal given ∷ codes "\n" ∷ []
 refusal_parts words (BadBounds line) = analysis.bad_bounds_parts line
@@ -66,7 +70,8 @@ abbrev pub parts_of : List (List ℕ) → Ending → List (List ℕ)
 parts_of words (Ended counts) = codes "ended" ∷ counts_parts counts
 parts_of words Written = []
 parts_of words (Linked sizes) =
-    codes "linked classes=" ∷ decimal sizes.classes ∷ codes " methods=" ∷ decimal sizes.methods ∷ codes " words=" ∷ decimal sizes.words ∷ codes " bytes=" ∷ decimal sizes.bytes ∷ codes "\n" ∷ []
+    codes "linked classes=" ∷ decimal sizes.classes ∷ codes " methods=" ∷ decimal sizes.methods ∷ codes " words=" ∷ decimal sizes.words ∷ codes " bytes="
+    ∷ decimal sizes.bytes ∷ codes "\n" ∷ []
 parts_of words (Holds held) = analysis.held_parts held.name.items held.bound
 parts_of words (Uncaught class name counts) = codes "uncaught " ∷ name.items ∷ counts_parts counts
 parts_of words (TooLong method name blocks limit) = too_long_parts name.items blocks limit

@@ -5,9 +5,9 @@ use Rattle.class_pool.specs.declared.class.ClassFile.{ClassFile}
 use Rattle.class_lookup.specs.Parts.{name_of}
 use Rattle.program_tables.specs.Numbers.{method_text}
 use Rattle.program_tables.specs.Resolved.{at_method}
-use Rattle.linked_image.specs.Linked as file
-use Rattle.linked_image.specs.Linked.{Image}
-use Rattle.jop_words.specs.declared.command.Settings.{Settings}
+use Rattle.image_file.specs.Linked as file
+use Rattle.image_file.specs.Linked.{Image}
+use Rattle.command_line.specs.declared.command.Settings.{Settings}
 use Rattle.jopizer.specs.Linked.{Parts, IsLinked, image_of}
 use Rattle.jopizer.specs.Images.{DiffersFirst}
 use Rattle.jop_cli.specs.declared.program_end.ProgramEnd.{ProgramEnd}
@@ -18,7 +18,7 @@ use Rattle.jop_cli.specs.declared.outcome.Ending.{Ending}
 use Rattle.jop_cli.specs.declared.outcome.Ending.TheVariants.{Ended, Uncaught, Refused, TooLong, NotLinked, Spent, InputFault, WriteFault, NoMemory}
 use Rattle.jop_cli.specs.declared.show.Show.{Show}
 use Rattle.jop_cli.specs.Linking.{Refuses, HasName}
-use Rattle.stream_devices.specs.Lent.{Lent}
+use Rattle.run_devices.specs.Lent.{Lent}
 use Rattle.jop_cli.specs.LinkedSettings.{RunsLinked}
 
 -- ---- the bytes
@@ -27,7 +27,8 @@ use Rattle.jop_cli.specs.LinkedSettings.{RunsLinked}
 abbrev pub BytesFault : (bytes : List ℕ) → Ending → Type 0
 BytesFault bytes (Refused BadImage) = (image : Image) → ¬ file.IsLinked bytes image
 BytesFault bytes (Refused (Differs word kept linked)) = (image : Image) × file.IsLinked bytes image × DiffersFirst image word kept linked
-BytesFault bytes (NotLinked refusal name) = (image : Image) × file.IsLinked bytes image × Refuses image.files image.main refusal × HasName image.files refusal name.items
+BytesFault bytes (NotLinked refusal name) = (image : Image) × file.IsLinked bytes image × Refuses image.files image.main refusal
+    × HasName image.files refusal name.items
 BytesFault bytes NoMemory = Unit {0}
 BytesFault bytes ending = ⊥
 
@@ -59,10 +60,13 @@ SaysEnd cs runs.NoMemory ending = ending ≡ NoMemory
 
 -- how the run of what was linked ends, with what its line shows
 abbrev pub EndsAs : Settings → Show → Parts → (old new : Lent) → Ending → Type 0
-EndsAs settings show l old new (TooLong method name blocks limit) = RunsLinked settings show l old new (ends.MethodTooLong method blocks) × (limit ≡ settings.blocks) × NamesMethod l.classes method name.items
-EndsAs settings show l old new (Refused (MemoryTooSmall words given)) = RunsLinked settings show l old new (ends.MemoryTooSmall words) × (given ≡ settings.memory)
+EndsAs settings show l old new (TooLong method name blocks limit) = RunsLinked settings show l old new (ends.MethodTooLong method blocks)
+    × (limit ≡ settings.blocks) × NamesMethod l.classes method name.items
+EndsAs settings show l old new (Refused (MemoryTooSmall words given)) = RunsLinked settings show l old new (ends.MemoryTooSmall words)
+    × (given ≡ settings.memory)
 EndsAs settings show l old new (Ended counts) = RunsLinked settings show l old new (ends.Ran (runs.Ended counts))
-EndsAs settings show l old new (Uncaught class name counts) = RunsLinked settings show l old new (ends.Ran (runs.Uncaught class counts)) × NamesClass l.classes class name.items
+EndsAs settings show l old new (Uncaught class name counts) = RunsLinked settings show l old new (ends.Ran (runs.Uncaught class counts))
+    × NamesClass l.classes class name.items
 EndsAs settings show l old new (Spent counts) = RunsLinked settings show l old new (ends.Ran (runs.Spent counts))
 EndsAs settings show l old new InputFault = RunsLinked settings show l old new (ends.Ran runs.ReadFault)
 EndsAs settings show l old new WriteFault = RunsLinked settings show l old new (ends.Ran runs.WriteFault)

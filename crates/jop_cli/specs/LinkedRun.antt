@@ -7,7 +7,7 @@ use Rattle.image_words.specs.Regions.{places_of}
 use Rattle.image_builder.specs.Laid.{Laid}
 use Rattle.image_layout.specs.Layout.{IsLaidOut, first_passed}
 use Rattle.bytecode_verifier.specs.Failure.{types_found}
-use Rattle.jop_program.specs.Linked.{linked_classes}
+use Rattle.program_resolution.specs.Linked.{linked_classes}
 use Rattle.boundary.specs.Setting.{Setting}
 use Rattle.linked_methods.specs.Fitting.{MethodFits}
 use Rattle.jop_cli.specs.declared.program_end.ProgramEnd.{ProgramEnd}

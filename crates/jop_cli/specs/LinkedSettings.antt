@@ -2,7 +2,7 @@
 use Rattle.std.specs.Prelude.{◌≡◌, ℕ, ◌<◌, ◌≤◌, length}
 use Rattle.memory_timing.specs.declared.Config.{Config}
 use Rattle.jop_core.specs.Reset.{linked_reset}
-use Rattle.jop_words.specs.declared.command.Settings.{Settings}
+use Rattle.command_line.specs.declared.command.Settings.{Settings}
 use Rattle.program_tables.specs.Resolved.{resolved}
 use Rattle.jopizer.specs.Linked.{Parts}
 use Rattle.linked_methods.specs.Fitting.{MethodFits, IsFirst}
@@ -13,7 +13,7 @@ use Rattle.jop_cli.specs.declared.program_end.ImageEnd.TheVariants.{MethodTooLon
 use Rattle.jop_cli.specs.declared.show.Show.{Show}
 use Rattle.jop_cli.specs.Show.{linked_shown}
 use Rattle.jop_cli.specs.Phase.{HasSettings}
-use Rattle.stream_devices.specs.Lent.{Lent}
+use Rattle.run_devices.specs.Lent.{Lent}
 use Rattle.jop_cli.specs.Run as run
 use Rattle.jop_cli.specs.LinkedRun.{HasClass, linked_setting}
 
@@ -27,7 +27,8 @@ pub record RanWith (settings : Settings) (show : Show) (l : Parts) (old new : Le
   pub memory : length l.laid.words ≤ settings.memory
   pub config : Config
   pub has : HasSettings settings config
-  pub ran : run.Ran (linked_shown l.classes show) (linked_setting l.classes settings.stack config.memory) (linked_reset settings.stack l.laid.words config) settings.cycles old new end
+  pub ran : run.Ran (linked_shown l.classes show) (linked_setting l.classes settings.stack config.memory)
+      (linked_reset settings.stack l.laid.words config) settings.cycles old new end
   pub class : HasClass l.classes end
 
 -- The words of the image pass the memory, and each code fits the method cache; nothing was done.
@@ -39,7 +40,8 @@ pub record IsTooLarge (settings : Settings) (l : Parts) (old new : Lent) (words 
 
 -- how the run ends
 abbrev pub RunsLinked : Settings → Show → Parts → (old new : Lent) → ImageEnd → Type 0
-RunsLinked settings show l old new (MethodTooLong method blocks) = IsFirst (resolved l.classes) settings.blocks settings.block_words (record { method = method; blocks = blocks }) × (new ≡ old)
+RunsLinked settings show l old new (MethodTooLong method blocks) = IsFirst (resolved l.classes) settings.blocks settings.block_words
+    (record { method = method; blocks = blocks }) × (new ≡ old)
 RunsLinked settings show l old new (MemoryTooSmall words) = IsTooLarge settings l old new words
 RunsLinked settings show l old new (Ran end) = RanWith settings show l old new end
 

@@ -1,16 +1,16 @@
 -- What `link` does: the class files of the operands are linked, and the file of their image is put.
 use Rattle.std.specs.Prelude.{◌≡◌, ℕ, ◌+◌, ◌<◌, ◌≤◌, ◌==◌, if◌then◌else◌, ◌⊎◌, List, length, take, map}
 use Rattle.std.specs.declared.option.Option.{Option}
-use Rattle.jop_outside.specs.Outside.{Grew, Rose}
-use Rattle.operand_files.specs.Files.{FilesTold, files_told, OnlyWords, AreFiles, IsTooBigAt, FailsAt}
-use Rattle.linked_image.specs.Linked as file
+use Rattle.outside.specs.Outside.{Grew, Rose}
+use Rattle.outside.specs.Files.{FilesTold, files_told, OnlyWords, AreFiles, IsTooBigAt, FailsAt}
+use Rattle.image_file.specs.Linked as file
 use Rattle.image_words.specs.Limits.{coded_methods}
 use Rattle.jopizer.specs.declared.refusal.LinkRefusal.{LinkRefusal}
 use Rattle.jopizer.specs.declared.refusal.LinkRefusal.TheVariants as links
 use Rattle.jopizer.specs.Linked.{Parts, IsLinked, image_of}
 use Rattle.jopizer.specs.Refused.{IsRefusal}
 use Rattle.refusal_lines.specs.Naming.{IsNamed}
-use Rattle.outcome_lines.specs.declared.line.Sizes.{Sizes}
+use Rattle.answer_lines.specs.declared.line.Sizes.{Sizes}
 use Rattle.jop_cli.specs.declared.outcome.Refusal.TheVariants.{TooBig}
 use Rattle.jop_cli.specs.declared.outcome.Ending.{Ending}
 use Rattle.jop_cli.specs.declared.outcome.Ending.TheVariants.{Linked, Refused, NotLinked, ReadFault, WriteFault, NoMemory}
@@ -109,4 +109,5 @@ pub record LinksRead (main : List ℕ) (first : ℕ) (old new : World) (ending :
 
 -- How the linking of the files of the words from one on ends, each ending with its cause. A word names the main class.
 abbrev pub LinksFiles : (main : List ℕ) → (first : ℕ) → World → World → Ending → Type 0
-LinksFiles main first old new ending = (OperandsFault first old.words (files_of old) (files_of new) ending × IsQuiet old new) ⊎ LinksRead main first old new ending
+LinksFiles main first old new ending = (OperandsFault first old.words (files_of old) (files_of new) ending × IsQuiet old new)
+    ⊎ LinksRead main first old new ending

@@ -2,12 +2,12 @@
 use Rattle.std.specs.Prelude.{◌≡◌, ℕ, ◌<◌, Bool, List, nat_eq, codes}
 use Rattle.std.specs.List.{starts_with}
 use Rattle.std.specs.declared.option.Option.{Option}
-use Rattle.jop_outside.specs.Outside.{Rose, HasLength}
+use Rattle.outside.specs.Outside.{Rose, HasLength}
 use Rattle.jop_cli.specs.declared.outcome.Refusal.TheVariants.{TooBig}
 use Rattle.jop_cli.specs.declared.outcome.Ending.{Ending}
 use Rattle.jop_cli.specs.declared.outcome.Ending.TheVariants.{Refused, ReadFault, NoMemory}
 use Rattle.memory_timing.specs.declared.Config.{Config}
-use Rattle.jop_words.specs.declared.command.Settings.{Settings}
+use Rattle.command_line.specs.declared.command.Settings.{Settings}
 
 -- why the file of a word wasn't read, what is told of it, and its counts of faults
 abbrev pub LoadFault : ℕ → Option (List ℕ) → ℕ → ℕ → Ending → Type 0

@@ -1,7 +1,7 @@
 -- The status that a process ends with.
 use Rattle.std.specs.Prelude.{◌≡◌, ◌⊎◌, ℕ, List, length, map, None}
 use Rattle.std.specs.declared.option.Option.{Option}
-use Rattle.jop_outside.specs.Host.{told_at}
+use Rattle.outside.specs.Host.{told_at}
 use Rattle.jop_cli.specs.declared.outcome.Outcome.{Outcome}
 use Rattle.jop_cli.specs.World.{World}
 use Rattle.jop_cli.specs.Answer.{Answered}

@@ -1,12 +1,12 @@
 -- The run of a program on the clocked machine, from reset.
 use Rattle.std.specs.Prelude.{◌≡◌, ℕ, ◌≤◌, Bool, List, Some}
 use Rattle.jop_core.specs.State as machine
-use Rattle.jop_outside.specs.Outside.{Rose}
-use Rattle.jop_device.specs.Told.{Told}
-use Rattle.trace_lines.specs.Traced.{traced}
+use Rattle.outside.specs.Outside.{Rose}
+use Rattle.device_traits.specs.Told.{Told}
+use Rattle.run_devices.specs.Traced.{traced}
 use Rattle.bytecode_model.specs.State.{State}
 use Rattle.bytecode_model.specs.Steps.{boot_state}
-use Rattle.coded_methods.specs.Methods.{AreMethods}
+use Rattle.image_facts.specs.Methods.{AreMethods}
 use Rattle.boundary.specs.declared.answer.Boundary.TheVariants.{Bytecode}
 use Rattle.boundary.specs.declared.runs.RunEnd.{RunEnd}
 use Rattle.boundary.specs.declared.runs.RunEnd.TheVariants as ends
@@ -15,8 +15,8 @@ use Rattle.boundary.specs.Session.{Session, IsStateOf, Begins}
 use Rattle.boundary.specs.Activations.{Stage}
 use Rattle.boundary.specs.Runs as whole
 use Rattle.boundary.specs.Traces.{TracesTo}
-use Rattle.outcome_lines.specs.declared.line.Counts.{Counts}
-use Rattle.stream_devices.specs.Lent.{Lent, wired}
+use Rattle.answer_lines.specs.declared.line.Counts.{Counts}
+use Rattle.run_devices.specs.Lent.{Lent, wired}
 use Rattle.jop_cli.specs.Show.{Shown, Output, Trace}
 use Rattle.jop_cli.specs.declared.program_end.ProgramEnd.{ProgramEnd}
 use Rattle.jop_cli.specs.declared.program_end.ProgramEnd.TheVariants.{Ended, Uncaught, Spent, ReadFault, WriteFault, NoMemory}
@@ -38,7 +38,8 @@ HasStarted r = (g : Setting) × Started g r.machine r
 -- ---- what it shows
 
 -- The traced run. Its devices are the input, and the output, which is given the lines and has failed at least as often as they; the watch is as it was.
-pub record Traced (cycles : Bool) (names : List (List ℕ)) (g : Setting) (limit : ℕ) (a : Stage) (now : machine.State) (old new : Lent) (end : RunEnd) : Type 0 where
+pub record Traced (cycles : Bool) (names : List (List ℕ)) (g : Setting) (limit : ℕ) (a : Stage) (now : machine.State) (old new : Lent)
+    (end : RunEnd) : Type 0 where
   pub after : Told
   pub traces : TracesTo cycles names g limit a now (traced cycles old.left old.read_faults old.held old.write_faults old.write_faults) after end
   pub left : after.left ≡ new.left
@@ -55,7 +56,8 @@ RunsAs (Trace cycles names) g limit a now old new end = Traced cycles names g li
 
 -- so it is from each state for which the machine stood, of a program with these methods
 abbrev pub RunsAsAll : Shown → (limit : ℕ) → (r : Session) → (now : machine.State) → (old new : Lent) → RunEnd → Type 0
-RunsAsAll shown limit r now old new end = (g : Setting) (s : State) → IsStateOf g r.methods r.machine s → RunsAs shown g limit (record { machine = r.machine; state = s }) now old new end
+RunsAsAll shown limit r now old new end = (g : Setting) (s : State) → IsStateOf g r.methods r.machine s
+    → RunsAs shown g limit (record { machine = r.machine; state = s }) now old new end
 
 -- ---- how it ends
 

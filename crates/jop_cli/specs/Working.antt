@@ -1,25 +1,25 @@
 -- What `work` does: the class W of so many methods is linked, its program is run, its main method is bounded, and one line says what came of it.
 use Rattle.std.specs.Prelude.{◌≡◌, ℕ, ◌<◌, ◌≤◌, ◌⊎◌, List, [], ◌∷◌, length, take, codes, Some, None}
 use Rattle.std.specs.declared.option.Option.{Option}
-use Rattle.jop_outside.specs.Outside.{Grew, Rose}
+use Rattle.outside.specs.Outside.{Grew, Rose}
 use Rattle.class_pool.specs.ClassSpelling.{class_bytes}
 use Rattle.class_pool.specs.declared.class.ClassFile.{ClassFile}
 use Rattle.program_tables.specs.Resolved.{resolved}
 use Rattle.activations.specs.Warrant.{BoundsActivations}
-use Rattle.stream_devices.specs.Lent.{Lent, lent}
-use Rattle.jop_words.specs.declared.command.Settings.{Settings}
-use Rattle.jop_words.specs.Command.{none_given, settings_of}
+use Rattle.run_devices.specs.Lent.{Lent, lent}
+use Rattle.command_line.specs.declared.command.Settings.{Settings}
+use Rattle.command_line.specs.Command.{none_given, settings_of}
 use Rattle.jopizer.specs.Linked.{Parts, IsLinked}
 use Rattle.bound_cert.specs.Certificate.{Certificate}
 use Rattle.bound_rules.specs.declared.faults.BoundRefusal.{BoundRefusal}
 use Rattle.bound_rules.specs.Bounding.{IsCause}
-use Rattle.analysis_lines.specs.declared.bound.BoundCause.{BoundCause}
+use Rattle.answer_lines.specs.declared.bound.BoundCause.{BoundCause}
 use Rattle.analysis_commands.specs.Analysis.{timing_of, bounds_of, named_or_number}
 use Rattle.analysis_commands.specs.Bounding.{IsNamed, IsBoundBy, cause_of, subject_of}
-use Rattle.outcome_lines.specs.declared.line.Counts.{Counts}
+use Rattle.answer_lines.specs.declared.line.Counts.{Counts}
 use Rattle.work_gen.specs.Work.{class_name, work}
 use Rattle.work_gen.specs.Bounds.{main_text, adder_bounds}
-use Rattle.work_lines.specs.Lines.{work_line}
+use Rattle.answer_lines.specs.WorkLines.{work_line}
 use Rattle.jop_cli.specs.declared.program_end.ProgramEnd.TheVariants as runs
 use Rattle.jop_cli.specs.declared.program_end.ImageEnd.TheVariants as ends
 use Rattle.jop_cli.specs.declared.show.Show.TheVariants as shows
@@ -74,8 +74,8 @@ StopsAs l ending = ⊥
 
 -- ---- the bound of main, with the bounds of the class's loops
 
--- This is the last number of a certificate that meets its conditions, and each ended activation of main takes at most as many cycles, whatever the method cache held, where
--- its loops keep the bounds.
+-- This is the last number of a certificate that meets its conditions, and each ended activation of main takes at most as many cycles, whatever the
+-- method cache held, where its loops keep the bounds.
 pub record IsMainBound (n : ℕ) (cs : List ClassFile) (bound : Option ℕ) : Type 0 where
   pub certificate : Certificate
   pub is : IsBoundBy (resolved cs) (timing_of usual_settings) (bounds_of cs (adder_bounds n)) (IsNamed cs main_text) certificate

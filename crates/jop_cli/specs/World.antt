@@ -1,8 +1,8 @@
 -- What the outside tells before and after a command.
 use Rattle.std.specs.Prelude.{◌≡◌, ℕ, ◌<◌, ◌≤◌, List, length}
 use Rattle.std.specs.declared.option.Option.{Option}
-use Rattle.jop_outside.specs.Outside.{OnlyWord, IsWhole, HasLength}
-use Rattle.jop_device.specs.declared.seen.Seen.{Seen}
+use Rattle.outside.specs.Outside.{OnlyWord, IsWhole, HasLength}
+use Rattle.device_traits.specs.declared.seen.Seen.{Seen}
 
 -- what is told of files, the input, out and the watch, and the counts of faults of files, the input and out
 pub record World : Type 0 where
@@ -17,7 +17,17 @@ pub record World : Type 0 where
 
 abbrev pub world : ℕ → (ℕ → Option (List ℕ)) → (ℕ → ℕ) → Option (List ℕ) → ℕ → Option (List ℕ) → ℕ → Option (List Seen) → World
 world words files file_faults left read_faults out out_faults watch =
-    record { words = words; files = files; file_faults = file_faults; left = left; read_faults = read_faults; out = out; out_faults = out_faults; watch = watch }
+    record {
+      words = words;
+      files = files;
+      file_faults = file_faults;
+      left = left;
+      read_faults = read_faults;
+      out = out;
+      out_faults = out_faults;
+      watch
+          = watch;
+    }
 
 -- the input is as it was
 pub record IsUntaken (old new : World) : Type 0 where

@@ -1,19 +1,20 @@
 //! Assembling the text of an operand.
 ghost use Rattle.std.specs.Prelude.{◌≡◌, ◌<◌, ◌≤◌, ℕ, List, Option, length, IfOk, IfErr};
-ghost use Rattle.jop_device.specs.declared.seen.Seen.{Seen};
+ghost use Rattle.base.specs.Sizes.{longest_file};
+ghost use Rattle.device_traits.specs.declared.seen.Seen.{Seen};
 ghost use Rattle.jop_cli.specs.World.{world};
 ghost use Rattle.jop_cli.specs.Assembling.{IsListing, ListingFault, Assembles};
 ghost use Rattle.jop_cli.specs.Leaving.{Leaves};
 
 use crate::load::load;
 use crate::outcome::{AsmRefusal, Ending, Refusal};
-use jop_outside::{Files, Sink, put_all};
 use microcode_asm::{AsmFault, assemble, listing_of};
+use outside::{Files, Sink, put_all};
 use std::alloc::Global;
 
-// The lines of the words of the microprogram that a text is.
+/// The lines of the words of the microprogram that a text is.
 fn listing(alloc: Global, text: &[u8]) -> Result<Vec<u8>, Ending>
-    requires { length text.now ≤ 33554432 }
+    requires { length text.now ≤ longest_file }
     ensures listing { IfOk result (λ listing. IsListing text.now listing.items) }
     ensures fault { IfErr result (ListingFault text.now) }
 {

@@ -1,11 +1,11 @@
 //! The run of a bare image, of whose file these are the bytes.
 ghost use Rattle.std.specs.Prelude.{◌≡◌, ◌<◌, ◌≤◌, ◌^◌, ◌⊎◌, [], length, Some, IfOk, IfErr};
-ghost use Rattle.bare_image.specs.Bare.{Image, IsImage, IsBare};
+ghost use Rattle.image_file.specs.Bare.{Image, IsImage, IsBare};
 ghost use Rattle.stack_cache.specs.Size.{IsSize};
 ghost use Rattle.jop_core.specs.Reset.{CanStartBare, bare_reset};
 ghost use Rattle.boundary.specs.Setting.{bare_setting};
-ghost use Rattle.stream_devices.specs.Lent.{lent};
-ghost use Rattle.jop_words.specs.Range.{AreSettings};
+ghost use Rattle.run_devices.specs.Lent.{lent};
+ghost use Rattle.command_line.specs.Range.{AreSettings};
 ghost use Rattle.jop_cli.specs.Leaving.{Leaves};
 ghost use Rattle.jop_cli.specs.Show.{AreNamed, IsNamed, IsTrace, IsTraced, bare_shown, shown_by};
 ghost use Rattle.jop_cli.specs.Run.{Started};
@@ -16,14 +16,14 @@ use crate::program_end::ProgramEnd;
 use crate::run::run_to_end;
 use crate::settings::{Plan, blocks_of, plan_of};
 use crate::show::{NamedShow, Show, bare_show};
+use base::NoMemory;
 use boundary::Running;
 use boundary::laws::{bare_images_are_programs, bare_images_step};
-use jop_base::NoMemory;
+use command_line::Settings;
 use jop_core::{Bare, BareFault, Config, Watch, read_bare};
-use jop_outside::Sink;
-use jop_words::Settings;
+use outside::Sink;
+use run_devices::NoSource;
 use std::alloc::Global;
-use stream_devices::NoSource;
 
 /// The image that the bytes are.
 pub(crate) fn image_of(alloc: Global, bytes: &[u8]) -> Result<Bare, Ending>
@@ -37,7 +37,7 @@ pub(crate) fn image_of(alloc: Global, bytes: &[u8]) -> Result<Bare, Ending>
     }
 }
 
-// A machine at reset over an image. The only error is that there was no memory.
+/// A machine at reset over an image. The only error is that there was no memory.
 fn start<const N: usize>(
     alloc: Global,
     bare: &Bare,
@@ -54,7 +54,7 @@ fn start<const N: usize>(
     Running::<N>::start_bare(alloc, bare, config)
 }
 
-// Runs a machine over an image from reset, and shows what is to be shown.
+/// Runs a machine over an image from reset, and shows what is to be shown.
 fn run_started<const N: usize, O: Sink, V: Watch>(
     bare: &Bare,
     plan: Plan,
@@ -85,7 +85,7 @@ fn run_started<const N: usize, O: Sink, V: Watch>(
     }
 }
 
-// Runs an image from reset, and shows what is to be shown.
+/// Runs an image from reset, and shows what is to be shown.
 fn run_image<const N: usize, O: Sink, V: Watch>(
     alloc: Global,
     bare: &Bare,
@@ -114,7 +114,7 @@ fn run_image<const N: usize, O: Sink, V: Watch>(
     }
 }
 
-// Runs an image from reset, and shows what is to be shown. After the machine is made no memory is asked for.
+/// Runs an image from reset, and shows what is to be shown. After the machine is made no memory is asked for.
 fn run_bare<const N: usize, O: Sink, V: Watch>(
     alloc: Global,
     bare: &Bare,
@@ -138,7 +138,7 @@ fn run_bare<const N: usize, O: Sink, V: Watch>(
     }
 }
 
-// Runs an image with settings, where its code fits the method cache.
+/// Runs an image with settings, where its code fits the method cache.
 fn run_with<O: Sink, V: Watch>(
     alloc: Global,
     bare: &Bare,
@@ -164,7 +164,7 @@ fn run_with<O: Sink, V: Watch>(
     }
 }
 
-// Runs an image with settings.
+/// Runs an image with settings.
 fn run_fitting<O: Sink, V: Watch>(
     alloc: Global,
     bare: &Bare,

@@ -1,14 +1,16 @@
 //! Bounding a method of an image, by the bounds of its loops.
 ghost use Rattle.std.specs.Prelude.{◌≡◌, ◌+◌, ◌^◌, ◌<◌, ◌≤◌, ◌⊎◌, ℕ, List, Option, All, length, IfOk, IfErr};
-ghost use Rattle.jop_device.specs.declared.seen.Seen.{Seen};
-ghost use Rattle.linked_image.specs.Linked.{contents};
-ghost use Rattle.operand_files.specs.Files.{files_told, OnlyWords, AreFiles};
-ghost use Rattle.jop_words.specs.Command.{texts};
-ghost use Rattle.jop_words.specs.Range.{AreSettings};
+ghost use Rattle.base.specs.Sizes.{longest_file};
+ghost use Rattle.device_traits.specs.declared.seen.Seen.{Seen};
+ghost use Rattle.image_file.specs.Linked.{contents};
+ghost use Rattle.outside.specs.Files.{files_told, OnlyWords, AreFiles};
+ghost use Rattle.command_line.specs.Command.{texts};
+ghost use Rattle.command_line.specs.Range.{AreSettings};
 ghost use Rattle.jop_cli.specs.Line.{text_at};
 ghost use Rattle.jop_cli.specs.World.{world};
 ghost use Rattle.jop_cli.specs.Checking.{EndsTooLong};
-ghost use Rattle.jop_cli.specs.Bounding.{cause_ending, Bounds, EndsNotBounded, BoundsLinked, LinkedBoundFault, EndsUnnamed, BareBoundFault, BoundsBytes, BoundFault, PutsBound, PutsTwo, BoundsFiles};
+ghost use Rattle.jop_cli.specs.Bounding.{cause_ending, Bounds, EndsNotBounded, BoundsLinked, LinkedBoundFault, EndsUnnamed, BareBoundFault, BoundsBytes};
+ghost use Rattle.jop_cli.specs.Bounding.{BoundFault, PutsBound, PutsTwo, BoundsFiles};
 ghost use Rattle.jop_cli.specs.Leaving.{Leaves};
 
 use crate::bare_file::image_of;
@@ -19,13 +21,13 @@ use crate::linking::read_operands;
 use crate::outcome::{Ending, Refusal};
 use crate::settings::blocks_of;
 use analysis_commands::{NotBounded, bound_bare, bound_program};
+use command_line::Settings;
 use jop_core::Bare;
-use jop_outside::{Files, Sink, put_all};
-use jop_words::Settings;
 use jopizer::Linked;
+use outside::{Files, Sink, put_all};
 use std::alloc::Global;
 
-// The ending that says why no bound is given.
+/// The ending that says why no bound is given.
 fn cause_ending(settings: &Settings, cause: NotBounded) -> Ending
     ensures { result ≡ cause_ending settings.now cause }
 {
@@ -36,7 +38,7 @@ fn cause_ending(settings: &Settings, cause: NotBounded) -> Ending
     }
 }
 
-// The text of a certificate of the method of this name of what was linked.
+/// The text of a certificate of the method of this name of what was linked.
 fn bound_linked(
     alloc: Global,
     linked: &Linked,
@@ -45,7 +47,7 @@ fn bound_linked(
     bounds: &[u8],
 ) -> Result<Vec<u8>, Ending>
     requires settings { AreSettings settings.now }
-    requires short { length bounds.now ≤ 33554432 }
+    requires short { length bounds.now ≤ longest_file }
     ensures bounds { IfOk result (λ text. Bounds linked.now.classes settings.now bounds.now name.now text.items) }
     ensures fault { IfErr result (EndsNotBounded linked.now.classes settings.now bounds.now name.now) }
 {
@@ -57,7 +59,7 @@ fn bound_linked(
     }
 }
 
-// The same of the linked image of whose file these are the bytes.
+/// The same of the linked image of whose file these are the bytes.
 fn bound_linked_bytes(
     alloc: Global,
     bytes: &[u8],
@@ -66,7 +68,7 @@ fn bound_linked_bytes(
     bounds: &[u8],
 ) -> Result<Vec<u8>, Ending>
     requires settings { AreSettings settings.now }
-    requires short { length bounds.now ≤ 33554432 }
+    requires short { length bounds.now ≤ longest_file }
     ensures bounds { IfOk result (λ text. BoundsLinked settings.now bytes.now bounds.now name.now text.items) }
     ensures fault { IfErr result (LinkedBoundFault settings.now bytes.now bounds.now name.now) }
 {
@@ -81,10 +83,10 @@ fn bound_linked_bytes(
     }
 }
 
-// Why no bound is given of a bare image.
+/// Why no bound is given of a bare image.
 fn unnamed(alloc: Global, image: &Bare, settings: &Settings, bounds: &[u8]) -> Ending
     requires settings { AreSettings settings.now }
-    requires short { length bounds.now ≤ 33554432 }
+    requires short { length bounds.now ≤ longest_file }
     ensures { EndsTooLong settings.now image.now result ⊎ EndsUnnamed settings.now image.now bounds.now result }
 {
     let blocks = blocks_of(image, settings.block_words);
@@ -94,10 +96,10 @@ fn unnamed(alloc: Global, image: &Bare, settings: &Settings, bounds: &[u8]) -> E
     cause_ending(settings, bound_bare(alloc, bounds))
 }
 
-// Why none is given of the bare image of whose file these are the bytes.
+/// Why none is given of the bare image of whose file these are the bytes.
 fn unnamed_bytes(alloc: Global, bytes: &[u8], settings: &Settings, bounds: &[u8]) -> Ending
     requires settings { AreSettings settings.now }
-    requires short { length bounds.now ≤ 33554432 }
+    requires short { length bounds.now ≤ longest_file }
     ensures { BareBoundFault settings.now bytes.now bounds.now result }
 {
     match image_of(alloc, bytes) {
@@ -106,7 +108,7 @@ fn unnamed_bytes(alloc: Global, bytes: &[u8], settings: &Settings, bounds: &[u8]
     }
 }
 
-// The text of a certificate of the method of this name of the image that the bytes are.
+/// The text of a certificate of the method of this name of the image that the bytes are.
 fn bound_bytes(
     alloc: Global,
     bytes: &[u8],
@@ -115,7 +117,7 @@ fn bound_bytes(
     bounds: &[u8],
 ) -> Result<Vec<u8>, Ending>
     requires settings { AreSettings settings.now }
-    requires short { length bounds.now ≤ 33554432 }
+    requires short { length bounds.now ≤ longest_file }
     ensures bounds { IfOk result (λ text. BoundsBytes settings.now bytes.now bounds.now name.now text.items) }
     ensures fault { IfErr result (BoundFault settings.now bytes.now bounds.now name.now) }
 {
@@ -126,7 +128,7 @@ fn bound_bytes(
     }
 }
 
-// Puts it.
+/// Puts it.
 fn put_bound<O: Sink>(
     alloc: Global,
     bytes: &[u8],
@@ -136,7 +138,7 @@ fn put_bound<O: Sink>(
     out: &mut O,
 ) -> Ending
     requires settings { AreSettings settings.now }
-    requires short { length bounds.now ≤ 33554432 }
+    requires short { length bounds.now ≤ longest_file }
     ensures puts { PutsBound settings.now bytes.now bounds.now name.now (O.held out.old) (O.held out.new) (O.faults out.old) (O.faults out.new) result }
     ensures leaves { Leaves result → out.new ≡ out.old }
 {
@@ -150,7 +152,7 @@ fn put_bound<O: Sink>(
     }
 }
 
-// The same where an image and bounds are two texts.
+/// The same where an image and bounds are two texts.
 fn put_texts<O: Sink>(
     alloc: Global,
     settings: &Settings,
@@ -160,7 +162,7 @@ fn put_texts<O: Sink>(
 ) -> Ending
     requires settings { AreSettings settings.now }
     requires two { length texts.now ≡ 2 }
-    requires short { All (λ text. length text.items ≤ 33554432) texts.now }
+    requires short { All (λ text. length text.items ≤ longest_file) texts.now }
     ensures puts { PutsTwo settings.now name.now (contents texts.now) (O.held out.old) (O.held out.new) (O.faults out.old) (O.faults out.new) result }
     ensures leaves { Leaves result → out.new ≡ out.old }
 {

@@ -1,11 +1,13 @@
 //! Checking a certificate against an image and the bounds of its loops.
 ghost use Rattle.std.specs.Prelude.{◌≡◌, ◌+◌, ◌^◌, ◌<◌, ◌≤◌, ◌⊎◌, All, length};
-ghost use Rattle.bare_image.specs.Bare.{IsBare, IsImage};
-ghost use Rattle.linked_image.specs.Linked.{contents};
-ghost use Rattle.operand_files.specs.Files.{files_told};
-ghost use Rattle.jop_words.specs.Range.{AreSettings};
+ghost use Rattle.base.specs.Sizes.{longest_file};
+ghost use Rattle.image_file.specs.Bare.{IsBare, IsImage};
+ghost use Rattle.image_file.specs.Linked.{contents};
+ghost use Rattle.outside.specs.Files.{files_told};
+ghost use Rattle.command_line.specs.Range.{AreSettings};
 ghost use Rattle.jop_cli.specs.Phase.{is_linked};
-ghost use Rattle.jop_cli.specs.Checking.{refusal_ending, fault_ending, Checks, EndsTooLong, EndsMissing, ChecksLinkedBytes, ChecksBareBytes, ChecksBytes, ChecksThree, ChecksFiles};
+ghost use Rattle.jop_cli.specs.Checking.{refusal_ending, fault_ending, Checks, EndsTooLong, EndsMissing, ChecksLinkedBytes, ChecksBareBytes, ChecksBytes};
+ghost use Rattle.jop_cli.specs.Checking.{ChecksThree, ChecksFiles};
 
 use crate::bare_file::image_of;
 use crate::linked_file::linked_of;
@@ -13,10 +15,10 @@ use crate::linking::read_operands;
 use crate::outcome::{Ending, Refusal};
 use crate::settings::blocks_of;
 use analysis_commands::{AnalysisFault, CheckRefusal, check_bare, check_program};
+use command_line::Settings;
 use jop_core::Bare;
-use jop_outside::Files;
-use jop_words::Settings;
 use jopizer::Linked;
+use outside::Files;
 use std::alloc::Global;
 
 /// The ending that says why there is no analysis.
@@ -33,7 +35,7 @@ pub(crate) fn fault_ending(settings: &Settings, fault: AnalysisFault) -> Ending
     }
 }
 
-// The ending that says why nothing is held.
+/// The ending that says why nothing is held.
 fn refusal_ending(settings: &Settings, refusal: CheckRefusal) -> Ending
     ensures { result ≡ refusal_ending settings.now refusal }
 {
@@ -45,7 +47,7 @@ fn refusal_ending(settings: &Settings, refusal: CheckRefusal) -> Ending
     }
 }
 
-// Checks the certificate of a text against what was linked.
+/// Checks the certificate of a text against what was linked.
 fn check_linked(
     alloc: Global,
     linked: &Linked,
@@ -54,7 +56,7 @@ fn check_linked(
     certificate: &[u8],
 ) -> Ending
     requires settings { AreSettings settings.now }
-    requires short { length bounds.now ≤ 33554432 }
+    requires short { length bounds.now ≤ longest_file }
     ensures { Checks linked.now.classes settings.now bounds.now certificate.now result }
 {
     bound_sound::certificates_are_sound();
@@ -64,7 +66,7 @@ fn check_linked(
     }
 }
 
-// Checks it against the linked image of whose file these are the bytes.
+/// Checks it against the linked image of whose file these are the bytes.
 fn check_linked_bytes(
     alloc: Global,
     bytes: &[u8],
@@ -73,7 +75,7 @@ fn check_linked_bytes(
     certificate: &[u8],
 ) -> Ending
     requires settings { AreSettings settings.now }
-    requires short { length bounds.now ≤ 33554432 }
+    requires short { length bounds.now ≤ longest_file }
     ensures { ChecksLinkedBytes settings.now bytes.now bounds.now certificate.now result }
 {
     match linked_of(alloc, bytes) {
@@ -87,7 +89,7 @@ fn check_linked_bytes(
     }
 }
 
-// Checks it against a bare image, of which nothing is held.
+/// Checks it against a bare image, of which nothing is held.
 fn check_image(
     alloc: Global,
     image: &Bare,
@@ -96,7 +98,7 @@ fn check_image(
     certificate: &[u8],
 ) -> Ending
     requires settings { AreSettings settings.now }
-    requires short { length bounds.now ≤ 33554432 }
+    requires short { length bounds.now ≤ longest_file }
     ensures { EndsTooLong settings.now image.now result ⊎ EndsMissing settings.now image.now bounds.now certificate.now result }
 {
     let blocks = blocks_of(image, settings.block_words);
@@ -106,7 +108,7 @@ fn check_image(
     refusal_ending(settings, check_bare(alloc, bounds, certificate))
 }
 
-// Checks it against the bare image of whose file these are the bytes.
+/// Checks it against the bare image of whose file these are the bytes.
 fn check_bare_bytes(
     alloc: Global,
     bytes: &[u8],
@@ -115,7 +117,7 @@ fn check_bare_bytes(
     certificate: &[u8],
 ) -> Ending
     requires settings { AreSettings settings.now }
-    requires short { length bounds.now ≤ 33554432 }
+    requires short { length bounds.now ≤ longest_file }
     ensures { ChecksBareBytes settings.now bytes.now bounds.now certificate.now result }
 {
     match image_of(alloc, bytes) {
@@ -124,7 +126,7 @@ fn check_bare_bytes(
     }
 }
 
-// Checks it against the image that the bytes are.
+/// Checks it against the image that the bytes are.
 fn check_bytes(
     alloc: Global,
     bytes: &[u8],
@@ -133,7 +135,7 @@ fn check_bytes(
     certificate: &[u8],
 ) -> Ending
     requires settings { AreSettings settings.now }
-    requires short { length bounds.now ≤ 33554432 }
+    requires short { length bounds.now ≤ longest_file }
     ensures { ChecksBytes settings.now bytes.now bounds.now certificate.now result }
 {
     if bytes.starts_with(b"JOPI") {
@@ -143,11 +145,11 @@ fn check_bytes(
     }
 }
 
-// Checks the last of three texts against the image and the bounds that the others are.
+/// Checks the last of three texts against the image and the bounds that the others are.
 fn check_texts(alloc: Global, settings: &Settings, texts: &[Vec<u8>]) -> Ending
     requires settings { AreSettings settings.now }
     requires three { length texts.now ≡ 3 }
-    requires short { All (λ text. length text.items ≤ 33554432) texts.now }
+    requires short { All (λ text. length text.items ≤ longest_file) texts.now }
     ensures { ChecksThree settings.now (contents texts.now) result }
 {
     match texts {

@@ -1,12 +1,12 @@
 //! The program over the real files and streams.
 ghost use Rattle.std.specs.Prelude.{◌≡◌, ◌<◌, ◌^◌, ◌⊎◌, length, map, None};
-ghost use Rattle.jop_words.specs.Command.{texts};
+ghost use Rattle.command_line.specs.Command.{texts};
 ghost use Rattle.jop_cli.specs.World.{world};
 ghost use Rattle.jop_cli.specs.Process.{IsStatus, IsNewStatus, IsProcessStatus};
 
 use crate::jop;
 use jop_core::{NoWatch, Watch};
-use jop_outside::{
+use outside::{
     DirectWrite, FileSystem, Files, HostFiles, HostSink, HostSource, Sink, Source, SteadyRead,
 };
 use std::alloc::{AllocError, Global};
@@ -18,7 +18,7 @@ const NO_MEMORY: u8 = 5;
 /// The status where the words can't be read or are too many.
 const NO_WORDS: u8 = 6;
 
-// The words after the program's name.
+/// The words after the program's name.
 fn words_of(rt: &HostRuntime) -> io::Result<Vec<String>> {
     let mut words = Vec::new(rt.alloc());
     for word in env::args(rt)?.skip(1) {
@@ -48,8 +48,10 @@ pub fn status_of_call<F: Files, S: Source, O: Sink, E: Sink, V: Watch>(
     requires words { length words.now ≡ F.words files.old }
     requires few { length words.now < 2 ^ 32 }
     ensures { IsStatus (texts words.now)
-        (world (F.words files.old) (F.told files.old) (F.faults files.old) (S.left input.old) (S.faults input.old) (O.held out.old) (O.faults out.old) (V.held watch.old))
-        (world (F.words files.new) (F.told files.new) (F.faults files.new) (S.left input.new) (S.faults input.new) (O.held out.new) (O.faults out.new) (V.held watch.new))
+        (world (F.words files.old) (F.told files.old) (F.faults files.old) (S.left input.old) (S.faults input.old) (O.held out.old) (O.faults out.old)
+        (V.held watch.old))
+        (world (F.words files.new) (F.told files.new) (F.faults files.new) (S.left input.new) (S.faults input.new) (O.held out.new) (O.faults out.new)
+        (V.held watch.new))
         (E.held err.old) (E.held err.new) (E.faults err.old) (E.faults err.new) result }
 {
     jop(alloc, words, files, input, out, err, watch).status()

@@ -1,7 +1,9 @@
 //! What the program promises. The functions do nothing; a caller whose proof needs a law calls its function.
 //!
 //! The laws speak of calls of `jop`: what its contract says of its arguments and of its outcome makes one (`call_of`).
-ghost use Rattle.jop_cli.specs.Correct.{LinkingIsComplete, RunsAreTheBytecodes, TracesAreTheRuns, OneBareImage, BareRunsAreTheBytecodes, BareTracesAreTheRuns, AssemblingIsComplete, BoundsAreKept, CheckingIsComplete, FaultsAreAnswered, BoundingIsComplete, BoundRefusalsAreCaused, WorkingIsComplete, WorkLinesAreTrue};
+ghost use Rattle.jop_cli.specs.Correct.{LinkingIsComplete, RunsAreTheBytecodes, TracesAreTheRuns, OneBareImage, BareRunsAreTheBytecodes, BareTracesAreTheRuns};
+ghost use Rattle.jop_cli.specs.Correct.{AssemblingIsComplete, BoundsAreKept, CheckingIsComplete, FaultsAreAnswered, BoundingIsComplete, BoundRefusalsAreCaused};
+ghost use Rattle.jop_cli.specs.Correct.{WorkingIsComplete, WorkLinesAreTrue};
 
 use bound_cert::has_one_certificate;
 use bound_rules::laws::{faults_are_one, refused_is_not_met};

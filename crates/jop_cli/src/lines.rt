@@ -1,19 +1,19 @@
 //! The line of each ending, on err. No memory is taken.
 ghost use Rattle.std.specs.Prelude.{◌≡◌, false};
 ghost use Rattle.std.specs.List.{concat};
-ghost use Rattle.jop_outside.specs.Outside.{HasCause};
-ghost use Rattle.outcome_lines.specs.Said as lines;
-ghost use Rattle.jop_words.specs.Command.{texts};
+ghost use Rattle.outside.specs.Outside.{HasCause};
+ghost use Rattle.answer_lines.specs.Said as lines;
+ghost use Rattle.command_line.specs.Command.{texts};
 ghost use Rattle.jop_cli.specs.Line.{text_at, kind_name, link_parts, too_long_parts, is_memory, line_of, is_fault};
 
 use crate::outcome::{AsmRefusal, Ending, Refusal};
-use analysis_lines::{
-    say_bad_bounds, say_bad_cert, say_cause, say_fault, say_held, say_twice_bound,
+use answer_lines::{
+    AsmLine, Line, LinkLine, say, say_bad_bounds, say_bad_cert, say_cause, say_fault, say_held,
+    say_twice_bound,
 };
-use jop_outside::{Failed, Sink};
 use jopizer::LinkRefusal;
 use microcode_asm::AsmKind;
-use outcome_lines::{AsmLine, Line, LinkLine, say};
+use outside::{Failed, Sink};
 use refusal_lines::{say_failure, say_limit};
 
 /// The text of a word, and an empty one where there is no such word.
@@ -32,7 +32,8 @@ pub(crate) fn say_ending<O: Sink>(
     words: &[&str],
     ending: &Ending,
 ) -> Result<(), Failed>
-    ensures said { lines.Said (is_fault ending.now) (line_of (texts words.now) ending.now) (O.held sink.old) (O.held sink.new) (O.faults sink.old) (O.faults sink.new) result }
+    ensures said { lines.Said (is_fault ending.now) (line_of (texts words.now) ending.now) (O.held sink.old) (O.held sink.new) (O.faults sink.old)
+        (O.faults sink.new) result }
     ensures cause { HasCause (O.faults sink.old) (O.faults sink.new) result }
 {
     match ending {
@@ -54,7 +55,8 @@ pub(crate) fn say_ending<O: Sink>(
 }
 
 fn say_refusal<O: Sink>(sink: &mut O, words: &[&str], refusal: Refusal) -> Result<(), Failed>
-    ensures said { lines.Said (is_fault (Ending.Refused refusal)) (line_of (texts words.now) (Ending.Refused refusal)) (O.held sink.old) (O.held sink.new) (O.faults sink.old) (O.faults sink.new) result }
+    ensures said { lines.Said (is_fault (Ending.Refused refusal)) (line_of (texts words.now) (Ending.Refused refusal)) (O.held sink.old) (O.held sink.new)
+        (O.faults sink.old) (O.faults sink.new) result }
     ensures cause { HasCause (O.faults sink.old) (O.faults sink.new) result }
 {
     match refusal {
@@ -80,7 +82,8 @@ fn say_refusal<O: Sink>(sink: &mut O, words: &[&str], refusal: Refusal) -> Resul
 }
 
 fn say_too_long<O: Sink>(sink: &mut O, name: &[u8], blocks: u32, limit: u32) -> Result<(), Failed>
-    ensures said { lines.Said false (concat (too_long_parts name.now blocks limit)) (O.held sink.old) (O.held sink.new) (O.faults sink.old) (O.faults sink.new) result }
+    ensures said { lines.Said false (concat (too_long_parts name.now blocks limit)) (O.held sink.old) (O.held sink.new) (O.faults sink.old)
+        (O.faults sink.new) result }
     ensures cause { HasCause (O.faults sink.old) (O.faults sink.new) result }
 {
     let line = Line::MethodTooLong {
@@ -92,7 +95,8 @@ fn say_too_long<O: Sink>(sink: &mut O, name: &[u8], blocks: u32, limit: u32) -> 
 }
 
 fn say_link_refusal<O: Sink>(sink: &mut O, refusal: LinkRefusal, name: &[u8]) -> Result<(), Failed>
-    ensures said { lines.Said (is_memory refusal) (concat (link_parts refusal name.now)) (O.held sink.old) (O.held sink.new) (O.faults sink.old) (O.faults sink.new) result }
+    ensures said { lines.Said (is_memory refusal) (concat (link_parts refusal name.now)) (O.held sink.old) (O.held sink.new) (O.faults sink.old)
+        (O.faults sink.new) result }
     ensures cause { HasCause (O.faults sink.old) (O.faults sink.new) result }
 {
     match refusal {
@@ -109,7 +113,7 @@ fn say_link_refusal<O: Sink>(sink: &mut O, refusal: LinkRefusal, name: &[u8]) ->
     }
 }
 
-// The name of a rule of microprograms.
+/// The name of a rule of microprograms.
 fn kind_name(kind: AsmKind) -> &'static [u8]
     ensures { result.now ≡ kind_name kind }
 {

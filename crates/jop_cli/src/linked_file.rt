@@ -1,16 +1,16 @@
 //! The run of a linked image, of whose file these are the bytes.
 ghost use Rattle.std.specs.Prelude.{◌≡◌, ◌<◌, ◌≤◌, ℕ, [], length, vec_capacity, IfOk, IfErr};
 ghost use Rattle.program_tables.specs.Numbers.{methods_by_number};
-ghost use Rattle.linked_image.specs.Linked as file;
-ghost use Rattle.linked_image.specs.Linked.{Image, contents};
+ghost use Rattle.image_file.specs.Linked as file;
+ghost use Rattle.image_file.specs.Linked.{Image, contents};
 ghost use Rattle.jopizer.specs.Linked.{IsLinked, image_of};
 ghost use Rattle.jopizer.specs.declared.fault.ImageFault.TheVariants.{Link};
 ghost use Rattle.jopizer.specs.Images.{IsWrong};
 ghost use Rattle.jopizer.specs.Refused.{IsRefusal};
-ghost use Rattle.class_names.specs.Room.{HasRoom};
-ghost use Rattle.jop_words.specs.Range.{AreSettings};
+ghost use Rattle.refusal_lines.specs.Room.{HasRoom};
+ghost use Rattle.command_line.specs.Range.{AreSettings};
 ghost use Rattle.jop_cli.specs.declared.program_end.ImageEnd.TheVariants as ends;
-ghost use Rattle.stream_devices.specs.Lent.{lent};
+ghost use Rattle.run_devices.specs.Lent.{lent};
 ghost use Rattle.jop_cli.specs.Show.{IsTrace};
 ghost use Rattle.jop_cli.specs.Leaving.{Leaves, FailsRisen};
 ghost use Rattle.jop_cli.specs.LinkedRun.{HasClass};
@@ -21,17 +21,17 @@ use crate::linking::not_linked;
 use crate::outcome::{Ending, Refusal};
 use crate::program_end::{ImageEnd, ProgramEnd};
 use crate::show::Show;
-use class_names::{name_room, tell_name};
+use command_line::Settings;
+use image_file::{one_image, read_linked};
 use jop_core::Watch;
-use jop_outside::{Sink, Source};
-use jop_words::Settings;
 use jopizer::{ImageFault, LinkRefusal, Linked, read_image};
-use linked_image::{one_image, read_linked};
+use outside::{Sink, Source};
 use program_tables::laws::methods_stand_by_number;
+use refusal_lines::{name_room, tell_name};
 use resolved_program::Program;
 use std::alloc::Global;
 
-// The ending where this refuses the class files in the bytes of an image.
+/// The ending where this refuses the class files in the bytes of an image.
 fn unlinked(alloc: Global, bytes: &[u8], refusal: LinkRefusal) -> Ending
     requires { IsWrong bytes.now (Link refusal) }
     ensures { BytesFault bytes.now result }
@@ -45,7 +45,7 @@ fn unlinked(alloc: Global, bytes: &[u8], refusal: LinkRefusal) -> Ending
     not_linked(alloc, image.files(), refusal)
 }
 
-// The ending where this is wrong with the bytes.
+/// The ending where this is wrong with the bytes.
 fn not_read(alloc: Global, bytes: &[u8], fault: ImageFault) -> Ending
     requires { IsWrong bytes.now fault }
     ensures { BytesFault bytes.now result }
@@ -72,7 +72,7 @@ pub(crate) fn linked_of(alloc: Global, bytes: &[u8]) -> Result<Linked, Ending>
     }
 }
 
-// The ending where this method's code doesn't fit the method cache.
+/// The ending where this method's code doesn't fit the method cache.
 fn too_long(alloc: Global, program: &Program, method: u32, blocks: u32, limit: u32) -> Ending
     requires { method < length (methods_by_number program.now) }
     ensures { IsTooLongAs program.now method blocks limit result }
@@ -83,7 +83,7 @@ fn too_long(alloc: Global, program: &Program, method: u32, blocks: u32, limit: u
     }
 }
 
-// The ending where the program ended so, with room for the name of any class.
+/// The ending where the program ended so, with room for the name of any class.
 fn said(program: &Program, room: Vec<u8>, end: ProgramEnd) -> Ending
     requires empty { room.items ≡ [] }
     requires room { HasRoom program.now (vec_capacity room) }

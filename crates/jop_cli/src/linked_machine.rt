@@ -1,8 +1,8 @@
 //! The run of a linked program, from reset.
 ghost use Rattle.std.specs.Prelude.{◌≡◌, ◌<◌, ◌^◌, IfOk};
 ghost use Rattle.stack_cache.specs.Size.{IsSize};
-ghost use Rattle.stream_devices.specs.Lent.{lent};
-ghost use Rattle.coded_methods.specs.Methods.{AreMethods};
+ghost use Rattle.run_devices.specs.Lent.{lent};
+ghost use Rattle.image_facts.specs.Methods.{AreMethods};
 ghost use Rattle.program_tables.specs.Resolved.{resolved};
 ghost use Rattle.image_words.specs.Regions.{places_of};
 ghost use Rattle.jop_core.specs.Reset.{linked_reset};
@@ -15,14 +15,16 @@ use crate::program_end::ProgramEnd;
 use crate::run::run_to_end;
 use crate::settings::Plan;
 use crate::show::{NamedShow, linked_show};
-use boundary::{CodedMethod, Running};
+use base::NoMemory;
+use boundary::{
+    CodedMethod, Running, boot_takes_six_words, uncaught_classes_are_there,
+    verified_programs_are_told,
+};
 use bytecode_verifier::Verified;
 use image_builder::Layout;
-use jop_base::NoMemory;
 use jop_core::{Config, Watch};
-use jop_outside::{Sink, Source};
 use linked_methods::methods_of;
-use linked_start::{boot_takes_six_words, uncaught_classes_are_there, verified_programs_are_told};
+use outside::{Sink, Source};
 use program_tables::laws::methods_stand_by_number;
 use std::alloc::Global;
 
@@ -98,7 +100,8 @@ fn run_named<const N: usize, S: Source, O: Sink, V: Watch>(
     requires held { CanRun program.now layout.now plan.config }
     requires shown { shown_by shown.now ≡ linked_shown program.now plan.show }
     requires few { plan.limit < 2 ^ 63 }
-    ensures ran { Ran (linked_shown program.now plan.show) (linked_setting program.now N plan.config.memory) (linked_reset N layout.now.words plan.config) plan.limit
+    ensures ran { Ran (linked_shown program.now plan.show) (linked_setting program.now N plan.config.memory)
+        (linked_reset N layout.now.words plan.config) plan.limit
         (lent (S.left input.old) (S.faults input.old) (O.held out.old) (O.faults out.old) (V.held watch.old))
         (lent (S.left input.new) (S.faults input.new) (O.held out.new) (O.faults out.new) (V.held watch.new)) result }
     ensures class { HasClass program.now result }
@@ -128,7 +131,8 @@ pub(crate) fn run_linked<const N: usize, S: Source, O: Sink, V: Watch>(
     requires size { IsSize N }
     requires held { CanRun program.now layout.now plan.config }
     requires few { plan.limit < 2 ^ 63 }
-    ensures ran { Ran (linked_shown program.now plan.show) (linked_setting program.now N plan.config.memory) (linked_reset N layout.now.words plan.config) plan.limit
+    ensures ran { Ran (linked_shown program.now plan.show) (linked_setting program.now N plan.config.memory)
+        (linked_reset N layout.now.words plan.config) plan.limit
         (lent (S.left input.old) (S.faults input.old) (O.held out.old) (O.faults out.old) (V.held watch.old))
         (lent (S.left input.new) (S.faults input.new) (O.held out.new) (O.faults out.new) (V.held watch.new)) result }
     ensures class { HasClass program.now result }

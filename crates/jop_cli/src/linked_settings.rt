@@ -1,10 +1,10 @@
 //! The run of what was linked, with settings.
 ghost use Rattle.std.specs.Prelude.{◌≡◌, ◌≤◌, ℕ, length};
-ghost use Rattle.jop_words.specs.Range.{AreSettings};
+ghost use Rattle.command_line.specs.Range.{AreSettings};
 ghost use Rattle.program_tables.specs.Resolved.{resolved};
 ghost use Rattle.linked_methods.specs.Fitting.{MethodFits};
 ghost use Rattle.jop_cli.specs.declared.program_end.ImageEnd.TheVariants as ends;
-ghost use Rattle.stream_devices.specs.Lent.{lent};
+ghost use Rattle.run_devices.specs.Lent.{lent};
 ghost use Rattle.jop_cli.specs.Show.{IsTrace};
 ghost use Rattle.jop_cli.specs.LinkedSettings.{LeavesDevices, RanWith, RunsLinked};
 
@@ -12,12 +12,12 @@ use crate::linked_machine::run_linked;
 use crate::program_end::{ImageEnd, ProgramEnd};
 use crate::settings::plan_of;
 use crate::show::Show;
+use boundary::verified_programs_are_told;
+use command_line::Settings;
 use jop_core::Watch;
-use jop_outside::{Sink, Source};
-use jop_words::Settings;
 use jopizer::Linked;
 use linked_methods::first_too_long;
-use linked_start::verified_programs_are_told;
+use outside::{Sink, Source};
 use std::alloc::Global;
 
 /// How many words the image has.

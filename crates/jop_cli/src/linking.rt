@@ -1,9 +1,9 @@
 //! Linking the class files of the operands.
 ghost use Rattle.std.specs.Prelude.{◌≡◌, ◌<◌, ◌≤◌, ◌^◌, ℕ, List, Option, length, map, IfOk, IfErr};
-ghost use Rattle.jop_device.specs.declared.seen.Seen.{Seen};
-ghost use Rattle.jop_words.specs.Command.{texts};
-ghost use Rattle.operand_files.specs.Files.{files_told, OnlyWords, AreFiles};
-ghost use Rattle.linked_image.specs.Linked.{contents};
+ghost use Rattle.device_traits.specs.declared.seen.Seen.{Seen};
+ghost use Rattle.command_line.specs.Command.{texts};
+ghost use Rattle.outside.specs.Files.{files_told, OnlyWords, AreFiles};
+ghost use Rattle.image_file.specs.Linked.{contents};
 ghost use Rattle.jopizer.specs.Linked.{IsLinked};
 ghost use Rattle.jopizer.specs.Refused.{IsRefusal};
 ghost use Rattle.jop_cli.specs.Line.{text_at};
@@ -13,13 +13,12 @@ ghost use Rattle.jop_cli.specs.Leaving.{Leaves};
 
 use crate::lines::text_of;
 use crate::outcome::{Ending, Refusal};
+use answer_lines::Sizes;
+use base::NoMemory;
 use image_layout::coded_methods;
-use jop_base::NoMemory;
-use jop_outside::{Files, Sink, put_all};
-use jop_program::ProgramRefusal;
 use jopizer::{LinkRefusal, Linked, link, write_image};
-use operand_files::{FilesFault, read_files};
-use outcome_lines::Sizes;
+use outside::{Files, FilesFault, Sink, put_all, read_files};
+use program_resolution::ProgramRefusal;
 use refusal_lines::name_in;
 use std::alloc::Global;
 
@@ -29,7 +28,7 @@ fn slashed(byte: u8) -> u8
     if byte == b'.' { b'/' } else { byte }
 }
 
-// The name of a class, in which each `.` of the word reads as `/`.
+/// The name of a class, in which each `.` of the word reads as `/`.
 fn class_name(alloc: Global, word: &[u8]) -> Result<Vec<u8>, NoMemory>
     ensures { IfOk result (λ name. name.items ≡ class_name word.now) }
 {
@@ -61,7 +60,7 @@ pub(crate) fn read_operands<F: Files>(
     }
 }
 
-// The ending where this refuses the resolving of the files.
+/// The ending where this refuses the resolving of the files.
 fn not_resolved(alloc: Global, files: &[Vec<u8>], unresolved: ProgramRefusal) -> Ending
     ensures { (main : List ℕ) → IsRefusal (contents files.now) main (LinkRefusal.Resolving unresolved) → LinkFault (contents files.now) main result }
 {
@@ -84,7 +83,7 @@ pub(crate) fn not_linked(alloc: Global, files: &[Vec<u8>], refusal: LinkRefusal)
     }
 }
 
-// The sizes of what was linked, whose file has these bytes.
+/// The sizes of what was linked, whose file has these bytes.
 fn sizes_of(linked: &Linked, bytes: &[u8]) -> Sizes
     requires { length linked.now.laid.words < 2 ^ 32 }
     ensures sizes { AreSizes linked.now bytes.now result }
@@ -99,7 +98,7 @@ fn sizes_of(linked: &Linked, bytes: &[u8]) -> Sizes
     }
 }
 
-// The file of the image of what was linked, and its sizes.
+/// The file of the image of what was linked, and its sizes.
 fn file_of(alloc: Global, linked: &Linked) -> Result<(Vec<u8>, Sizes), NoMemory>
     ensures { IfOk result (λ made. AreLinkedTo linked.now.files linked.now.main made.0.items made.1) }
 {
@@ -108,7 +107,7 @@ fn file_of(alloc: Global, linked: &Linked) -> Result<(Vec<u8>, Sizes), NoMemory>
     Ok((bytes, sizes))
 }
 
-// The same, of what is needed no more.
+/// The same, of what is needed no more.
 fn file_made(alloc: Global, linked: Linked) -> Result<(Vec<u8>, Sizes), Ending>
     ensures made { IfOk result (λ made. AreLinkedTo linked.files linked.main made.0.items made.1) }
     ensures memory { (files : List (List ℕ)) (main : List ℕ) → IfErr result (LinkFault files main) }
@@ -121,7 +120,7 @@ fn file_made(alloc: Global, linked: Linked) -> Result<(Vec<u8>, Sizes), Ending>
     }
 }
 
-// The file of the image to which the files are linked, and its sizes.
+/// The file of the image to which the files are linked, and its sizes.
 fn linked_file(alloc: Global, files: &[Vec<u8>], main: &[u8]) -> Result<(Vec<u8>, Sizes), Ending>
     requires { length files.now < 2 ^ 32 }
     ensures linked { IfOk result (λ made. AreLinkedTo (contents files.now) main.now made.0.items made.1) }
@@ -133,7 +132,7 @@ fn linked_file(alloc: Global, files: &[Vec<u8>], main: &[u8]) -> Result<(Vec<u8>
     }
 }
 
-// Links the files, and puts the file of their image.
+/// Links the files, and puts the file of their image.
 fn put_linked<O: Sink>(alloc: Global, files: &[Vec<u8>], main: &[u8], out: &mut O) -> Ending
     requires { length files.now < 2 ^ 32 }
     ensures put { PutsLinked (contents files.now) main.now (O.held out.old) (O.held out.new) (O.faults out.old) (O.faults out.new) result }

@@ -1,10 +1,10 @@
 //! The file of an operand.
 ghost use Rattle.std.specs.Prelude.{◌<◌, ◌≤◌, length, IfOk, IfErr};
-ghost use Rattle.jop_outside.specs.Outside.{IsWhole, OnlyWord};
+ghost use Rattle.outside.specs.Outside.{IsWhole, OnlyWord};
 ghost use Rattle.jop_cli.specs.Phase.{LoadFault};
 
 use crate::outcome::{Ending, Refusal};
-use jop_outside::{Files, LONGEST_FILE, ReadAll, read_all};
+use outside::{Files, LONGEST_FILE, ReadAll, read_all};
 use std::alloc::Global;
 
 /// The bytes of a word's file.

@@ -1,11 +1,10 @@
 //! How a call of the program ends.
 
 use analysis_commands::Held;
-use analysis_lines::BoundCause;
+use answer_lines::{BoundCause, Counts, Sizes};
 use bound_rules::CheckFault;
 use jopizer::LinkRefusal;
 use microcode_asm::AsmKind;
-use outcome_lines::{Counts, Sizes};
 
 /// Why a command was refused.
 #[derive(Clone, Copy)]

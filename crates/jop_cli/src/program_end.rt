@@ -1,6 +1,6 @@
 //! How a run ends.
 
-use outcome_lines::Counts;
+use answer_lines::Counts;
 
 /// How the run of a program ends.
 #[derive(Clone, Copy)]

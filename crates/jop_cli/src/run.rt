@@ -1,7 +1,7 @@
 //! A run of a machine with an input, an output and a watch.
 ghost use Rattle.std.specs.Prelude.{◌≡◌, ◌≢◌, ◌<◌, ◌≤◌, ◌^◌, List, Option, length};
-ghost use Rattle.jop_device.specs.declared.seen.Seen.{Seen};
-ghost use Rattle.stream_devices.specs.Lent.{lent, wired};
+ghost use Rattle.device_traits.specs.declared.seen.Seen.{Seen};
+ghost use Rattle.run_devices.specs.Lent.{lent, wired};
 ghost use Rattle.boundary.specs.Answers.{IsUnbroken};
 ghost use Rattle.boundary.specs.Setting.{Setting};
 ghost use Rattle.boundary.specs.Runs.{RunsAll};
@@ -12,12 +12,11 @@ ghost use Rattle.jop_cli.specs.Run.{AreCounts, Started, HasStarted, RunsAsAll, R
 
 use crate::program_end::ProgramEnd;
 use crate::show::NamedShow;
+use answer_lines::Counts;
 use boundary::{RunEnd, Running, trace};
 use jop_core::{Machine, Watch};
-use jop_outside::{Sink, Source};
-use outcome_lines::Counts;
-use stream_devices::RunDevice;
-use trace_lines::TraceDevice;
+use outside::{Sink, Source};
+use run_devices::{RunDevice, TraceDevice};
 
 /// Runs a machine until its program has ended, its clock is at least the limit at a boundary, or `input` or `out` fails. The
 /// watch is handed each state from which a cycle is done or tried.

@@ -2,13 +2,13 @@
 ghost use Rattle.std.specs.Prelude.{◌≡◌, ◌≤◌, length};
 ghost use Rattle.method_cache.specs.Contents.{blocks_for};
 ghost use Rattle.jop_core.specs.Reset.{words_for};
-ghost use Rattle.jop_words.specs.Range.{AreSettings};
+ghost use Rattle.command_line.specs.Range.{AreSettings};
 ghost use Rattle.jop_cli.specs.Phase.{HasSettings};
 ghost use Rattle.jop_cli.specs.Working.{usual_settings};
 
 use crate::show::Show;
+use command_line::Settings;
 use jop_core::{Bare, Config};
-use jop_words::Settings;
 
 /// The machine of a run, the cycles after which it is stopped, and what it shows.
 #[derive(Clone, Copy)]
@@ -18,7 +18,7 @@ pub(crate) struct Plan {
     pub show: Show,
 }
 
-// The machine that these settings give.
+/// The machine that these settings give.
 fn config_of(settings: &Settings) -> Config
     requires { AreSettings settings.now }
     ensures { HasSettings settings.now result }

@@ -3,7 +3,7 @@ ghost use Rattle.std.specs.Prelude.{◌≡◌, [], ◌∷◌, codes, IfOk};
 ghost use Rattle.boundary.specs.Traces.{texts};
 ghost use Rattle.jop_cli.specs.Show.{bare_shown, linked_shown, method_names, shown_by};
 
-use jop_base::NoMemory;
+use base::NoMemory;
 use resolved_program::Program;
 use std::alloc::Global;
 
@@ -23,7 +23,7 @@ pub(crate) enum NamedShow {
     Trace { cycles: bool, names: Vec<Vec<u8>> },
 }
 
-// The name of the one method of a bare image.
+/// The name of the one method of a bare image.
 fn boot_name(alloc: Global) -> Result<Vec<Vec<u8>>, NoMemory>
     ensures { IfOk result (λ names. texts names.items ≡ codes "boot" ∷ []) }
 {
@@ -45,7 +45,7 @@ pub(crate) fn bare_show(alloc: Global, show: Show) -> Result<NamedShow, NoMemory
     }
 }
 
-// The names of a program's methods, by number.
+/// The names of a program's methods, by number.
 fn method_names(alloc: Global, program: &Program) -> Result<Vec<Vec<u8>>, NoMemory>
     ensures { IfOk result (λ names. texts names.items ≡ method_names program.now) }
 {

@@ -1,8 +1,8 @@
 //! The top call.
 ghost use Rattle.std.specs.Prelude.{◌≡◌, ◌<◌, ◌^◌, ℕ, List, [], length, Some, true, false};
-ghost use Rattle.stream_devices.specs.Lent.{lent};
-ghost use Rattle.jop_words.specs.Command.{texts};
-ghost use Rattle.jop_words.specs.Range.{AreSettings};
+ghost use Rattle.run_devices.specs.Lent.{lent};
+ghost use Rattle.command_line.specs.Command.{texts};
+ghost use Rattle.command_line.specs.Range.{AreSettings};
 ghost use Rattle.jop_cli.specs.Phase.{is_linked};
 ghost use Rattle.jop_cli.specs.BareFile.{RunsBareBytes};
 ghost use Rattle.jop_cli.specs.LinkedFile.{RunsLinkedBytes};
@@ -22,12 +22,12 @@ use crate::load::load;
 use crate::outcome::{Ending, Outcome, Refusal};
 use crate::show::Show;
 use crate::working::work;
+use command_line::{Command, Settings, read_words};
 use jop_core::Watch;
-use jop_outside::{Files, Sink, Source};
-use jop_words::{Command, Settings, read_words};
+use outside::{Files, Sink, Source};
 use std::alloc::Global;
 
-// Runs the image that the bytes are.
+/// Runs the image that the bytes are.
 fn run_bytes<S: Source, O: Sink, V: Watch>(
     alloc: Global,
     bytes: &[u8],
@@ -56,7 +56,7 @@ fn run_bytes<S: Source, O: Sink, V: Watch>(
     }
 }
 
-// Runs the image of a word.
+/// Runs the image of a word.
 fn run_file<F: Files, S: Source, O: Sink, V: Watch>(
     alloc: Global,
     settings: &Settings,
@@ -70,13 +70,17 @@ fn run_file<F: Files, S: Source, O: Sink, V: Watch>(
     requires settings { AreSettings settings.now }
     requires there { word < F.words files.old }
     ensures runs { RunsFile settings.now show word
-        (world (F.words files.old) (F.told files.old) (F.faults files.old) (S.left input.old) (S.faults input.old) (O.held out.old) (O.faults out.old) (V.held watch.old))
-        (world (F.words files.new) (F.told files.new) (F.faults files.new) (S.left input.new) (S.faults input.new) (O.held out.new) (O.faults out.new) (V.held watch.new)) result }
+        (world (F.words files.old) (F.told files.old) (F.faults files.old) (S.left input.old) (S.faults input.old) (O.held out.old) (O.faults out.old)
+        (V.held watch.old))
+        (world (F.words files.new) (F.told files.new) (F.faults files.new) (S.left input.new) (S.faults input.new) (O.held out.new) (O.faults out.new)
+        (V.held watch.new)) result }
     ensures leaves { Leaves result → (input.new ≡ input.old) × (out.new ≡ out.old) × (watch.new ≡ watch.old) }
     ensures watch { IsTrace show → watch.new ≡ watch.old }
     ensures input { ((bytes : List ℕ) → ReadsLinked word bytes
-        (world (F.words files.old) (F.told files.old) (F.faults files.old) (S.left input.old) (S.faults input.old) (O.held out.old) (O.faults out.old) (V.held watch.old))
-        (world (F.words files.new) (F.told files.new) (F.faults files.new) (S.left input.new) (S.faults input.new) (O.held out.new) (O.faults out.new) (V.held watch.new)) → ⊥) → input.new ≡ input.old }
+        (world (F.words files.old) (F.told files.old) (F.faults files.old) (S.left input.old) (S.faults input.old) (O.held out.old) (O.faults out.old)
+        (V.held watch.old))
+        (world (F.words files.new) (F.told files.new) (F.faults files.new) (S.left input.new) (S.faults input.new) (O.held out.new) (O.faults out.new)
+        (V.held watch.new)) → ⊥) → input.new ≡ input.old }
     ensures rose { FailsRisen result (S.faults input.old) (S.faults input.new) }
 {
     match load(alloc, files, word) {
@@ -85,7 +89,7 @@ fn run_file<F: Files, S: Source, O: Sink, V: Watch>(
     }
 }
 
-// Does the command of the words, but for its line.
+/// Does the command of the words, but for its line.
 fn execute<F: Files, S: Source, O: Sink, V: Watch>(
     alloc: Global,
     words: &[&str],
@@ -97,13 +101,17 @@ fn execute<F: Files, S: Source, O: Sink, V: Watch>(
     requires words { length words.now ≡ F.words files.old }
     requires few { length words.now < 2 ^ 32 }
     ensures executed { Executed (texts words.now)
-        (world (F.words files.old) (F.told files.old) (F.faults files.old) (S.left input.old) (S.faults input.old) (O.held out.old) (O.faults out.old) (V.held watch.old))
-        (world (F.words files.new) (F.told files.new) (F.faults files.new) (S.left input.new) (S.faults input.new) (O.held out.new) (O.faults out.new) (V.held watch.new)) result }
+        (world (F.words files.old) (F.told files.old) (F.faults files.old) (S.left input.old) (S.faults input.old) (O.held out.old) (O.faults out.old)
+        (V.held watch.old))
+        (world (F.words files.new) (F.told files.new) (F.faults files.new) (S.left input.new) (S.faults input.new) (O.held out.new) (O.faults out.new)
+        (V.held watch.new)) result }
     ensures leaves { Leaves result → (input.new ≡ input.old) × (out.new ≡ out.old) × (watch.new ≡ watch.old) }
     ensures watch { (RunsProgram (texts words.now) → ⊥) → watch.new ≡ watch.old }
     ensures input { (RunsLinkedFile (texts words.now)
-        (world (F.words files.old) (F.told files.old) (F.faults files.old) (S.left input.old) (S.faults input.old) (O.held out.old) (O.faults out.old) (V.held watch.old))
-        (world (F.words files.new) (F.told files.new) (F.faults files.new) (S.left input.new) (S.faults input.new) (O.held out.new) (O.faults out.new) (V.held watch.new)) → ⊥) → input.new ≡ input.old }
+        (world (F.words files.old) (F.told files.old) (F.faults files.old) (S.left input.old) (S.faults input.old) (O.held out.old) (O.faults out.old)
+        (V.held watch.old))
+        (world (F.words files.new) (F.told files.new) (F.faults files.new) (S.left input.new) (S.faults input.new) (O.held out.new) (O.faults out.new)
+        (V.held watch.new)) → ⊥) → input.new ≡ input.old }
     ensures rose { FailsRisen result (S.faults input.old) (S.faults input.new) }
 {
     let command = match read_words(words) {
@@ -148,7 +156,7 @@ fn execute<F: Files, S: Source, O: Sink, V: Watch>(
     }
 }
 
-// Puts the line of an ending, and gives the outcome.
+/// Puts the line of an ending, and gives the outcome.
 fn conclude<E: Sink>(err: &mut E, words: &[&str], ending: Ending) -> Outcome
     ensures { Said (texts words.now) ending (E.held err.old) (E.held err.new) (E.faults err.old) (E.faults err.new) result }
 {
@@ -158,7 +166,7 @@ fn conclude<E: Sink>(err: &mut E, words: &[&str], ending: Ending) -> Outcome
     }
 }
 
-// The outcome where the line of an ending couldn't be put.
+/// The outcome where the line of an ending couldn't be put.
 fn outcome_unsaid(ending: &Ending) -> Outcome
     ensures { result ≡ outcome_unsaid ending.now }
 {
@@ -223,14 +231,18 @@ pub fn jop<F: Files, S: Source, O: Sink, E: Sink, V: Watch>(
     requires words { length words.now ≡ F.words files.old }
     requires few { length words.now < 2 ^ 32 }
     ensures answered { Answered (texts words.now)
-        (world (F.words files.old) (F.told files.old) (F.faults files.old) (S.left input.old) (S.faults input.old) (O.held out.old) (O.faults out.old) (V.held watch.old))
-        (world (F.words files.new) (F.told files.new) (F.faults files.new) (S.left input.new) (S.faults input.new) (O.held out.new) (O.faults out.new) (V.held watch.new))
+        (world (F.words files.old) (F.told files.old) (F.faults files.old) (S.left input.old) (S.faults input.old) (O.held out.old) (O.faults out.old)
+        (V.held watch.old))
+        (world (F.words files.new) (F.told files.new) (F.faults files.new) (S.left input.new) (S.faults input.new) (O.held out.new) (O.faults out.new)
+        (V.held watch.new))
         (E.held err.old) (E.held err.new) (E.faults err.old) (E.faults err.new) result }
     ensures leaves { LeavesAll result (S.faults input.old) (S.faults input.new) → (input.new ≡ input.old) × (out.new ≡ out.old) × (watch.new ≡ watch.old) }
     ensures watch { (RunsProgram (texts words.now) → ⊥) → watch.new ≡ watch.old }
     ensures input { (RunsLinkedFile (texts words.now)
-        (world (F.words files.old) (F.told files.old) (F.faults files.old) (S.left input.old) (S.faults input.old) (O.held out.old) (O.faults out.old) (V.held watch.old))
-        (world (F.words files.new) (F.told files.new) (F.faults files.new) (S.left input.new) (S.faults input.new) (O.held out.new) (O.faults out.new) (V.held watch.new)) → ⊥) → input.new ≡ input.old }
+        (world (F.words files.old) (F.told files.old) (F.faults files.old) (S.left input.old) (S.faults input.old) (O.held out.old) (O.faults out.old)
+        (V.held watch.old))
+        (world (F.words files.new) (F.told files.new) (F.faults files.new) (S.left input.new) (S.faults input.new) (O.held out.new) (O.faults out.new)
+        (V.held watch.new)) → ⊥) → input.new ≡ input.old }
 {
     let ending = execute(alloc, words, files, input, out, watch);
     conclude(err, words, ending)

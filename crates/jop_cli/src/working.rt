@@ -1,7 +1,7 @@
 //! Making a program of any size, linking it, running it, and bounding its main method.
 ghost use Rattle.std.specs.Prelude.{◌≡◌, ◌≤◌, [], ℕ, List, Option, IfOk, IfErr};
 ghost use Rattle.class_pool.specs.ClassSpelling.{class_bytes};
-ghost use Rattle.jop_device.specs.declared.seen.Seen.{Seen};
+ghost use Rattle.device_traits.specs.declared.seen.Seen.{Seen};
 ghost use Rattle.work_gen.specs.Work.{class_name, work, bounds_text};
 ghost use Rattle.analysis_commands.specs.Analysis.{EachFits};
 ghost use Rattle.jop_cli.specs.World.{world};
@@ -15,17 +15,16 @@ use crate::outcome::Ending;
 use crate::settings::usual_settings;
 use crate::show::Show;
 use analysis_commands::{AnalysisFault, NotBounded, bound_number};
+use answer_lines::{Counts, work_line};
 use jop_core::NoWatch;
-use jop_outside::{MemSink, Sink, put_all};
 use jopizer::{Linked, link};
-use outcome_lines::Counts;
+use outside::{MemSink, Sink, put_all};
+use run_devices::NoSource;
 use std::alloc::Global;
-use stream_devices::NoSource;
 use work_gen::laws::bounds_are_read;
 use work_gen::{work_bounds, work_file};
-use work_lines::work_line;
 
-// What the file of the class is linked to.
+/// What the file of the class is linked to.
 fn linked_file(alloc: Global, n: u32, file: Vec<u8>) -> Result<Linked, Ending>
     requires { file.items ≡ class_bytes (work n) }
     ensures linked { IfOk result (IsWork n) }
@@ -38,7 +37,7 @@ fn linked_file(alloc: Global, n: u32, file: Vec<u8>) -> Result<Linked, Ending>
     }
 }
 
-// What the class with this number of methods is linked to.
+/// What the class with this number of methods is linked to.
 fn linked_work(alloc: Global, n: u32) -> Result<Linked, Ending>
     requires some { 1 ≤ n }
     requires few { n ≤ 1000 }
@@ -51,7 +50,7 @@ fn linked_work(alloc: Global, n: u32) -> Result<Linked, Ending>
     }
 }
 
-// Runs what was linked, with nothing to read, and gives its counts where it returns. The output is held in memory.
+/// Runs what was linked, with nothing to read, and gives its counts where it returns. The output is held in memory.
 fn run_work(alloc: Global, linked: &Linked, output: &mut MemSink) -> Result<Counts, Ending>
     requires empty { output.old.held ≡ [] }
     requires unfailed { output.old.faults ≡ 0 }
@@ -76,7 +75,7 @@ fn run_work(alloc: Global, linked: &Linked, output: &mut MemSink) -> Result<Coun
     }
 }
 
-// The bound of main by the text of the bounds of the class's loops.
+/// The bound of main by the text of the bounds of the class's loops.
 fn main_bound(alloc: Global, linked: &Linked, n: u32, bounds: &[u8]) -> Result<Option<u64>, Ending>
     requires few { n ≤ 1000 }
     requires codes { EachFits usual_settings linked.now.classes }
@@ -101,7 +100,7 @@ fn main_bound(alloc: Global, linked: &Linked, n: u32, bounds: &[u8]) -> Result<O
     }
 }
 
-// The bound of main.
+/// The bound of main.
 fn bound_main(alloc: Global, linked: &Linked, n: u32) -> Result<Option<u64>, Ending>
     requires some { 1 ≤ n }
     requires few { n ≤ 1000 }
@@ -115,7 +114,7 @@ fn bound_main(alloc: Global, linked: &Linked, n: u32) -> Result<Option<u64>, End
     }
 }
 
-// The line, where the run of what was linked returned, with these counts, and put these bytes out.
+/// The line, where the run of what was linked returned, with these counts, and put these bytes out.
 fn returned_line(
     alloc: Global,
     linked: &Linked,
@@ -140,7 +139,7 @@ fn returned_line(
     }
 }
 
-// The line, where the class is linked.
+/// The line, where the class is linked.
 fn linked_line(alloc: Global, linked: &Linked, n: u32) -> Result<Vec<u8>, Ending>
     requires some { 1 ≤ n }
     requires few { n ≤ 1000 }
@@ -155,7 +154,7 @@ fn linked_line(alloc: Global, linked: &Linked, n: u32) -> Result<Vec<u8>, Ending
     }
 }
 
-// The line that says what came of the class with this number of methods.
+/// The line that says what came of the class with this number of methods.
 fn line_of(alloc: Global, n: u32) -> Result<Vec<u8>, Ending>
     requires some { 1 ≤ n }
     requires few { n ≤ 1000 }
@@ -178,7 +177,8 @@ fn line_of(alloc: Global, n: u32) -> Result<Vec<u8>, Ending>
 pub(crate) fn work<O: Sink>(alloc: Global, n: u32, out: &mut O) -> Ending
     requires some { 1 ≤ n }
     requires few { n ≤ 1000 }
-    ensures works { (words : ℕ) (files : ℕ → Option (List ℕ)) (file_faults : ℕ → ℕ) (left : Option (List ℕ)) (read_faults : ℕ) (watch : Option (List Seen)) → Works n
+    ensures works { (words : ℕ) (files : ℕ → Option (List ℕ)) (file_faults : ℕ → ℕ) (left : Option (List ℕ)) (read_faults : ℕ) (watch : Option (List Seen))
+        → Works n
         (world words files file_faults left read_faults (O.held out.old) (O.faults out.old) watch)
         (world words files file_faults left read_faults (O.held out.new) (O.faults out.new) watch) result }
     ensures leaves { Leaves result → out.new ≡ out.old }

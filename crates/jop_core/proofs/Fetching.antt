@@ -1,7 +1,7 @@
 -- The bytes that were fetched.
 use Rattle.std.proofs.Common.{◌≡◌, ℕ, zero, suc, ◌<◌, List, refl, arith}
 use Rattle.std.specs.Prelude.{slice_index}
-use Rattle.word32.specs.Packed.{byte_of}
+use Rattle.base.specs.Packed.{byte_of}
 use Rattle.method_cache.specs.Contents.{Cache}
 use Rattle.jop_core.specs.Meaning.{bytes_of, IsFetched}
 

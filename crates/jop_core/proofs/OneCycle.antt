@@ -10,12 +10,12 @@ use Rattle.micro_isa.specs.declared.operation.Operation.TheVariants.{Ldin}
 use Rattle.micro_isa.specs.Operations.{operation_of}
 use Rattle.micro_isa.specs.Words.{micro_of}
 use Rattle.microcode_rom.specs.declared.TheConstants.{WORDS}
-use Rattle.io_history.specs.Telling.{Rose}
+use Rattle.base.specs.Telling.{Rose}
 use Rattle.jop_core.specs.declared.halt.Halt.TheVariants.{Running}
 use Rattle.jop_core.specs.declared.tick.Tick.TheVariants.{Went, ReadFault, WriteFault}
-use Rattle.jop_device.specs.declared.seen.Seen.{Seen}
+use Rattle.device_traits.specs.declared.seen.Seen.{Seen}
 use Rattle.jop_core.specs.State.{State, seen_of}
-use Rattle.jop_device.specs.Told.{Told, Saw, Passed, PassedInPart, Exchanged, CountsRise, OnlyReads, OnlySees, OnlyWrites}
+use Rattle.device_traits.specs.Told.{Told, Saw, Passed, PassedInPart, Exchanged, CountsRise, OnlyReads, OnlySees, OnlyWrites}
 use Rattle.jop_core.specs.Ticked.{Ticked, writes_of, first_write, notes_of}
 use Rattle.jop_core.proofs.Tells.{Passed-trans, PassedInPart-after, Passed-quiet, Exchanged-after, Exchanged-before}
 use Rattle.jop_core.specs.Cycle.{cycle_of, asks_input, output_of, ran, counted, asks, body_asks, is_ldin, puts, body_outputs, is_stout}

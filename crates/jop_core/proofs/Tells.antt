@@ -1,10 +1,10 @@
 -- How what a device tells goes on over several calls.
 use Rattle.std.proofs.Common.{◌≡◌, ℕ, Bool, false, List, [], ◌++◌, refl, sym, subst, ◌∙◌}
 use Rattle.std.specs.declared.option.Option.{Option}
-use Rattle.io_history.specs.Growing.{Grew-trans}
-use Rattle.jop_device.specs.declared.seen.Seen.{Seen}
-use Rattle.jop_device.specs.Told.{Told, Note, Passed, PassedInPart, Exchanged, GivesWhere}
-use Rattle.jop_device.specs.Noting.{Noted-trans, NotedInPart-after}
+use Rattle.base.specs.Growing.{Grew-trans}
+use Rattle.device_traits.specs.declared.seen.Seen.{Seen}
+use Rattle.device_traits.specs.Told.{Told, Note, Passed, PassedInPart, Exchanged, GivesWhere}
+use Rattle.device_traits.specs.Noting.{Noted-trans, NotedInPart-after}
 
 pub Passed-trans : (t0 t1 t2 : Told) (out0 out1 out : List ℕ) (seen0 seen1 seen : List Seen) (notes0 notes1 notes : List Note)
     → Passed t0 t1 out0 seen0 notes0 → Passed t1 t2 out1 seen1 notes1

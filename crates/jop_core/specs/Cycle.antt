@@ -1,5 +1,6 @@
 -- One cycle of the machine.
-use Rattle.std.specs.Prelude.{ℕ, ◌+◌, ◌-◌, ◌*◌, ◌/◌, ◌%◌, ◌^◌, Bool, true, false, ◌==◌, ◌&&◌, ◌||◌, nat_lt, if◌then◌else◌, List, [], ◌∷◌, Some, None, slice_index}
+use Rattle.std.specs.Prelude.{ℕ, ◌+◌, ◌-◌, ◌*◌, ◌/◌, ◌%◌, ◌^◌, Bool, true, false, ◌==◌, ◌&&◌, ◌||◌, nat_lt, if◌then◌else◌, List, [], ◌∷◌, Some, None}
+use Rattle.std.specs.Prelude.{slice_index}
 use Rattle.std.specs.declared.option.Option.{Option}
 use Rattle.micro_isa.specs.declared.Body.{Body}
 use Rattle.micro_isa.specs.declared.Body.TheVariants.{Plain, Stm, Ldm, Ldi, Bz, Bnz, Jmp}
@@ -14,7 +15,7 @@ use Rattle.method_cache.specs.Contents.{word_of}
 use Rattle.jop_core.specs.declared.halt.Halt.{Halt}
 use Rattle.jop_core.specs.declared.halt.Halt.TheVariants.{Running, Ended, Uncaught}
 use Rattle.jop_core.specs.State.{State}
-pub use Rattle.word32.specs.Packed.{byte_of}
+pub use Rattle.base.specs.Packed.{byte_of}
 use Rattle.jop_core.specs.Operations.{pushed, popped, stored, word_at, operated}
 
 -- a byte of the current method; past its words, and where the cache doesn't hold it, it is 0

@@ -1,6 +1,6 @@
 -- What the fields of a machine mean.
 use Rattle.std.specs.Prelude.{ℕ, ◌≡◌, ◌<◌, ◌^◌, Bool, true, nat_lt, if◌then◌else◌, List, [], ◌∷◌}
-use Rattle.word32.specs.Packed.{byte_of}
+use Rattle.base.specs.Packed.{byte_of}
 use Rattle.method_cache.specs.Contents.{Cache, word_of}
 use Rattle.jop_core.specs.declared.machine.Machine.TheInside.{Inside}
 use Rattle.jop_core.specs.declared.halt.Halt.{Halt}

@@ -8,10 +8,10 @@ use Rattle.microcode_rom.specs.declared.TheConstants.{CONSTANTS}
 use Rattle.jop_core.specs.declared.halt.Halt.TheVariants.{Running, Uncaught}
 use Rattle.jop_core.specs.declared.places.TheConstants.{POOL, STACK, RAISED}
 use Rattle.jop_core.specs.State.{State}
-pub use Rattle.word32.specs.Packed.{word_at_bytes, words_from, words_for, words_of_bytes}
+pub use Rattle.base.specs.Packed.{word_at_bytes, words_from, words_for, words_of_bytes}
 use Rattle.jop_core.specs.Operations.{code_words, code_place}
 use Rattle.jop_core.specs.Cycle.{byte_of, entry_of}
-use Rattle.bare_image.specs.Bare.{Image, frame_words}
+use Rattle.image_file.specs.Bare.{Image, frame_words}
 
 -- What a machine begins with: the words of its image, boot's place, locals and frame, its code, and the places of boot's pool and of the raise list.
 pub record Start : Type 0 where
@@ -75,7 +75,8 @@ bare_start image = record {
 abbrev pub bare_reset : (n : ℕ) → Image → Config → State
 bare_reset n image config = reset_of n (bare_start image) config
 
--- Of image words, word 1 is the place of boot's method, word 2 that of its pool, and word 4 that of the raise list. A method's first word has its locals and its operands.
+-- Of image words, word 1 is the place of boot's method, word 2 that of its pool, and word 4 that of the raise list. A method's first word has its
+-- locals and its operands.
 abbrev pub linked_start : List ℕ → Start
 linked_start image =
     let boot = slice_index image 1 in

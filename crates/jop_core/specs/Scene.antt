@@ -1,10 +1,10 @@
 -- The machine with the answers that its input gives, cycle by cycle.
 use Rattle.std.specs.Prelude.{ℕ, zero, suc, Bool, true, false, List, [], ◌∷◌, ◌++◌, None}
 use Rattle.std.specs.declared.option.Option.{Option}
-use Rattle.jop_device.specs.declared.seen.Seen.{Seen}
+use Rattle.device_traits.specs.declared.seen.Seen.{Seen}
 use Rattle.jop_core.specs.State.{State, seen_of}
 use Rattle.jop_core.specs.Cycle.{cycle_of, asks_input, output_of}
-use Rattle.jop_device.specs.Told.{Note}
+use Rattle.device_traits.specs.Told.{Note}
 use Rattle.jop_core.specs.Ticked.{notes_of}
 
 -- answers are those to come, each a byte or the end of the input, and output has the bytes that were put out, the last one first

@@ -4,7 +4,7 @@ use Rattle.stack_cache.specs.Size.{IsSize, HoldsWords}
 use Rattle.memory_timing.specs.Port.{Port, IsInRange}
 use Rattle.method_cache.specs.Contents.{Cache}
 use Rattle.jop_core.specs.declared.halt.Halt.{Halt}
-use Rattle.jop_device.specs.declared.seen.Seen.{Seen}
+use Rattle.device_traits.specs.declared.seen.Seen.{Seen}
 
 pub record State : Type 0 where
   -- the two top words of the stack

@@ -6,7 +6,10 @@ use Rattle.micro_isa.specs.declared.Body.TheVariants as body
 use Rattle.micro_isa.specs.declared.Micro.{Micro}
 use Rattle.micro_isa.specs.Operations.{operation_of}
 use Rattle.jop_core.specs.declared.steps.Action.{Action}
-use Rattle.jop_core.specs.declared.steps.Action.TheVariants.{Nop, Pop, Dup, Add, Sub, And, Or, Xor, Shl, Shr, Ushr, Mul, Slt, Sltu, Ldo, Ldo8, Ldo16, Ldl, Stl, Ld0, Ld1, Ld2, Ld3, St0, St1, St2, St3, Ldvp, Stvp, Ldsp, Stsp, Ldjpc, Stjpc, Star, Ldmi, Stmi, Stmra, Stmwa, Stmwd, Wait, Ldmrd, Stbc, Jbr, Jbg, Ldin, Stout, Hltb, Hltu, Stm, Ldm, Ldi, Bz, Bnz, Jmp}
+use Rattle.jop_core.specs.declared.steps.Action.TheVariants.{Nop, Pop, Dup, Add, Sub, And, Or, Xor, Shl, Shr, Ushr, Mul, Slt, Sltu, Ldo, Ldo8, Ldo16, Ldl, Stl}
+use Rattle.jop_core.specs.declared.steps.Action.TheVariants.{Ld0, Ld1, Ld2, Ld3, St0, St1, St2, St3, Ldvp, Stvp, Ldsp, Stsp, Ldjpc, Stjpc, Star, Ldmi, Stmi}
+use Rattle.jop_core.specs.declared.steps.Action.TheVariants.{Stmra, Stmwa, Stmwd, Wait, Ldmrd, Stbc, Jbr, Jbg, Ldin, Stout, Hltb, Hltu, Stm, Ldm, Ldi, Bz, Bnz}
+use Rattle.jop_core.specs.declared.steps.Action.TheVariants.{Jmp}
 use Rattle.jop_core.specs.declared.steps.Flags.{Flags}
 use Rattle.jop_core.specs.declared.steps.Step.{Step}
 use Rattle.jop_core.specs.State.{State}

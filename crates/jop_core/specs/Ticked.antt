@@ -2,13 +2,13 @@
 use Rattle.std.specs.Prelude.{◌≡◌, ◌≢◌, ℕ, Bool, true, List, [], ◌∷◌, Ok, Err}
 use Rattle.std.specs.declared.option.Option.{Option}
 use Rattle.std.specs.declared.result.Result.{Result}
-use Rattle.io_history.specs.Telling.{Rose}
+use Rattle.base.specs.Telling.{Rose}
 use Rattle.jop_core.specs.declared.halt.Halt.TheVariants.{Running}
 use Rattle.jop_core.specs.declared.tick.Tick.{Tick}
 use Rattle.jop_core.specs.declared.tick.Tick.TheVariants.{Went, Halted, ReadFault, WriteFault, SeenFault}
 use Rattle.jop_core.specs.State.{State, seen_of}
 use Rattle.jop_core.specs.Cycle.{cycle_of, asks_input, output_of}
-use Rattle.jop_device.specs.Told.{Told, Note, Wrote, Saw, Passed, PassedInPart, Exchanged, CountsRise, OnlyReads, OnlyWrites}
+use Rattle.device_traits.specs.Told.{Told, Note, Wrote, Saw, Passed, PassedInPart, Exchanged, CountsRise, OnlyReads, OnlyWrites}
 
 abbrev pub writes_of : List ℕ → List Note
 writes_of [] = []
@@ -41,8 +41,10 @@ Ticked old new told told' Went =
     × Exchanged told told' (asks_input old) input (output_of old) (seen_of old ∷ []) (notes_of old) × CountsRise told told'
 Ticked old new told told' Halted = (old.halt ≢ Running) × (new ≡ old) × (told' ≡ told)
 Ticked old new told told' ReadFault =
-    (old.halt ≡ Running) × (new ≡ old) × Passed told told' [] (seen_of old ∷ []) (Saw (seen_of old) ∷ []) × CountsRise told told' × (asks_input old ≡ true) × Rose told.read_faults told'.read_faults
+    (old.halt ≡ Running) × (new ≡ old) × Passed told told' [] (seen_of old ∷ []) (Saw (seen_of old) ∷ []) × CountsRise told told' × (asks_input old ≡ true)
+    × Rose told.read_faults told'.read_faults
 Ticked old new told told' WriteFault =
-    (old.halt ≡ Running) × (new ≡ old) × PassedInPart told told' (seen_of old ∷ []) (Saw (seen_of old) ∷ []) (first_write (output_of old)) × CountsRise told told' × (output_of old ≢ []) × Rose told.write_faults told'.write_faults
+    (old.halt ≡ Running) × (new ≡ old) × PassedInPart told told' (seen_of old ∷ []) (Saw (seen_of old) ∷ []) (first_write (output_of old))
+    × CountsRise told told' × (output_of old ≢ []) × Rose told.write_faults told'.write_faults
 Ticked old new told told' SeenFault =
     (old.halt ≡ Running) × (new ≡ old) × PassedInPart told told' [] [] (Saw (seen_of old)) × CountsRise told told' × Rose told.seen_faults told'.seen_faults

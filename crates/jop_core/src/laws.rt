@@ -1,3 +1,5 @@
+//! A law of cycles: a function without a body.
+
 ghost use Rattle.jop_core.specs.Keeps.{CyclesKeep};
 
 /// A cycle raises the clock by one, and keeps the numbers of on-chip words and of words of memory, the waits

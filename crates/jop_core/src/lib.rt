@@ -12,9 +12,9 @@ pub mod places;
 mod steps;
 mod tick;
 
-pub use bare_image::{Bare, BareFault, read_bare};
+pub use device_traits::{DeviceFault, Devices, MemWatch, NoWatch, Seen, Watch};
 pub use halt::Halt;
-pub use jop_device::{DeviceFault, Devices, MemWatch, NoWatch, Seen, Watch};
+pub use image_file::{Bare, BareFault, read_bare};
 pub use machine::{Machine, can_start, can_start_bare};
 pub use memory_timing::Config;
 pub use tick::Tick;

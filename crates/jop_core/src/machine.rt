@@ -15,7 +15,7 @@ mod words;
 use crate::halt::Halt;
 use crate::steps::{Action, Step, step_at};
 use crate::tick::Tick;
-use jop_device::{DeviceFault, Devices};
+use device_traits::{DeviceFault, Devices};
 use memory_timing::Memory;
 use method_cache::MethodCache;
 use microcode_rom::{RAISE, entry};
@@ -23,7 +23,7 @@ pub use reset::{can_start, can_start_bare};
 use stack_cache::StackCache;
 use std::marker::Model;
 
-// The place of no word that a byte lies in.
+/// The place of no word that a byte lies in.
 const NOT_FETCHED: u32 = u32::MAX;
 
 /// A machine with `N` on-chip words, of which there are 256, 512 or 1,024.
@@ -67,7 +67,7 @@ impl<const N: usize> Model for Machine<N> {
 }
 
 impl<const N: usize> Machine<N> {
-    // What a microinstruction does, where `ldin` is given this input.
+    /// What a microinstruction does, where `ldin` is given this input.
     #[inline(always)]
     fn perform(&mut self, step: &Step, input: Option<u8>)
         requires { HasTarget step.now.action }
@@ -90,7 +90,7 @@ impl<const N: usize> Machine<N> {
         }
     }
 
-    // Whether a microinstruction waits for the port.
+    /// Whether a microinstruction waits for the port.
     fn waits_at(&self, step: &Step) -> bool
         ensures { result ≡ waits (meaning step.now) self.now }
     {
@@ -100,8 +100,8 @@ impl<const N: usize> Machine<N> {
         }
     }
 
-    // Runs a microinstruction. It is the most of a cycle, so it is made part of each caller's, with `perform`,
-    // `act` and `follow_flags`: a program with two devices has two cycles, and LLVM would call what they share.
+    /// Runs a microinstruction. It is the most of a cycle, so it is made part of each caller's, with `perform`,
+    /// `act` and `follow_flags`: a program with two devices has two cycles, and LLVM would call what they share.
     #[inline(always)]
     fn run(&mut self, step: &Step, input: Option<u8>)
         requires { HasTarget step.now.action }
@@ -112,7 +112,7 @@ impl<const N: usize> Machine<N> {
         }
     }
 
-    // A call of `cycle` where no microinstruction runs.
+    /// A call of `cycle` where no microinstruction runs.
     #[tactic(auto, unfolding(crate::specs::Cycle::cycle_of, crate::specs::Cycle::asks_input, crate::specs::Cycle::output_of))]
     fn pause<D: Devices>(&mut self, device: &mut D) -> Tick
         requires clock { self.old.clock < 2 ^ 64 - 1 }
@@ -169,7 +169,7 @@ impl<const N: usize> Machine<N> {
     }
 }
 
-// Asks for the next byte of the input, if a microinstruction does.
+/// Asks for the next byte of the input, if a microinstruction does.
 fn ask_in<D: Devices>(device: &mut D, step: &Step) -> Result<Option<u8>, DeviceFault>
     ensures asked { AskedIn (D.told device.old) (D.told device.new) (asks (Some (meaning step.now))) result }
     ensures names { D.names device.new ≡ D.names device.old }
@@ -180,7 +180,7 @@ fn ask_in<D: Devices>(device: &mut D, step: &Step) -> Result<Option<u8>, DeviceF
     }
 }
 
-// Puts the low byte of A out, if a microinstruction does.
+/// Puts the low byte of A out, if a microinstruction does.
 fn put_out<D: Devices>(device: &mut D, step: &Step, a: u32) -> Result<(), DeviceFault>
     ensures put { PutOut (D.told device.old) (D.told device.new) (puts (Some (meaning step.now)) a) result }
     ensures names { D.names device.new ≡ D.names device.old }

@@ -142,11 +142,11 @@ macro_rules! step {
     };
 }
 
-// What a further word of the ROM is, behind those of the rows.
+/// What a further word of the ROM is, behind those of the rows.
 const REST: Step = flagged!(Action::Nop;);
 
-// The steps of the words of the rows, and of the 309 further ones, so that each address below 2,048 has one
-// and a cycle needs no test for it.
+/// The steps of the words of the rows, and of the 309 further ones, so that each address below 2,048 has one
+/// and a cycle needs no test for it.
 macro_rules! steps {
     ($($row:ident = $([$($part:tt)*])*;)*) => {
         [

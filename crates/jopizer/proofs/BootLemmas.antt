@@ -6,7 +6,7 @@ use Rattle.std.specs.List.{AllByRecursion}
 use Rattle.std.proofs.lemmas.Bool.{cases_lt}
 use Rattle.std.proofs.lemmas.List.{length-append, length-map}
 use Rattle.std.proofs.lemmas.Option.{slice_get_within}
-use Rattle.jop_program.proofs.LinkingLemmas.{found_there}
+use Rattle.program_resolution.proofs.LinkingLemmas.{found_there}
 use Rattle.class_pool.specs.Utf8.{utf8_bytes}
 use Rattle.class_pool.specs.declared.class.ClassFile.{ClassFile}
 use Rattle.class_rules.specs.Grammar.{IsClass}
@@ -21,14 +21,14 @@ use Rattle.program_tables.specs.Numbers.{methods_by_number}
 use Rattle.program_tables.specs.Placed.{duplicate_of}
 use Rattle.bytecode_verifier.specs.CoreLaws.{BootIsVerified}
 use Rattle.bytecode_verifier.specs.Failure.{method_failure}
-use Rattle.jop_program.specs.declared.refusal.ProgramRefusal.TheVariants as resolving
-use Rattle.jop_program.specs.Linked.{main_class, main_name, declares_main, calls_of, linked_classes, number_of}
-use Rattle.jop_program.specs.Refusals.{Names, Support, Supertypes, Places, Mentions, causes, causes_in, too_many, without_main, refusals}
-use Rattle.jop_program.specs.Resolving.{IsProgramOf}
-use Rattle.jop_program.proofs.FileLemmas.{all_at}
-use Rattle.jop_program.proofs.NameLemmas.{declares_static, main_is_static}
-use Rattle.jop_program.proofs.RefusalLemmas.{few_calls, calls_are_initialized, are_classes, as_many}
-use Rattle.jop_program.proofs.ResolvedLemmas.{Laws, left_none, right_none, core_long, called, get_behind, get_in_front, nothing_from}
+use Rattle.program_resolution.specs.declared.refusal.ProgramRefusal.TheVariants as resolving
+use Rattle.program_resolution.specs.Linked.{main_class, main_name, declares_main, calls_of, linked_classes, number_of}
+use Rattle.program_resolution.specs.Refusals.{Names, Support, Supertypes, Places, Mentions, causes, causes_in, too_many, without_main, refusals}
+use Rattle.program_resolution.specs.Resolving.{IsProgramOf}
+use Rattle.program_resolution.proofs.FileLemmas.{all_at}
+use Rattle.program_resolution.proofs.NameLemmas.{declares_static, main_is_static}
+use Rattle.program_resolution.proofs.RefusalLemmas.{few_calls, calls_are_initialized, are_classes, as_many}
+use Rattle.program_resolution.proofs.ResolvedLemmas.{Laws, left_none, right_none, core_long, called, get_behind, get_in_front, nothing_from}
 
 -- ---- lists one behind the other
 

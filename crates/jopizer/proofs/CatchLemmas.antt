@@ -10,7 +10,7 @@ use Rattle.class_pool.specs.declared.class.ClassFile.{ClassFile}
 use Rattle.class_rules.specs.Found.{MethodsHaveCode}
 use Rattle.lists.specs.Numbers.{is_among}
 use Rattle.lists.specs.Lemmas.{none≢some, index_there}
-use Rattle.jop_opcodes.specs.Start.{starts_of, first_bad}
+use Rattle.opcodes.specs.Start.{starts_of, first_bad}
 use Rattle.frame_types.specs.Laws.{FramesLaw}
 use Rattle.frame_types.specs.Frames.{frames_of}
 use Rattle.bytecode_model.specs.Types.{Kind, OfClass, OfNumbers, OfReferences, same_kind}

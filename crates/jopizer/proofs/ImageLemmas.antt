@@ -2,8 +2,8 @@
 use Rattle.std.proofs.Common.{◌≡◌, ℕ, ◌≤◌, List, length, sym, ap, ◌∙◌, subst, arith}
 use Rattle.std.specs.Prelude.{Result, Ok, Err, IfErr}
 use Rattle.std.specs.List.{flat_map, AllByRecursion}
-use Rattle.linked_image.specs.Linked.{Image, IsWord, IsName, IsFile, file_bytes}
-use Rattle.linked_image.specs.Linked as file
+use Rattle.image_file.specs.Linked.{Image, IsWord, IsName, IsFile, file_bytes}
+use Rattle.image_file.specs.Linked as file
 use Rattle.jopizer.specs.declared.fault.ImageFault.{ImageFault}
 use Rattle.jopizer.specs.declared.fault.ImageFault.TheVariants as faults
 use Rattle.jopizer.specs.Linked.{file_length, most_bytes, image_with, Parts, IsLinked, image_of}

@@ -4,8 +4,8 @@ use Rattle.std.proofs.lemmas.List.{length-append}
 use Rattle.std.proofs.lemmas.List.Concat.{flat_map-cons}
 use Rattle.std.proofs.lemmas.Grind.{flat_map-append}
 use Rattle.std.specs.List.{flat_map, AllByRecursion}
-use Rattle.linked_image.specs.Linked.{Image, IsFile, u4, file_bytes}
-use Rattle.linked_image.proofs.Sequences.{words_long}
+use Rattle.image_file.specs.Linked.{Image, IsFile, u4, file_bytes}
+use Rattle.image_file.proofs.Sequences.{words_long}
 use Rattle.jopizer.specs.Linked.{file_length}
 
 pub length_is : (image : Image) → file_length image ≡ 16 + length image.main + 4 * length image.words + length (flat_map file_bytes image.files)

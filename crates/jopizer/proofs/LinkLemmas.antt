@@ -17,10 +17,10 @@ use Rattle.program_tables.specs.Resolving.{IsResolved}
 use Rattle.core_classes.specs.Core.{core, boot}
 use Rattle.bytecode_verifier.specs.CoreLaws.{CoreIsVerified}
 use Rattle.bytecode_verifier.specs.Failure.{Broken, Failure, at_code, method_failure, FailsFirst}
-use Rattle.jop_program.specs.Linked.{number_of, linked_classes, calls_of, main_name}
-use Rattle.jop_program.specs.Resolving.{IsProgramOf}
-use Rattle.jop_program.proofs.NameLemmas.{none_is_nameless}
-use Rattle.jop_program.proofs.FileLemmas.{all_at}
+use Rattle.program_resolution.specs.Linked.{number_of, linked_classes, calls_of, main_name}
+use Rattle.program_resolution.specs.Resolving.{IsProgramOf}
+use Rattle.program_resolution.proofs.NameLemmas.{none_is_nameless}
+use Rattle.program_resolution.proofs.FileLemmas.{all_at}
 use Rattle.jopizer.specs.Refused.{BeginsWithCore}
 
 -- ---- a method that fails is there

@@ -4,17 +4,17 @@ use Rattle.std.specs.Prelude.{if◌then◌else◌}
 use Rattle.std.specs.Option.{option_map_or}
 use Rattle.std.specs.List.{flat_map, AllByRecursion}
 use Rattle.std.specs.Cmp.Lexicographic as texts
-use Rattle.jop_program.proofs.RefusalLemmas.{are_classes}
+use Rattle.program_resolution.proofs.RefusalLemmas.{are_classes}
 use Rattle.program_laws.proofs.Selections.{right_nil}
 use Rattle.class_pool.specs.Utf8.{utf8_bytes}
 use Rattle.class_pool.specs.declared.class.ClassFile.{ClassFile}
 use Rattle.class_rules.specs.Grammar.{IsClass}
 use Rattle.class_lookup.specs.Parts.{same_text, name_of}
-use Rattle.jop_program.specs.declared.refusal.ProgramRefusal.TheVariants as resolving
-use Rattle.jop_program.specs.Linked.{linked_classes, main_class, declares_main}
-use Rattle.jop_program.specs.Refusals.{passes, causes_in, too_many, without_main, refusals}
-use Rattle.jop_program.specs.Resolving.{IsProgramOf}
-use Rattle.jop_program.proofs.NameLemmas.{is_called}
+use Rattle.program_resolution.specs.declared.refusal.ProgramRefusal.TheVariants as resolving
+use Rattle.program_resolution.specs.Linked.{linked_classes, main_class, declares_main}
+use Rattle.program_resolution.specs.Refusals.{passes, causes_in, too_many, without_main, refusals}
+use Rattle.program_resolution.specs.Resolving.{IsProgramOf}
+use Rattle.program_resolution.proofs.NameLemmas.{is_called}
 
 has_main : (b : Bool) → (if b then [] else resolving.NoMain ∷ []) ≡ [] → b ≡ true
 has_main true h = refl

@@ -1,7 +1,7 @@
 -- The file of an image is that of one linked program; and what the limits of an image are.
 use Rattle.std.proofs.Common.{◌≡◌, ℕ, ◌≤◌, Bool, true, false, List, [], ◌∷◌, length, Option, Some, None, refl, sym, ap, ap₂, ◌∙◌, subst, arith}
 use Rattle.std.specs.Prelude.{nat_le, if◌then◌else◌}
-use Rattle.linked_image.specs.Linked.{Image, OneImage}
+use Rattle.image_file.specs.Linked.{Image, OneImage}
 use Rattle.class_pool.specs.declared.class.ClassFile.{ClassFile}
 use Rattle.class_rules.specs.Grammar.{IsClassOf}
 use Rattle.image_builder.specs.Laid.{Laid}
@@ -14,8 +14,8 @@ use Rattle.image_words.specs.Regions.{image_words_of}
 use Rattle.image_layout.specs.Layout.{IsLaidOut, first_passed}
 use Rattle.program_tables.specs.Numbers.{types_of}
 use Rattle.lists.specs.Lists.{first_some}
-use Rattle.jop_program.specs.Linked.{linked_classes}
-use Rattle.jop_program.specs.Resolving.{AreClassesOf, IsProgramOf}
+use Rattle.program_resolution.specs.Linked.{linked_classes}
+use Rattle.program_resolution.specs.Resolving.{AreClassesOf, IsProgramOf}
 use Rattle.jopizer.specs.Linked.{Parts, image_of}
 use Rattle.jopizer.specs.Laws.{OneLinked}
 

@@ -1,8 +1,8 @@
 -- Nothing refuses files that are linked, and nothing is wrong with the file of their image.
 use Rattle.std.proofs.Common.{◌≡◌, ℕ, zero, suc, ◌⊎◌, inl, inr, List, [], ◌∷◌, ◌++◌, Option, Some, refl, sym, ap, ◌∙◌, subst, arith}
 use Rattle.std.specs.Prelude.{slice_get}
-use Rattle.linked_image.specs.Linked.{Image, OneImage}
-use Rattle.linked_image.specs.Linked as file
+use Rattle.image_file.specs.Linked.{Image, OneImage}
+use Rattle.image_file.specs.Linked as file
 use Rattle.class_pool.specs.declared.class.ClassFile.{ClassFile}
 use Rattle.class_pool.specs.Spelling.{pool_bytes}
 use Rattle.class_pool.specs.ClassSpelling.{inside_bytes}
@@ -14,10 +14,10 @@ use Rattle.lists.specs.Lemmas.{none≢some}
 use Rattle.image_words.specs.Regions.{image_words_of}
 use Rattle.image_layout.specs.Layout.{first_passed}
 use Rattle.bytecode_verifier.specs.Failure.{method_failure, IsVerified}
-use Rattle.jop_program.specs.declared.refusal.ProgramRefusal.{ProgramRefusal}
-use Rattle.jop_program.specs.declared.refusal.ProgramRefusal.TheVariants as resolving
-use Rattle.jop_program.specs.Refusals.{refusals}
-use Rattle.jop_program.specs.Resolving.{AreClassesOf, IsUnread, IsFirstUnread, IsFirstOfRead, IsProgramOf}
+use Rattle.program_resolution.specs.declared.refusal.ProgramRefusal.{ProgramRefusal}
+use Rattle.program_resolution.specs.declared.refusal.ProgramRefusal.TheVariants as resolving
+use Rattle.program_resolution.specs.Refusals.{refusals}
+use Rattle.program_resolution.specs.Resolving.{AreClassesOf, IsUnread, IsFirstUnread, IsFirstOfRead, IsProgramOf}
 use Rattle.jopizer.specs.declared.refusal.LinkRefusal.{LinkRefusal}
 use Rattle.jopizer.specs.declared.refusal.LinkRefusal.TheVariants as answers
 use Rattle.jopizer.specs.declared.fault.ImageFault.{ImageFault}

@@ -4,11 +4,11 @@ use Rattle.std.specs.Prelude.{nat_lt, if◌then◌else◌, Result, Ok, Err, IsOk
 use Rattle.std.specs.List.{filter, AllByRecursion}
 use Rattle.std.specs.Option.{option_map}
 use Rattle.std.proofs.lemmas.Bool.{cases_lt, eqb-true, false≢true}
-use Rattle.jop_opcodes.specs.declared.instruction.Instr.{Instr}
-use Rattle.jop_opcodes.specs.declared.instruction.DecodeFault.{DecodeFault}
-use Rattle.jop_opcodes.specs.Instruction.{decoded}
-use Rattle.jop_opcodes.specs.Target.{WholeIsWithin}
-use Rattle.jop_opcodes.specs.Start.{IsStart, starts_of, first_bad, AreStarts, IsFirstBad, IsPartition}
+use Rattle.opcodes.specs.declared.instruction.Instr.{Instr}
+use Rattle.opcodes.specs.declared.instruction.DecodeFault.{DecodeFault}
+use Rattle.opcodes.specs.Instruction.{decoded}
+use Rattle.opcodes.specs.Target.{WholeIsWithin}
+use Rattle.opcodes.specs.Start.{IsStart, starts_of, first_bad, AreStarts, IsFirstBad, IsPartition}
 use Rattle.lists.specs.Lemmas.{none≢some}
 use Rattle.frame_types.specs.Types.{is_start}
 use Rattle.frame_types.proofs.SearchLemmas.{among_contains}

@@ -1,7 +1,7 @@
 -- The files of linked images: what reading one answers.
 use Rattle.std.specs.Prelude.{◌≡◌, ℕ, ◌<◌, List, Option, slice_get}
-use Rattle.linked_image.specs.Linked.{Image}
-use Rattle.linked_image.specs.Linked as file
+use Rattle.image_file.specs.Linked.{Image}
+use Rattle.image_file.specs.Linked as file
 use Rattle.image_words.specs.Regions.{image_words_of}
 use Rattle.jopizer.specs.declared.refusal.LinkRefusal.TheVariants as refusals
 use Rattle.jopizer.specs.declared.fault.ImageFault.{ImageFault}

@@ -1,7 +1,7 @@
 -- What holds of linked files.
 use Rattle.std.specs.Prelude.{◌≡◌, ℕ, ◌<◌, List, length}
 use Rattle.class_pool.specs.declared.class.ClassFile.{ClassFile}
-use Rattle.linked_image.specs.Linked as file
+use Rattle.image_file.specs.Linked as file
 use Rattle.jopizer.specs.declared.refusal.LinkRefusal.{LinkRefusal}
 use Rattle.jopizer.specs.declared.refusal.LinkRefusal.TheVariants as refusals
 use Rattle.jopizer.specs.declared.fault.ImageFault.{ImageFault}
@@ -16,7 +16,8 @@ OneLinked = (bytes : List ℕ) (a b : Parts) → IsLinked a → IsLinked b → f
 
 -- nothing refuses files that are linked to classes
 abbrev pub LinkedFilesAreNotRefused : Type 0
-LinkedFilesAreNotRefused = (files : List (List ℕ)) (main : List ℕ) (cs : List ClassFile) (r : LinkRefusal) → AreLinked files main cs → IsRefusal files main r → r ≡ refusals.NoMemory
+LinkedFilesAreNotRefused = (files : List (List ℕ)) (main : List ℕ) (cs : List ClassFile) (r : LinkRefusal) → AreLinked files main cs → IsRefusal files main r
+    → r ≡ refusals.NoMemory
 
 -- nothing is wrong with the file of the image of what is linked
 abbrev pub LinkedImagesAreRead : Type 0

@@ -2,10 +2,10 @@
 use Rattle.std.specs.Prelude.{◌≡◌, ℕ, ◌≤◌, List, length, None}
 use Rattle.class_pool.specs.declared.class.ClassFile.{ClassFile}
 use Rattle.image_builder.specs.Laid.{Laid}
-use Rattle.linked_image.specs.Linked.{Image, bytes_of}
+use Rattle.image_file.specs.Linked.{Image, bytes_of}
 use Rattle.image_words.specs.Regions.{image_words_of}
 use Rattle.image_layout.specs.Layout.{IsLaidOut, first_passed}
-use Rattle.jop_program.specs.Resolving.{IsProgramOf}
+use Rattle.program_resolution.specs.Resolving.{IsProgramOf}
 use Rattle.bytecode_verifier.specs.Failure.{IsVerified}
 
 -- how many bytes the file of an image has

@@ -3,11 +3,11 @@ use Rattle.std.specs.Prelude.{◌≡◌, ℕ, ◌<◌, ◌++◌, List, Some, Non
 use Rattle.class_pool.specs.declared.class.ClassFile.{ClassFile}
 use Rattle.core_classes.specs.Core.{core}
 use Rattle.program_tables.specs.Numbers.{methods_by_number}
-use Rattle.linked_image.specs.Linked.{Image}
+use Rattle.image_file.specs.Linked.{Image}
 use Rattle.image_layout.specs.Layout.{first_passed}
-use Rattle.jop_program.specs.Resolving.{IsFirstRefusal, IsProgramOf}
-use Rattle.jop_program.specs.declared.refusal.ProgramRefusal.TheVariants as resolving
-use Rattle.jop_program.specs.Linked.{number_of}
+use Rattle.program_resolution.specs.Resolving.{IsFirstRefusal, IsProgramOf}
+use Rattle.program_resolution.specs.declared.refusal.ProgramRefusal.TheVariants as resolving
+use Rattle.program_resolution.specs.Linked.{number_of}
 use Rattle.bytecode_verifier.specs.Failure.{IsVerified, FailsFirst, broken_seen}
 use Rattle.jopizer.specs.declared.refusal.LinkRefusal.{LinkRefusal}
 use Rattle.jopizer.specs.declared.refusal.LinkRefusal.TheVariants.{Resolving, NotVerified, TooLarge, FileTooLarge, NoMemory}
@@ -60,7 +60,8 @@ pub record BeginsWithCore (cs : List ClassFile) : Type 0 where
 
 -- a rule fails first there, in a file; or there was no memory
 abbrev pub IsUnverified : List ClassFile → LinkRefusal → Type 0
-IsUnverified cs (NotVerified file method pc rule) = (number : ℕ) × FailsFirst cs number pc (broken_seen rule) × (slice_get (methods_by_number cs) number ≡ Some (number_of file, method))
+IsUnverified cs (NotVerified file method pc rule) = (number : ℕ) × FailsFirst cs number pc (broken_seen rule)
+    × (slice_get (methods_by_number cs) number ≡ Some (number_of file, method))
 IsUnverified cs NoMemory = Unit {0}
 IsUnverified cs refusal = ⊥
 

@@ -1,7 +1,7 @@
 //! How many bytes the file of an image has, and that they are within the limit.
 ghost use Rattle.std.specs.Prelude.{◌≡◌, ◌≤◌, length, IfSome, IfErr, OnOk};
 ghost use Rattle.std.specs.List.{flat_map};
-ghost use Rattle.linked_image.specs.Linked.{contents, file_bytes};
+ghost use Rattle.image_file.specs.Linked.{contents, file_bytes};
 ghost use Rattle.image_words.specs.Limits.{most_words};
 ghost use Rattle.jopizer.specs.Linked.{file_length as length_of, most_bytes};
 ghost use Rattle.jopizer.specs.Refused.{IsTooLongOr};

@@ -1,7 +1,7 @@
 //! The files of linked images, written and read. What is read is linked anew.
 ghost use Rattle.std.specs.Prelude.{◌≡◌, ◌↔◌, length, Err, slice_get, MatchOption, IfOk, IfErr, OnOk};
-ghost use Rattle.linked_image.specs.Linked.{Image, IsWord};
-ghost use Rattle.linked_image.specs.Linked as file;
+ghost use Rattle.image_file.specs.Linked.{Image, IsWord};
+ghost use Rattle.image_file.specs.Linked as file;
 ghost use Rattle.jopizer.specs.Linked.{IsLinked, image_of};
 ghost use Rattle.jopizer.specs.Images.{IsDifference, IsDifferent, IsUnlinked, IsWrongIn, IsWrong};
 ghost use Rattle.jopizer.specs.declared.fault.ImageFault.TheVariants.{Bad};
@@ -10,8 +10,8 @@ use crate::fault::ImageFault;
 use crate::linked::Linked;
 use crate::linking::link_kept;
 use crate::refusal::LinkRefusal;
-use jop_base::NoMemory;
-use linked_image::{LinkedFault, LinkedImage, read_linked, write_linked};
+use base::NoMemory;
+use image_file::{LinkedFault, LinkedImage, read_linked, write_linked};
 use std::alloc::Global;
 
 /// The file of the image of what was linked.
@@ -28,7 +28,8 @@ pub fn write_image(alloc: Global, linked: &Linked) -> Result<Vec<u8>, NoMemory>
 
 /// The first place at which the words differ.
 fn first_difference(kept: &[u32], linked: &[u32]) -> Option<usize>
-    ensures { MatchOption result (kept.now ≡ linked.now) (λ place. IsDifference kept.now linked.now place (slice_get kept.now place) (slice_get linked.now place)) }
+    ensures { MatchOption result (kept.now ≡ linked.now) (λ place. IsDifference kept.now linked.now place (slice_get kept.now place)
+        (slice_get linked.now place)) }
 {
     let shared = kept.len().min(linked.len());
     for place in 0..shared {

@@ -22,12 +22,12 @@ use core_classes::linkage::{
     core_stands_first,
 };
 use frame_types::laws::frames_stand_at_instructions;
+use image_file::one_image;
 use image_laws::laws::images_say_programs;
-use jop_opcodes::laws::{
+use opcodes::laws::{
     first_bad_is_a_start, instructions_end_within, instructions_partition_the_code,
     starts_follow_one_another,
 };
-use linked_image::one_image;
 use program_tables::laws::{members_are_there, methods_stand_by_number};
 
 /// The file of an image is that of one linked program.

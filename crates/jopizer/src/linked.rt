@@ -1,6 +1,6 @@
 //! What files are linked to.
 ghost use Rattle.std.specs.Prelude.{◌≡◌};
-ghost use Rattle.linked_image.specs.Linked.{contents};
+ghost use Rattle.image_file.specs.Linked.{contents};
 ghost use Rattle.jopizer.specs.Linked.{IsLinked};
 
 use bytecode_verifier::Verified;
@@ -17,7 +17,7 @@ pub struct Linked {
 }
 
 impl Model for Linked {
-    ghost use Rattle.linked_image.specs.Linked.{contents};
+    ghost use Rattle.image_file.specs.Linked.{contents};
     ghost use Rattle.jopizer.specs.Linked.{Parts, IsLinked};
 
     ghost Value = { Parts };

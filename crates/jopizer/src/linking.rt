@@ -1,7 +1,7 @@
 //! Resolving, verifying and laying out, one behind the other.
 ghost use Rattle.std.specs.Prelude.{◌≡◌, ◌<◌, ◌^◌, length, None, IfOk, IfErr, OnOk};
-ghost use Rattle.linked_image.specs.Linked.{contents};
-ghost use Rattle.jop_program.specs.Resolving.{IsProgramOf};
+ghost use Rattle.image_file.specs.Linked.{contents};
+ghost use Rattle.program_resolution.specs.Resolving.{IsProgramOf};
 ghost use Rattle.bytecode_verifier.specs.Failure.{IsVerified, FailsFirst, broken_seen};
 ghost use Rattle.image_layout.specs.Layout.{IsLaidOut, first_passed};
 ghost use Rattle.jopizer.specs.Linked.{AreLinked, IsLinked};
@@ -10,16 +10,13 @@ ghost use Rattle.jopizer.specs.Refused.{IsRefusal, BeginsWithCore, IsUnverified,
 use crate::file_length::within_length;
 use crate::linked::Linked;
 use crate::refusal::LinkRefusal;
+use base::NoMemory;
 use bytecode_verifier::laws::core_is_verified;
 use bytecode_verifier::{MethodRule, Verified, VerifyFault, verify};
 use image_layout::{LayFault, Layout, lay_out};
-use jop_base::NoMemory;
-use jop_program::{Program, ProgramRefusal, resolve};
+use program_resolution::{CORE_CLASSES, Program, ProgramRefusal, resolve};
 use program_tables::laws::members_are_there;
 use std::alloc::Global;
-
-/// The number of the first file's class, behind the core classes.
-const FIRST_FILE: u32 = 23;
 
 /// The program of the files, resolved.
 fn resolved(alloc: Global, files: &[Vec<u8>], main: &[u8]) -> Result<Program, LinkRefusal>
@@ -44,7 +41,7 @@ fn not_verified(program: &Program, method: u32, pc: u32, rule: MethodRule) -> Li
     program.is_resolved();
     members_are_there();
     let place = program.method(method);
-    let file = place.class - FIRST_FILE;
+    let file = place.class - CORE_CLASSES;
     let index = place.index as u32;
     LinkRefusal::NotVerified(file, index, pc, rule)
 }

@@ -1,9 +1,9 @@
 //! Why files aren't linked.
 
+use base::NoMemory;
 use bytecode_verifier::MethodRule;
 use image_layout::Counted;
-use jop_base::NoMemory;
-use jop_program::ProgramRefusal;
+use program_resolution::ProgramRefusal;
 
 /// Why files aren't linked. Files are counted from 0, and methods as they stand in their file.
 #[derive(Clone, Copy)]

@@ -8,8 +8,8 @@ use Rattle.class_pool.specs.declared.class.ClassFile.{ClassFile}
 use Rattle.class_pool.specs.declared.class.Code.{Code}
 use Rattle.class_pool.specs.Found.{code_of}
 use Rattle.class_lookup.specs.Lookup.{method_at}
-use Rattle.coded_methods.specs.declared.method.CodedMethod.{CodedMethod}
-use Rattle.coded_methods.specs.Methods.{AreMethods}
+use Rattle.image_facts.specs.declared.method.CodedMethod.{CodedMethod}
+use Rattle.image_facts.specs.Methods.{AreMethods}
 use Rattle.bytecode_model.specs.Program.{Body, body_of}
 use Rattle.program_tables.specs.Laws.{MethodsStandByNumber}
 use Rattle.program_tables.specs.Numbers.{methods_by_number}

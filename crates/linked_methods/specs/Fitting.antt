@@ -1,6 +1,6 @@
 -- The codes of a program, in a cache of so many blocks of so many words.
 use Rattle.std.specs.Prelude.{◌≡◌, ℕ, ◌<◌, ◌≤◌, length, Option, Some, None, IfSome, IsSomeAnd}
-use Rattle.word32.specs.Packed.{words_for}
+use Rattle.base.specs.Packed.{words_for}
 use Rattle.method_cache.specs.Contents.{blocks_for}
 use Rattle.bytecode_model.specs.Program.{Program, Body, body_of}
 use Rattle.linked_methods.specs.declared.fitting.TooLong.{TooLong}

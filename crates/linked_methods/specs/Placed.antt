@@ -3,8 +3,8 @@ use Rattle.std.specs.Prelude.{◌≡◌, ℕ, List, length, map, slice_get, IfSo
 use Rattle.std.specs.List.{range_with_len}
 use Rattle.bytecode_model.specs.Program.{body_of}
 use Rattle.class_pool.specs.declared.class.ClassFile.{ClassFile}
-use Rattle.coded_methods.specs.declared.method.CodedMethod.{CodedMethod}
-use Rattle.coded_methods.specs.Methods.{IsMethod}
+use Rattle.image_facts.specs.declared.method.CodedMethod.{CodedMethod}
+use Rattle.image_facts.specs.Methods.{IsMethod}
 use Rattle.program_tables.specs.Resolved.{resolved}
 use Rattle.image_words.specs.Regions.{places_of}
 

@@ -1,6 +1,6 @@
 //! Which codes fit the method cache (JOP Reference Handbook, "Method Cache").
 ghost use Rattle.std.specs.Prelude.{◌≡◌, ◌<◌, ◌≤◌, length};
-ghost use Rattle.word32.specs.Packed.{words_for};
+ghost use Rattle.base.specs.Packed.{words_for};
 ghost use Rattle.method_cache.specs.Contents.{blocks_for};
 ghost use Rattle.program_tables.specs.Resolved.{resolved};
 ghost use Rattle.linked_methods.specs.Fitting.{IsFirstTooLong};

@@ -1,13 +1,13 @@
 //! The methods that have code.
 ghost use Rattle.std.specs.Prelude.{IfOk};
-ghost use Rattle.coded_methods.specs.Methods.{AreMethods};
+ghost use Rattle.image_facts.specs.Methods.{AreMethods};
 ghost use Rattle.program_tables.specs.Resolved.{resolved};
 ghost use Rattle.image_words.specs.Regions.{places_of};
 ghost use Rattle.linked_methods.specs.Placed.{AreOnly, ArePlaced};
 
-use coded_methods::CodedMethod;
+use base::NoMemory;
 use image_builder::Layout;
-use jop_base::NoMemory;
+use image_facts::CodedMethod;
 use program_tables::laws::methods_stand_by_number;
 use resolved_program::Program;
 use std::alloc::Global;

@@ -1,5 +1,6 @@
 -- The first of the parts that the items of a list give, found item by item.
-use Rattle.std.proofs.Common.{◌≡◌, ℕ, zero, suc, ◌+◌, ◌<◌, ◌≤◌, List, [], ◌∷◌, ◌++◌, map, length, take, get_or, take_all, Option, Some, None, refl, sym, ap, ◌∙◌, ap₂, subst, append_assoc, append-nil, arith}
+use Rattle.std.proofs.Common.{◌≡◌, ℕ, zero, suc, ◌+◌, ◌<◌, ◌≤◌, List, [], ◌∷◌, ◌++◌, map, length, take, get_or, take_all, Option, Some, None, refl, sym, ap}
+use Rattle.std.proofs.Common.{◌∙◌, ap₂, subst, append_assoc, append-nil, arith}
 use Rattle.std.specs.Prelude.{Result, Ok, Err, IfOk}
 use Rattle.std.specs.Option.{option_or, option_map, option_to_list}
 use Rattle.std.specs.List.{flat_map, enumerate_from}
@@ -47,12 +48,14 @@ take_next : {X : Type 0} (xs : List X) (i : ℕ) (x d : X) → i < length xs →
 take_next xs i x d lt is = (take_at_read xs i d lt).1 ∙ ap (λ z. take i xs ++ z ∷ []) (sym is)
 
 -- one item more gives nothing
-pub still_none : {X Y : Type 0} (f : X → List Y) (xs : List X) (i : ℕ) (x d : X) → i < length xs → x ≡ get_or xs i d → flat_map f (take i xs) ≡ [] → first (f x) ≡ None → flat_map f (take (i + 1) xs) ≡ []
+pub still_none : {X Y : Type 0} (f : X → List Y) (xs : List X) (i : ℕ) (x d : X) → i < length xs → x ≡ get_or xs i d → flat_map f (take i xs) ≡ []
+    → first (f x) ≡ None → flat_map f (take (i + 1) xs) ≡ []
 still_none f xs i x d lt is so_far none =
     ap (flat_map f) (take_next xs i x d lt is) ∙ (flat_map-more f (take i xs) x ∙ (ap (λ ys. ys ++ f x) so_far ∙ first-none (f x) none))
 
 -- nothing before an item, and something of it
-found_case : {X Y : Type 0} (f : X → List Y) (xs : List X) (i : ℕ) (x d : X) (y : Y) → i < length xs → x ≡ get_or xs i d → flat_map f (take i xs) ≡ [] → first (f x) ≡ Some y → first (flat_map f xs) ≡ Some y
+found_case : {X Y : Type 0} (f : X → List Y) (xs : List X) (i : ℕ) (x d : X) (y : Y) → i < length xs → x ≡ get_or xs i d → flat_map f (take i xs) ≡ []
+    → first (f x) ≡ Some y → first (flat_map f xs) ≡ Some y
 found_case f [] i x d y lt is none one = absurd (omega arith)
 found_case f (z ∷ xs) zero x d y lt is none one = first-before (f z) (flat_map f xs) y (subst (λ (w : _). first (f w) ≡ Some y) is one)
 found_case f (z ∷ xs) (suc i) x d y lt is none one =
@@ -69,7 +72,8 @@ found_case f (z ∷ xs) (suc i) x d y lt is none one =
     right_none [] ys h = h
     right_none (x ∷ xs) ys h = absurd (let f : (x ∷ (xs ++ ys)) ≡ [] = h in cc)
 
-pub found_here : {X Y : Type 0} (f : X → List Y) (xs : List X) (i : ℕ) (x d : X) (y : Y) → i < length xs → x ≡ get_or xs i d → flat_map f (take i xs) ≡ [] → first (f x) ≡ Some y → first (flat_map f xs) ≡ Some y
+pub found_here : {X Y : Type 0} (f : X → List Y) (xs : List X) (i : ℕ) (x d : X) (y : Y) → i < length xs → x ≡ get_or xs i d → flat_map f (take i xs) ≡ []
+    → first (f x) ≡ Some y → first (flat_map f xs) ≡ Some y
 found_here f xs i x d y lt is none one = found_case f xs i x d y lt is none one
 
 -- nothing of all items
@@ -85,7 +89,8 @@ pub length-enumerate : {X : Type 0} (n : ℕ) (xs : List X) → length (enumerat
 length-enumerate n [] = refl
 length-enumerate n (x ∷ xs) = ap suc (length-enumerate (n + 1) xs)
 
-pub numbered : {X : Type 0} (n : ℕ) (xs : List X) (i : ℕ) (x : X) (d : ℕ × X) → i < length xs → x ≡ get_or xs i x → (n + i, x) ≡ get_or (enumerate_from n xs) i d
+pub numbered : {X : Type 0} (n : ℕ) (xs : List X) (i : ℕ) (x : X) (d : ℕ × X) → i < length xs → x ≡ get_or xs i x
+    → (n + i, x) ≡ get_or (enumerate_from n xs) i d
 numbered n [] i x d lt is = absurd (omega arith)
 numbered n (y ∷ xs) zero x d lt is = let same : n + 0 ≡ n = omega arith in ap₂ (λ (a : ℕ) (b : _). (a, b)) same is
 numbered n (y ∷ xs) (suc i) x d lt is =
@@ -104,13 +109,16 @@ number_in ms i n lt same = let long = length-enumerate 0 ms in omega (arith, lon
 
 pub found_number : {X Y : Type 0} (f : ℕ × X → List Y) (ms : List X) (i n : ℕ) (m : X) (y : Y) → i < length ms → m ≡ get_or ms i m → n ≡ i
     → flat_map f (take n (enumerate_from 0 ms)) ≡ [] → first (f (n, m)) ≡ Some y → first (flat_map f (enumerate_from 0 ms)) ≡ Some y
-found_number f ms i n m y lt is same none one = found_here f (enumerate_from 0 ms) n (n, m) (n, m) y (number_in ms i n lt same) (number_is ms i n m lt is same) none one
+found_number f ms i n m y lt is same none one = found_here f (enumerate_from 0 ms) n (n, m) (n, m) y (number_in ms i n lt same)
+    (number_is ms i n m lt is same) none one
 
 pub none_number : {X Y : Type 0} (f : ℕ × X → List Y) (ms : List X) (i n : ℕ) (m : X) → i < length ms → m ≡ get_or ms i m → n ≡ i
     → flat_map f (take n (enumerate_from 0 ms)) ≡ [] → first (f (n, m)) ≡ None → flat_map f (take (n + 1) (enumerate_from 0 ms)) ≡ []
-none_number f ms i n m lt is same none one = still_none f (enumerate_from 0 ms) n (n, m) (n, m) (number_in ms i n lt same) (number_is ms i n m lt is same) none one
+none_number f ms i n m lt is same none one = still_none f (enumerate_from 0 ms) n (n, m) (n, m) (number_in ms i n lt same)
+    (number_is ms i n m lt is same) none one
 
-pub none_numbered : {X Y : Type 0} (f : ℕ × X → List Y) (ms : List X) (i n : ℕ) → length ms ≤ i → n ≡ i → flat_map f (take n (enumerate_from 0 ms)) ≡ [] → first (flat_map f (enumerate_from 0 ms)) ≡ None
+pub none_numbered : {X Y : Type 0} (f : ℕ × X → List Y) (ms : List X) (i n : ℕ) → length ms ≤ i → n ≡ i → flat_map f (take n (enumerate_from 0 ms)) ≡ []
+    → first (flat_map f (enumerate_from 0 ms)) ≡ None
 none_numbered f ms i n past same none = let long = length-enumerate 0 ms in none_first f (enumerate_from 0 ms) n (omega (arith, long, past, same)) none
 
 -- ---- what is the same

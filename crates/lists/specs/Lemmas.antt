@@ -1,4 +1,5 @@
--- What follows of partial results, and of the first item that passes a test, over any type of item. Proofs above cite these as they do the library's lemmas on lists.
+-- What follows of partial results, and of the first item that passes a test, over any type of item. Proofs above cite these as they do the library's
+-- lemmas on lists.
 use Rattle.std.proofs.Common.{◌≡◌, ℕ, zero, suc, Bool, true, false, List, [], ◌∷◌, ◌++◌, length, Option, Some, None, refl, sym, ap, ◌∙◌, subst}
 use Rattle.std.specs.Prelude.{slice_get, if◌then◌else◌, IsSomeAnd, IfSome}
 use Rattle.std.specs.Option.{option_map, option_or}
@@ -43,7 +44,9 @@ if_at o x Q e h = subst (λ o. IfSome o Q) e h
 -- ---- the first item that passes a test
 
 -- it passes the test
-found_case : {A : Type 0} (test : A → Bool) (x : A) (xs : List A) (i : ℕ) (b : Bool) → test x ≡ b → ((k : ℕ) → index_of test xs ≡ Some k → (y : A) × (slice_get xs k ≡ Some y) × (test y ≡ true)) → (if b then Some 0 else onto (index_of test xs) (λ k. Some (suc k))) ≡ Some i → (y : A) × (slice_get (x ∷ xs) i ≡ Some y) × (test y ≡ true)
+found_case : {A : Type 0} (test : A → Bool) (x : A) (xs : List A) (i : ℕ) (b : Bool) → test x ≡ b
+    → ((k : ℕ) → index_of test xs ≡ Some k → (y : A) × (slice_get xs k ≡ Some y) × (test y ≡ true))
+    → (if b then Some 0 else onto (index_of test xs) (λ k. Some (suc k))) ≡ Some i → (y : A) × (slice_get (x ∷ xs) i ≡ Some y) × (test y ≡ true)
 found_case test x xs i true t later e = (x, ap (slice_get (x ∷ xs)) (sym (some_same 0 i e)), t)
 found_case test x xs i false t later e =
     let r = onto_some (index_of test xs) (λ k. Some (suc k)) i e in
@@ -55,7 +58,8 @@ index_found test [] i e = absurd (none≢some i e)
 index_found test (x ∷ xs) i e = found_case test x xs i (test x) refl (index_found test xs) e
 
 -- where an item passes the test, one is found
-there_case : {A : Type 0} (test : A → Bool) (x : A) (xs : List A) (b : Bool) → test x ≡ b → ((i : ℕ) × (index_of test xs ≡ Some i)) → (i : ℕ) × ((if b then Some 0 else onto (index_of test xs) (λ k. Some (suc k))) ≡ Some i)
+there_case : {A : Type 0} (test : A → Bool) (x : A) (xs : List A) (b : Bool) → test x ≡ b → ((i : ℕ) × (index_of test xs ≡ Some i))
+    → (i : ℕ) × ((if b then Some 0 else onto (index_of test xs) (λ k. Some (suc k))) ≡ Some i)
 there_case test x xs true t later = (0, refl)
 there_case test x xs false t later = (suc later.0, ap (λ o. onto o (λ k. Some (suc k))) later.1)
 
@@ -65,16 +69,20 @@ index_there test (x ∷ xs) zero y h t = (0, cond-true (test x) (Some 0) (onto (
 index_there test (x ∷ xs) (suc j) y h t = there_case test x xs (test x) refl (index_there test xs j y h t)
 
 -- with one more item behind
-raised : (o : Option ℕ) (b : Bool) (n : ℕ) → onto (option_or o (if b then Some n else None)) (λ k. Some (suc k)) ≡ option_or (onto o (λ k. Some (suc k))) (if b then Some (suc n) else None)
+raised : (o : Option ℕ) (b : Bool) (n : ℕ) → onto (option_or o (if b then Some n else None)) (λ k. Some (suc k)) ≡ option_or (onto o (λ k. Some (suc k)))
+    (if b then Some (suc n) else None)
 raised None true n = refl
 raised None false n = refl
 raised (Some k) b n = refl
 
-append_case : {A : Type 0} (t : A → Bool) (xs : List A) (y : A) (b : Bool) → index_of t (xs ++ y ∷ []) ≡ option_or (index_of t xs) (if t y then Some (length xs) else None)
-    → (if b then Some 0 else onto (index_of t (xs ++ y ∷ [])) (λ k. Some (suc k))) ≡ option_or (if b then Some 0 else onto (index_of t xs) (λ k. Some (suc k))) (if t y then Some (suc (length xs)) else None)
+append_case : {A : Type 0} (t : A → Bool) (xs : List A) (y : A) (b : Bool)
+    → index_of t (xs ++ y ∷ []) ≡ option_or (index_of t xs) (if t y then Some (length xs) else None)
+    → (if b then Some 0 else onto (index_of t (xs ++ y ∷ [])) (λ k. Some (suc k))) ≡ option_or (if b then Some 0 else onto (index_of t xs) (λ k. Some (suc k)))
+    (if t y then Some (suc (length xs)) else None)
 append_case t xs y true h = refl
 append_case t xs y false h = ap (λ o. onto o (λ k. Some (suc k))) h ∙ raised (index_of t xs) (t y) (length xs)
 
-pub index_append : {A : Type 0} (t : A → Bool) (xs : List A) (y : A) → index_of t (xs ++ y ∷ []) ≡ option_or (index_of t xs) (if t y then Some (length xs) else None)
+pub index_append : {A : Type 0} (t : A → Bool) (xs : List A) (y : A)
+    → index_of t (xs ++ y ∷ []) ≡ option_or (index_of t xs) (if t y then Some (length xs) else None)
 index_append t [] y = refl
 index_append t (x ∷ xs) y = append_case t xs y (t x) (index_append t xs y)

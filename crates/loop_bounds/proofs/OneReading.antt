@@ -4,7 +4,7 @@ use Rattle.std.specs.Prelude.{nat_eq, codes, IsSome}
 use Rattle.std.proofs.lemmas.Bool.{cases_Bool, eqb-true, eq-eqb, and_parts, true≢false}
 use Rattle.std.proofs.lemmas.List.{append_cancel_left}
 use lib.Pointwise.{pointwise, bytes_decides}
-use Rattle.jop_text.specs.Line.{lines_of}
+use Rattle.ascii_text.specs.Line.{lines_of}
 use Rattle.loop_bounds.specs.declared.BoundsFault.{BoundsFault}
 use Rattle.loop_bounds.specs.declared.BoundsFault.TheVariants as faults
 use Rattle.loop_bounds.specs.Bounds.{LoopBound, bound_in, AreOfDifferentLoops}

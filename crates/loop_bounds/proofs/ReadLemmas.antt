@@ -6,7 +6,7 @@ use Rattle.std.proofs.lemmas.Bool.{cases_Bool, eqb-true, eq-eqb, false≢true, t
 use Rattle.std.proofs.lemmas.List.{length-append}
 use Rattle.std.proofs.lemmas.List.Splits.{length-slice_split}
 use Rattle.std.proofs.lemmas.List.Sums.{count_by-le-length}
-use Rattle.jop_text.specs.Line.{lines_of, without_empty_last}
+use Rattle.ascii_text.specs.Line.{lines_of, without_empty_last}
 use lib.Pointwise.{pointwise, bytes_decides}
 use Rattle.loop_bounds.specs.Bounds.{LoopBound, bound_in, AreOfDifferentLoops}
 use Rattle.loop_bounds.specs.Grammar.{Give, Says, IsRead, IsReadTo, IsTwice, IsMalformed}

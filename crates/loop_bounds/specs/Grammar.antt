@@ -1,8 +1,8 @@
 -- The text of bounds, line by line.
 use Rattle.std.specs.Prelude.{◌≡◌, ℕ, suc, ◌==◌, ◌<◌, ◌^◌, List, [], ◌∷◌, ◌++◌, length, codes, IsSome}
 use Rattle.std.specs.List.{slice_split}
-use Rattle.jop_text.specs.Line.{lines_of}
-use Rattle.jop_text.specs.Number.{IsDecimalNumber, value_of}
+use Rattle.ascii_text.specs.Line.{lines_of}
+use Rattle.ascii_text.specs.Number.{IsDecimalNumber, value_of}
 use Rattle.loop_bounds.specs.declared.BoundsFault.{BoundsFault}
 use Rattle.loop_bounds.specs.declared.BoundsFault.TheVariants.{Line, Twice, NoMemory}
 use Rattle.loop_bounds.specs.Bounds.{LoopBound, bound_in, AreOfDifferentLoops}

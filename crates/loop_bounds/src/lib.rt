@@ -10,13 +10,14 @@ mod line;
 mod site;
 
 ghost use Rattle.std.specs.Prelude.{◌≡◌, ◌++◌, [], ◌∷◌, None, OnOk, IfOk, IfErr, ◌≤◌, length};
+ghost use Rattle.base.specs.Sizes.{longest_file};
 ghost use Rattle.loop_bounds.specs.Bounds.{bound_in};
 ghost use Rattle.loop_bounds.specs.Grammar.{IsRead, IsRefused};
 ghost use Rattle.loop_bounds.specs.Meaning.{bound_at};
 
+use ascii_text::lines;
+use base::NoMemory;
 use indexmap::{IndexMap, IndexSet};
-use jop_base::NoMemory;
-use jop_text::lines;
 use line::{Loop, Said, read_line};
 use site::Site;
 use std::alloc::Global;
@@ -61,7 +62,7 @@ impl Model for Bounds {
 
 /// The bounds that a text gives. A line is refused where it is none of the grammar, or bounds a loop a second time.
 pub fn read_bounds(alloc: Global, text: &[u8]) -> Result<Bounds, BoundsFault>
-    requires { length text.now ≤ 33554432 }
+    requires { length text.now ≤ longest_file }
     ensures read { IfOk result (IsRead text.now) }
     ensures refused { IfErr result (IsRefused text.now) }
 {
@@ -86,7 +87,7 @@ pub fn read_bounds(alloc: Global, text: &[u8]) -> Result<Bounds, BoundsFault>
 }
 
 impl Bounds {
-    // No bounds.
+    /// No bounds.
     fn new(alloc: Global) -> Self
         ensures { result ≡ [] }
     {
@@ -96,7 +97,7 @@ impl Bounds {
         }
     }
 
-    // Puts the bound of a loop that has none behind the others.
+    /// Puts the bound of a loop that has none behind the others.
     fn add(&mut self, alloc: Global, found: Loop) -> Result<(), NoMemory>
         requires { bound_in found.name.now found.pc self.old ≡ None }
         ensures { OnOk result (self.new ≡ self.old ++ bound_at found.entry ∷ []) }

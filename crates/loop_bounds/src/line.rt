@@ -5,7 +5,7 @@ ghost use Rattle.loop_bounds.specs.Bounds.{LoopBound};
 ghost use Rattle.loop_bounds.specs.Grammar.{IsNumber, IsLoopLine};
 ghost use Rattle.loop_bounds.specs.Meaning.{FindsBound, bound_at};
 
-use jop_text::read_u64;
+use ascii_text::read_u64;
 
 /// What a line says.
 #[derive(Clone, Copy)]
@@ -39,7 +39,7 @@ pub(crate) fn read_line<'a>(line: &'a [u8]) -> Said<'a>
     }
 }
 
-// The bound that a line gives, if it gives one.
+/// The bound that a line gives, if it gives one.
 fn read_loop<'a>(line: &'a [u8]) -> Option<Loop<'a>>
     ensures read { IfSome result (λ r. IsLoopLine line.now (bound_at r)) }
     ensures none { IfNone result ((b : LoopBound) → ¬ IsLoopLine line.now b) }
@@ -52,7 +52,7 @@ fn read_loop<'a>(line: &'a [u8]) -> Option<Loop<'a>>
     Some(Loop { name, pc, bound })
 }
 
-// The three parts of a line that has two spaces.
+/// The three parts of a line that has two spaces.
 fn three_parts<'a>(line: &'a [u8]) -> Option<(&'a [u8], &'a [u8], &'a [u8])>
     ensures three { IfSome result (λ r. slice_split (λ byte. byte == 32) line.now ≡ r.0.now ∷ r.1.now ∷ r.2.now ∷ []) }
     ensures other { IfNone result ((a : List ℕ) (b : List ℕ) (c : List ℕ) → ¬ (slice_split (λ byte. byte == 32) line.now ≡ a ∷ b ∷ c ∷ [])) }
@@ -65,9 +65,10 @@ fn three_parts<'a>(line: &'a [u8]) -> Option<(&'a [u8], &'a [u8], &'a [u8])>
     }
 }
 
-// What stands before the first space and behind it, if there is one.
+/// What stands before the first space and behind it, if there is one.
 fn cut<'a>(text: &'a [u8]) -> Option<(&'a [u8], &'a [u8])>
-    ensures { MatchOption result (slice_split (λ byte. byte == 32) text.now ≡ text.now ∷ []) (λ r. slice_split (λ byte. byte == 32) text.now ≡ r.0.now ∷ slice_split (λ byte. byte == 32) r.1.now) }
+    ensures { MatchOption result (slice_split (λ byte. byte == 32) text.now ≡ text.now ∷ [])
+        (λ r. slice_split (λ byte. byte == 32) text.now ≡ r.0.now ∷ slice_split (λ byte. byte == 32) r.1.now) }
 {
     match first_space(text) {
         Some(end) => Some((&text[..end], &text[end + 1..])),
@@ -75,14 +76,14 @@ fn cut<'a>(text: &'a [u8]) -> Option<(&'a [u8], &'a [u8])>
     }
 }
 
-// The place of the first space, if there is one.
+/// The place of the first space, if there is one.
 fn first_space(text: &[u8]) -> Option<usize>
     ensures { result ≡ position (λ byte. byte == 32) text.now }
 {
     text.iter().position(|byte| *byte == b' ')
 }
 
-// The number behind `loop<=`.
+/// The number behind `loop<=`.
 fn read_bound(text: &[u8]) -> Option<u32>
     ensures read { IfSome result (λ n. (digits : List ℕ) × (text.now ≡ codes "loop<=" ++ digits) × IsNumber digits n) }
     ensures none { IfNone result ((digits : List ℕ) (n : ℕ) → text.now ≡ codes "loop<=" ++ digits → ¬ IsNumber digits n) }
@@ -90,7 +91,7 @@ fn read_bound(text: &[u8]) -> Option<u32>
     read_u32(text.strip_prefix(b"loop<=")?)
 }
 
-// The value of a decimal number of 32 bits.
+/// The value of a decimal number of 32 bits.
 fn read_u32(text: &[u8]) -> Option<u32>
     ensures read { IfSome result (λ n. IsNumber text.now n) }
     ensures none { IfNone result ((n : ℕ) → ¬ IsNumber text.now n) }

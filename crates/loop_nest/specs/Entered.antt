@@ -71,7 +71,8 @@ edge_at es i = slice_index_or es i (0, 0)
 -- for each edge, whether it is a back edge, where its target is merged into another node
 pub record AreMarkedBy (g : Digraph) (c : ℕ → ℕ) (back : List Bool) : Type 0 where
   pub long : length back ≡ length g.edges
-  pub each : AreReached g → (i : ℕ) → i < length g.edges → c (edge_at g.edges i).1 ≢ (edge_at g.edges i).1 → (slice_index_or back i false ≡ true) ↔ IsBackEdge g (edge_at g.edges i).0 (edge_at g.edges i).1
+  pub each : AreReached g → (i : ℕ) → i < length g.edges → c (edge_at g.edges i).1 ≢ (edge_at g.edges i).1
+      → (slice_index_or back i false ≡ true) ↔ IsBackEdge g (edge_at g.edges i).0 (edge_at g.edges i).1
 
 abbrev pub AreBackEdgesMarked : Digraph → List ℕ → List Bool → Type 0
 AreBackEdgesMarked g class back = AreMarkedBy g (class_of class) back
@@ -85,7 +86,8 @@ pub record MarksEdgesTo (es : List (ℕ × ℕ)) (c : ℕ → ℕ) (x : ℕ) (ol
 -- for each edge, whether it is a back edge, where it doesn't go to node 0
 pub record AreBackEdgesTold (g : Digraph) (back : List Bool) : Type 0 where
   pub long : length back ≡ length g.edges
-  pub each : (i : ℕ) → i < length g.edges → (edge_at g.edges i).1 ≢ 0 → (slice_index_or back i false ≡ true) ↔ IsBackEdge g (edge_at g.edges i).0 (edge_at g.edges i).1
+  pub each : (i : ℕ) → i < length g.edges → (edge_at g.edges i).1 ≢ 0
+      → (slice_index_or back i false ≡ true) ↔ IsBackEdge g (edge_at g.edges i).0 (edge_at g.edges i).1
 
 -- exactly the back edges
 abbrev pub AreBackEdges : Digraph → List (ℕ × ℕ) → Type 0

@@ -33,7 +33,8 @@ EdgesToHeaderAreBackEdges = (g : Digraph) (h u : ℕ) → IsMember g h u → Edg
 -- of two loops with a common member that is reached, one is within the other
 abbrev pub LoopsAreNested : Type 0
 LoopsAreNested =
-    (g : Digraph) (h k x : ℕ) → IsReachable g x → IsMember g h x → IsMember g k x → ((y : ℕ) → IsMember g h y → IsMember g k y) ⊎ ((y : ℕ) → IsMember g k y → IsMember g h y)
+    (g : Digraph) (h k x : ℕ) → IsReachable g x → IsMember g h x → IsMember g k x
+    → ((y : ℕ) → IsMember g h y → IsMember g k y) ⊎ ((y : ℕ) → IsMember g k y → IsMember g h y)
 
 -- every walk from node 0 visits node 0
 abbrev pub EntryDominatesAll : Type 0
@@ -53,18 +54,22 @@ WalksComeByEdges = (g : Digraph) (u w : ℕ) (ns : List ℕ) → Walk g u w ns �
 
 -- a part of a reducible graph is reducible, where its entry reaches all of it
 abbrev pub PartsAreReducible : Type 0
-PartsAreReducible = (whole part : Digraph) (node : ℕ → ℕ) → IsDigraph whole → IsReducible whole → IsDigraph part → IsReachedPart whole part node → IsReducible part
+PartsAreReducible = (whole part : Digraph) (node : ℕ → ℕ) → IsDigraph whole → IsReducible whole → IsDigraph part → IsReachedPart whole part node
+    → IsReducible part
 
 -- its back edges are back edges of the whole
 abbrev pub PartsHaveBackEdges : Type 0
 PartsHaveBackEdges =
-    (whole part : Digraph) (node : ℕ → ℕ) → IsDigraph whole → IsReducible whole → IsDigraph part → IsReachedPart whole part node → (u h : ℕ) → IsBackEdge part u h → IsBackEdge whole (node u) (node h)
+    (whole part : Digraph) (node : ℕ → ℕ) → IsDigraph whole → IsReducible whole → IsDigraph part → IsReachedPart whole part node → (u h : ℕ)
+    → IsBackEdge part u h → IsBackEdge whole (node u) (node h)
 
 -- its headers are headers of the whole
 abbrev pub PartsHaveHeaders : Type 0
-PartsHaveHeaders = (whole part : Digraph) (node : ℕ → ℕ) → IsDigraph whole → IsReducible whole → IsDigraph part → IsReachedPart whole part node → (h : ℕ) → IsHeader part h → IsHeader whole (node h)
+PartsHaveHeaders = (whole part : Digraph) (node : ℕ → ℕ) → IsDigraph whole → IsReducible whole → IsDigraph part → IsReachedPart whole part node → (h : ℕ)
+    → IsHeader part h → IsHeader whole (node h)
 
 -- and the members of its loops are members of the whole's
 abbrev pub PartsHaveMembers : Type 0
 PartsHaveMembers =
-    (whole part : Digraph) (node : ℕ → ℕ) → IsDigraph whole → IsReducible whole → IsDigraph part → IsReachedPart whole part node → (h x : ℕ) → IsMember part h x → IsMember whole (node h) (node x)
+    (whole part : Digraph) (node : ℕ → ℕ) → IsDigraph whole → IsReducible whole → IsDigraph part → IsReachedPart whole part node → (h x : ℕ) → IsMember part h x
+    → IsMember whole (node h) (node x)

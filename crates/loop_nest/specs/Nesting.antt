@@ -1,5 +1,6 @@
 -- How the loops of a graph are found: outer loops first, and the members node by node.
-use Rattle.std.specs.Prelude.{◌≡◌, ◌≢◌, ℕ, ◌<◌, ◌⊎◌, ◌↔◌, Bool, true, false, List, [], ◌∷◌, ◌++◌, length, slice_index, slice_index_or, All, Contains, Option, MatchOption}
+use Rattle.std.specs.Prelude.{◌≡◌, ◌≢◌, ℕ, ◌<◌, ◌⊎◌, ◌↔◌, Bool, true, false, List, [], ◌∷◌, ◌++◌, length, slice_index, slice_index_or, All, Contains, Option}
+use Rattle.std.specs.Prelude.{MatchOption}
 use Rattle.std.specs.List.Sorted.{IsStrictlyIncreasing}
 use Rattle.loop_nest.specs.Digraph.{Digraph}
 use Rattle.loop_nest.specs.Walks.{IsHeader, IsMember}
@@ -20,7 +21,8 @@ pub record AreHeaderFlags (g : Digraph) (flags : List Bool) : Type 0 where
   pub long : length flags ≡ g.nodes
   pub each : (h : ℕ) → (slice_index_or flags h false ≡ true) ↔ IsHeader g h
 
--- among the loops with these headers `hs` that are `among` them, the one of this number is the innermost that has node x: its header lies in each other one that has x
+-- among the loops with these headers `hs` that are `among` them, the one of this number is the innermost that has node x: its header lies in each
+-- other one that has x
 abbrev pub IsInnermost : Digraph → (ℕ → Type 0) → List ℕ → ℕ → Option ℕ → Type 0
 IsInnermost g among hs x innermost = MatchOption innermost ((k : ℕ) → among k → ¬ IsMember g k x)
     (λ n. (n < length hs) × among (slice_index hs n) × IsMember g (slice_index hs n) x × ((k : ℕ) → among k → IsMember g k x → IsMember g k (slice_index hs n)))
@@ -62,7 +64,8 @@ IsToCome g ls n next = MatchOption next ⊥ (λ m. IsMember g (header_at ls n) (
 -- x was added to loop n, which has it and comes before loop `next`; or it is not yet added to it, where it has it at all
 abbrev pub IsAddedOrNot : Digraph → ℕ → List NaturalLoop → List NaturalLoop → Option ℕ → ℕ → Type 0
 IsAddedOrNot g x old new next n =
-    (IsMember g (header_at old n) x × (¬ IsToCome g old n next) × (members_at new n ≡ members_at old n ++ x ∷ [])) ⊎ ((IsMember g (header_at old n) x → IsToCome g old n next) × (members_at new n ≡ members_at old n))
+    (IsMember g (header_at old n) x × (¬ IsToCome g old n next) × (members_at new n ≡ members_at old n ++ x ∷ []))
+    ⊎ ((IsMember g (header_at old n) x → IsToCome g old n next) × (members_at new n ≡ members_at old n))
 
 -- node x was added to the loops that have it, up to loop `next`
 pub record IsAdding (g : Digraph) (x : ℕ) (old new : List NaturalLoop) (next : Option ℕ) : Type 0 where

@@ -35,14 +35,6 @@ impl Blocks {
     {
         self.chains.as_slice()
     }
-
-    /// The nodes of each block alone, in the order of the blocks' first nodes.
-    pub fn into_chains(self) -> Vec<Vec<u32>>
-        ensures { map (λ ns. ns.items) result.items ≡ self }
-    {
-        let Blocks { chains } = self;
-        chains
-    }
 }
 
 /// The node to which `u` is linked.

@@ -1,7 +1,9 @@
 //! What holds of all graphs, of their reduction and of their loops. Each function does nothing: its
 //! contract is the law.
 
-ghost use Rattle.loop_nest.specs.Laws.{HeaderDominatesMembers, LoopIsEnteredAtHeader, EdgesToHeaderAreBackEdges, LoopsAreNested, CyclesTakeBackEdges, ReductionHasOneEnd, ReducibleIsReached, EntryDominatesAll, DominanceIsAntisymmetric, WalksLeadOn, WalksComeByEdges, PartsAreReducible, PartsHaveBackEdges, PartsHaveHeaders, PartsHaveMembers};
+ghost use Rattle.loop_nest.specs.Laws.{HeaderDominatesMembers, LoopIsEnteredAtHeader, EdgesToHeaderAreBackEdges, LoopsAreNested, CyclesTakeBackEdges};
+ghost use Rattle.loop_nest.specs.Laws.{ReductionHasOneEnd, ReducibleIsReached, EntryDominatesAll, DominanceIsAntisymmetric, WalksLeadOn, WalksComeByEdges};
+ghost use Rattle.loop_nest.specs.Laws.{PartsAreReducible, PartsHaveBackEdges, PartsHaveHeaders, PartsHaveMembers};
 
 /// A header dominates the members of its loop.
 pub fn headers_dominate_members()

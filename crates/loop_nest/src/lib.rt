@@ -8,10 +8,10 @@ ghost use Rattle.loop_nest.specs.Nest.{IsNest};
 ghost use Rattle.loop_nest.specs.Faults.{HasCause};
 ghost use Rattle.loop_nest.specs.Chains.{AreBlocks};
 
+use base::NoMemory;
 use chains::{Blocks, chains};
 pub use digraph::{Graph, is_graph};
 use finding::{add_members, back_edges, nesting};
-use jop_base::NoMemory;
 use loops::{Nest, NestFault};
 use merging::nodes_left;
 use passes::reduced;

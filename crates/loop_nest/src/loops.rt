@@ -111,14 +111,6 @@ impl Nest {
     {
         self.loops.as_slice()
     }
-
-    /// The loops alone, headers rising.
-    pub fn into_loops(self) -> Vec<Loop>
-        ensures { result.items ≡ self }
-    {
-        let Nest { loops } = self;
-        loops
-    }
 }
 
 /// Why a graph has no nest.

@@ -6,7 +6,8 @@ ghost use Rattle.std.specs.Bool.{OnTrue, OnFalse};
 ghost use Rattle.loop_nest.specs.Digraph.{IsDigraph};
 ghost use Rattle.loop_nest.specs.Classes.{NoneCanMerge};
 ghost use Rattle.loop_nest.specs.Entered.{class_of, names as names_in, edge_at, IsEnteredFromOne, IsClassList, AreBackEdgesMarked};
-ghost use Rattle.loop_nest.specs.Pointers.{AreFollowed, DoEnd, ArePointers, AreIncoming, IsNameOf, AreNumbered, IsScanned, KeepsMarks, AreNames, CannotMerge, AreFlags, AreAllNodes};
+ghost use Rattle.loop_nest.specs.Pointers.{AreFollowed, DoEnd, ArePointers, AreIncoming, IsNameOf, AreNumbered, IsScanned, KeepsMarks, AreNames, CannotMerge};
+ghost use Rattle.loop_nest.specs.Pointers.{AreFlags, AreAllNodes};
 
 use super::digraph::{Graph, Sources, targets};
 use super::merging::{Entered, unmerged};

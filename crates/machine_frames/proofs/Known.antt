@@ -4,8 +4,8 @@ use Rattle.std.proofs.lemmas.Option.{slice_get_within}
 use Rattle.std.specs.declared.option.Option.{Option}
 use Rattle.std.specs.Prelude.{slice_get, length, IsSomeAnd}
 use Rattle.lists.specs.Lemmas.{some_in, some_is}
-use Rattle.coded_methods.specs.declared.method.CodedMethod.{CodedMethod}
-use Rattle.coded_methods.specs.Methods.{IsMethod, AreMethods}
+use Rattle.image_facts.specs.declared.method.CodedMethod.{CodedMethod}
+use Rattle.image_facts.specs.Methods.{IsMethod, AreMethods}
 use Rattle.bytecode_model.specs.Program.{Program, Body, body_of}
 use Rattle.image_facts.specs.Places.{Places}
 use Rattle.machine_frames.specs.Methods.{IsThere, IsMethodAt}

@@ -5,10 +5,10 @@ use Rattle.std.proofs.lemmas.List.{length-reverse}
 use Rattle.std.proofs.lemmas.List.Sums.{sum_by-cons}
 use Rattle.machine_stands.proofs.Counting.{locals_count, operands_count}
 use Rattle.lists.specs.Lemmas.{some_in, some_is}
-use Rattle.coded_methods.specs.declared.method.CodedMethod.{CodedMethod}
-use Rattle.jop_opcodes.specs.declared.instruction.Instr.{Instr}
-use Rattle.jop_opcodes.specs.Instruction.{decoded}
-use Rattle.jop_opcodes.specs.Start.{IsByteOf}
+use Rattle.image_facts.specs.declared.method.CodedMethod.{CodedMethod}
+use Rattle.opcodes.specs.declared.instruction.Instr.{Instr}
+use Rattle.opcodes.specs.Instruction.{decoded}
+use Rattle.opcodes.specs.Start.{IsByteOf}
 use Rattle.jop_core.specs.declared.places.TheConstants.{STACK, METHOD}
 use Rattle.jop_core.specs.State as machine
 use Rattle.bytecode_model.specs.declared.Ending.{Ending}

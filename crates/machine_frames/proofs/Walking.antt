@@ -4,7 +4,7 @@ use Rattle.std.specs.Prelude.{slice_index}
 use Rattle.std.proofs.lemmas.List.{length-reverse}
 use Rattle.machine_stands.proofs.Counting.{locals_count}
 use Rattle.lists.specs.Lemmas.{some_is}
-use Rattle.coded_methods.specs.declared.method.CodedMethod.{CodedMethod}
+use Rattle.image_facts.specs.declared.method.CodedMethod.{CodedMethod}
 use Rattle.jop_core.specs.declared.places.TheConstants.{STACK, METHOD}
 use Rattle.jop_core.specs.State as machine
 use Rattle.bytecode_model.specs.State.{Frame, State}

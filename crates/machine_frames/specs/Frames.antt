@@ -1,6 +1,6 @@
 -- The frames of a state, as they are found among the words of the machine's stack.
 use Rattle.std.specs.Prelude.{◌≡◌, ℕ, ◌+◌, ◌<◌, ◌≤◌, List, ◌∷◌, ◌++◌, length}
-use Rattle.coded_methods.specs.declared.method.CodedMethod.{CodedMethod}
+use Rattle.image_facts.specs.declared.method.CodedMethod.{CodedMethod}
 use Rattle.jop_core.specs.declared.places.TheConstants.{STACK}
 use Rattle.jop_core.specs.State as machine
 use Rattle.bytecode_model.specs.State.{Frame, State}

@@ -1,8 +1,8 @@
 -- Methods by the place of their record.
 use Rattle.std.specs.Prelude.{◌≡◌, ℕ, ◌<◌, ◌^◌, List, length, slice_get, IsSomeAnd, Some}
 use Rattle.std.specs.List.Sorted.{IsStrictlyIncreasing}
-use Rattle.coded_methods.specs.declared.method.CodedMethod.{CodedMethod}
-use Rattle.coded_methods.specs.Methods.{places}
+use Rattle.image_facts.specs.declared.method.CodedMethod.{CodedMethod}
+use Rattle.image_facts.specs.Methods.{places}
 
 -- the record of one of them lies at the place
 pub record IsThere (methods : List CodedMethod) (place : ℕ) : Type 0 where

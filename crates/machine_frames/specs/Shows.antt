@@ -1,8 +1,8 @@
 -- The states of programs for which a machine stands.
 use Rattle.std.specs.Prelude.{◌≡◌, ℕ, List, [], ◌∷◌, IsSomeAnd, Some, None}
 use Rattle.std.specs.declared.option.Option.{Option}
-use Rattle.coded_methods.specs.declared.method.CodedMethod.{CodedMethod}
-use Rattle.coded_methods.specs.Methods.{AreMethods}
+use Rattle.image_facts.specs.declared.method.CodedMethod.{CodedMethod}
+use Rattle.image_facts.specs.Methods.{AreMethods}
 use Rattle.jop_core.specs.State as machine
 use Rattle.bytecode_model.specs.declared.Ending.TheVariants.{Running, Raising}
 use Rattle.bytecode_model.specs.State.{Frame, State}

@@ -5,20 +5,20 @@ ghost use Rattle.machine_frames.specs.Shows.{IsShown, EachState};
 ghost use Rattle.machine_frames.specs.Frames.{HasStack, EachFrameAt};
 
 use crate::methods::method_at;
-use coded_methods::CodedMethod;
+use image_facts::CodedMethod;
 use jop_core::Machine;
 use jop_core::places::{METHOD, STACK};
 use machine_stands::frames_have_room;
 
-// Where a frame stands: its local variables begin at an on-chip place, and the record of its method lies at a place of the
-// image.
+/// Where a frame stands: its local variables begin at an on-chip place, and the record of its method lies at a place of the
+/// image.
 #[derive(Clone, Copy)]
 pub struct FramePlace {
     locals: u32,
     method: u32,
 }
 
-// The word of the stack at a place, the two top ones of which are in A and B.
+/// The word of the stack at a place, the two top ones of which are in A and B.
 fn stack_word<const N: usize>(machine: &Machine<N>, place: u32) -> u32
     requires low { STACK ≤ place }
     requires high { place ≤ machine.now.sp + 2 }
@@ -35,7 +35,7 @@ fn stack_word<const N: usize>(machine: &Machine<N>, place: u32) -> u32
     }
 }
 
-// The place of the caller's frame, where the frame at a place has a caller.
+/// The place of the caller's frame, where the frame at a place has a caller.
 fn caller_of<const N: usize>(
     machine: &Machine<N>,
     methods: &[CodedMethod<'_>],

@@ -1,7 +1,7 @@
 //! Methods by the place of their record.
 ghost use Rattle.machine_frames.specs.Methods.{IsThere, IsNumberAt, IsMethodAt};
 
-use coded_methods::{CodedMethod, number_at};
+use image_facts::{CodedMethod, number_at};
 
 /// The number of the method whose record lies at a place.
 pub fn number_of(methods: &[CodedMethod<'_>], place: u32) -> u32

@@ -4,7 +4,7 @@ ghost use Rattle.bytecode_model.specs.Sizes.{value_words};
 ghost use Rattle.machine_frames.specs.Shows.{IsShown, EachTop, IsRunning, EachRunning, IsRaising, EachRaising};
 
 use crate::methods::{method_at, number_of};
-use coded_methods::{CodedMethod, instruction_with};
+use image_facts::{CodedMethod, instruction_with};
 use jop_core::Machine;
 use jop_core::places::METHOD;
 use machine_stands::frames_have_room;

@@ -11,10 +11,10 @@ use Rattle.lists.specs.Lemmas.{some_same}
 use Rattle.stack_cache.specs.Size.{IsSize}
 use Rattle.microcode_rom.specs.declared.TheConstants.{CONSTANTS as NUMBERS}
 use Rattle.jop_core.specs.declared.places.TheConstants.{CONSTANTS, STACK}
-use Rattle.word32.specs.Packed.{words_for, words_of_bytes, PackedHasBytes, PackedHasWords}
+use Rattle.base.specs.Packed.{words_for, words_of_bytes, PackedHasBytes, PackedHasWords}
 use Rattle.method_cache.specs.Contents.{Entry, Cache, IsCache, AreApart, HaveWords, total_blocks, blocks_for, empty, loaded, can_load, find_words}
 use Rattle.memory_timing.specs.declared.Config.{Config}
-use Rattle.bare_image.specs.Bare.{Image, IsImage, frame_words}
+use Rattle.image_file.specs.Bare.{Image, IsImage, frame_words}
 use Rattle.jop_core.specs.Reset.{bare_reset, CanStartBare, reset_words, places}
 use Rattle.bytecode_model.specs.declared.Value.{Value}
 use Rattle.bytecode_model.specs.declared.Value.TheVariants.{Int, Unset}

@@ -6,8 +6,8 @@ use Rattle.std.proofs.lemmas.Bool.Decides.{nat_tests}
 use Rattle.lists.specs.Lemmas.{holds_at}
 use Rattle.micro_flow.specs.declared.CostParams.{CostParams}
 use Rattle.micro_flow.specs.Walk.{IsCost}
-use Rattle.jop_opcodes.specs.declared.instruction.Instr.{Instr}
-use Rattle.jop_opcodes.specs.Bytes.{u1}
+use Rattle.opcodes.specs.declared.instruction.Instr.{Instr}
+use Rattle.opcodes.specs.Bytes.{u1}
 use Rattle.jop_core.specs.State as machine
 use Rattle.jop_core.specs.Cycle.{cycle_of, asks_input, at_boundary}
 use Rattle.jop_core.specs.Scene.{Scene, begun, next_scene, run, output_during, given, left_over}

@@ -3,9 +3,9 @@ use Rattle.std.proofs.Common.{◌≡◌, ℕ, suc, ◌/◌, ◌%◌, Bool, true,
 use Rattle.std.specs.Prelude.{slice_index, All, IsSome, IfSome, if◌then◌else◌, is_some, unwrap_or}
 use Rattle.std.proofs.lemmas.Bool.Decides.{nat_tests}
 use Rattle.lists.specs.Lemmas.{some_same}
-use Rattle.word32.specs.Packed.{byte_of, words_of_bytes, PackedHasBytes}
+use Rattle.base.specs.Packed.{byte_of, words_of_bytes, PackedHasBytes}
 use Rattle.method_cache.specs.Contents.{Entry, Cache, find_words, is_cached, word_of}
-use Rattle.jop_opcodes.specs.Bytes.{u1}
+use Rattle.opcodes.specs.Bytes.{u1}
 use Rattle.bytecode_model.specs.Program.{Program, Body, body_of}
 use Rattle.image_facts.specs.Places.{Places}
 use Rattle.image_facts.specs.Says.{Says, IsCode}

@@ -4,7 +4,7 @@ use Rattle.std.specs.Prelude.{All, IsTrue, IfSome, IsSomeAnd, nat_le, nat_lt, is
 use Rattle.std.proofs.Math.Nat.{mod-lt}
 use Rattle.std.proofs.lemmas.Bool.{and_parts}
 use Rattle.std.proofs.lemmas.Bool.Decides.{nat_tests}
-use Rattle.word32.specs.Packed.{words_for, words_of_bytes, PackedHasWords}
+use Rattle.base.specs.Packed.{words_for, words_of_bytes, PackedHasWords}
 use Rattle.method_cache.specs.Contents.{Entry, Cache, AreApart, HaveWords, blocks_for, blocks_of, total_blocks, fitting, find_words, is_cached, can_load, loaded}
 use Rattle.bytecode_model.specs.Program.{Program, Body, body_of}
 use Rattle.image_facts.specs.Places.{Places}

@@ -3,14 +3,14 @@ use Rattle.std.proofs.Common.{◌≡◌, ℕ, ◌+◌, List, Result, Ok, Err, Op
 use Rattle.std.specs.Prelude.{IfSome}
 use Rattle.std.proofs.lemmas.Option.{none-some}
 use Rattle.lists.specs.Lemmas.{onto_some, some_same}
-use Rattle.jop_opcodes.specs.declared.instruction.Instr.{Instr}
-use Rattle.jop_opcodes.specs.declared.instruction.DecodeFault.{DecodeFault}
-use Rattle.jop_opcodes.specs.Bytes.{u1}
-use Rattle.jop_opcodes.specs.Form.{Operands, Form, NotAnOpcode, Fixed, Widened, TableSwitch, LookupSwitch, Wide}
-use Rattle.jop_opcodes.specs.Instruction.{decoded, table_switch_at, lookup_switch_at}
-use Rattle.jop_opcodes.specs.Row as opcodes
-use Rattle.jop_opcodes.specs.Target.{WholeIsWithin}
-use Rattle.jop_opcodes.specs.Reading.{plain_instr, wide_instr, IsOfForm, InstructionsAreOfTheirForm, WideOnesMayBeWide, WideOnesAreOfTheirForm}
+use Rattle.opcodes.specs.declared.instruction.Instr.{Instr}
+use Rattle.opcodes.specs.declared.instruction.DecodeFault.{DecodeFault}
+use Rattle.opcodes.specs.Bytes.{u1}
+use Rattle.opcodes.specs.Form.{Operands, Form, NotAnOpcode, Fixed, Widened, TableSwitch, LookupSwitch, Wide}
+use Rattle.opcodes.specs.Instruction.{decoded, table_switch_at, lookup_switch_at}
+use Rattle.opcodes.specs.Row as opcodes
+use Rattle.opcodes.specs.Target.{WholeIsWithin}
+use Rattle.opcodes.specs.Reading.{plain_instr, wide_instr, IsOfForm, InstructionsAreOfTheirForm, WideOnesMayBeWide, WideOnesAreOfTheirForm}
 use Rattle.jop_core.specs.State as machine
 use Rattle.bytecode_model.specs.declared.Ending.{Ending}
 use Rattle.bytecode_model.specs.declared.Ending.TheVariants.{Running}

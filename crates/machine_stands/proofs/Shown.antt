@@ -3,9 +3,9 @@ use Rattle.std.proofs.Common.{◌≡◌, ℕ, zero, suc, ◌+◌, ◌/◌, ◌%�
 use Rattle.std.specs.Prelude.{IfSome, slice_index}
 use Rattle.std.proofs.Math.Nat.{mod-eq_of_lt}
 use Rattle.lists.specs.Lemmas.{holds_at}
-use Rattle.word32.specs.Packed.{byte_of, PackedHasBytes}
+use Rattle.base.specs.Packed.{byte_of, PackedHasBytes}
 use Rattle.method_cache.specs.Contents.{is_cached, word_of}
-use Rattle.jop_opcodes.specs.Bytes.{u1}
+use Rattle.opcodes.specs.Bytes.{u1}
 use Rattle.jop_core.specs.declared.places.TheConstants.{RAISED}
 use Rattle.micro_sketch.specs.Sketch.{Sketch, abyte}
 use Rattle.bytecode_model.specs.State.{Frame}

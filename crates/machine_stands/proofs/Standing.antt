@@ -9,10 +9,10 @@ use Rattle.lists.specs.Lemmas.{holds_at}
 use Rattle.stack_cache.specs.Size.{IsSize}
 use Rattle.microcode_rom.specs.declared.TheConstants.{CONSTANTS as NUMBERS}
 use Rattle.memory_timing.specs.declared.TheConstants.{MAX_MEMORY}
-use Rattle.word32.specs.Packed.{PackedHasBytes}
+use Rattle.base.specs.Packed.{PackedHasBytes}
 use Rattle.method_cache.specs.Contents.{Cache, IsCache, is_cached, word_of}
 use Rattle.micro_flow.specs.declared.CostParams.{CostParams}
-use Rattle.jop_opcodes.specs.Start.{AreStarts}
+use Rattle.opcodes.specs.Start.{AreStarts}
 use Rattle.jop_core.specs.declared.places.TheConstants.{CONSTANTS, STACK}
 use Rattle.jop_core.specs.State as machine
 use Rattle.jop_core.specs.Cycle.{byte_of}

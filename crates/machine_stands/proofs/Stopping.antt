@@ -4,7 +4,7 @@ use Rattle.std.specs.Prelude.{slice_index, slice_set, IsSomeAnd}
 use Rattle.std.specs.declared.option.Option.{Option}
 use Rattle.std.proofs.lemmas.List.{append-nil, length-reverse}
 use mathlib.Core.List.{reverse_aux}
-use Rattle.jop_opcodes.specs.declared.instruction.Instr.{Instr}
+use Rattle.opcodes.specs.declared.instruction.Instr.{Instr}
 use Rattle.jop_core.specs.declared.places.TheConstants.{RAISED}
 use Rattle.jop_core.specs.State as machine
 use Rattle.micro_sketch.specs.Stands.{conc, stack_of, constants}

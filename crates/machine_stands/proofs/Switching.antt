@@ -5,12 +5,12 @@ use Rattle.std.specs.declared.option.Option.{Option}
 use Rattle.std.proofs.lemmas.List.{append-nil}
 use Rattle.std.proofs.Math.Nat.{mod-eq_of_lt}
 use Rattle.lists.specs.Lemmas.{holds_at}
-use Rattle.word32.specs.Packed.{byte_of, words_of_bytes, PackedHasWords}
+use Rattle.base.specs.Packed.{byte_of, words_of_bytes, PackedHasWords}
 use Rattle.method_cache.specs.Contents.{Cache, is_cached, loaded, word_of}
 use Rattle.microcode_rom.specs.declared.TheConstants.{ENTRIES}
 use Rattle.micro_flow.specs.declared.CostParams.{CostParams}
 use Rattle.micro_flow.specs.Walk.{begin, walk}
-use Rattle.jop_opcodes.specs.declared.instruction.Instr.{Instr}
+use Rattle.opcodes.specs.declared.instruction.Instr.{Instr}
 use Rattle.jop_core.specs.State as machine
 use Rattle.jop_core.specs.Operations.{load_stall}
 use Rattle.micro_sketch.specs.Sketch.{Sketch}

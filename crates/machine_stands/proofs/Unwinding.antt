@@ -7,12 +7,12 @@ use Rattle.std.proofs.Math.Nat.{mod-eq_of_lt}
 use Rattle.micro_sketch.proofs.RowSteps.{no_stalls}
 use Rattle.lists.specs.Lemmas.{holds_at}
 use mathlib.Core.List.{reverse_aux}
-use Rattle.word32.specs.Packed.{byte_of, words_of_bytes, PackedHasWords}
+use Rattle.base.specs.Packed.{byte_of, words_of_bytes, PackedHasWords}
 use Rattle.method_cache.specs.Contents.{Cache, is_cached, word_of}
 use Rattle.microcode_rom.specs.declared.TheConstants.{CONSTANTS as NUMBERS, RAISE}
 use Rattle.micro_flow.specs.declared.CostParams.{CostParams}
 use Rattle.micro_flow.specs.Walk.{IsRaiseCost, begin, walk}
-use Rattle.jop_opcodes.specs.declared.instruction.Instr.{Instr}
+use Rattle.opcodes.specs.declared.instruction.Instr.{Instr}
 use Rattle.jop_core.specs.declared.places.TheConstants.{CONSTANTS, STACK}
 use Rattle.jop_core.specs.State as machine
 use Rattle.jop_core.specs.Cycle.{at_boundary}

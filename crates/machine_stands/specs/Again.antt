@@ -2,7 +2,7 @@
 use Rattle.std.specs.Prelude.{◌≡◌, ℕ, ◌-◌, List, [], ◌∷◌, ◌++◌, length, reverse, Some, None}
 use Rattle.std.specs.declared.option.Option.{Option}
 use Rattle.micro_flow.specs.declared.CostParams.{CostParams}
-use Rattle.jop_opcodes.specs.declared.instruction.Instr.{Instr}
+use Rattle.opcodes.specs.declared.instruction.Instr.{Instr}
 use Rattle.jop_core.specs.State as machine
 use Rattle.micro_sketch.specs.Sketch.{Sketch}
 use Rattle.micro_sketch.specs.Stands.{Env}
@@ -48,18 +48,22 @@ pub record GoesOn (P : Program) (pl : Places) (n size : ℕ) (m : machine.State)
   pub jpc : f.jpc ≡ top.pc
 
 abbrev pub MachinesStandAgain : Type 0
-MachinesStandAgain = (P : Program) (pl : Places) (n size : ℕ) (m new : machine.State) (s s' : State) (st : StandsFor P pl n size m s) (p : CostParams) (answers : List (Option ℕ)) (f : Effect) (cycles : ℕ)
+MachinesStandAgain = (P : Program) (pl : Places) (n size : ℕ) (m new : machine.State) (s s' : State) (st : StandsFor P pl n size m s) (p : CostParams)
+    (answers : List (Option ℕ)) (f : Effect) (cycles : ℕ)
     → Says P pl → IsWellFormed P (limits_of P pl n size) s' → s.mode ≡ Running → GoesOn P pl n size m s s' st f
     → DidRow n p m.opcode f (seen p answers m st.words st.below) (env_of m) cycles new → StandsFor P pl n size new s'
 
 -- A row that some words make is a run in at most its opcode's cost.
 abbrev pub MadeRowsRun : Type 0
-MadeRowsRun = (n : ℕ) (p : CostParams) (op : ℕ) (f : Effect) (x : Sketch) (e : Env) (m : machine.State) → StandsAt n p op x e m → Makes f x → RunsRow n p op f x e
+MadeRowsRun = (n : ℕ) (p : CostParams) (op : ℕ) (f : Effect) (x : Sketch) (e : Env) (m : machine.State) → StandsAt n p op x e m → Makes f x
+    → RunsRow n p op f x e
 
 -- So the machine comes to the next state, where the row takes just the answers that the step takes, and puts out what the step puts out.
 abbrev pub RowsCome : Type 0
-RowsCome = (P : Program) (pl : Places) (n size : ℕ) (m : machine.State) (answer : Option ℕ) (s s' : State) (h : IsStep P pl n size m answer s s') (i : Instr) (taken : List (Option ℕ)) (f : Effect)
-    → s.mode ≡ Running → instr_at P h.stands.top.method h.stands.top.pc ≡ Some i → s'.answers ≡ s.answers ++ taken → f.answers ≡ None ∷ [] → s'.output ≡ s.output ++ reverse f.output
+RowsCome = (P : Program) (pl : Places) (n size : ℕ) (m : machine.State) (answer : Option ℕ) (s s' : State) (h : IsStep P pl n size m answer s s') (i : Instr)
+    (taken : List (Option ℕ)) (f : Effect)
+    → s.mode ≡ Running → instr_at P h.stands.top.method h.stands.top.pc ≡ Some i → s'.answers ≡ s.answers ++ taken → f.answers ≡ None ∷ []
+    → s'.output ≡ s.output ++ reverse f.output
     → GoesOn P pl n size m s s' h.stands f
     → RunsRow n (params m i.count 0) m.opcode f (seen (params m i.count 0) (taken ++ None ∷ []) m h.stands.words h.stands.below) (env_of m)
     → ComesTo P pl n size m s s'

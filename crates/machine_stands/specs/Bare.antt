@@ -2,7 +2,7 @@
 use Rattle.std.specs.Prelude.{◌≡◌, ℕ, [], Some}
 use Rattle.memory_timing.specs.declared.Config.{Config}
 use Rattle.stack_cache.specs.Size.{IsSize}
-use Rattle.bare_image.specs.Bare.{Image, IsImage}
+use Rattle.image_file.specs.Bare.{Image, IsImage}
 use Rattle.jop_core.specs.Reset.{bare_reset, CanStartBare}
 use Rattle.bytecode_model.specs.State.{State}
 use Rattle.bytecode_model.specs.Program.{Body, Program}

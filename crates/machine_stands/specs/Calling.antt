@@ -6,7 +6,8 @@ use Rattle.bytecode_model.specs.Types.{is_long}
 use Rattle.bytecode_model.specs.Slots.{spread, padded}
 use Rattle.machine_stands.specs.Frames.{AreLocals, AreOperands}
 
--- The topmost words are those of the values that are taken. In the opposite order, and with as many words more as there are further local variables, they are the local variables.
+-- The topmost words are those of the values that are taken. In the opposite order, and with as many words more as there are further local variables,
+-- they are the local variables.
 pub record Passed (place : ℕ → ℕ) (rest : List Value) (words : List ℕ) (size : ℕ) (locals : List Value) : Type 0 where
   pub arguments : List ℕ
   pub others : List ℕ

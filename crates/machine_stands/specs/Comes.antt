@@ -1,11 +1,11 @@
 -- A step of the bytecode as a run of the machine to the next boundary.
 use Rattle.std.specs.Prelude.{◌≡◌, ℕ, ◌+◌, ◌%◌, ◌^◌, ◌<◌, ◌≤◌, Bool, true, false, List, [], ◌∷◌, ◌++◌, length, ◌==◌, if◌then◌else◌, Some, None, IsSomeAnd}
 use Rattle.std.specs.declared.option.Option.{Option}
-use Rattle.word32.specs.Packed.{words_of_bytes}
+use Rattle.base.specs.Packed.{words_of_bytes}
 use Rattle.method_cache.specs.Contents.{is_cached, loaded}
 use Rattle.micro_flow.specs.declared.CostParams.{CostParams}
 use Rattle.micro_flow.specs.Walk.{IsCost, IsRaiseCost}
-use Rattle.jop_opcodes.specs.Bytes.{u1}
+use Rattle.opcodes.specs.Bytes.{u1}
 use Rattle.jop_core.specs.State as machine
 use Rattle.jop_core.specs.Operations.{load_stall}
 use Rattle.jop_core.specs.Cycle.{at_boundary}
@@ -62,7 +62,8 @@ Found false place words old new stall =
 -- the one look-up of a method, or none
 abbrev pub LooksUp : Program → Places → Option ℕ → (old new : machine.State) → (stall : ℕ) → Type 0
 LooksUp P pl None old new stall = (stall ≡ 0) × (new.cache ≡ old.cache) × (new.hits ≡ old.hits) × (new.misses ≡ old.misses)
-LooksUp P pl (Some k) old new stall = IsSomeAnd (body_of P k) (λ b. Found (is_cached (pl.method k) old.cache) (pl.method k) (words_of_bytes b.code) old new stall)
+LooksUp P pl (Some k) old new stall = IsSomeAnd (body_of P k)
+    (λ b. Found (is_cached (pl.method k) old.cache) (pl.method k) (words_of_bytes b.code) old new stall)
 
 -- ---- the run
 

@@ -9,7 +9,8 @@ use Rattle.machine_stands.specs.Frames.{FrameWords, AreFrames, Saves, stacked}
 
 -- The words of frames are at most as many as the frames may take.
 abbrev pub FramesHaveRoom : Type 0
-FramesHaveRoom = (P : Program) (pl : Places) (place : ℕ → ℕ) (objects : ℕ) (frames : List Frame) (words : List FrameWords) → AreFrames P pl place frames words → formed.AreFrames P objects frames
+FramesHaveRoom = (P : Program) (pl : Places) (place : ℕ → ℕ) (objects : ℕ) (frames : List Frame) (words : List FrameWords) → AreFrames P pl place frames words
+    → formed.AreFrames P objects frames
     → length (stacked words) ≤ frames_words P frames
 
 -- Five are saved.

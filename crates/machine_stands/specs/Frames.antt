@@ -48,7 +48,8 @@ sp_over ws = STACK + length (stacked ws) - 3
 abbrev pub vp_over : List FrameWords → ℕ
 vp_over ws = STACK + length (stacked ws)
 
--- A frame saves what its caller goes on with: SP, the place behind the invoke instruction, VP, and the places of its pool and its method. Those of boot's frame are any words.
+-- A frame saves what its caller goes on with: SP, the place behind the invoke instruction, VP, and the places of its pool and its method. Those of
+-- boot's frame are any words.
 abbrev pub Saves : Program → Places → (callers : List Frame) → List FrameWords → (saved : List ℕ) → Type 0
 Saves P pl [] ws saved = length saved ≡ 5
 Saves P pl (c ∷ cs) [] saved = ⊥

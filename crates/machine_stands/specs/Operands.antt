@@ -21,14 +21,16 @@ pub record LongOnTop (place : ℕ → ℕ) (n : ℤ) (rest : List Value) (words 
   pub stay : AreOperands place rest others
 
 abbrev pub OneWordIsOnTop : Type 0
-OneWordIsOnTop = (place : ℕ → ℕ) (v : Value) (rest : List Value) (words : List ℕ) → is_long v ≡ false → AreOperands place (v ∷ rest) words → OneOnTop place v rest words
+OneWordIsOnTop = (place : ℕ → ℕ) (v : Value) (rest : List Value) (words : List ℕ) → is_long v ≡ false → AreOperands place (v ∷ rest) words
+    → OneOnTop place v rest words
 
 abbrev pub TwoWordsAreOnTop : Type 0
 TwoWordsAreOnTop = (place : ℕ → ℕ) (n : ℤ) (rest : List Value) (words : List ℕ) → AreOperands place (Long n ∷ rest) words → LongOnTop place n rest words
 
 -- a value of one word on top of others
 abbrev pub OneWordIsPushed : Type 0
-OneWordIsPushed = (place : ℕ → ℕ) (v : Value) (rest : List Value) (word : ℕ) (words : List ℕ) → is_long v ≡ false → IsWordOf place v word → AreOperands place rest words → AreOperands place (v ∷ rest) (word ∷ words)
+OneWordIsPushed = (place : ℕ → ℕ) (v : Value) (rest : List Value) (word : ℕ) (words : List ℕ) → is_long v ≡ false → IsWordOf place v word
+    → AreOperands place rest words → AreOperands place (v ∷ rest) (word ∷ words)
 
 -- operands in two parts, of which each has its words
 pub record Parts (place : ℕ → ℕ) (upper lower : List Value) (words : List ℕ) : Type 0 where
@@ -39,10 +41,12 @@ pub record Parts (place : ℕ → ℕ) (upper lower : List Value) (words : List 
   pub are_lower : AreOperands place lower lower_words
 
 abbrev pub OperandsArePartedAnywhere : Type 0
-OperandsArePartedAnywhere = (place : ℕ → ℕ) (upper lower : List Value) (words : List ℕ) → AreOperands place (upper ++ lower) words → Parts place upper lower words
+OperandsArePartedAnywhere = (place : ℕ → ℕ) (upper lower : List Value) (words : List ℕ) → AreOperands place (upper ++ lower) words
+    → Parts place upper lower words
 
 abbrev pub OperandsAreJoined : Type 0
-OperandsAreJoined = (place : ℕ → ℕ) (upper lower : List Value) (upper_words lower_words : List ℕ) → AreOperands place upper upper_words → AreOperands place lower lower_words
+OperandsAreJoined = (place : ℕ → ℕ) (upper lower : List Value) (upper_words lower_words : List ℕ) → AreOperands place upper upper_words
+    → AreOperands place lower lower_words
     → AreOperands place (upper ++ lower) (upper_words ++ lower_words)
 
 abbrev pub OperandsHaveWords : Type 0

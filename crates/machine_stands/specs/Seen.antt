@@ -24,5 +24,6 @@ pub record IsSeen (n : ℕ) (p : CostParams) (answers : List (Option ℕ)) (m : 
   pub deep : (seen p answers m w below).deep ≡ stacked below ++ w.locals
 
 abbrev pub MachinesAreSeen : Type 0
-MachinesAreSeen = (P : Program) (pl : Places) (n size : ℕ) (m : machine.State) (s : State) (p : CostParams) (answers : List (Option ℕ)) (st : StandsFor P pl n size m s)
+MachinesAreSeen = (P : Program) (pl : Places) (n size : ℕ) (m : machine.State) (s : State) (p : CostParams) (answers : List (Option ℕ))
+    (st : StandsFor P pl n size m s)
     → IsWellFormed P (limits_of P pl n size) s → s.mode ≡ Running → p.r ≡ m.port.read → p.w ≡ m.port.write → IsSeen n p answers m st.words st.below

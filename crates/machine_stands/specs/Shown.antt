@@ -2,7 +2,7 @@
 use Rattle.std.specs.Prelude.{◌≡◌, ℕ, zero, suc, ◌+◌, ◌%◌, ◌^◌, ◌<◌, ◌≤◌, List, ◌++◌, length, drop, reverse}
 use Rattle.std.specs.declared.option.Option.{Option}
 use Rattle.micro_flow.specs.declared.CostParams.{CostParams}
-use Rattle.jop_opcodes.specs.Bytes.{u1}
+use Rattle.opcodes.specs.Bytes.{u1}
 use Rattle.jop_core.specs.State as machine
 use Rattle.micro_sketch.specs.Sketch.{Sketch, abyte}
 use Rattle.micro_sketch.specs.View.{env_of}
@@ -22,7 +22,8 @@ abbrev pub advanced : ℕ → Sketch → Sketch
 advanced zero x = x
 advanced (suc k) x = advanced k (record x { jpc = (x.jpc + 1) % 2 ^ 16 })
 
-pub record Shows (P : Program) (pl : Places) (n size : ℕ) (m : machine.State) (s : State) (st : StandsFor P pl n size m s) (p : CostParams) (x : Sketch) : Type 0 where
+pub record Shows (P : Program) (pl : Places) (n size : ℕ) (m : machine.State) (s : State) (st : StandsFor P pl n size m s) (p : CostParams)
+    (x : Sketch) : Type 0 where
   pub stands : StandsAt n p m.opcode x (env_of m) m
   -- the operands and the saved words
   pub words : words_of x ≡ st.words.operands ++ reverse st.words.saved
@@ -43,5 +44,6 @@ pub record Shows (P : Program) (pl : Places) (n size : ℕ) (m : machine.State) 
   pub low : drop 24 x.low ≡ registers_of P pl n size s st.top raised
 
 abbrev pub SketchesShow : Type 0
-SketchesShow = (P : Program) (pl : Places) (n size : ℕ) (m : machine.State) (answer : Option ℕ) (s s' : State) (h : IsStep P pl n size m answer s s') (p : CostParams) (answers : List (Option ℕ)) → s.mode ≡ Running
+SketchesShow = (P : Program) (pl : Places) (n size : ℕ) (m : machine.State) (answer : Option ℕ) (s s' : State) (h : IsStep P pl n size m answer s s')
+    (p : CostParams) (answers : List (Option ℕ)) → s.mode ≡ Running
     → p.r ≡ m.port.read → p.w ≡ m.port.write → Shows P pl n size m s h.stands p (seen p answers m h.stands.words h.stands.below)

@@ -1,8 +1,8 @@
 -- What the microcode of an opcode has to do: go to where the machine stands for the next state.
 use Rattle.std.specs.Prelude.{◌≡◌, ◌⊎◌, ℕ, ◌==◌, ◌||◌, Bool, true, IsTrue, is_some, Some}
 use Rattle.std.specs.declared.option.Option.{Option}
-use Rattle.bare_image.specs.Shapes.{shape_of}
-use Rattle.bare_image.specs.Bare.{return_code}
+use Rattle.image_file.specs.Shapes.{shape_of}
+use Rattle.image_file.specs.Bare.{return_code}
 use Rattle.jop_core.specs.State as machine
 use Rattle.bytecode_model.specs.declared.Ending.TheVariants.{Running, Raising}
 use Rattle.bytecode_model.specs.State.{State}

@@ -1,12 +1,13 @@
 -- When a machine, at a boundary, stands for a state of a program.
-use Rattle.std.specs.Prelude.{◌≡◌, ℕ, ◌+◌, ◌-◌, ◌^◌, ◌<◌, ◌≤◌, true, List, [], ◌∷◌, ◌++◌, length, take, drop, slice_get, slice_index, All, IsTrue, IfSome, IsSomeAnd, Some}
+use Rattle.std.specs.Prelude.{◌≡◌, ℕ, ◌+◌, ◌-◌, ◌^◌, ◌<◌, ◌≤◌, true, List, [], ◌∷◌, ◌++◌, length, take, drop, slice_get, slice_index, All, IsTrue, IfSome}
+use Rattle.std.specs.Prelude.{IsSomeAnd, Some}
 use Rattle.stack_cache.specs.Size.{IsSize}
 use Rattle.microcode_rom.specs.declared.TheConstants.{CONSTANTS as NUMBERS, RAISE}
 use Rattle.method_cache.specs.Contents.{Entry, Cache, IsCache, is_cached, can_load}
 use Rattle.memory_timing.specs.declared.TheConstants.{MAX_MEMORY}
 use Rattle.memory_timing.specs.Port.{padded}
-use Rattle.word32.specs.Packed.{words_for, words_of_bytes}
-use Rattle.jop_opcodes.specs.Bytes.{u1}
+use Rattle.base.specs.Packed.{words_for, words_of_bytes}
+use Rattle.opcodes.specs.Bytes.{u1}
 use Rattle.jop_core.specs.declared.halt.Halt.TheVariants as halts
 use Rattle.jop_core.specs.declared.places.TheConstants.{POOL, METHOD, NEXT_FREE, MEMORY_END, FRAME_SUM, FRAME_LIMIT, RAISE_LIST, RAISED, CONSTANTS, STACK}
 use Rattle.jop_core.specs.State as machine

@@ -2,7 +2,7 @@
 use Rattle.std.specs.Prelude.{◌≡◌, ℕ, ◌+◌, ◌<◌, ◌≤◌, List, [], ◌∷◌, ◌++◌, length, reverse, Some, None}
 use Rattle.std.specs.declared.option.Option.{Option}
 use Rattle.micro_flow.specs.Walk.{IsCost}
-use Rattle.jop_opcodes.specs.declared.instruction.Instr.{Instr}
+use Rattle.opcodes.specs.declared.instruction.Instr.{Instr}
 use Rattle.jop_core.specs.declared.halt.Halt.TheVariants as halts
 use Rattle.jop_core.specs.State as machine
 use Rattle.micro_sketch.specs.Sketch.{Sketch}
@@ -27,7 +27,8 @@ pub record SameRest (s s' : State) : Type 0 where
   pub output : s'.output ≡ s.output
 
 -- The row leaves some words above those that the frame saves, and the object that is raised; jpc is past a byte of the instruction.
-pub record RaisesOn (P : Program) (pl : Places) (n size : ℕ) (m : machine.State) (s s' : State) (st : StandsFor P pl n size m s) (i : Instr) (p : ℕ) (f : rows.Raising) : Type 0 where
+pub record RaisesOn (P : Program) (pl : Places) (n size : ℕ) (m : machine.State) (s s' : State) (st : StandsFor P pl n size m s) (i : Instr) (p : ℕ)
+    (f : rows.Raising) : Type 0 where
   pub mode : s'.mode ≡ Raising p
   pub frames : s'.frames ≡ record st.top { operands = [] } ∷ st.callers
   pub rest : SameRest s s'
@@ -40,7 +41,8 @@ pub record RaisesOn (P : Program) (pl : Places) (n size : ℕ) (m : machine.Stat
 
 -- So the machine comes to the raise routine.
 abbrev pub RaisesCome : Type 0
-RaisesCome = (P : Program) (pl : Places) (n size : ℕ) (m : machine.State) (answer : Option ℕ) (s s' : State) (h : IsStep P pl n size m answer s s') (i : Instr) (p : ℕ) (f : rows.Raising)
+RaisesCome = (P : Program) (pl : Places) (n size : ℕ) (m : machine.State) (answer : Option ℕ) (s s' : State) (h : IsStep P pl n size m answer s s') (i : Instr)
+    (p : ℕ) (f : rows.Raising)
     → s.mode ≡ Running → instr_at P h.stands.top.method h.stands.top.pc ≡ Some i → RaisesOn P pl n size m s s' h.stands i p f
     → RunsToRaise n (params m i.count 0) m.opcode f (seen (params m i.count 0) (None ∷ []) m h.stands.words h.stands.below) (env_of m)
     → ComesTo P pl n size m s s'

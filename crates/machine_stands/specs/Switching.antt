@@ -1,9 +1,9 @@
 -- When a machine stands again, after a row that goes on in another frame.
 use Rattle.std.specs.Prelude.{◌≡◌, ℕ, ◌+◌, ◌%◌, ◌^◌, Bool, true, false, ◌==◌, List, [], ◌∷◌, ◌++◌, length, reverse, Some, None}
 use Rattle.std.specs.declared.option.Option.{Option}
-use Rattle.word32.specs.Packed.{words_of_bytes}
+use Rattle.base.specs.Packed.{words_of_bytes}
 use Rattle.method_cache.specs.Contents.{is_cached, loaded}
-use Rattle.jop_opcodes.specs.declared.instruction.Instr.{Instr}
+use Rattle.opcodes.specs.declared.instruction.Instr.{Instr}
 use Rattle.jop_core.specs.State as machine
 use Rattle.micro_sketch.specs.View.{env_of}
 use Rattle.micro_sketch.specs.Rows.{Switch, RunsSwitch}
@@ -51,7 +51,8 @@ pub record SwitchesOn (P : Program) (pl : Places) (n size : ℕ) (m : machine.St
   pub output : f.output ≡ []
 
 abbrev pub SwitchesCome : Type 0
-SwitchesCome = (P : Program) (pl : Places) (n size : ℕ) (m : machine.State) (answer : Option ℕ) (s s' : State) (h : IsStep P pl n size m answer s s') (i : Instr) (f : Switch)
+SwitchesCome = (P : Program) (pl : Places) (n size : ℕ) (m : machine.State) (answer : Option ℕ) (s s' : State) (h : IsStep P pl n size m answer s s')
+    (i : Instr) (f : Switch)
     → s.mode ≡ Running → instr_at P h.stands.top.method h.stands.top.pc ≡ Some i → SwitchesOn P pl n size m s s' f
     → RunsSwitch n (params m i.count 0) m.opcode f (seen (params m i.count 0) (None ∷ []) m h.stands.words h.stands.below) (env_of m)
     → ComesTo P pl n size m s s'

@@ -1,11 +1,11 @@
 -- Steps of the raise routine (JVM Specification SE 8, 2.10), from what it makes of the words of the top frame to where the machine stands for the next state.
 use Rattle.std.specs.Prelude.{◌≡◌, ℕ, ◌+◌, ◌≤◌, List, [], ◌∷◌, ◌++◌, length, drop, reverse, slice_get, Some, None}
 use Rattle.std.specs.declared.option.Option.{Option}
-use Rattle.word32.specs.Packed.{words_of_bytes}
+use Rattle.base.specs.Packed.{words_of_bytes}
 use Rattle.method_cache.specs.Contents.{is_cached}
 use Rattle.microcode_rom.specs.declared.TheConstants.{RAISE}
 use Rattle.micro_flow.specs.declared.CostParams.{CostParams}
-use Rattle.jop_opcodes.specs.declared.instruction.Instr.{Instr}
+use Rattle.opcodes.specs.declared.instruction.Instr.{Instr}
 use Rattle.jop_core.specs.declared.halt.Halt.TheVariants as halts
 use Rattle.jop_core.specs.State as machine
 use Rattle.micro_sketch.specs.Sketch.{Sketch}
@@ -34,7 +34,8 @@ use Rattle.machine_stands.specs.Switching.{FindsBy}
 abbrev pub seen_raising : CostParams → machine.State → FrameWords → List FrameWords → (left : List ℕ) → Sketch
 seen_raising p m w below left = begins_row p (sketch_of (length (stacked below) + length w.locals) (length left + 3) (None ∷ []) m)
 
-pub record IsSeenRaising (P : Program) (pl : Places) (n size : ℕ) (m : machine.State) (s : State) (st : StandsFor P pl n size m s) (object : ℕ) (p : CostParams) (x : Sketch) : Type 0 where
+pub record IsSeenRaising (P : Program) (pl : Places) (n size : ℕ) (m : machine.State) (s : State) (st : StandsFor P pl n size m s) (object : ℕ) (p : CostParams)
+    (x : Sketch) : Type 0 where
   pub same : m ≡ conc n x (env_of m)
   pub shape : Shaped n x
   pub starts : StartsAt p RAISE x (env_of m)
@@ -56,13 +57,15 @@ abbrev pub seen_raise : (P : Program) (pl : Places) (n size : ℕ) (m : machine.
 seen_raise P pl n size m s st = seen_raising (raise_params m st.body) m st.words st.below st.left
 
 abbrev pub RaisesAreSeen : Type 0
-RaisesAreSeen = (P : Program) (pl : Places) (n size : ℕ) (m : machine.State) (answer : Option ℕ) (s s' : State) (object : ℕ) (h : IsStep P pl n size m answer s s') → s.mode ≡ Raising object
+RaisesAreSeen = (P : Program) (pl : Places) (n size : ℕ) (m : machine.State) (answer : Option ℕ) (s s' : State) (object : ℕ)
+    (h : IsStep P pl n size m answer s s') → s.mode ≡ Raising object
     → IsSeenRaising P pl n size m s h.stands object (raise_params m h.stands.body) (seen_raise P pl n size m s h.stands)
 
 -- ---- a handler is entered
 
 -- the place of the object is on top of the saved words, and the method is looked up
-pub record HandlesOn (P : Program) (pl : Places) (n size : ℕ) (m : machine.State) (s s' : State) (st : StandsFor P pl n size m s) (object target : ℕ) (x : Sketch) (f : Switch) : Type 0 where
+pub record HandlesOn (P : Program) (pl : Places) (n size : ℕ) (m : machine.State) (s s' : State) (st : StandsFor P pl n size m s) (object target : ℕ)
+    (x : Sketch) (f : Switch) : Type 0 where
   pub mode : s'.mode ≡ Running
   pub frames : s'.frames ≡ record st.top { pc = target; operands = Ref object ∷ [] } ∷ st.callers
   pub rest : SameRest s s'
@@ -78,13 +81,16 @@ pub record HandlesOn (P : Program) (pl : Places) (n size : ℕ) (m : machine.Sta
   pub output : f.output ≡ []
 
 abbrev pub HandlersCome : Type 0
-HandlersCome = (P : Program) (pl : Places) (n size : ℕ) (m : machine.State) (answer : Option ℕ) (s s' : State) (object target : ℕ) (h : IsStep P pl n size m answer s s') (f : Switch) (y : Sketch) → let x = seen_raise P pl n size m s h.stands in
-    s.mode ≡ Raising object → Reaches n x y (env_of m) → IsDone y → Switches f x y → HandlesOn P pl n size m s s' h.stands object target x f → ComesTo P pl n size m s s'
+HandlersCome = (P : Program) (pl : Places) (n size : ℕ) (m : machine.State) (answer : Option ℕ) (s s' : State) (object target : ℕ)
+    (h : IsStep P pl n size m answer s s') (f : Switch) (y : Sketch) → let x = seen_raise P pl n size m s h.stands in
+    s.mode ≡ Raising object → Reaches n x y (env_of m) → IsDone y → Switches f x y → HandlesOn P pl n size m s s' h.stands object target x f
+    → ComesTo P pl n size m s s'
 
 -- ---- the frame is dropped
 
 -- y is x at the raise routine, where the caller's frame is the top one, and its operands are left
-pub record DropsOn (P : Program) (pl : Places) (n size : ℕ) (m : machine.State) (s s' : State) (st : StandsFor P pl n size m s) (object : ℕ) (y : Sketch) : Type 0 where
+pub record DropsOn (P : Program) (pl : Places) (n size : ℕ) (m : machine.State) (s s' : State) (st : StandsFor P pl n size m s) (object : ℕ)
+    (y : Sketch) : Type 0 where
   pub caller : Frame
   pub others : List Frame
   pub words : FrameWords
@@ -118,12 +124,14 @@ pub record DropsOn (P : Program) (pl : Places) (n size : ℕ) (m : machine.State
   pub loaded : y.words ≡ 0
 
 abbrev pub DropsCome : Type 0
-DropsCome = (P : Program) (pl : Places) (n size : ℕ) (m : machine.State) (answer : Option ℕ) (s s' : State) (object : ℕ) (h : IsStep P pl n size m answer s s') (y : Sketch) → let x = seen_raise P pl n size m s h.stands in
+DropsCome = (P : Program) (pl : Places) (n size : ℕ) (m : machine.State) (answer : Option ℕ) (s s' : State) (object : ℕ) (h : IsStep P pl n size m answer s s')
+    (y : Sketch) → let x = seen_raise P pl n size m s h.stands in
     s.mode ≡ Raising object → Reaches n x y (env_of m) → IsDone y → DropsOn P pl n size m s s' h.stands object y → ComesTo P pl n size m s s'
 
 -- ---- none caught it
 
 abbrev pub UncaughtCome : Type 0
-UncaughtCome = (P : Program) (pl : Places) (n size : ℕ) (m : machine.State) (answer : Option ℕ) (s s' : State) (object c : ℕ) (o : Object) (h : IsStep P pl n size m answer s s') (y : Sketch) → let x = seen_raise P pl n size m s h.stands in
+UncaughtCome = (P : Program) (pl : Places) (n size : ℕ) (m : machine.State) (answer : Option ℕ) (s s' : State) (object c : ℕ) (o : Object)
+    (h : IsStep P pl n size m answer s s') (y : Sketch) → let x = seen_raise P pl n size m s h.stands in
     s.mode ≡ Raising object → Reaches n x y (env_of m) → IsDone y → Halts halts.Uncaught x y → s'.mode ≡ Uncaught c → s'.frames ≡ s.frames → SameRest s s'
     → slice_get s.objects object ≡ Some o → kind_of P o ≡ Some (OfClass c) → ComesTo P pl n size m s s'

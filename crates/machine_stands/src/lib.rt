@@ -10,8 +10,10 @@ ghost use Rattle.machine_stands.specs.Calling.{ArgumentsArePassed};
 ghost use Rattle.machine_stands.specs.Fixed.{FixedWordsAreRead, PoolsAreRead, RaiseListIsRead};
 ghost use Rattle.machine_stands.specs.Going.{FramesGoOn, FramesRaise};
 ghost use Rattle.machine_stands.specs.Memory.{LongFieldsAreWritten};
-ghost use Rattle.machine_stands.specs.Operands.{OneWordIsOnTop, OneWordIsPushed, OperandsAreJoined, OperandsArePartedAnywhere, OperandsHaveWords, TwoWordsAreOnTop};
-ghost use Rattle.machine_stands.specs.Reading.{LookupSwitchesAreRead, PlainOnesAreRead, RowsAreRead, TableSwitchesAreRead, WideOnesAreRead, WideOnesHaveOpcodes};
+ghost use Rattle.machine_stands.specs.Operands.{OneWordIsOnTop, OneWordIsPushed, OperandsAreJoined, OperandsArePartedAnywhere, OperandsHaveWords};
+ghost use Rattle.machine_stands.specs.Operands.{TwoWordsAreOnTop};
+ghost use Rattle.machine_stands.specs.Reading.{LookupSwitchesAreRead, PlainOnesAreRead, RowsAreRead, TableSwitchesAreRead, WideOnesAreRead};
+ghost use Rattle.machine_stands.specs.Reading.{WideOnesHaveOpcodes};
 ghost use Rattle.machine_stands.specs.Seen.{MachinesAreSeen};
 ghost use Rattle.machine_stands.specs.Shown.{SketchesShow};
 ghost use Rattle.machine_stands.specs.Stopping.{EndsCome, RaisesCome};
@@ -27,8 +29,8 @@ pub fn bare_images_say()
 pub fn bare_images_begin()
     ensures { BareImagesBegin }
 {
-    word32::laws::packed_has_words();
-    word32::laws::packed_has_bytes();
+    base::laws::packed_has_words();
+    base::laws::packed_has_bytes();
 }
 
 /// A `putfield` of a long, as two writes of the memory.
@@ -52,8 +54,8 @@ pub fn machines_are_seen()
 pub fn machines_stand_again()
     ensures { MachinesStandAgain }
 {
-    jop_opcodes::laws::starts_follow_one_another();
-    word32::laws::packed_has_bytes();
+    opcodes::laws::starts_follow_one_another();
+    base::laws::packed_has_bytes();
     micro_sketch::laws::rows_are_steps();
 }
 
@@ -83,9 +85,9 @@ pub fn rows_stop()
 pub fn rows_switch()
     ensures { SwitchesCome }
 {
-    jop_opcodes::laws::starts_follow_one_another();
-    word32::laws::packed_has_bytes();
-    word32::laws::packed_has_words();
+    opcodes::laws::starts_follow_one_another();
+    base::laws::packed_has_bytes();
+    base::laws::packed_has_words();
     micro_sketch::laws::rows_are_steps();
     micro_sketch::laws::runs_add_up();
     machines_are_seen();
@@ -105,15 +107,15 @@ pub fn rows_are_read()
     ensures wide_opcodes { WideOnesHaveOpcodes }
     ensures wide { WideOnesAreRead }
 {
-    jop_opcodes::laws::instructions_end_within();
-    jop_opcodes::laws::instructions_are_read();
+    opcodes::laws::instructions_end_within();
+    opcodes::laws::instructions_are_read();
 }
 
 /// The sketch of a machine shows the top frame, the bytes of its method and the registers.
 pub fn sketches_show()
     ensures { SketchesShow }
 {
-    word32::laws::packed_has_bytes();
+    base::laws::packed_has_bytes();
     machines_are_seen();
 }
 
@@ -162,9 +164,9 @@ pub fn raises_unwind()
     ensures drops { DropsCome }
     ensures uncaught { UncaughtCome }
 {
-    jop_opcodes::laws::starts_follow_one_another();
-    word32::laws::packed_has_bytes();
-    word32::laws::packed_has_words();
+    opcodes::laws::starts_follow_one_another();
+    base::laws::packed_has_bytes();
+    base::laws::packed_has_words();
     micro_sketch::laws::rows_are_steps();
     micro_sketch::laws::machines_are_seen_as_sketches();
     micro_sketch::laws::raise_keeps_its_cost();

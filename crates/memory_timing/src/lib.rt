@@ -9,7 +9,7 @@ ghost use Rattle.std.specs.Prelude.{◌≡◌, ◌+◌, ◌≤◌, ◌↔◌, []
 ghost use Rattle.memory_timing.specs.Port.{ReadIsReadyInTime, WriteIsReadyInTime, ReadStays};
 ghost use Rattle.memory_timing.specs.declared.TheConstants.{MIN_MEMORY, MAX_MEMORY, MAX_WAIT, MIN_BLOCKS, MAX_BLOCKS, MIN_BLOCK_WORDS, MAX_BLOCK_WORDS};
 
-use jop_base::NoMemory;
+use base::NoMemory;
 use std::alloc::Global;
 use std::marker::Model;
 

@@ -1,5 +1,6 @@
 -- What the blocks of the ring mean: the methods that they hold.
-use Rattle.std.specs.Prelude.{◌≡◌, ℕ, ◌*◌, ◌<◌, zero, suc, ◌-◌, Bool, false, if◌then◌else◌, ◌==◌, ◌&&◌, List, [], ◌∷◌, ◌++◌, length, replicate, take, drop, slice_index_or, Option, Some, None}
+use Rattle.std.specs.Prelude.{◌≡◌, ℕ, ◌*◌, ◌<◌, zero, suc, ◌-◌, Bool, false, if◌then◌else◌, ◌==◌, ◌&&◌, List, [], ◌∷◌, ◌++◌, length, replicate, take, drop}
+use Rattle.std.specs.Prelude.{slice_index_or, Option, Some, None}
 use Rattle.method_cache.specs.declared.blocks.Tag.{Tag}
 use Rattle.method_cache.specs.declared.blocks.Extent.{Extent}
 use Rattle.method_cache.specs.Contents.{Entry, blocks_for, blocks_of}

@@ -2,7 +2,8 @@
 //!
 //! `rotated at ring` is the ring as a list that begins at place `at`.
 
-ghost use Rattle.std.specs.Prelude.{◌≡◌, ◌+◌, ◌*◌, ◌%◌, ◌<◌, ◌≤◌, ◌++◌, true, false, length, replicate, drop, take, slice_index, slice_index_or, nat_lt, if◌then◌else◌, IfSome, IfNone, All, None};
+ghost use Rattle.std.specs.Prelude.{◌≡◌, ◌+◌, ◌*◌, ◌%◌, ◌<◌, ◌≤◌, ◌++◌, true, false, length, replicate, drop, take, slice_index, slice_index_or, nat_lt};
+ghost use Rattle.std.specs.Prelude.{if◌then◌else◌, IfSome, IfNone, All, None};
 ghost use Rattle.method_cache.specs.Contents.{blocks_for};
 ghost use Rattle.method_cache.specs.declared.TheConstants.{MAX_BLOCKS, MAX_BLOCK_WORDS};
 ghost use Rattle.method_cache.specs.Ring.{rotated, parts, begins, IsExtent, method_of, stale_of, stale_first, cleared};

@@ -9,8 +9,8 @@ ghost use Rattle.std.specs.Prelude.{◌≡◌, ℕ, ◌<◌, ◌≤◌, ◌↔�
 ghost use Rattle.method_cache.specs.Laws.{FittingIsLongest};
 ghost use Rattle.method_cache.specs.declared.TheConstants.{MAX_BLOCKS, MAX_BLOCK_WORDS};
 
+use base::NoMemory;
 use blocks::{Extent, Tag, find, method_in, store, word_at};
-use jop_base::NoMemory;
 use std::alloc::Global;
 use std::marker::Model;
 
@@ -145,7 +145,7 @@ impl MethodCache {
         }
     }
 
-    // The same of any method, by a search for it.
+    /// The same of any method, by a search for it.
     #[cold]
     #[inline(never)]
     fn searched_word(&self, m: u32, i: u32) -> u32

@@ -1,8 +1,8 @@
 -- What an invoke costs by itself.
 use Rattle.std.proofs.Common.{◌≡◌, ℕ, ◌≤◌, true, sym, subst, IsSomeAnd}
-use Rattle.jop_opcodes.specs.declared.instruction.Instr.{Instr}
-use Rattle.jop_opcodes.specs.Bytes.{u1}
-use Rattle.jop_opcodes.specs.Reading.{InstructionsAreOfTheirForm}
+use Rattle.opcodes.specs.declared.instruction.Instr.{Instr}
+use Rattle.opcodes.specs.Bytes.{u1}
+use Rattle.opcodes.specs.Reading.{InstructionsAreOfTheirForm}
 use Rattle.bytecode_model.specs.Program.{Body, body_of, instr_at}
 use Rattle.bytecode_model.specs.Rows.{Row}
 use Rattle.bytecode_model.specs.Steps.{row_in}

@@ -1,18 +1,18 @@
 -- What the rows of the table say of control is what the kinds of their opcodes say.
 use Rattle.std.proofs.Common.{◌≡◌, ◌⊎◌, ◌↔◌, ℕ, ◌+◌, ◌<◌, ◌≤◌, Bool, true, false, ◌==◌, List, [], ◌∷◌, Contains, Some, Result, Ok, Err, ℤ, pos, ◌+ℤ◌, map, refl, sym, ap, ◌∙◌, subst, inl, inr, ltb-true, arith}
 use Rattle.std.specs.Prelude.{if◌then◌else◌}
-use Rattle.jop_opcodes.specs.declared.instruction.Instr.{Instr}
-use Rattle.jop_opcodes.specs.declared.instruction.Case.{Case}
-use Rattle.jop_opcodes.specs.declared.instruction.DecodeFault.{DecodeFault}
-use Rattle.jop_opcodes.specs.declared.instruction.DecodeFault.TheVariants.{Short}
-use Rattle.jop_opcodes.specs.declared.table.Kind.{Kind}
-use Rattle.jop_opcodes.specs.declared.table.Kind.TheVariants.{Plain, Branch, Jump, Switch, Return, Throw, Invoke}
-use Rattle.jop_opcodes.specs.Bytes.{u1}
-use Rattle.jop_opcodes.specs.Form.{Operands, Form, NotAnOpcode, Fixed, Widened, TableSwitch, LookupSwitch, Wide}
-use Rattle.jop_opcodes.specs.Instruction.{decoded, within, widened_at, spelled_at}
-use Rattle.jop_opcodes.specs.Reading.{InstructionsAreOfTheirForm, IsOfForm}
-use Rattle.jop_opcodes.specs.Row as opcodes
-use Rattle.jop_opcodes.specs.Target.{cases_of, targets_of, TargetsFitKind}
+use Rattle.opcodes.specs.declared.instruction.Instr.{Instr}
+use Rattle.opcodes.specs.declared.instruction.Case.{Case}
+use Rattle.opcodes.specs.declared.instruction.DecodeFault.{DecodeFault}
+use Rattle.opcodes.specs.declared.instruction.DecodeFault.TheVariants.{Short}
+use Rattle.opcodes.specs.declared.table.Kind.{Kind}
+use Rattle.opcodes.specs.declared.table.Kind.TheVariants.{Plain, Branch, Jump, Switch, Return, Throw, Invoke}
+use Rattle.opcodes.specs.Bytes.{u1}
+use Rattle.opcodes.specs.Form.{Operands, Form, NotAnOpcode, Fixed, Widened, TableSwitch, LookupSwitch, Wide}
+use Rattle.opcodes.specs.Instruction.{decoded, within, widened_at, spelled_at}
+use Rattle.opcodes.specs.Reading.{InstructionsAreOfTheirForm, IsOfForm}
+use Rattle.opcodes.specs.Row as opcodes
+use Rattle.opcodes.specs.Target.{cases_of, targets_of, TargetsFitKind}
 use Rattle.bytecode_model.specs.Program.{Program, Body, as_instr, body_of, instr_at}
 use Rattle.bytecode_model.specs.Rows as rows
 use Rattle.bytecode_model.specs.Rows.{Row}

@@ -1,7 +1,7 @@
 -- What the effect of a row says of where control goes.
 use Rattle.std.proofs.Common.{◌≡◌, ◌⊎◌, ℕ, ◌+◌, Bool, true, false, List, [], ◌∷◌, Contains, Option, Some, None, ℤ, pos, negsuc, ◌+ℤ◌, slice_get, zero, suc, nat_le, map, reverse, replicate, refl, sym, ap, ◌∙◌, subst, inl, inr}
 use Rattle.std.specs.List.{filter_map, cons_option}
-use Rattle.jop_opcodes.specs.declared.instruction.Case.{Case}
+use Rattle.opcodes.specs.declared.instruction.Case.{Case}
 use Rattle.bytecode_model.specs.declared.Value.{Value}
 use Rattle.bytecode_model.specs.declared.Value.TheVariants.{Int, Long, Ref, Null, Unset}
 use Rattle.bytecode_model.specs.Lists.{replaced, natural}

@@ -1,10 +1,10 @@
 -- The row of each instruction says of control what the kind of its opcode says: a test over the table of instructions, and what follows of it for a row.
 use Rattle.std.proofs.Common.{◌≡◌, ℕ, Bool, true, false, ◌==◌, ◌&&◌, List, [], ◌∷◌, ◌++◌, Option, Some, None, ℤ, pos, negsuc, refl, subst, eqb-true, IfSome, nat_lt}
 use Rattle.std.specs.Prelude.{if◌then◌else◌}
-use Rattle.jop_opcodes.specs.declared.instruction.Instr.{Instr}
-use Rattle.jop_opcodes.specs.declared.table.Kind.TheVariants.{Plain, Branch, Jump, Switch, Return, Throw}
-use Rattle.jop_opcodes.specs.Row as opcodes
-use Rattle.jop_opcodes.specs.Target.{cases_of}
+use Rattle.opcodes.specs.declared.instruction.Instr.{Instr}
+use Rattle.opcodes.specs.declared.table.Kind.TheVariants.{Plain, Branch, Jump, Switch, Return, Throw}
+use Rattle.opcodes.specs.Row as opcodes
+use Rattle.opcodes.specs.Target.{cases_of}
 use Rattle.bytecode_model.specs.Lists.{onto, natural}
 use Rattle.bytecode_model.specs.Types.{IntType, LongType, Kind, OfClass, OfNumbers, OfReferences, Numbers, References}
 use Rattle.bytecode_model.specs.Program.{Operand, NoOperand, AnInt, ALong, AString, AStatic, AField, AMethod, AType}

@@ -1,6 +1,6 @@
 -- Steps go along edges that a run can take, and a method can end exactly where a walk of such edges leads to an exit.
 use Rattle.std.proofs.Common.{◌≡◌, ◌⊎◌, ℕ, ◌+◌, Bool, true, false, List, Option, Some, None, refl, sym, ap, ◌∙◌, subst, inl, inr, IsSomeAnd}
-use Rattle.jop_opcodes.specs.declared.instruction.Instr.{Instr}
+use Rattle.opcodes.specs.declared.instruction.Instr.{Instr}
 use Rattle.bytecode_model.specs.declared.Ending.{Ending}
 use Rattle.bytecode_model.specs.Program.{Program, body_of, instr_at}
 use Rattle.bytecode_model.specs.Rows as rows

@@ -2,7 +2,7 @@
 use Rattle.std.specs.Prelude.{◌≡◌, ℕ, true, ◌&&◌, List, [], ◌∷◌, Contains, Option, None, slice_get, if◌then◌else◌}
 use Rattle.std.specs.Option.{IsSomeAnd, option_map_or}
 use Rattle.std.specs.List.{filter_map}
-use Rattle.jop_opcodes.specs.Start.{IsStart}
+use Rattle.opcodes.specs.Start.{IsStart}
 use Rattle.bytecode_model.specs.Program.{Program, body_of}
 use Rattle.bytecode_model.specs.Rows as rows
 use Rattle.bytecode_model.specs.Rows.{Row}

@@ -1,4 +1,5 @@
--- The graph of a method with its nodes numbered without gaps, by place, an instruction before its raise step; whether a graph is reducible is asked of this one.
+-- The graph of a method with its nodes numbered without gaps, by place, an instruction before its raise step; whether a graph is reducible is asked
+-- of this one.
 use Rattle.std.specs.Prelude.{◌≡◌, ◌↔◌, ℕ, ◌<◌, Contains}
 use Rattle.loop_nest.specs.Digraph.{Digraph, IsDigraph, Edge}
 use Rattle.loop_nest.specs.Walks.{IsReachable}

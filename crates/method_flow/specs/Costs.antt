@@ -4,7 +4,7 @@ use Rattle.std.specs.Option.{IsSomeAnd}
 use Rattle.micro_flow.specs.declared.CostParams.{CostParams}
 use Rattle.micro_flow.specs.Costs.{AreInRange, IsGreatestInvoke}
 use Rattle.micro_flow.specs.Walk.{IsCost, IsRaiseCost}
-use Rattle.jop_opcodes.specs.Bytes.{u1}
+use Rattle.opcodes.specs.Bytes.{u1}
 use Rattle.bytecode_model.specs.Program.{Program, body_of, instr_at}
 use Rattle.method_flow.specs.declared.timing.Timing.{Timing}
 use Rattle.method_flow.specs.Nodes.{Node, At, RaiseAt}
@@ -21,8 +21,8 @@ abbrev pub IsOwnCost : Program → Timing → (method : ℕ) → Node → ℕ �
 IsOwnCost P t m (At p) c = IsSomeAnd (body_of P m) (λ b. IsSomeAnd (instr_at P m p) (λ i. IsCost (u1 b.code p) (params t i.count 0) c))
 IsOwnCost P t m (RaiseAt p) c = IsSomeAnd (body_of P m) (λ b. IsRaiseCost (params t 0 (length b.handlers)) c)
 
--- What is printed of a method, by its number with all loads: before it the dearest invoke, and after it the greatest load of a method, of whichever control comes
--- back to.
+-- What is printed of a method, by its number with all loads: before it the dearest invoke, and after it the greatest load of a method, of whichever
+-- control comes back to.
 pub record IsPrintedOf (P : Program) (t : Timing) (full printed : Option ℕ) : Type 0 where
   pub invoke : ℕ
   pub is_invoke : IsGreatestInvoke (params t 0 0) invoke

@@ -2,12 +2,12 @@
 use Rattle.std.specs.Prelude.{◌≡◌, ◌↔◌, ℕ, ◌+◌, ◌^◌, ◌<◌, ◌≤◌, List, [], length, map, All, Contains, Ok, Some, IsSome, slice_get, slice_index_or}
 use Rattle.std.specs.List.Sorted.{IsStrictlyIncreasing}
 use Rattle.std.specs.Option.{IsSomeAnd}
-use Rattle.jop_opcodes.specs.declared.instruction.Instr.{Instr}
-use Rattle.jop_opcodes.specs.declared.table.Kind.TheVariants.{Invoke}
-use Rattle.jop_opcodes.specs.Instruction.{decoded}
-use Rattle.jop_opcodes.specs.Row as opcodes
-use Rattle.jop_opcodes.specs.Start.{IsStart}
-use Rattle.jop_opcodes.specs.Target as operands
+use Rattle.opcodes.specs.declared.instruction.Instr.{Instr}
+use Rattle.opcodes.specs.declared.table.Kind.TheVariants.{Invoke}
+use Rattle.opcodes.specs.Instruction.{decoded}
+use Rattle.opcodes.specs.Row as opcodes
+use Rattle.opcodes.specs.Start.{IsStart}
+use Rattle.opcodes.specs.Target as operands
 use Rattle.bytecode_model.specs.Program.{Program, Handler, body_of}
 use Rattle.bytecode_model.specs.Steps.{row_in}
 use Rattle.method_flow.specs.declared.flow.HandlerRange.{HandlerRange}
@@ -90,5 +90,6 @@ pub record IsCodedOf (P : Program) (m : ℕ) (k : Coded) : Type 0 where
 pub record IsFlowOf (P : Program) (f : Flow) : Type 0 where
   pub coded : (m : ℕ) → IsSome (body_of P m) ↔ (m < length f.methods)
   pub methods : (m : ℕ) (k : Coded) → slice_get f.methods m ≡ Some k → IsCodedOf P m k
-  pub targets : (m : ℕ) (k : Coded) (c : Call) → slice_get f.methods m ≡ Some k → Contains k.calls c → (t : ℕ) → Contains (targets_of_call f c) t ↔ IsTarget P m c.place t
+  pub targets : (m : ℕ) (k : Coded) (c : Call) → slice_get f.methods m ≡ Some k → Contains k.calls c → (t : ℕ)
+      → Contains (targets_of_call f c) t ↔ IsTarget P m c.place t
   pub boot : f.boot ≡ P.boot

@@ -1,12 +1,12 @@
 -- Where the instruction at a place leads, told by its opcode and its operands alone, for code that makes graphs without what instructions mean
 -- (JVM Specification SE 8, 6.5).
 use Rattle.std.specs.Prelude.{◌≡◌, ◌⊎◌, ◌↔◌, ℕ, ◌+◌, ◌≤◌, true, List, Contains, ℤ, pos, Some}
-use Rattle.jop_opcodes.specs.declared.instruction.Instr.{Instr}
-use Rattle.jop_opcodes.specs.declared.table.Kind.{Kind}
-use Rattle.jop_opcodes.specs.declared.table.Kind.TheVariants.{Branch, Jump, Switch, Return, Throw, Invoke}
-use Rattle.jop_opcodes.specs.Bytes.{u1}
-use Rattle.jop_opcodes.specs.Row as opcodes
-use Rattle.jop_opcodes.specs.Target as operands
+use Rattle.opcodes.specs.declared.instruction.Instr.{Instr}
+use Rattle.opcodes.specs.declared.table.Kind.{Kind}
+use Rattle.opcodes.specs.declared.table.Kind.TheVariants.{Branch, Jump, Switch, Return, Throw, Invoke}
+use Rattle.opcodes.specs.Bytes.{u1}
+use Rattle.opcodes.specs.Row as opcodes
+use Rattle.opcodes.specs.Target as operands
 use Rattle.bytecode_model.specs.Program.{Program, Body, body_of, instr_at}
 use Rattle.bytecode_model.specs.Rows.{Row}
 use Rattle.bytecode_model.specs.Steps.{row_in}
@@ -30,7 +30,8 @@ pub record IsOfKind (kind : Kind) (named : List ℤ) (p next : ℕ) (r : Row) : 
 
 -- each row says of control what the kind of its opcode says, with the places that its operands name
 abbrev pub RowsAreOfTheirKinds : Type 0
-RowsAreOfTheirKinds = (P : Program) (m p next : ℕ) (b : Body) (i : Instr) (r : Row) → body_of P m ≡ Some b → instr_at P m p ≡ Some i → row_in P m p ≡ Some (next, r)
+RowsAreOfTheirKinds = (P : Program) (m p next : ℕ) (b : Body) (i : Instr) (r : Row) → body_of P m ≡ Some b → instr_at P m p ≡ Some i
+    → row_in P m p ≡ Some (next, r)
     → (next ≡ p + i.length) × IsOfKind (opcodes.row_of i.op).kind (operands.targets_of b.code p i) p next r
 
 -- the instruction is one of the four invokes that name a method, from invokevirtual (182) to invokeinterface (185), and has no cases
@@ -42,5 +43,6 @@ pub record IsInvokeAt (code : List ℕ) (p : ℕ) (i : Instr) : Type 0 where
 
 -- a call's row stands at such an instruction alone
 abbrev pub CallsAreInvokes : Type 0
-CallsAreInvokes = (P : Program) (m p next : ℕ) (b : Body) (i : Instr) (r : Row) → body_of P m ≡ Some b → instr_at P m p ≡ Some i → row_in P m p ≡ Some (next, r) → is_call r ≡ true
+CallsAreInvokes = (P : Program) (m p next : ℕ) (b : Body) (i : Instr) (r : Row) → body_of P m ≡ Some b → instr_at P m p ≡ Some i → row_in P m p ≡ Some (next, r)
+    → is_call r ≡ true
     → IsInvokeAt b.code p i

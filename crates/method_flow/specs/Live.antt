@@ -9,8 +9,8 @@ abbrev pub IsReturning : Program → (method : ℕ) → Node → Node → Type 0
 IsReturning P m (At p) (At q) = IsCall P m p
 IsReturning P m u v = ⊥
 
--- A method can end where an exit is reached from its first instruction, and an invoke goes on to the next instruction only where one of its targets can end. The two
--- sentences use each other; these are the least sets of which both hold.
+-- A method can end where an exit is reached from its first instruction, and an invoke goes on to the next instruction only where one of its targets
+-- can end. The two sentences use each other; these are the least sets of which both hold.
 mutual
   pub data CanEnd (P : Program) : ℕ → Type 0 where
     ends : {m : ℕ} → EndsFrom P m (At 0) → CanEnd P m

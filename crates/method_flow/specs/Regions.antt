@@ -1,7 +1,7 @@
 -- Which methods may run while a method does, or while control stays among some of its nodes, and what it takes to load them into the method cache
 -- (JOP Reference Handbook, "Method Cache").
 use Rattle.std.specs.Prelude.{◌≡◌, ◌↔◌, ℕ, ◌*◌, ◌≤◌, List, length, sum_by, Contains, IsSome, Some, None}
-use Rattle.word32.specs.Packed.{words_for}
+use Rattle.base.specs.Packed.{words_for}
 use Rattle.method_cache.specs.Contents.{blocks_for}
 use Rattle.cache_regions.specs.Region.{AreDistinct, load_stall}
 use Rattle.bytecode_model.specs.Program.{Program, body_of}
@@ -25,10 +25,6 @@ pub record AreMethodsOf (K : ℕ → Type 0) (xs : List ℕ) : Type 0 where
 -- the region of a method
 abbrev pub IsRegion : Program → (method : ℕ) → List ℕ → Type 0
 IsRegion P m xs = AreMethodsOf (IsWithin P m) xs
-
--- the region of a loop of a method, by the loop's members
-abbrev pub IsLoopRegion : Program → (method : ℕ) → (members : List ℕ) → List ℕ → Type 0
-IsLoopRegion P m members xs = AreMethodsOf (IsWithinNodes P m members) xs
 
 -- the words of a method's code
 abbrev pub code_words : Program → (method : ℕ) → ℕ

@@ -86,12 +86,15 @@ pub data FramesStep (P : Program) (mode : Ending) (f : Frame) (callers : List Fr
 abbrev pub AreConcrete : Program → List Object → Type 0
 AreConcrete P os = (p : ℕ) → IfSome (slice_get os p) (λ o. IfSome (kind_of P o) (λ k. IfSome (class_of k) (λ c. P.is_concrete c ≡ true)))
 
--- Where the frame stands at an invokevirtual, what is the named class or below it is also the resolved method's class or below it (5.4.3.3); a lawful program says it.
+-- Where the frame stands at an invokevirtual, what is the named class or below it is also the resolved method's class or below it (5.4.3.3); a lawful
+-- program says it.
 abbrev pub NamesAbove : Program → Frame → Type 0
 NamesAbove P f =
-    (next named m : ℕ) (k : Method) → row_at P f ≡ Some (next, CallVirtual named m) → slice_get P.methods m ≡ Some k → (c : ℕ) → P.extends c named ≡ true → P.extends c k.owner ≡ true
+    (next named m : ℕ) (k : Method) → row_at P f ≡ Some (next, CallVirtual named m) → slice_get P.methods m ≡ Some k → (c : ℕ) → P.extends c named ≡ true
+    → P.extends c k.owner ≡ true
 
 -- each step is one of these
 abbrev pub StepsHaveShapes : Type 0
-StepsHaveShapes = (P : Program) (limits : Limits) (answer : Option ℕ) (s t : State) (f : Frame) (callers : List Frame) → s.frames ≡ f ∷ callers → AreConcrete P s.objects → NamesAbove P f
+StepsHaveShapes = (P : Program) (limits : Limits) (answer : Option ℕ) (s t : State) (f : Frame) (callers : List Frame) → s.frames ≡ f ∷ callers
+    → AreConcrete P s.objects → NamesAbove P f
     → step P limits answer s ≡ Some t → FramesStep P s.mode f callers t

@@ -20,15 +20,18 @@ ReturnsAreExits = (P : Program) (mode : Ending) (f : Frame) (callers : List Fram
 abbrev pub DropsAreExits : Type 0
 DropsAreExits = (P : Program) (mode : Ending) (f : Frame) (callers : List Frame) (t : State) → Drops P mode f callers t → IsExit P f.method (node_of mode f)
 
--- Where a frame is left by a return, its caller goes along an edge behind the invoke at which it waited; a run can take it where the invoke may run the frame's method
--- and that can end.
+-- Where a frame is left by a return, its caller goes along an edge behind the invoke at which it waited; a run can take it where the invoke may run
+-- the frame's method and that can end.
 abbrev pub CallersReturn : Type 0
-CallersReturn = (P : Program) (mode : Ending) (f : Frame) (callers : List Frame) (t : State) (returns : Returns P mode f callers t) → IsCall P returns.caller.method returns.caller.pc
-    → IsTarget P returns.caller.method returns.caller.pc f.method → CanEnd P f.method → IsLiveEdge P returns.caller.method (At returns.caller.pc) (node_of t.mode returns.top)
+CallersReturn = (P : Program) (mode : Ending) (f : Frame) (callers : List Frame) (t : State) (returns : Returns P mode f callers t)
+    → IsCall P returns.caller.method returns.caller.pc
+    → IsTarget P returns.caller.method returns.caller.pc f.method → CanEnd P f.method
+    → IsLiveEdge P returns.caller.method (At returns.caller.pc) (node_of t.mode returns.top)
 
 -- where it is dropped, its caller goes along the edge to the raise step at its invoke
 abbrev pub CallersRaise : Type 0
-CallersRaise = (P : Program) (mode : Ending) (f : Frame) (callers : List Frame) (t : State) (drops : Drops P mode f callers t) → MayRaise P drops.caller.method drops.caller.pc
+CallersRaise = (P : Program) (mode : Ending) (f : Frame) (callers : List Frame) (t : State) (drops : Drops P mode f callers t)
+    → MayRaise P drops.caller.method drops.caller.pc
     → IsLiveEdge P drops.caller.method (At drops.caller.pc) (node_of t.mode drops.top)
 
 -- a method can end exactly where a walk that a run can take leads from its first instruction to an exit

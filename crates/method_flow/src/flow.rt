@@ -3,7 +3,7 @@
 ghost use Rattle.std.specs.Prelude.{◌≡◌, ◌<◌, length, Some, slice_get};
 ghost use Rattle.method_flow.specs.Flow.{IsCoded, IsFlow, targets_of_call};
 
-use items::Items;
+use base::Items;
 use std::marker::Model;
 
 /// An entry of an exception table (JVM Specification SE 8, 4.7.3), what it catches apart: it holds from the place `start` up to the

@@ -33,21 +33,21 @@ pub fn ending_is_a_walk()
 pub fn rows_are_of_their_kinds()
     ensures { RowsAreOfTheirKinds }
 {
-    jop_opcodes::laws::targets_fit_the_kind();
+    opcodes::laws::targets_fit_the_kind();
 }
 
 /// A call's row stands at one of the four invokes that name a method, which has no cases.
 pub fn calls_are_invokes()
     ensures { CallsAreInvokes }
 {
-    jop_opcodes::laws::instructions_are_read();
+    opcodes::laws::instructions_are_read();
 }
 
 /// An invoke costs at most what the dearest of the four invokes costs.
 pub fn invokes_keep_the_greatest()
     ensures { InvokesKeepTheGreatest }
 {
-    jop_opcodes::laws::instructions_are_read();
+    opcodes::laws::instructions_are_read();
     micro_flow::laws::costs_are_small();
 }
 

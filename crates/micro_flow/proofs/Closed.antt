@@ -2,7 +2,7 @@
 use Rattle.std.proofs.Common.{◌≡◌, ℕ, suc, zero, ◌+◌, ◌-◌, ◌<◌, ◌&&◌, ◌==◌, Bool, true, false, nat_lt, if◌then◌else◌, List, [], ◌∷◌, length, get_or, set, ⊎_elim, refl, sym, ap, ◌∙◌, arith, ltb-true}
 use Rattle.micro_isa.specs.Words.{micro_of}
 use Rattle.microcode_rom.specs.declared.TheConstants.{WORDS, ENTRIES, RAISE}
-use Rattle.jop_opcodes.specs.Row.{row_of}
+use Rattle.opcodes.specs.Row.{row_of}
 use Rattle.micro_flow.specs.Walk.{begin}
 use Rattle.micro_flow.specs.Closed.{EntriesInside, RaiseApart, ReachedByDispatch, RaisesWhereItMay}
 use Rattle.micro_flow.proofs.Prices.{first, second}

@@ -1,7 +1,7 @@
 -- Where walks of the ROM can come to.
 use Rattle.std.specs.Prelude.{◌≡◌, ◌≢◌, ℕ, ◌<◌, Bool, true, false, List, ◌∷◌, length, slice_index}
 use Rattle.microcode_rom.specs.declared.TheConstants.{WORDS, ENTRIES, RAISE}
-use Rattle.jop_opcodes.specs.Row.{row_of}
+use Rattle.opcodes.specs.Row.{row_of}
 use Rattle.micro_flow.specs.declared.CostParams.{CostParams}
 use Rattle.micro_flow.specs.Walk.{walk, begin}
 
@@ -20,4 +20,5 @@ ReachedByDispatch = (p : CostParams) (at : ℕ) (choice : Bool) (choices : List 
 
 -- a walk of an opcode's row comes to the raise routine only where the table of the opcodes says that the opcode may raise
 abbrev pub RaisesWhereItMay : Type 0
-RaisesWhereItMay = (p : CostParams) (op : ℕ) (choices : List Bool) → op < 256 → (walk p choices (begin p (slice_index ENTRIES op))).at ≡ RAISE → (row_of op).raises ≡ true
+RaisesWhereItMay = (p : CostParams) (op : ℕ) (choices : List Bool) → op < 256 → (walk p choices (begin p (slice_index ENTRIES op))).at ≡ RAISE
+    → (row_of op).raises ≡ true

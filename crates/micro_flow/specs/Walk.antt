@@ -1,5 +1,6 @@
 -- Walks of the ROM from an address to a boundary, and the cycles that they take.
-use Rattle.std.specs.Prelude.{ℕ, suc, pred, ◌≡◌, ◌+◌, ◌-◌, ◌%◌, ◌≤◌, Bool, true, false, ◌==◌, ◌&&◌, ◌||◌, nat_lt, if◌then◌else◌, List, [], ◌∷◌, Option, Some, None, slice_index}
+use Rattle.std.specs.Prelude.{ℕ, suc, pred, ◌≡◌, ◌+◌, ◌-◌, ◌%◌, ◌≤◌, Bool, true, false, ◌==◌, ◌&&◌, ◌||◌, nat_lt, if◌then◌else◌, List, [], ◌∷◌, Option, Some}
+use Rattle.std.specs.Prelude.{None, slice_index}
 use Rattle.micro_isa.specs.declared.Body.TheVariants.{Plain, Stm, Ldm, Ldi, Bz, Bnz, Jmp}
 use Rattle.micro_isa.specs.declared.Micro.{Micro}
 use Rattle.micro_isa.specs.declared.Turns.{Turns}

@@ -10,7 +10,7 @@ pub mod laws;
 mod price;
 mod table;
 
-use jop_opcodes::mnemonics::{INVOKEINTERFACE, INVOKESPECIAL, INVOKESTATIC, INVOKEVIRTUAL};
+use opcodes::mnemonics::{INVOKEINTERFACE, INVOKESPECIAL, INVOKESTATIC, INVOKEVIRTUAL};
 use price::RowCost;
 use table::{RAISE, cost_of};
 

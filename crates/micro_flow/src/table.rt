@@ -25,7 +25,7 @@ macro_rules! row {
     };
 }
 
-// A price has its cycles, and the waits of reads and of writes that come on top.
+/// A price has its cycles, and the waits of reads and of writes that come on top.
 macro_rules! cost {
     ($fixed:literal $reads:literal $writes:literal) => {
         row!(($fixed $reads $writes) ($fixed $reads $writes) (0 0 0) Turns::Count(0))
@@ -44,7 +44,7 @@ macro_rules! cost {
     };
 }
 
-// An opcode that has no row goes to that of `nop`.
+/// An opcode that has no row goes to that of `nop`.
 const NONE: RowCost = cost!(1 0 0);
 
 /// What a step of the raise routine costs.

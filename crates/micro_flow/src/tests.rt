@@ -1,3 +1,5 @@
+//! Costs of rows of the microcode, counted by hand.
+
 use super::*;
 
 const P: CostParams = CostParams {

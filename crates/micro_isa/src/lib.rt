@@ -10,7 +10,7 @@ ghost use Rattle.micro_isa.specs.Words.{IsMicro, word_of, micro_of, body_of, Spe
 
 mod operation;
 
-pub use operation::{Operation, operation_at};
+pub use operation::Operation;
 
 /// What a microinstruction does, apart from its flags.
 #[derive(Clone, Copy)]
@@ -90,7 +90,7 @@ pub fn decode(word: u16) -> Option<Micro>
     Some(Micro { body, opd, nxt })
 }
 
-// The body that the low 14 bits of a word spell, where the word has a flag or none.
+/// The body that the low 14 bits of a word spell, where the word has a flag or none.
 fn decode_body(bits: u16, flagged: bool) -> Option<Body>
     requires { bits < 2 ^ 14 }
     ensures { result ≡ body_of bits flagged }

@@ -1,10 +1,10 @@
 -- What a device was told of a run, over one cycle and over several runs.
 use Rattle.std.proofs.Common.{◌≡◌, ℕ, Bool, true, false, List, [], ◌∷◌, ◌++◌, refl, subst, arith}
 use Rattle.std.specs.declared.option.Option.{Option}
-use Rattle.io_history.specs.Growing.{Grew-refl, Grew-trans}
-use Rattle.jop_device.specs.declared.seen.Seen.{Seen}
-use Rattle.jop_device.specs.Noting.{Noted-refl, Noted-trans}
-use Rattle.jop_device.specs.Told.{Told, Note, Exchanged, GivesWhere, GivesEach, Attended, CountsRise}
+use Rattle.base.specs.Growing.{Grew-refl, Grew-trans}
+use Rattle.device_traits.specs.declared.seen.Seen.{Seen}
+use Rattle.device_traits.specs.Noting.{Noted-refl, Noted-trans}
+use Rattle.device_traits.specs.Told.{Told, Note, Exchanged, GivesWhere, GivesEach, Attended, CountsRise}
 
 -- the answers of a cycle: one where it asks, and else none
 abbrev pub asked_for : (asks : Bool) → Option ℕ → List (Option ℕ)

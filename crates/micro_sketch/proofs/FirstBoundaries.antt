@@ -5,7 +5,7 @@ use Rattle.std.proofs.lemmas.List.{append_cancel_right}
 use Rattle.jop_core.specs.State.{State}
 use Rattle.jop_core.specs.Cycle.{at_boundary, asks_input}
 use Rattle.jop_core.specs.Scene.{Scene, begun, left_over, next_scene, run, output_during}
-use Rattle.jop_device.specs.Told.{Told}
+use Rattle.device_traits.specs.Told.{Told}
 use Rattle.micro_sketch.specs.Ends.{ComesToBoundary}
 use Rattle.micro_sketch.specs.Step.{RanCycles, Arrived}
 use Rattle.micro_sketch.proofs.Scenes.{run-begun}

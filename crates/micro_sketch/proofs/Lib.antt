@@ -1,5 +1,5 @@
 pub mod OnChip
-pub mod Plain
+pub mod PlainSim
 pub mod Counts
 pub mod Boundaries
 pub mod Cycles
@@ -27,3 +27,4 @@ pub mod RowSteps
 pub mod LowLoads
 mod StackLoads
 mod FramePlaces
+pub mod PlainRows

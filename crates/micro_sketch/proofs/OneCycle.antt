@@ -19,7 +19,7 @@ use Rattle.micro_sketch.specs.Sketch.{Sketch, apush, apop, need, astm, aplain, l
 use Rattle.micro_sketch.specs.Stands.{Env, Shaped, Does, Goes, Reaches, PortFits, conc, tick, env_after, env_kind, constants}
 use Rattle.microcode_rom.specs.declared.TheConstants.{WORDS, CONSTANTS}
 use Rattle.micro_sketch.proofs.OnChip.{fetched, put_in, push_sim, pop_sim, read_low, read_constant, write_low}
-use Rattle.micro_sketch.proofs.Plain.{plain_sim}
+use Rattle.micro_sketch.proofs.PlainSim.{plain_sim}
 use Rattle.micro_sketch.proofs.Counts.{counts_plain, busy_after, halt_after}
 use Rattle.micro_sketch.proofs.Boundaries.{flags_fine}
 use Rattle.micro_sketch.proofs.Cycles.{Timed, ended, one_cycle, ticked_port}

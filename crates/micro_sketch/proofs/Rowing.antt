@@ -8,7 +8,7 @@ use Rattle.micro_flow.specs.Walk.{IsGreatest}
 use Rattle.jop_core.specs.State.{State}
 use Rattle.jop_core.specs.Cycle.{at_boundary, asks_input, output_of, entry_of}
 use Rattle.jop_core.specs.Scene.{Scene, begun, left_over, next_scene, run, output_during}
-use Rattle.jop_device.specs.Told.{Told}
+use Rattle.device_traits.specs.Told.{Told}
 use Rattle.micro_sketch.specs.Sketch.{Sketch, exec, among}
 use Rattle.micro_sketch.specs.Stands.{Env, Shaped, Reaches, PortFits, IsDone, conc, scene, stalls}
 use Rattle.micro_sketch.specs.Laws.{StartsAt}

@@ -7,7 +7,7 @@ use Rattle.jop_core.specs.declared.tick.Tick.TheVariants.{Went}
 use Rattle.jop_core.specs.State.{State, seen_of}
 use Rattle.jop_core.specs.Cycle.{cycle_of, asks_input, output_of, at_boundary, is_running}
 use Rattle.jop_core.specs.Scene.{Scene, begun, given, left_over, run, output_during, seen_during, notes_during}
-use Rattle.jop_device.specs.Told.{Told, GivesWhere, GivesEach}
+use Rattle.device_traits.specs.Told.{Told, GivesWhere, GivesEach}
 use Rattle.jop_core.specs.Ticked.{Ticked, notes_of}
 use Rattle.micro_sketch.specs.Ends.{AreGiven, EndsSoon}
 use Rattle.micro_sketch.specs.declared.step.Stepped.{Stepped}

@@ -14,7 +14,7 @@ use Rattle.micro_sketch.specs.Sketch.{Sketch, apush, apop, need, astm, aplain, a
 use Rattle.micro_sketch.specs.Stands.{Env, Shaped, Goes, Reaches, PortFits, conc, tick}
 use Rattle.microcode_rom.specs.declared.TheConstants.{WORDS, CONSTANTS}
 use Rattle.micro_sketch.proofs.OnChip.{fetched, pop_sim}
-use Rattle.micro_sketch.proofs.Plain.{same_is}
+use Rattle.micro_sketch.proofs.PlainSim.{same_is}
 use Rattle.micro_sketch.proofs.Counts.{keeps_push, keeps_pop, was_jumped}
 use Rattle.micro_sketch.proofs.Boundaries.{around, flags_fine}
 use Rattle.micro_sketch.proofs.Branches.{branch_step}

@@ -4,7 +4,7 @@ use Rattle.std.specs.declared.option.Option.{Option}
 use Rattle.jop_core.specs.State.{State}
 use Rattle.jop_core.specs.Cycle.{at_boundary}
 use Rattle.jop_core.specs.Scene.{begun, run}
-use Rattle.jop_device.specs.Told.{IsGiven}
+use Rattle.device_traits.specs.Told.{IsGiven}
 
 -- a boundary comes after some cycles, where the input gives these answers
 pub record ComesToBoundary (s : State) (answers : List (Option ℕ)) : Type 0 where

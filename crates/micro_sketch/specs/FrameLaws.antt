@@ -16,9 +16,11 @@ framed x = record (apop x) { vp = x.top }
 
 -- A word stvp moves VP to any place on the chip, also past the words below the stack.
 abbrev pub FramePlaceMoves : Type 0
-FramePlaceMoves = (n : ℕ) (x : Sketch) (e : Env) (opd nxt : Bool) → Goes x → Shaped n x → PortFits x.busy e → RunsNext Stvp opd nxt x → x.top < n → (lead nxt (opd_byte opd (framed x))).fine ≡ true
+FramePlaceMoves = (n : ℕ) (x : Sketch) (e : Env) (opd nxt : Bool) → Goes x → Shaped n x → PortFits x.busy e → RunsNext Stvp opd nxt x → x.top < n
+    → (lead nxt (opd_byte opd (framed x))).fine ≡ true
     → Reaches n x (lead nxt (opd_byte opd (framed x))) e
 
 -- After a row that goes on in another frame the machine stands at an opcode's entry, which is never that of the raise routine.
 abbrev pub SwitchRunsOn : Type 0
-SwitchRunsOn = (n : ℕ) (p : CostParams) (op cycles : ℕ) (f : Switch) (x : Sketch) (e : Env) (new : State) → DidSwitch n p op f x e cycles new → (new.halt ≡ Running) × (new.mpc ≢ RAISE)
+SwitchRunsOn = (n : ℕ) (p : CostParams) (op cycles : ℕ) (f : Switch) (x : Sketch) (e : Env) (new : State) → DidSwitch n p op f x e cycles new
+    → (new.halt ≡ Running) × (new.mpc ≢ RAISE)

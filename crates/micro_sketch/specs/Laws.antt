@@ -31,13 +31,16 @@ Reframes = (n : ℕ) (x : Sketch) (e : Env) (deep words : List ℕ) → Shaped n
 
 -- A word stsp moves SP to any place from 63 on, wherever that splits the words.
 abbrev pub StackPointerMoves : Type 0
-StackPointerMoves = (n : ℕ) (x : Sketch) (e : Env) (opd nxt : Bool) (deep under above : List ℕ) → Goes x → Shaped n x → PortFits x.busy e → RunsNext Stsp opd nxt x →
-    whole (apop x) ≡ deep ++ reverse_aux under above → x.top ≡ length deep + 63 + length under → (lead nxt (opd_byte opd (split (apop x) deep under above))).fine ≡ true →
+StackPointerMoves = (n : ℕ) (x : Sketch) (e : Env) (opd nxt : Bool) (deep under above : List ℕ) → Goes x → Shaped n x → PortFits x.busy e
+    → RunsNext Stsp opd nxt x →
+    whole (apop x) ≡ deep ++ reverse_aux under above → x.top ≡ length deep + 63 + length under
+    → (lead nxt (opd_byte opd (split (apop x) deep under above))).fine ≡ true →
     Reaches n x (lead nxt (opd_byte opd (split (apop x) deep under above))) e
 
 -- So where SP comes down to a place among the deep words.
 abbrev pub StackPointerComesDown : Type 0
-StackPointerComesDown = (n : ℕ) (x : Sketch) (e : Env) (opd nxt : Bool) (deep under gone : List ℕ) → Goes x → Shaped n x → PortFits x.busy e → RunsNext Stsp opd nxt x →
+StackPointerComesDown = (n : ℕ) (x : Sketch) (e : Env) (opd nxt : Bool) (deep under gone : List ℕ) → Goes x → Shaped n x → PortFits x.busy e
+    → RunsNext Stsp opd nxt x →
     (apop x).deep ≡ deep ++ reverse_aux under gone → x.top ≡ length deep + 63 + length under → (lead nxt (opd_byte opd (cut x deep under gone))).fine ≡ true →
     Reaches n x (lead nxt (opd_byte opd (cut x deep under gone))) e
 
@@ -52,7 +55,8 @@ LowWordIsLoaded = (n : ℕ) (x : Sketch) (e : Env) (opd nxt : Bool) → Goes x �
 
 -- Each machine in range is what its sketch stands for, wherever its words are split.
 abbrev pub SeenAsSketch : Type 0
-SeenAsSketch = (n d u : ℕ) (answers : List (Option ℕ)) (s : State) → Viewable n d u s → (s ≡ conc n (sketch_of d u answers s) (env_of s)) × Shaped n (sketch_of d u answers s)
+SeenAsSketch = (n d u : ℕ) (answers : List (Option ℕ)) (s : State) → Viewable n d u s
+    → (s ≡ conc n (sketch_of d u answers s) (env_of s)) × Shaped n (sketch_of d u answers s)
 
 -- a run of so many cycles from x to z, with what it leaves out at the end
 pub record RunsFor (n : ℕ) (x z : Sketch) (e : Env) (cycles : ℕ) (env : Env) : Type 0 where
@@ -75,7 +79,8 @@ pub record Alike (n : ℕ) (x y : Sketch) : Type 0 where
 
 -- A run goes between any sketches that are like its ends, if they count the same loads on the way.
 abbrev pub RunsBetweenAlike : Type 0
-RunsBetweenAlike = (n : ℕ) (x x' y y' : Sketch) (e : Env) (a : Reaches n x y e) → Alike n x x' → Alike n y y' → x'.fine ≡ true → ((r : ℕ) → stalls y' r + stalls x r ≡ stalls y r + stalls x' r) →
+RunsBetweenAlike = (n : ℕ) (x x' y y' : Sketch) (e : Env) (a : Reaches n x y e) → Alike n x x' → Alike n y y' → x'.fine ≡ true
+    → ((r : ℕ) → stalls y' r + stalls x r ≡ stalls y r + stalls x' r) →
     RunsFor n x' y' e a.cycles a.env
 
 -- x is about to run the microcode at an address
@@ -94,11 +99,13 @@ AtEntry p op x e = StartsAt p (slice_index ENTRIES op) x e
 
 -- No run from an opcode's entry to a boundary takes more than the opcode's cost and the stalls of its loads.
 abbrev pub CostsHold : Type 0
-CostsHold = (p : CostParams) (op c n : ℕ) (x y : Sketch) (e : Env) → AtEntry p op x e → (r : Reaches n x y e) → IsDone y → IsCost op p c → r.cycles ≤ c + stalls y p.r
+CostsHold = (p : CostParams) (op c n : ℕ) (x y : Sketch) (e : Env) → AtEntry p op x e → (r : Reaches n x y e) → IsDone y → IsCost op p c
+    → r.cycles ≤ c + stalls y p.r
 
 -- Nor does a step of the raise routine take more than its cost.
 abbrev pub RaiseCostHolds : Type 0
-RaiseCostHolds = (p : CostParams) (c n : ℕ) (x y : Sketch) (e : Env) → StartsAt p RAISE x e → (r : Reaches n x y e) → IsDone y → IsRaiseCost p c → r.cycles ≤ c + stalls y p.r
+RaiseCostHolds = (p : CostParams) (c n : ℕ) (x y : Sketch) (e : Env) → StartsAt p RAISE x e → (r : Reaches n x y e) → IsDone y → IsRaiseCost p c
+    → r.cycles ≤ c + stalls y p.r
 
 -- the first boundary after c comes so many cycles later
 pub record FirstBoundary (c : Scene) (cycles : ℕ) : Type 0 where
@@ -108,7 +115,8 @@ pub record FirstBoundary (c : Scene) (cycles : ℕ) : Type 0 where
 
 -- The first boundary is where the sketch comes to one.
 abbrev pub FirstIsReached : Type 0
-FirstIsReached = (n : ℕ) (x y : Sketch) (e : Env) (r : Reaches n x y e) → IsDone y → (cycles : ℕ) → FirstBoundary (scene n x e) cycles → (cycles ≡ r.cycles) × (run cycles (scene n x e) ≡ scene n y r.env)
+FirstIsReached = (n : ℕ) (x y : Sketch) (e : Env) (r : Reaches n x y e) → IsDone y → (cycles : ℕ) → FirstBoundary (scene n x e) cycles
+    → (cycles ≡ r.cycles) × (run cycles (scene n x e) ≡ scene n y r.env)
 
 -- a boundary comes, after fewer cycles than a counter holds
 pub record ComesSoon (c : Scene) : Type 0 where
@@ -118,4 +126,5 @@ pub record ComesSoon (c : Scene) : Type 0 where
 
 -- A boundary comes soon where the cost is small.
 abbrev pub BoundaryComesSoon : Type 0
-BoundaryComesSoon = (p : CostParams) (address c n : ℕ) (x y : Sketch) (e : Env) → StartsAt p address x e → Reaches n x y e → IsDone y → IsGreatest p address c → c + stalls y p.r < 2 ^ 62 → ComesSoon (scene n x e)
+BoundaryComesSoon = (p : CostParams) (address c n : ℕ) (x y : Sketch) (e : Env) → StartsAt p address x e → Reaches n x y e → IsDone y → IsGreatest p address c
+    → c + stalls y p.r < 2 ^ 62 → ComesSoon (scene n x e)

@@ -11,3 +11,14 @@ pub mod Rows
 pub mod RowLaws
 pub mod FrameLaws
 pub mod StackLaws
+pub mod Operand
+pub mod NumberOps
+pub mod LocalOps
+pub mod StackOps
+pub mod LongOps
+pub mod DivisionOps
+pub mod BranchOps
+pub mod SwitchOps
+pub mod WideOps
+pub mod Opcodes
+pub mod PlainLaws

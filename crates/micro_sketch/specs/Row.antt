@@ -8,7 +8,7 @@ use Rattle.jop_core.specs.declared.halt.Halt.TheVariants.{Running}
 use Rattle.jop_core.specs.State.{State}
 use Rattle.jop_core.specs.Cycle.{entry_of}
 use Rattle.jop_core.specs.Scene.{begun, output_during}
-use Rattle.jop_device.specs.Told.{Told}
+use Rattle.device_traits.specs.Told.{Told}
 use Rattle.micro_sketch.specs.Sketch.{Sketch, abyte}
 use Rattle.micro_sketch.specs.Stands.{Env, Shaped, IsDone, conc}
 use Rattle.micro_sketch.specs.Laws.{AtEntry}
@@ -113,9 +113,11 @@ begins_row p x = record x { left = turns_at p; output = []; done = false }
 
 -- Such a machine is what its sketch stands for.
 abbrev pub SeenAtOpcode : Type 0
-SeenAtOpcode = (n d u : ℕ) (p : CostParams) (op : ℕ) (answers : List (Option ℕ)) (s : State) → AtOpcode n d u p op s → StandsAt n p op (begins_row p (sketch_of d u answers s)) (env_of s) s
+SeenAtOpcode = (n d u : ℕ) (p : CostParams) (op : ℕ) (answers : List (Option ℕ)) (s : State) → AtOpcode n d u p op s
+    → StandsAt n p op (begins_row p (sketch_of d u answers s)) (env_of s) s
 
 -- After a row the machine is about to run the next opcode, where its stack still has room.
 abbrev pub RowsLeadOn : Type 0
-RowsLeadOn = (n : ℕ) (p q : CostParams) (op cycles : ℕ) (f : Effect) (x : Sketch) (e : Env) (old new : State) → StandsAt n p op x e old → (d : DidRow n p op f x e cycles new)
+RowsLeadOn = (n : ℕ) (p q : CostParams) (op cycles : ℕ) (f : Effect) (x : Sketch) (e : Env) (old new : State) → StandsAt n p op x e old
+    → (d : DidRow n p op f x e cycles new)
     → q.r ≡ p.r → q.w ≡ p.w → 3 ≤ length d.after.under → 16 ≤ length d.after.above → StandsAt n q d.after.opcode (begins_row q d.after) d.env new

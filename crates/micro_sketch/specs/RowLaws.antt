@@ -9,7 +9,7 @@ use Rattle.jop_core.specs.declared.tick.Tick.TheVariants.{ReadFault, WriteFault}
 use Rattle.jop_core.specs.State.{State}
 use Rattle.jop_core.specs.Cycle.{cycle_of, at_boundary}
 use Rattle.jop_core.specs.Scene.{begun, output_during}
-use Rattle.jop_device.specs.Told.{Told}
+use Rattle.device_traits.specs.Told.{Told}
 use Rattle.micro_sketch.specs.Sketch.{Sketch}
 use Rattle.micro_sketch.specs.Stands.{Env, Shaped, Reaches, conc, stack_of, stalls}
 use Rattle.micro_sketch.specs.Ends.{EndsSoon}
@@ -25,7 +25,8 @@ StandsEntered = (n : ℕ) (p : CostParams) (op : ℕ) (x : Sketch) (e : Env) (s 
 
 -- it stands so whatever the input is to answer
 abbrev pub StandsExpecting : Type 0
-StandsExpecting = (n : ℕ) (p : CostParams) (op : ℕ) (x : Sketch) (e : Env) (s : State) (answers : List (Option ℕ)) → StandsAt n p op x e s → StandsAt n p op (expecting answers x) e s
+StandsExpecting = (n : ℕ) (p : CostParams) (op : ℕ) (x : Sketch) (e : Env) (s : State) (answers : List (Option ℕ)) → StandsAt n p op x e s
+    → StandsAt n p op (expecting answers x) e s
 
 -- where some words come to a boundary, the machine does
 abbrev pub FinishRuns : Type 0
@@ -34,7 +35,8 @@ FinishRuns = (n : ℕ) (p : CostParams) (op : ℕ) (x : Sketch) (e : Env) (s : S
 -- A boundary comes soon.
 
 abbrev pub FinishComesSoon : Type 0
-FinishComesSoon = (n : ℕ) (p : CostParams) (op : ℕ) (x : Sketch) (e : Env) (s : State) → AreInRange p → StandsAt n p op x e s → ((answers : List (Option ℕ)) → Finishes (expecting answers x)) → EndsSoon s
+FinishComesSoon = (n : ℕ) (p : CostParams) (op : ℕ) (x : Sketch) (e : Env) (s : State) → AreInRange p → StandsAt n p op x e s
+    → ((answers : List (Option ℕ)) → Finishes (expecting answers x)) → EndsSoon s
 
 -- a run whose loads don't stall for too long
 pub record ShortRun (n : ℕ) (p : CostParams) (x : Sketch) (e : Env) : Type 0 where
@@ -42,7 +44,8 @@ pub record ShortRun (n : ℕ) (p : CostParams) (x : Sketch) (e : Env) : Type 0 w
   pub short : stalls run.after p.r < 2 ^ 61
 
 abbrev pub RunComesSoon : Type 0
-RunComesSoon = (n : ℕ) (p : CostParams) (op : ℕ) (x : Sketch) (e : Env) (s : State) → AreInRange p → StandsAt n p op x e s → ((answers : List (Option ℕ)) → ShortRun n p (expecting answers x) e) → EndsSoon s
+RunComesSoon = (n : ℕ) (p : CostParams) (op : ℕ) (x : Sketch) (e : Env) (s : State) → AreInRange p → StandsAt n p op x e s
+    → ((answers : List (Option ℕ)) → ShortRun n p (expecting answers x) e) → EndsSoon s
 
 -- Where the machine then stands.
 
@@ -66,28 +69,33 @@ AlwaysSilent n x e = (answers : List (Option ℕ)) → Silent n (expecting answe
 
 -- So it stands whatever answers a run expected that is silent.
 abbrev pub SilentRunLands : Type 0
-SilentRunLands = (n : ℕ) (p : CostParams) (op : ℕ) (x : Sketch) (e : Env) (old new : State) (t0 t1 : Told) → StandsAt n p op x e old → AlwaysSilent n x e → (r : Run n x e)
+SilentRunLands = (n : ℕ) (p : CostParams) (op : ℕ) (x : Sketch) (e : Env) (old new : State) (t0 t1 : Told) → StandsAt n p op x e old → AlwaysSilent n x e
+    → (r : Run n x e)
     → (far : Arrived old new t0 t1) → LandsAt n p op r.after e far.cycles new
 
 abbrev pub SilentStep : Type 0
-SilentStep = (n : ℕ) (p : CostParams) (op : ℕ) (x : Sketch) (e : Env) (old new : State) (t0 t1 : Told) → StandsAt n p op x e old → AlwaysSilent n x e → (far : Arrived old new t0 t1) → WasSilent old new t0 t1 far
+SilentStep = (n : ℕ) (p : CostParams) (op : ℕ) (x : Sketch) (e : Env) (old new : State) (t0 t1 : Told) → StandsAt n p op x e old → AlwaysSilent n x e
+    → (far : Arrived old new t0 t1) → WasSilent old new t0 t1 far
 
 -- Rows with an effect, which lead to the next opcode.
 
 abbrev pub RowIsSilent : Type 0
-RowIsSilent = (n : ℕ) (p : CostParams) (op : ℕ) (f : Effect) (x : Sketch) (e : Env) (s : State) → StandsAt n p op x e s → Makes f x → f.answers ≡ x.answers → f.output ≡ [] → Silent n x e
+RowIsSilent = (n : ℕ) (p : CostParams) (op : ℕ) (f : Effect) (x : Sketch) (e : Env) (s : State) → StandsAt n p op x e s → Makes f x → f.answers ≡ x.answers
+    → f.output ≡ [] → Silent n x e
 
 abbrev pub RowIsDone : Type 0
 RowIsDone = (n : ℕ) (p : CostParams) (op : ℕ) (f : Effect) (x : Sketch) (e : Env) (old new : State) (t0 t1 : Told) → StandsAt n p op x e old → Makes f x
     → (far : Arrived old new t0 t1) (more : List (Option ℕ)) → x.answers ≡ far.answers ++ more → DidRow n p op f x e far.cycles new
 
 abbrev pub SilentRowIsDone : Type 0
-SilentRowIsDone = (n : ℕ) (p : CostParams) (op : ℕ) (f : Effect) (x : Sketch) (e : Env) (old new : State) (t0 t1 : Told) → StandsAt n p op x e old → Makes f x → AlwaysSilent n x e
+SilentRowIsDone = (n : ℕ) (p : CostParams) (op : ℕ) (f : Effect) (x : Sketch) (e : Env) (old new : State) (t0 t1 : Told) → StandsAt n p op x e old → Makes f x
+    → AlwaysSilent n x e
     → (far : Arrived old new t0 t1) → DidRow n p op f x e far.cycles new
 
 -- after a row the machine stands at an opcode's entry, which is never that of the raise routine
 abbrev pub RowRunsOn : Type 0
-RowRunsOn = (n : ℕ) (p : CostParams) (op cycles : ℕ) (f : Effect) (x : Sketch) (e : Env) (new : State) → DidRow n p op f x e cycles new → (new.halt ≡ Running) × (new.mpc ≢ RAISE)
+RowRunsOn = (n : ℕ) (p : CostParams) (op cycles : ℕ) (f : Effect) (x : Sketch) (e : Env) (new : State) → DidRow n p op f x e cycles new
+    → (new.halt ≡ Running) × (new.mpc ≢ RAISE)
 
 -- Calls on the device that fail.
 
@@ -109,7 +117,8 @@ abbrev pub FailsSilently : State → State → Told → Told → Tick → Type 0
 FailsSilently old new told told' tick = (b : Broke old new told told' tick) → BrokeSilently old new told told' tick b
 
 abbrev pub SilentBreak : Type 0
-SilentBreak = (n : ℕ) (x : Sketch) (e : Env) (old new : State) (t0 t1 : Told) (tick : Tick) → old ≡ conc n x e → x.output ≡ [] → AlwaysSilent n x e → FailsSilently old new t0 t1 tick
+SilentBreak = (n : ℕ) (x : Sketch) (e : Env) (old new : State) (t0 t1 : Told) (tick : Tick) → old ≡ conc n x e → x.output ≡ [] → AlwaysSilent n x e
+    → FailsSilently old new t0 t1 tick
 
 -- where the first cycle comes to a boundary, a call that fails leaves the machine as it was, and nothing was taken in or put out
 abbrev pub BreaksAtOnce : Type 0

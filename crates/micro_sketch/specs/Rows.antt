@@ -113,7 +113,8 @@ outcome allowed f x = record {
   busy = false;
 }
 
-pub makes : (k : ℕ) (guesses : List Bool) (f : Effect) (x : Sketch) (allowed : Bool) → outcome_of (exec (suc k) guesses x) ≡ outcome allowed f x → allowed ≡ true → Makes f x
+pub makes : (k : ℕ) (guesses : List Bool) (f : Effect) (x : Sketch) (allowed : Bool) → outcome_of (exec (suc k) guesses x) ≡ outcome allowed f x
+    → allowed ≡ true → Makes f x
 makes k guesses f x allowed h fine = record {
   words = k;
   guesses = guesses;
@@ -143,7 +144,8 @@ makes k guesses f x allowed h fine = record {
 }
 
 -- so where the row computes to a raw form of its effect
-pub makes_raw : (k : ℕ) (guesses : List Bool) (raw f : Effect) (x : Sketch) (allowed : Bool) → outcome_of (exec (suc k) guesses x) ≡ outcome allowed raw x → allowed ≡ true → raw ≡ f → Makes f x
+pub makes_raw : (k : ℕ) (guesses : List Bool) (raw f : Effect) (x : Sketch) (allowed : Bool) → outcome_of (exec (suc k) guesses x) ≡ outcome allowed raw x
+    → allowed ≡ true → raw ≡ f → Makes f x
 makes_raw k guesses raw f x allowed h fine same = let P : Effect → Type 0 = λ g. Makes g x in subst P same (makes k guesses raw x allowed h fine)
 
 -- The lists of a sketch with so many words shown, so that a row computes on them.
@@ -175,11 +177,6 @@ pub record Run (n : ℕ) (x : Sketch) (e : Env) : Type 0 where
   pub after : Sketch
   pub reaches : Reaches n x after e
   pub done : IsDone after
-
--- and loads no method on the way
-pub record LoadsNone (y : Sketch) : Type 0 where
-  pub loads : y.loads ≡ 0
-  pub loaded : y.words ≡ 0
 
 -- a run that takes no answer of the input
 pub record TakesNone (n : ℕ) (x : Sketch) (e : Env) : Type 0 where
@@ -236,20 +233,6 @@ pub record RunsToRaise (n : ℕ) (p : CostParams) (op : ℕ) (f : Raising) (x : 
   pub raises : Raises f x after
   pub cost : (c : ℕ) → IsCost op p c → reaches.cycles ≤ c
 
--- The machine came to the raise routine so, in so many cycles, and its port is idle.
-pub record DidRaise (n : ℕ) (p : CostParams) (op : ℕ) (f : Raising) (x : Sketch) (e : Env) (cycles : ℕ) (new : State) : Type 0 where
-  pub after : Sketch
-  pub env : Env
-  pub same : new ≡ conc n after env
-  pub shape : Shaped n after
-  pub done : IsDone after
-  pub raises : Raises f x after
-  pub idle : env.port ≡ 0
-  pub read : env.read ≡ e.read
-  pub write : env.write ≡ e.write
-  pub clock : env.clock ≡ e.clock + cycles
-  pub cost : (c : ℕ) → IsCost op p c → cycles ≤ c
-
 -- y is x halted, with all its words as they were
 pub record Halts (how : Halt) (x y : Sketch) : Type 0 where
   pub halt : y.halt ≡ how
@@ -260,20 +243,6 @@ pub record Halts (how : Halt) (x y : Sketch) : Type 0 where
   pub answers : y.answers ≡ x.answers
   pub output : y.output ≡ []
   pub kept : IsKept x y
-
--- The machine has halted so, in at most the opcode's cost.
-pub record DidHalt (n : ℕ) (p : CostParams) (op : ℕ) (how : Halt) (x : Sketch) (e : Env) (cycles : ℕ) (new : State) : Type 0 where
-  pub after : Sketch
-  pub env : Env
-  pub same : new ≡ conc n after env
-  pub shape : Shaped n after
-  pub done : IsDone after
-  pub halts : Halts how x after
-  pub idle : env.port ≡ 0
-  pub read : env.read ≡ e.read
-  pub write : env.write ≡ e.write
-  pub clock : env.clock ≡ e.clock + cycles
-  pub cost : (c : ℕ) → IsCost op p c → cycles ≤ c
 
 -- What a row may change that leaves its frame or its method: all that an effect has, the frame's place, the method and the cache with its
 -- counts. loads and loaded count the methods that it loads and their words.

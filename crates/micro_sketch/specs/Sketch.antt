@@ -1,10 +1,14 @@
 -- The machine between two boundaries, with its stack as a list.
-use Rattle.std.specs.Prelude.{ℕ, suc, zero, ◌+◌, ◌-◌, ◌*◌, ◌/◌, ◌%◌, ◌^◌, Bool, true, false, ◌==◌, ◌&&◌, ◌||◌, nat_lt, nat_le, if◌then◌else◌, List, [], ◌∷◌, length, Some, None, slice_set, slice_index, slice_range}
+use Rattle.std.specs.Prelude.{ℕ, suc, zero, ◌+◌, ◌-◌, ◌*◌, ◌/◌, ◌%◌, ◌^◌, Bool, true, false, ◌==◌, ◌&&◌, ◌||◌, nat_lt, nat_le, if◌then◌else◌, List, [], ◌∷◌}
+use Rattle.std.specs.Prelude.{length, Some, None, slice_set, slice_index, slice_range}
 use Rattle.std.specs.declared.option.Option.{Option}
 use Rattle.micro_isa.specs.declared.Body.TheVariants.{Plain, Stm, Ldm, Ldi, Bz, Bnz, Jmp}
 use Rattle.micro_isa.specs.declared.Micro.{Micro}
 use Rattle.micro_isa.specs.declared.operation.Operation.{Operation}
-use Rattle.micro_isa.specs.declared.operation.Operation.TheVariants.{Nop, Pop, Dup, Add, Sub, And, Or, Xor, Shl, Shr, Ushr, Mul, Slt, Sltu, Ldo, Ldo8, Ldo16, Ldl, Stl, Ld0, Ld1, Ld2, Ld3, St0, St1, St2, St3, Ldvp, Stvp, Ldsp, Stsp, Ldjpc, Stjpc, Star, Ldmi, Stmi, Stmra, Stmwa, Stmwd, Wait, Ldmrd, Stbc, Jbr, Jbg, Ldin, Stout, Hltb, Hltu}
+use Rattle.micro_isa.specs.declared.operation.Operation.TheVariants.{Nop, Pop, Dup, Add, Sub, And, Or, Xor, Shl, Shr, Ushr, Mul, Slt, Sltu, Ldo, Ldo8, Ldo16}
+use Rattle.micro_isa.specs.declared.operation.Operation.TheVariants.{Ldl, Stl, Ld0, Ld1, Ld2, Ld3, St0, St1, St2, St3, Ldvp, Stvp, Ldsp, Stsp, Ldjpc, Stjpc}
+use Rattle.micro_isa.specs.declared.operation.Operation.TheVariants.{Star, Ldmi, Stmi, Stmra, Stmwa, Stmwd, Wait, Ldmrd, Stbc, Jbr, Jbg, Ldin, Stout, Hltb}
+use Rattle.micro_isa.specs.declared.operation.Operation.TheVariants.{Hltu}
 use Rattle.micro_isa.specs.Operations.{operation_of}
 use Rattle.micro_isa.specs.Words.{micro_of}
 use Rattle.microcode_rom.specs.declared.TheConstants.{WORDS, CONSTANTS, ENTRIES, RAISE}
@@ -255,7 +259,22 @@ exec (suc n) guesses x =
 
 -- f as an opcode begins, with these words on top of its stack and these past SP
 abbrev pub start : (mpc opcode : ℕ) → Sketch → (top next : ℕ) → (under above : List ℕ) → Sketch
-start mpc opcode f top next under above = record f { top = top; next = next; under = under; above = above; operand = 0; mpc = mpc; opcode = opcode; busy = false; halt = Running; loads = 0; words = 0; fine = true; done = false }
+start mpc opcode f top next under above = record f {
+  top = top;
+  next = next;
+  under = under;
+  above = above;
+  operand = 0;
+  mpc = mpc;
+  opcode = opcode;
+  busy
+      = false;
+  halt = Running;
+  loads = 0;
+  words = 0;
+  fine = true;
+  done = false;
+}
 
 -- x as it goes on to the opcode at jpc
 abbrev pub go_on : Sketch → Sketch

@@ -8,7 +8,7 @@ use Rattle.jop_core.specs.declared.tick.Tick.TheVariants as ticks
 use Rattle.jop_core.specs.State.{State}
 use Rattle.jop_core.specs.Cycle.{at_boundary, entry_of}
 use Rattle.jop_core.specs.Scene.{begun, run, output_during, seen_during, notes_during}
-use Rattle.jop_device.specs.Told.{Told, Attended}
+use Rattle.device_traits.specs.Told.{Told, Attended}
 use Rattle.jop_core.specs.Ticked.{Ticked}
 use Rattle.micro_sketch.specs.declared.step.Stepped.{Stepped}
 use Rattle.micro_sketch.specs.declared.step.Stepped.TheVariants.{Next, Raise, Halted, ReadFault, WriteFault, SeenFault}
@@ -18,7 +18,8 @@ use Rattle.micro_sketch.specs.declared.step.Stepped.TheVariants.{Next, Raise, Ha
 pub record RanCycles (cycles : ℕ) (old new : State) (told told' : Told) (answers : List (Option ℕ)) : Type 0 where
   pub state : (more : List (Option ℕ)) → (run cycles (begun old (answers ++ more))).state ≡ new
   pub left : (more : List (Option ℕ)) → (run cycles (begun old (answers ++ more))).answers ≡ more
-  pub device : Attended told told' answers (output_during cycles (begun old answers)) (seen_during cycles (begun old answers)) (notes_during cycles (begun old answers))
+  pub device : Attended told told' answers (output_during cycles (begun old answers)) (seen_during cycles (begun old answers))
+      (notes_during cycles (begun old answers))
 
 -- no boundary lies on the way
 abbrev pub IsQuiet : ℕ → State → List (Option ℕ) → Type 0

@@ -3,7 +3,7 @@ use Rattle.std.specs.Prelude.{ℕ, suc, ◌≡◌, ◌+◌, ◌≤◌, List, [],
 use Rattle.std.specs.declared.option.Option.{Option}
 use Rattle.jop_core.specs.State.{State, seen_of}
 use Rattle.jop_core.specs.Scene.{Scene, begun, run, output_during, seen_during}
-use Rattle.jop_device.specs.Told.{Told}
+use Rattle.device_traits.specs.Told.{Told}
 use Rattle.micro_sketch.specs.Step.{RanCycles}
 
 -- cycles that follow others make one run with them
@@ -33,7 +33,8 @@ pub record AreRunLaws : Type 0 where
   pub seen_one_more : (k : ℕ) (c : Scene) → seen_during (suc k) c ≡ seen_during k c ++ seen_of (run k c).state ∷ []
   pub ran_none : (s : State) (told : Told) → RanCycles 0 s s told told []
   pub ran_adds : StepsAddUp
-  pub ran_ends : (n : ℕ) (old new : State) (t0 t1 : Told) (answers : List (Option ℕ)) → RanCycles n old new t0 t1 answers → (run n (begun old answers)).state ≡ new
+  pub ran_ends : (n : ℕ) (old new : State) (t0 t1 : Told) (answers : List (Option ℕ)) → RanCycles n old new t0 t1 answers
+      → (run n (begun old answers)).state ≡ new
   -- answers behind those that a run takes don't matter to it
   pub answers_shrink : (k : ℕ) (c : Scene) → length (run k c).answers ≤ length c.answers
   pub run_followed : (i k : ℕ) (c : Scene) → UsesUp (i + k) c → (more : List (Option ℕ)) → run i (followed_by more c) ≡ followed_by more (run i c)

@@ -1,5 +1,8 @@
+//! Laws of the sketch: functions without a body.
+
 ghost use Rattle.micro_sketch.specs.FrameLaws.{FramePlaceMoves, SwitchRunsOn};
-ghost use Rattle.micro_sketch.specs.Laws.{MachineFollows, SplitsAnywhere, Reframes, StackPointerMoves, StackPointerComesDown, LowWordIsLoaded, SeenAsSketch, RunsGoOn, RunsBetweenAlike, CostsHold, RaiseCostHolds, FirstIsReached, BoundaryComesSoon};
+ghost use Rattle.micro_sketch.specs.Laws.{MachineFollows, SplitsAnywhere, StackPointerMoves, LowWordIsLoaded, SeenAsSketch};
+ghost use Rattle.micro_sketch.specs.Laws.{RunsGoOn, RunsBetweenAlike, CostsHold, RaiseCostHolds, FirstIsReached, BoundaryComesSoon};
 ghost use Rattle.micro_sketch.specs.StackLaws.{StackWordIsLoaded};
 ghost use Rattle.micro_sketch.specs.StepLaws.{StepsAddUp, AreRunLaws};
 ghost use Rattle.micro_sketch.specs.RowLaws.{AreRowLaws};
@@ -16,19 +19,9 @@ pub fn sketches_can_be_split_anywhere()
     ensures { SplitsAnywhere }
 {}
 
-/// Some of the words below the moving part of the stack can be taken as part of it.
-pub fn sketches_can_be_reframed()
-    ensures { Reframes }
-{}
-
 /// A new stack pointer splits the words elsewhere.
 pub fn stack_pointer_moves()
     ensures { StackPointerMoves }
-{}
-
-/// A stack pointer that comes down leaves the words past it.
-pub fn stack_pointer_comes_down()
-    ensures { StackPointerComesDown }
 {}
 
 /// A word below place 32 is loaded from where AR says.

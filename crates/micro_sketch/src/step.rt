@@ -48,7 +48,7 @@ pub fn to_boundary<const N: usize, D: Devices>(machine: &mut Machine<N>, device:
     }
 }
 
-// Where a machine stands that is at a boundary.
+/// Where a machine stands that is at a boundary.
 fn boundary_of<const N: usize>(machine: &Machine<N>) -> Stepped
     requires { at_boundary machine.now ≡ true }
     ensures { StandsAs machine.now result }

@@ -6,8 +6,8 @@ use Rattle.std.specs.Map.{lookup}
 use Rattle.std.proofs.lemmas.Bool.{cases_Bool, false≢true, true≢false}
 use Rattle.std.proofs.lemmas.List.{length-map, get_or-map, drop_all, map-append}
 use lib.Pointwise.{pointwise, bytes_decides}
-use Rattle.microcode_lines.specs.Parts.{is}
-use Rattle.microcode_lines.specs.Statements.{Statement, nothing, word, branch, entry, raise, constant, turns, size_of, Line, line_of}
+use Rattle.microcode_asm.specs.Parts.{is}
+use Rattle.microcode_asm.specs.Statements.{Statement, nothing, word, branch, entry, raise, constant, turns, size_of, Line, line_of}
 use Rattle.microcode_asm.specs.Programs.{labels_at, labels_from, size_at}
 
 abbrev pub now : Bor (List ℕ) → List ℕ

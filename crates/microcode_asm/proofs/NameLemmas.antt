@@ -4,7 +4,7 @@ use Rattle.std.specs.List.{list_any}
 use Rattle.std.proofs.lemmas.Bool.{cases_Bool, false≢true, true≢false}
 use Rattle.std.proofs.lemmas.List.{length-map, get_or-map, drop_all, map-append}
 use lib.Pointwise.{pointwise}
-use Rattle.microcode_lines.specs.Parts.{is}
+use Rattle.microcode_asm.specs.Parts.{is}
 use Rattle.microcode_asm.specs.Programs.{repeats}
 use Rattle.microcode_asm.specs.SoFar.{texts}
 use Rattle.microcode_asm.proofs.LabelLemmas.{now, has_text}

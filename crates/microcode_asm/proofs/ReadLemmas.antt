@@ -8,10 +8,10 @@ use Rattle.std.proofs.lemmas.List.{length-append, map-append, length-map, get_or
 use Rattle.std.proofs.lemmas.List.FromFn.{fill_by_all}
 use Rattle.std.proofs.lemmas.List.Splits.{length-slice_split}
 use Rattle.std.proofs.lemmas.List.Sums.{count_by-le-length}
-use Rattle.jop_text.specs.Line.{lines_of, without_empty_last}
+use Rattle.ascii_text.specs.Line.{lines_of, without_empty_last}
 use Rattle.micro_isa.specs.declared.Turns.{Turns}
-use Rattle.microcode_lines.specs.Parts.{is}
-use Rattle.microcode_lines.specs.Statements.{Line, line_of}
+use Rattle.microcode_asm.specs.Parts.{is}
+use Rattle.microcode_asm.specs.Statements.{Line, line_of}
 use Rattle.microcode_asm.specs.declared.AsmKind.{AsmKind}
 use Rattle.microcode_asm.specs.declared.AsmKind.TheVariants.{LabelTwice}
 use Rattle.microcode_asm.specs.declared.AsmFault.{AsmFault}

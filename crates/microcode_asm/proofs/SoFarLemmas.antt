@@ -6,7 +6,7 @@ use Rattle.std.specs.List.{list_any, flat_map}
 use Rattle.std.proofs.lemmas.Bool.{cases_Bool, eqb-true, eq-eqb, true≢false, false≢true}
 use Rattle.std.proofs.lemmas.List.{get_or-set_same, get_or-set_other, get_or-replicate}
 use Rattle.micro_isa.specs.declared.Turns.{Turns}
-use Rattle.microcode_lines.specs.Statements.{Statement, nothing, word, branch, entry, raise, constant, turns, size_of, Line}
+use Rattle.microcode_asm.specs.Statements.{Statement, nothing, word, branch, entry, raise, constant, turns, size_of, Line}
 use Rattle.microcode_asm.specs.declared.AsmKind.{AsmKind}
 use Rattle.microcode_asm.specs.declared.AsmKind.TheVariants.{Form, NoLabel, LabelTwice, EntryTwice, ConstTwice, NoTurns}
 use Rattle.microcode_asm.specs.Programs.{Places, address, word_count, turns_behind, turns_after, is_entry, is_raise, is_constant, labels_in, repeats, fault_of, statement_fault, branch_fault, enters, raises, sets}

@@ -1,7 +1,7 @@
 -- The lines of a microprogram's words.
 use Rattle.std.specs.Prelude.{ℕ, suc, List, [], ◌∷◌, ◌++◌, codes}
 use Rattle.std.specs.List.{concat}
-use Rattle.jop_text.specs.Hex.{hex}
+use Rattle.ascii_text.specs.Hex.{hex}
 
 -- ADDRESS WORD, in three and in four hexadecimal digits
 abbrev pub word_line : (address word : ℕ) → List ℕ

@@ -1,13 +1,14 @@
 -- The lines of a text together: addresses, labels, and the rules that a line may break.
-use Rattle.std.specs.Prelude.{◌≡◌, ℕ, suc, ◌+◌, ◌%◌, ◌<◌, Bool, true, false, ◌&&◌, ◌||◌, ◌==◌, nat_le, if◌then◌else◌, List, [], ◌∷◌, ◌++◌, length, map, Option, Some, None, is_none, option_map}
+use Rattle.std.specs.Prelude.{◌≡◌, ℕ, suc, ◌+◌, ◌%◌, ◌<◌, Bool, true, false, ◌&&◌, ◌||◌, ◌==◌, nat_le, if◌then◌else◌, List, [], ◌∷◌, ◌++◌, length, map, Option}
+use Rattle.std.specs.Prelude.{Some, None, is_none, option_map}
 use Rattle.std.specs.List.{list_any, flat_map}
 use Rattle.std.specs.Map.{lookup}
-use Rattle.jop_text.specs.Line.{lines_of}
+use Rattle.ascii_text.specs.Line.{lines_of}
 use Rattle.micro_isa.specs.declared.Turns.{Turns}
 use Rattle.microcode_asm.specs.declared.AsmKind.{AsmKind}
 use Rattle.microcode_asm.specs.declared.AsmKind.TheVariants.{Form, NoLabel, LabelTwice, EntryTwice, ConstTwice, NoTurns}
-use Rattle.microcode_lines.specs.Parts.{is}
-use Rattle.microcode_lines.specs.Statements.{Statement, nothing, word, branch, entry, raise, constant, turns, size_of, Line, line_of}
+use Rattle.microcode_asm.specs.Parts.{is}
+use Rattle.microcode_asm.specs.Statements.{Statement, nothing, word, branch, entry, raise, constant, turns, size_of, Line, line_of}
 
 -- the lines of a text; one that isn't of the grammar is None
 abbrev pub read_lines : (text : List ℕ) → List (Option Line)

@@ -1,5 +1,6 @@
 -- What a text is assembled to.
-use Rattle.std.specs.Prelude.{◌≡◌, ℕ, suc, ◌+◌, ◌<◌, ◌≤◌, true, false, Bool, ◌==◌, nat_le, if◌then◌else◌, List, [], ◌∷◌, ◌++◌, length, map, Option, Some, None, unwrap_or}
+use Rattle.std.specs.Prelude.{◌≡◌, ℕ, suc, ◌+◌, ◌<◌, ◌≤◌, true, false, Bool, ◌==◌, nat_le, if◌then◌else◌, List, [], ◌∷◌, ◌++◌, length, map, Option, Some, None}
+use Rattle.std.specs.Prelude.{unwrap_or}
 use Rattle.std.specs.List.{flat_map, range_with_len}
 use Rattle.micro_isa.specs.declared.Body.{Body}
 use Rattle.micro_isa.specs.declared.Body.TheVariants.{Plain, Stm, Ldm, Ldi, Bz, Bnz, Jmp}
@@ -10,9 +11,9 @@ use Rattle.microcode_asm.specs.declared.AsmKind.{AsmKind}
 use Rattle.microcode_asm.specs.declared.AsmFault.{AsmFault}
 use Rattle.microcode_asm.specs.declared.AsmFault.TheVariants.{Line as AtLine, TooLong, NoMemory}
 use Rattle.microcode_asm.specs.declared.Rom.{Rom}
-use Rattle.microcode_lines.specs.declared.statement.Branch.{Branch}
-use Rattle.microcode_lines.specs.declared.statement.Branch.TheVariants.{IfZero, IfNotZero, Always}
-use Rattle.microcode_lines.specs.Statements.{Statement, nothing, word, branch, entry, raise, constant, turns, size_of, Line}
+use Rattle.microcode_asm.specs.declared.statement.Branch.{Branch}
+use Rattle.microcode_asm.specs.declared.statement.Branch.TheVariants.{IfZero, IfNotZero, Always}
+use Rattle.microcode_asm.specs.Statements.{Statement, nothing, word, branch, entry, raise, constant, turns, size_of, Line}
 use Rattle.microcode_asm.specs.Programs.{read_lines, word_count, address, Places, places_of, turns_behind, is_entry, is_raise, fault_of, KeepRules}
 
 -- ---- words
@@ -57,7 +58,8 @@ turns_here place n before other = []
 -- the branches that have turns, where n words and these turns stand before
 abbrev pub turns_from : Places → (n : ℕ) → Option Turns → List Line → List (ℕ × Turns)
 turns_from place n before [] = []
-turns_from place n before (line ∷ lines) = turns_here place n before line.statement ++ turns_from place (n + size_of line.statement) (turns_behind before line.statement) lines
+turns_from place n before (line ∷ lines) = turns_here place n before line.statement
+    ++ turns_from place (n + size_of line.statement) (turns_behind before line.statement) lines
 
 -- ---- the whole
 

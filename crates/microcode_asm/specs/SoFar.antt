@@ -1,13 +1,14 @@
 -- What is kept of the lines that were assembled.
-use Rattle.std.specs.Prelude.{◌≡◌, ℕ, ◌<◌, ◌≤◌, Bool, false, if◌then◌else◌, List, [], ◌∷◌, ◌++◌, length, map, slice_index_or, slice_set, Option, Some, None, is_some, unwrap_or, option_map, nat_eq, Vec}
+use Rattle.std.specs.Prelude.{◌≡◌, ℕ, ◌<◌, ◌≤◌, Bool, false, if◌then◌else◌, List, [], ◌∷◌, ◌++◌, length, map, slice_index_or, slice_set, Option, Some, None}
+use Rattle.std.specs.Prelude.{is_some, unwrap_or, option_map, nat_eq, Vec}
 use Rattle.std.specs.List.{flat_map}
 use Rattle.std.specs.Cmp.Lexicographic.{pointwise}
 use Rattle.std.specs.declared.alloc.Global.{Global}
 use Rattle.indexmap.specs.IndexMap.{IndexMap, get_by}
 use Rattle.micro_isa.specs.declared.Turns.{Turns}
 use Rattle.micro_isa.specs.Words.{word_of}
-use Rattle.microcode_lines.specs.declared.statement.Branch.{Branch}
-use Rattle.microcode_lines.specs.Statements.{Statement, nothing, word, branch, entry, raise, constant, turns, Line}
+use Rattle.microcode_asm.specs.declared.statement.Branch.{Branch}
+use Rattle.microcode_asm.specs.Statements.{Statement, nothing, word, branch, entry, raise, constant, turns, Line}
 use Rattle.microcode_asm.specs.declared.AsmKind.{AsmKind}
 use Rattle.microcode_asm.specs.declared.AsmKind.TheVariants.{Form, LabelTwice, EntryTwice, ConstTwice}
 use Rattle.microcode_asm.specs.declared.AsmFault.{AsmFault}

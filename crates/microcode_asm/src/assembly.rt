@@ -1,21 +1,25 @@
 //! What was assembled so far.
-ghost use Rattle.std.specs.Prelude.{◌≡◌, ◌<◌, ℕ, [], ◌∷◌, ◌++◌, Some, None, true, false, not, IfOk, OnOk, IfNone, length, map, replicate, slice_index_or, is_some};
+ghost use Rattle.std.specs.Prelude.{◌≡◌, ◌<◌, ℕ, [], ◌∷◌, ◌++◌, Some, None, true, false, not, IfOk, OnOk, IfNone, length, map, replicate, slice_index_or};
+ghost use Rattle.std.specs.Prelude.{is_some};
 ghost use Rattle.std.specs.List.{list_any};
 ghost use Rattle.micro_isa.specs.Words.{HasRange as IsMicro};
-ghost use Rattle.microcode_lines.specs.Parts.{is};
-ghost use Rattle.microcode_lines.specs.Statements.{line_of};
-ghost use Rattle.microcode_lines.specs.Meaning.{IsInRange, line_meaning, meaning_of};
+ghost use Rattle.microcode_asm.specs.Parts.{is};
+ghost use Rattle.microcode_asm.specs.Statements.{line_of};
+ghost use Rattle.microcode_asm.specs.Meaning.{IsInRange, line_meaning, meaning_of};
 ghost use Rattle.microcode_asm.specs.Programs.{address, branch_fault, repeats};
 ghost use Rattle.microcode_asm.specs.Roms.{branch_to as branching_to, turns_of_branch};
-ghost use Rattle.microcode_asm.specs.SoFar.{HasRange, TextHasRange, constant_fault_by, entry_fault_by, kept, line_fault_by, places_by, statement_fault_by, text_fault_by, texts, with_branch, with_constant, with_entry, with_line, with_raise, with_statement, with_text, with_word};
+ghost use Rattle.microcode_asm.specs.SoFar.{HasRange, TextHasRange, constant_fault_by, entry_fault_by, kept, line_fault_by, places_by, statement_fault_by};
+ghost use Rattle.microcode_asm.specs.SoFar.{text_fault_by, texts, with_branch, with_constant, with_entry, with_line, with_raise, with_statement, with_text};
+ghost use Rattle.microcode_asm.specs.SoFar.{with_word};
 
 use crate::AsmKind;
 use crate::labels::{Labels, place_of};
+use crate::line::{Line, read_line};
 use crate::state::Assembly;
+use crate::statement::{Branch, Statement};
+use base::NoMemory;
 use indexmap::IndexSet;
-use jop_base::NoMemory;
 use micro_isa::{Body, Micro, Turns, encode};
-use microcode_lines::{Branch, Line, Statement, read_line};
 use std::alloc::Global;
 
 impl Assembly {
@@ -57,7 +61,7 @@ impl Assembly {
         }
     }
 
-    // Takes one line more, or answers the first rule that it breaks.
+    /// Takes one line more, or answers the first rule that it breaks.
     fn take(
         &mut self,
         alloc: Global,
@@ -67,7 +71,8 @@ impl Assembly {
         requires { IsInRange line.statement }
         ensures fault { IfOk result (λ fault. fault ≡ line_fault_by (places_by labels.now) (line_meaning line.entry) (kept self.old)) }
         ensures kept { IfOk result (λ fault. IfNone fault (kept self.new ≡ with_line (places_by labels.now) (line_meaning line.entry) (kept self.old))) }
-        ensures range { OnOk result (repeats (texts self.old.names.keys) (line_meaning line.entry).labels ≡ false → HasRange (line_meaning line.entry).statement) }
+        ensures range { OnOk result (repeats (texts self.old.names.keys) (line_meaning line.entry).labels ≡ false
+            → HasRange (line_meaning line.entry).statement) }
     {
         if add_names(alloc, &mut self.names, line.labels.as_slice())? {
             return Ok(Some(AsmKind::LabelTwice));
@@ -75,7 +80,7 @@ impl Assembly {
         self.add_statement(labels, line.statement)
     }
 
-    // Adds a statement, or answers the rule that it breaks.
+    /// Adds a statement, or answers the rule that it breaks.
     fn add_statement(
         &mut self,
         labels: &Labels,
@@ -83,7 +88,8 @@ impl Assembly {
     ) -> Result<Option<AsmKind>, NoMemory>
         requires { IsInRange statement }
         ensures fault { IfOk result (λ fault. fault ≡ statement_fault_by (places_by labels.now) (meaning_of statement.entry) (kept self.old)) }
-        ensures kept { IfOk result (λ fault. IfNone fault (kept self.new ≡ with_statement (places_by labels.now) (meaning_of statement.entry) (kept self.old))) }
+        ensures kept { IfOk result (λ fault. IfNone fault (kept self.new ≡ with_statement (places_by labels.now) (meaning_of statement.entry)
+            (kept self.old))) }
         ensures range { OnOk result (HasRange (meaning_of statement.entry)) }
     {
         match statement {
@@ -106,7 +112,7 @@ impl Assembly {
         }
     }
 
-    // The address of the next word.
+    /// The address of the next word.
     fn next_address(&self) -> u16
         ensures { result ≡ address (length self.now.words.items) }
     {
@@ -170,7 +176,7 @@ impl Assembly {
     }
 }
 
-// Adds the names of labels, or answers that one is there already or stands twice.
+/// Adds the names of labels, or answers that one is there already or stands twice.
 fn add_names(
     alloc: Global,
     names: &mut IndexSet<Vec<u8>>,
@@ -187,7 +193,7 @@ fn add_names(
     Ok(false)
 }
 
-// Adds the name of a label, and answers whether it was not there.
+/// Adds the name of a label, and answers whether it was not there.
 fn add_name(alloc: Global, names: &mut IndexSet<Vec<u8>>, label: &[u8]) -> Result<bool, NoMemory>
     ensures added { IfOk result (λ added. added ≡ not (list_any (is label.now) (texts names.old.keys))) }
     ensures kept { IfOk result (λ added. added ≡ true → texts names.new.keys ≡ texts names.old.keys ++ label.now ∷ []) }
@@ -197,7 +203,7 @@ fn add_name(alloc: Global, names: &mut IndexSet<Vec<u8>>, label: &[u8]) -> Resul
     Ok(added)
 }
 
-// Adds the turns that count for a branch between these addresses, or answers that it has to have some.
+/// Adds the turns that count for a branch between these addresses, or answers that it has to have some.
 fn add_turns(
     turns: &mut Vec<(u16, Turns)>,
     counting: Option<Turns>,

@@ -3,16 +3,17 @@ ghost use Rattle.std.specs.Prelude.{◌≡◌, ◌≤◌, ◌<◌, ◌%◌, ℕ,
 ghost use Rattle.std.specs.Option.{option_or};
 ghost use Rattle.std.specs.Cmp.Lexicographic.{pointwise};
 ghost use Rattle.std.specs.Map.{lookup};
+ghost use Rattle.base.specs.Sizes.{longest_file};
 ghost use Rattle.indexmap.specs.IndexMap.{get_by};
-ghost use Rattle.microcode_lines.specs.Parts.{is};
-ghost use Rattle.microcode_lines.specs.Statements.{line_of};
+ghost use Rattle.microcode_asm.specs.Parts.{is};
+ghost use Rattle.microcode_asm.specs.Statements.{line_of};
 ghost use Rattle.microcode_asm.specs.Programs.{labels_at, labels_from, read_lines, size_at};
 ghost use Rattle.microcode_asm.specs.SoFar.{places_by};
 
+use crate::line::read_line;
+use ascii_text::lines;
+use base::NoMemory;
 use indexmap::IndexMap;
-use jop_base::NoMemory;
-use jop_text::lines;
-use microcode_lines::read_line;
 use std::alloc::Global;
 
 /// How many words stand before each label, by its name.
@@ -29,7 +30,7 @@ pub(crate) fn place_of(labels: &Labels, label: &[u8]) -> Option<u16>
     }
 }
 
-// The address of the word before which there are so many.
+/// The address of the word before which there are so many.
 fn address(words: u32) -> u16
     ensures { result ≡ words % 2048 }
 {
@@ -38,8 +39,9 @@ fn address(words: u32) -> u16
 
 /// The labels of the lines of a text that are of the grammar.
 pub(crate) fn read_labels(alloc: Global, text: &[u8]) -> Result<Labels, NoMemory>
-    requires { length text.now ≤ 33554432 }
-    ensures { IfOk result (λ labels. (name : List ℕ) → get_by (λ k. pointwise nat_eq name k.items) labels ≡ lookup (is name) (labels_from 0 (read_lines text.now))) }
+    requires { length text.now ≤ longest_file }
+    ensures { IfOk result (λ labels. (name : List ℕ) → get_by (λ k. pointwise nat_eq name k.items) labels ≡ lookup (is name)
+        (labels_from 0 (read_lines text.now))) }
 {
     let mut labels = IndexMap::new(alloc);
     let mut words = 0u32;
@@ -49,7 +51,7 @@ pub(crate) fn read_labels(alloc: Global, text: &[u8]) -> Result<Labels, NoMemory
     Ok(labels)
 }
 
-// Puts the labels of a line before which there are so many words behind the others, and answers how many words it makes.
+/// Puts the labels of a line before which there are so many words behind the others, and answers how many words it makes.
 fn add_line(alloc: Global, labels: &mut Labels, text: &[u8], words: u32) -> Result<u32, NoMemory>
     ensures labels { OnOk result ((name : List ℕ) → get_by (λ k. pointwise nat_eq name k.items) labels.new
         ≡ option_or (get_by (λ k. pointwise nat_eq name k.items) labels.old) (lookup (is name) (labels_at words (line_of text.now)))) }
@@ -62,7 +64,7 @@ fn add_line(alloc: Global, labels: &mut Labels, text: &[u8], words: u32) -> Resu
     Ok(line.statement.size())
 }
 
-// Puts labels before which there are so many words behind the others.
+/// Puts labels before which there are so many words behind the others.
 fn add_labels(
     alloc: Global,
     labels: &mut Labels,
@@ -78,7 +80,7 @@ fn add_labels(
     Ok(())
 }
 
-// Puts a label behind the others, if it does not stand among them.
+/// Puts a label behind the others, if it does not stand among them.
 fn add_label(alloc: Global, labels: &mut Labels, name: &[u8], words: u32) -> Result<(), NoMemory>
     ensures { OnOk result ((q : List ℕ) → get_by (λ k. pointwise nat_eq q k.items) labels.new
         ≡ option_or (get_by (λ k. pointwise nat_eq q k.items) labels.old) (lookup (is q) ((name.now, words) ∷ []))) }

@@ -1,25 +1,32 @@
-//! The assembler of the microcode.
+//! The assembler of the microcode, line by line.
 //!
-//! What a line may hold is said in `microcode_lines`.
+//! A line holds any number of labels `NAME:`, then at most one directive or microinstruction, then at most one comment
+//! from `;` to its end. Its parts are separated by one or more spaces, which may also begin and end it.
+//! A microinstruction is its name, its argument where it has one, then perhaps `opd`, then perhaps `nxt`. The argument
+//! of `bz`, `bnz` and `jmp`, which carry no flag, is a label; that of `stm`, `ldm` and `ldi` a number from 0 to 31.
+//! The directives are `.entry OP`, `.raise`, `.const K V`, `.turns N`, `.turns pairs` and `.turns entries`.
 #![tactic(auto)]
-
-mod assembly;
-mod labels;
-mod listing;
-mod state;
 
 ghost use Rattle.std.specs.Prelude.{◌≡◌, ◌≤◌, ◌<◌, ◌^◌, ℕ, List, IfOk, IfErr, length, map, nat_eq, unwrap_or};
 ghost use Rattle.std.specs.Cmp.Lexicographic.{pointwise};
 ghost use Rattle.std.specs.Map.{lookup};
+ghost use Rattle.base.specs.Sizes.{longest_file};
 ghost use Rattle.indexmap.specs.IndexMap.{get_by};
-ghost use Rattle.microcode_lines.specs.Parts.{is};
+ghost use Rattle.microcode_asm.specs.Parts.{is};
 ghost use Rattle.microcode_asm.specs.Programs.{labels_from, read_lines};
 ghost use Rattle.microcode_asm.specs.Roms.{IsAssembled, IsRefused};
 ghost use Rattle.microcode_asm.specs.SoFar.{IsRomOf, IsTooLongFor, kept};
 
-use items::Items;
-use jop_base::NoMemory;
-use jop_text::lines;
+mod assembly;
+mod labels;
+mod line;
+mod listing;
+mod part;
+mod state;
+mod statement;
+
+use ascii_text::lines;
+use base::{Items, NoMemory};
 use labels::{Labels, read_labels};
 pub use listing::listing_of;
 use micro_isa::Turns;
@@ -87,7 +94,7 @@ pub struct Rom {
 
 /// The microprogram that a text is.
 pub fn assemble(alloc: Global, text: &[u8]) -> Result<Rom, AsmFault>
-    requires { length text.now ≤ 33554432 }
+    requires { length text.now ≤ longest_file }
     ensures assembled { IfOk result (IsAssembled text.now) }
     ensures refused { IfErr result (IsRefused text.now) }
 {
@@ -95,9 +102,9 @@ pub fn assemble(alloc: Global, text: &[u8]) -> Result<Rom, AsmFault>
     assemble_with(alloc, text, &labels)
 }
 
-// The microprogram that a text is, whose labels are these.
+/// The microprogram that a text is, whose labels are these.
 fn assemble_with(alloc: Global, text: &[u8], labels: &Labels) -> Result<Rom, AsmFault>
-    requires few { length text.now ≤ 33554432 }
+    requires few { length text.now ≤ longest_file }
     requires labels { (name : List ℕ) → get_by (λ k. pointwise nat_eq name k.items) labels.now ≡ lookup (is name) (labels_from 0 (read_lines text.now)) }
     ensures assembled { IfOk result (IsAssembled text.now) }
     ensures refused { IfErr result (IsRefused text.now) }
@@ -113,7 +120,7 @@ fn assemble_with(alloc: Global, text: &[u8], labels: &Labels) -> Result<Rom, Asm
     finish(alloc, assembly)
 }
 
-// The microprogram that was assembled, where it has at most 2,048 words.
+/// The microprogram that was assembled, where it has at most 2,048 words.
 fn finish(alloc: Global, assembly: Assembly) -> Result<Rom, AsmFault>
     requires { length assembly.words.items < 2 ^ 32 }
     ensures rom { IfOk result (IsRomOf (kept assembly)) }

@@ -2,11 +2,11 @@
 ghost use Rattle.std.specs.Prelude.{◌≡◌, ◌≤◌, length, IfOk};
 ghost use Rattle.microcode_asm.specs.Listing.{word_line, listing_of};
 
-use jop_base::NoMemory;
-use jop_text::hex_digits;
+use ascii_text::hex_digits;
+use base::NoMemory;
 use std::alloc::Global;
 
-// The line of a word: three hexadecimal digits of its address, and its four.
+/// The line of a word: three hexadecimal digits of its address, and its four.
 fn word_line(address: u16, word: u16) -> [u8; 9]
     ensures { result ≡ word_line address word }
 {

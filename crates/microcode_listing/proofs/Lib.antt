@@ -1,2 +1,6 @@
 mod Numbers
 mod Texts
+mod Digits
+mod ListingTexts
+mod Reading
+mod Whole

@@ -1,7 +1,7 @@
 -- The text of the microcode: what stands in it for the constants, the rows and the words of the ROM.
 use Rattle.std.specs.Prelude.{ℕ, suc, Bool, ◌==◌, if◌then◌else◌, List, [], ◌∷◌, ◌++◌, codes, decimal, Option, Some, None}
 use Rattle.std.specs.Option.{option_map_or}
-use Rattle.jop_opcodes.specs.Row.{row_of}
+use Rattle.opcodes.specs.Row.{row_of}
 use Rattle.micro_isa.specs.declared.Body.{Body}
 use Rattle.micro_isa.specs.declared.Body.TheVariants.{Plain, Stm, Ldm, Ldi, Bz, Bnz, Jmp}
 use Rattle.micro_isa.specs.declared.Micro.{Micro}

@@ -4,15 +4,18 @@
 //! then come the opcodes that begin there, each with its name as a comment.
 #![tactic(auto)]
 
-mod names;
-
 ghost use Rattle.std.specs.Prelude.{◌≡◌, ◌++◌, ◌≤◌, length, Some, OnOk, IfOk, codes};
-ghost use Rattle.microcode_listing.specs.Listing.{numbered, with_number, constant_text, entry_text, raise_text, opcodes_text, head_text, turns_text, target_text, body_text, flag_text, micro_text, word_text, listing_text};
+ghost use Rattle.microcode_listing.specs.Listing.{numbered, with_number, constant_text, entry_text, raise_text, opcodes_text, head_text, turns_text};
+ghost use Rattle.microcode_listing.specs.Listing.{target_text, body_text, flag_text, micro_text, word_text, listing_text};
 ghost use Rattle.microcode_listing.specs.Names.{row_text};
 ghost use Rattle.micro_isa.specs.Words.{micro_of};
 
-use jop_base::NoMemory;
-use jop_text::put_u64;
+mod laws;
+mod names;
+
+use ascii_text::put_u64;
+use base::NoMemory;
+pub use laws::the_listing_is_assembled;
 use micro_isa::{Body, Micro, Turns, decode};
 use microcode_rom::{CONSTANTS, ENTRIES, RAISE, WORDS, turns};
 use names::{operation_name, row_name};
@@ -36,7 +39,7 @@ fn put(out: &mut Vec<u8>, text: &str) -> Result<(), NoMemory>
     Ok(())
 }
 
-// A word, a number and what is behind them.
+/// A word, a number and what is behind them.
 fn put_numbered(out: &mut Vec<u8>, name: &str, number: u64, behind: &str) -> Result<(), NoMemory>
     ensures { OnOk result (out.new.items ≡ out.old.items ++ with_number name.now number behind.now) }
 {
@@ -87,7 +90,7 @@ fn put_words_of(out: &mut Vec<u8>, words: &[u16]) -> Result<(), NoMemory>
     Ok(())
 }
 
-// A word, and what stands before it.
+/// A word, and what stands before it.
 #[tactic(auto, unfolding(crate::specs::Listing::word_text))]
 fn put_row_word(out: &mut Vec<u8>, address: u16, word: u16) -> Result<(), NoMemory>
     ensures { OnOk result (out.new.items ≡ out.old.items ++ word_text address word) }
@@ -97,7 +100,7 @@ fn put_row_word(out: &mut Vec<u8>, address: u16, word: u16) -> Result<(), NoMemo
     put_word(out, word)
 }
 
-// What stands before the first word of a row.
+/// What stands before the first word of a row.
 #[tactic(auto, unfolding(crate::specs::Listing::head_text))]
 fn put_head(out: &mut Vec<u8>, address: u16) -> Result<(), NoMemory>
     ensures { OnOk result (out.new.items ≡ out.old.items ++ head_text address (row_text address)) }
@@ -117,7 +120,7 @@ fn put_row(out: &mut Vec<u8>, address: u16, name: &str) -> Result<(), NoMemory>
     put_opcodes(out, address)
 }
 
-// That an address is where raising begins, and the opcodes whose row begins there.
+/// That an address is where raising begins, and the opcodes whose row begins there.
 #[tactic(auto, unfolding(crate::specs::Listing::opcodes_text))]
 fn put_opcodes(out: &mut Vec<u8>, address: u16) -> Result<(), NoMemory>
     ensures { OnOk result (out.new.items ≡ out.old.items ++ opcodes_text address) }
@@ -161,11 +164,11 @@ fn put_entry(out: &mut Vec<u8>, address: u16, op: u8, entry: u16) -> Result<(), 
         return Ok(());
     }
     put_numbered(out, ".entry ", u64::from(op), " ; ")?;
-    put(out, jop_opcodes::name(op))?;
+    put(out, opcodes::name(op))?;
     put(out, "\n")
 }
 
-// The turns of a branch, before it.
+/// The turns of a branch, before it.
 #[tactic(auto, unfolding(crate::specs::Listing::turns_text))]
 fn put_turns(out: &mut Vec<u8>, turns: Option<Turns>) -> Result<(), NoMemory>
     ensures { OnOk result (out.new.items ≡ out.old.items ++ turns_text turns) }

@@ -65,7 +65,7 @@ macro_rules! one {
     };
 }
 
-// The address and the number of words of each row.
+/// The address and the number of words of each row.
 macro_rules! bounds {
     ($($row:ident = $([$($part:tt)*])*;)*) => {
         [$(($row, 0 $(+ one!($($part)*))*)),*]

@@ -28,8 +28,8 @@ pub mod stops;
 mod topology;
 mod totals;
 
+use base::NoMemory;
 use certifying::{cert_loops, potentials};
-use jop_base::NoMemory;
 use loop_nest::Graph;
 use loop_nest::loops::Nest;
 use pass::{Pass, one_pass};

@@ -46,7 +46,8 @@ pub fn one_pass(
     ensures valid { IsDigraph g.now }
     ensures unreached { IfOk result (λ o. IfNone o (¬ ReachesExit g.now 0)) }
     ensures fits { IfOk result (λ o. IfNone o (¬ IsTooLarge g.now costs.now (bounded_loops nest.now bounds.now loads.now))) }
-    ensures pass { IfOk result (λ o. IfSome o (λ s. IsPass g.now nest.now costs.now bounds.now loads.now s.listed.items s.iteration_costs.items s.dist.items s.value s.turns_exceed)) }
+    ensures pass { IfOk result (λ o. IfSome o (λ s. IsPass g.now nest.now costs.now bounds.now loads.now s.listed.items s.iteration_costs.items s.dist.items
+        s.value s.turns_exceed)) }
 {
     // The law is for the proof.
     reducible_is_reached();

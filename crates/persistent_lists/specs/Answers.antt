@@ -9,11 +9,13 @@ difference x y = record { first = x; second = y }
 -- the test passes at each index below the width at which the lists differ, or at one it doesn't
 abbrev pub AreAnswered : (answers : Difference → Bool → Type 0) → (width : ℕ) → (xs ys : List ℕ) → Bool → Type 0
 AreAnswered answers width xs ys true = (i x y : ℕ) → i < width → slice_get xs i ≡ Some x → slice_get ys i ≡ Some y → (x ≡ y) ⊎ answers (difference x y) true
-AreAnswered answers width xs ys false = (i : ℕ) × (x : ℕ) × (y : ℕ) × (i < width) × (slice_get xs i ≡ Some x) × (slice_get ys i ≡ Some y) × answers (difference x y) false
+AreAnswered answers width xs ys false = (i : ℕ) × (x : ℕ) × (y : ℕ) × (i < width) × (slice_get xs i ≡ Some x) × (slice_get ys i ≡ Some y)
+    × answers (difference x y) false
 
 -- the test passes at each index at which two lists differ, or at one it doesn't
 abbrev pub Passing : (answers : Difference → Bool → Type 0) → (xs ys : List ℕ) → Bool → Type 0
-Passing answers xs ys true = (i : ℕ) → (slice_get xs i ≡ slice_get ys i) ⊎ ((x : ℕ) × (y : ℕ) × (slice_get xs i ≡ Some x) × (slice_get ys i ≡ Some y) × answers (difference x y) true)
+Passing answers xs ys true = (i : ℕ) → (slice_get xs i ≡ slice_get ys i)
+    ⊎ ((x : ℕ) × (y : ℕ) × (slice_get xs i ≡ Some x) × (slice_get ys i ≡ Some y) × answers (difference x y) true)
 Passing answers xs ys false = (i : ℕ) × (x : ℕ) × (y : ℕ) × (slice_get xs i ≡ Some x) × (slice_get ys i ≡ Some y) × answers (difference x y) false
 
 pub record ArePassed (answers : Difference → Bool → Type 0) (xs ys : List ℕ) (passes : Bool) : Type 0 where

@@ -2,7 +2,8 @@
 use Rattle.std.specs.Prelude.{◌≡◌, ◌≢◌, ℕ, ◌-◌, ◌<◌, ◌≤◌, List, [], ◌∷◌, ◌++◌, length, get_or, replicate, slice_get, slice_set, Option, Some, None}
 use Rattle.std.specs.Option.{option_map_or}
 
--- the length of each list, the number behind the items that were given for one, the lists, each at its number, and pairs of lists of which it is known that a test passes wherever they differ
+-- the length of each list, the number behind the items that were given for one, the lists, each at its number, and pairs of lists of which it is
+-- known that a test passes wherever they differ
 pub record ListTable : Type 0 where
   pub width : ℕ
   pub rest : ℕ

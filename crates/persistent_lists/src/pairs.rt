@@ -2,8 +2,8 @@
 ghost use Rattle.std.specs.Prelude.{◌≡◌, [], IfOk};
 ghost use Rattle.persistent_lists.specs.Trees.{pair_at, IsNode, Extends};
 
+use base::NoMemory;
 use indexmap::IndexSet;
-use jop_base::NoMemory;
 use std::alloc::Global;
 use std::marker::Model;
 

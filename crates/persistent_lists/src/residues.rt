@@ -2,7 +2,7 @@
 ghost use Rattle.std.specs.Prelude.{◌≡◌, [], get_or, IsTrue, OnOk};
 ghost use Rattle.persistent_lists.specs.Residues.{MayHold, Covers, HaveMore};
 
-use jop_base::NoMemory;
+use base::NoMemory;
 use std::alloc::Global;
 use std::marker::Model;
 

@@ -1,3 +1,5 @@
+//! Lists that share what they have in common, by number.
+
 ghost use Rattle.std.specs.Prelude.{◌≡◌, ℕ, ◌<◌, ◌≤◌, ◌^◌, [], ◌∷◌, ◌++◌, length, slice_get, None, IfOk, IfSome, IsSome, OnOk, OnErr};
 ghost use Rattle.persistent_lists.specs.Tables.{with_list, with_known, filled, list_at, changed_list, IsDifference, IsPosition};
 ghost use Rattle.persistent_lists.specs.Answers.{ArePassed, AreKnown};
@@ -9,7 +11,7 @@ use crate::residues::Residues;
 use crate::trees::{
     Difference, difference_in, height_of, item_at, passes_in, position_in, tree_of, tree_with,
 };
-use jop_base::NoMemory;
+use base::NoMemory;
 use std::alloc::Global;
 use std::marker::Model;
 
@@ -49,7 +51,8 @@ impl Model for SharedLists {
 
     ghost view = { λ a. record { width = a.width; rest = a.rest; lists = lists_of a.width a.height a.pairs a.roots.items; known = all_items a.pairs a.known } };
 
-    ghost invariant = { λ a. (a.width ≤ 2 ^ a.height) × (a.height ≤ 16) × (length a.roots.items < 2 ^ 32) × All (IsTree a.pairs a.height) a.roots.items × All (AreTrees a.pairs) a.known × All (HasResidues a.pairs a.residues a.height) a.roots.items };
+    ghost invariant = { λ a. (a.width ≤ 2 ^ a.height) × (a.height ≤ 16) × (length a.roots.items < 2 ^ 32) × All (IsTree a.pairs a.height) a.roots.items
+        × All (AreTrees a.pairs) a.known × All (HasResidues a.pairs a.residues a.height) a.roots.items };
 }
 
 /// Adds a node to those of the lists.

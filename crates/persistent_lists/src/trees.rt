@@ -9,7 +9,7 @@ ghost use Rattle.persistent_lists.specs.Residues.{AreAmong, HasResidues, HaveMor
 use crate::known::{Known, TreePair};
 use crate::pairs::Pairs;
 use crate::residues::{Residues, both, may_hold, residue_of};
-use jop_base::NoMemory;
+use base::NoMemory;
 
 /// The items of two lists at an index at which these differ.
 #[derive(Clone, Copy)]
@@ -219,7 +219,8 @@ fn residues_of(residues: &Residues, height: u32, node: u32) -> u64
 
 /// The residues of the items of two trees, and perhaps others.
 fn residues_of_both(residues: &Residues, height: u32, halves: (u32, u32)) -> u64
-    ensures { (ps : List (ℕ × ℕ)) → HasResidues ps residues.now height halves.0 × HasResidues ps residues.now height halves.1 → AreAmong ps height halves.0 result × AreAmong ps height halves.1 result }
+    ensures { (ps : List (ℕ × ℕ)) → HasResidues ps residues.now height halves.0 × HasResidues ps residues.now height halves.1
+        → AreAmong ps height halves.0 result × AreAmong ps height halves.1 result }
 {
     let first = residues_of(residues, height, halves.0);
     let second = residues_of(residues, height, halves.1);
@@ -257,7 +258,8 @@ fn join(
 ) -> Result<Filled, NoMemory>
     requires height { 0 < height }
     requires trees { IsTree pairs.old (height - 1) halves.0 × IsTree pairs.old (height - 1) halves.1 × IsTree pairs.old (height - 1) rest }
-    requires marked { HasResidues pairs.old residues.old (height - 1) halves.0 × HasResidues pairs.old residues.old (height - 1) halves.1 × HasResidues pairs.old residues.old (height - 1) rest }
+    requires marked { HasResidues pairs.old residues.old (height - 1) halves.0 × HasResidues pairs.old residues.old (height - 1) halves.1
+        × HasResidues pairs.old residues.old (height - 1) rest }
     ensures more { Extends pairs.old pairs.new }
     ensures grown { HaveMore residues.old residues.new }
     ensures nodes { IfOk result (λ made. IsNode pairs.new halves made.node × IsNode pairs.new (rest, rest) made.rest) }

@@ -5,13 +5,13 @@ use Rattle.std.specs.Int.{w8, w16, w32}
 use Rattle.std.specs.List.{AllByRecursion}
 use Rattle.std.proofs.Math.Facts.{sfits_to_z, sfits_widen}
 use Rattle.std.proofs.lemmas.Int.{fits_signed_from_abs}
-use Rattle.jop_opcodes.specs.declared.instruction.Instr.{Instr}
-use Rattle.jop_opcodes.specs.declared.instruction.DecodeFault.{DecodeFault}
-use Rattle.jop_opcodes.specs.declared.instruction.DecodeFault.TheVariants.{Short}
-use Rattle.jop_opcodes.specs.Bytes.{u1, u2, u4}
-use Rattle.jop_opcodes.specs.Form.{Operand, Absent, UnsignedByte, UnsignedShort, SignedByte, SignedShort, Offset, WideOffset, Form, NotAnOpcode, Fixed, Widened, TableSwitch, LookupSwitch, Wide}
-use Rattle.jop_opcodes.specs.Instruction.{value_at, widened_at, spelled_at, within, decoded}
-use Rattle.jop_opcodes.specs.Row.{row_of}
+use Rattle.opcodes.specs.declared.instruction.Instr.{Instr}
+use Rattle.opcodes.specs.declared.instruction.DecodeFault.{DecodeFault}
+use Rattle.opcodes.specs.declared.instruction.DecodeFault.TheVariants.{Short}
+use Rattle.opcodes.specs.Bytes.{u1, u2, u4}
+use Rattle.opcodes.specs.Form.{Operand, Absent, UnsignedByte, UnsignedShort, SignedByte, SignedShort, Offset, WideOffset, Form, NotAnOpcode, Fixed, Widened, TableSwitch, LookupSwitch, Wide}
+use Rattle.opcodes.specs.Instruction.{value_at, widened_at, spelled_at, within, decoded}
+use Rattle.opcodes.specs.Row.{row_of}
 
 abbrev pub AreBytes : List ℕ → Type 0
 AreBytes code = AllByRecursion (λ byte. byte < 2 ^ 8) code

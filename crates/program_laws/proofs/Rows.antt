@@ -15,9 +15,9 @@ use Rattle.class_pool.specs.declared.class.ClassFile.{ClassFile}
 use Rattle.class_pool.specs.Spelling.{IsInRange}
 use Rattle.class_rules.specs.Grammar.{IsClass}
 use Rattle.class_rules.specs.Found.{MethodsHaveCode, FieldsHaveConstants}
-use Rattle.jop_opcodes.specs.declared.instruction.Instr.{Instr}
-use Rattle.jop_opcodes.specs.Instruction.{decoded}
-use Rattle.jop_opcodes.specs.Start.{starts_of, IsStart}
+use Rattle.opcodes.specs.declared.instruction.Instr.{Instr}
+use Rattle.opcodes.specs.Instruction.{decoded}
+use Rattle.opcodes.specs.Start.{starts_of, IsStart}
 use Rattle.bytecode_model.specs.Lists.{onto, index_of}
 use Rattle.bytecode_model.specs.Types.{Kind, OfClass, OfNumbers, OfReferences, same_kind, t_boolean, t_char, t_byte, t_short, t_int, t_long}
 use Rattle.bytecode_model.specs.Program.{Method, Body, NoOperand, body_of, as_instr, instr_at, type_number, object_class, serializable_class, cloneable_class}

@@ -42,7 +42,8 @@ pub record IsSelectedMethod (cs : List ClassFile) (receiver : ℕ) (s : Signatur
 
 -- where there are objects of the receiver's class, a method is selected for each instance method of what it extends
 abbrev pub SelectionLaw : Type 0
-SelectionLaw = (cs : List ClassFile) → IsResolved cs → (receiver : ℕ) (a : Place) (s : Signature) → signature_at cs a ≡ Some s → IsTrue (is_instance cs a) → IsTrue (is_concrete cs receiver)
+SelectionLaw = (cs : List ClassFile) → IsResolved cs → (receiver : ℕ) (a : Place) (s : Signature) → signature_at cs a ≡ Some s → IsTrue (is_instance cs a)
+    → IsTrue (is_concrete cs receiver)
     → IsTrue (extends cs receiver a.0)
     → (t : Place) × (select cs receiver a ≡ Some t) × IsSelectedMethod cs receiver s t
 

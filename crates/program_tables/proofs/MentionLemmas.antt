@@ -14,9 +14,9 @@ use Rattle.class_pool.specs.Found.{code_of}
 use Rattle.class_pool.specs.declared.class.ClassFile.{ClassFile}
 use Rattle.program_tables.specs.Instructions.{Placed, placed_at, instructions_in, instructions_of, named_in}
 use Rattle.program_tables.specs.Numbers.{reference_arrays, used_by, class_kind, arrays_mentioned_by, arrays_mentioned_in, first_types, types_of, strings_in, strings_of}
-use Rattle.jop_opcodes.specs.declared.instruction.Instr.{Instr}
-use Rattle.jop_opcodes.specs.Instruction.{decoded}
-use Rattle.jop_opcodes.specs.Start.{starts_of}
+use Rattle.opcodes.specs.declared.instruction.Instr.{Instr}
+use Rattle.opcodes.specs.Instruction.{decoded}
+use Rattle.opcodes.specs.Start.{starts_of}
 use Rattle.bytecode_model.specs.Program.{as_instr}
 use Rattle.bytecode_model.specs.Types.{Kind, OfClass, OfNumbers, OfReferences, same_kind}
 use Rattle.class_lookup.specs.Parts.{same_text}

@@ -9,14 +9,14 @@ use Rattle.class_pool.specs.declared.class.ClassFile.{ClassFile}
 use Rattle.class_pool.specs.declared.entry.Entry.{Entry}
 use Rattle.class_pool.specs.declared.entry.Entry.TheVariants as entries
 use Rattle.class_pool.specs.Grammar.{entry_at}
-use Rattle.jop_opcodes.specs.declared.instruction.Instr.{Instr}
-use Rattle.jop_opcodes.specs.declared.instruction.DecodeFault.{DecodeFault}
-use Rattle.jop_opcodes.specs.Bytes.{u1}
-use Rattle.jop_opcodes.specs.Form.{Form, NotAnOpcode, Fixed, Widened, TableSwitch, LookupSwitch, Wide}
-use Rattle.jop_opcodes.specs.Instruction.{decoded}
-use Rattle.jop_opcodes.specs.Reading.{IsOfForm, InstructionsAreOfTheirForm}
-use Rattle.jop_opcodes.specs.Row.{row_of}
-use Rattle.jop_opcodes.proofs.FaultLemmas.{same_at}
+use Rattle.opcodes.specs.declared.instruction.Instr.{Instr}
+use Rattle.opcodes.specs.declared.instruction.DecodeFault.{DecodeFault}
+use Rattle.opcodes.specs.Bytes.{u1}
+use Rattle.opcodes.specs.Form.{Form, NotAnOpcode, Fixed, Widened, TableSwitch, LookupSwitch, Wide}
+use Rattle.opcodes.specs.Instruction.{decoded}
+use Rattle.opcodes.specs.Reading.{IsOfForm, InstructionsAreOfTheirForm}
+use Rattle.opcodes.specs.Row.{row_of}
+use Rattle.opcodes.proofs.FaultLemmas.{same_at}
 use Rattle.program_tables.specs.Instructions.{is_ldc, is_ldc2, is_field_access, is_class_use, takes_method, takes_interface_method, named_by, index_of_entry, named_in, Placed, placed_at}
 use Rattle.program_tables.specs.Naming.{may_name, NamesNothing, NamesNothingAt, IsOpcodeAt}
 

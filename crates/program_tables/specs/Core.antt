@@ -3,6 +3,10 @@ use Rattle.std.specs.Prelude.{ℕ, Bool, List, [], ◌∷◌, codes}
 use Rattle.class_pool.specs.declared.class.ClassFile.{ClassFile}
 use Rattle.class_lookup.specs.Parts.{same_text, name_of}
 
+-- how many they are: the number of the first class of a file
+abbrev pub core_count : ℕ
+core_count = 23
+
 abbrev pub core_names : List (List ℕ)
 core_names =
     codes "java/lang/Object"

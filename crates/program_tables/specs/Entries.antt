@@ -27,16 +27,21 @@ special_op = 183
 -- what an entry means to an instruction with the opcode: a class or an array type, a member, or a constant
 abbrev pub entry_operand : List ClassFile → (current : ℕ) → ClassFile → (op index : ℕ) → Entry → Operand
 entry_operand cs current c op index (entries.Class name) = operand_by cs current c op (Class index)
-entry_operand cs current c op index (entries.Field owner member) = option_map_or (λ s. operand_by cs current c op (Field owner s)) (signature_in c.pool member) NoOperand
-entry_operand cs current c op index (entries.Method owner member) = option_map_or (λ s. operand_by cs current c op (Method false owner s)) (signature_in c.pool member) NoOperand
-entry_operand cs current c op index (entries.InterfaceMethod owner member) = option_map_or (λ s. operand_by cs current c op (Method true owner s)) (signature_in c.pool member) NoOperand
+entry_operand cs current c op index (entries.Field owner member) = option_map_or (λ s. operand_by cs current c op (Field owner s))
+    (signature_in c.pool member) NoOperand
+entry_operand cs current c op index (entries.Method owner member) = option_map_or (λ s. operand_by cs current c op (Method false owner s))
+    (signature_in c.pool member) NoOperand
+entry_operand cs current c op index (entries.InterfaceMethod owner member) = option_map_or (λ s. operand_by cs current c op (Method true owner s))
+    (signature_in c.pool member) NoOperand
 entry_operand cs current c op index entry = constant_operand cs c.pool entry
 
 -- whether it gives a protected member of a superclass in another package
 abbrev pub entry_guarded : List ClassFile → (current : ℕ) → ClassFile → Entry → Bool
 entry_guarded cs current c (entries.Field owner member) = option_map_or (λ s. guarded_by cs current c (Field owner s)) (signature_in c.pool member) false
-entry_guarded cs current c (entries.Method owner member) = option_map_or (λ s. guarded_by cs current c (Method false owner s)) (signature_in c.pool member) false
-entry_guarded cs current c (entries.InterfaceMethod owner member) = option_map_or (λ s. guarded_by cs current c (Method true owner s)) (signature_in c.pool member) false
+entry_guarded cs current c (entries.Method owner member) = option_map_or (λ s. guarded_by cs current c (Method false owner s))
+    (signature_in c.pool member) false
+entry_guarded cs current c (entries.InterfaceMethod owner member) = option_map_or (λ s. guarded_by cs current c (Method true owner s))
+    (signature_in c.pool member) false
 entry_guarded cs current c entry = false
 
 -- what an entry means to invokespecial and to any other instruction

@@ -22,7 +22,8 @@ many part (suc n) bytes = onto (part bytes) (λ first. onto (many part n first.1
 abbrev pub counted : Part → Part
 counted part bytes = onto (number_in 2 bytes) (λ n. many part n.0 n.1)
 
--- a verification type: Top, Integer, Long, Null and UninitializedThis are a tag alone; Object has a class, Uninitialized a place; float and double aren't supported
+-- a verification type: Top, Integer, Long, Null and UninitializedThis are a tag alone; Object has a class, Uninitialized a place; float and double
+-- aren't supported
 unfoldable pub type_in : Part
 type_in [] = None
 type_in (tag ∷ bytes) =

@@ -8,9 +8,9 @@ use Rattle.class_pool.specs.Grammar.{entry_at, name_and_type_of}
 use Rattle.class_pool.specs.declared.class.Member.{Member}
 use Rattle.class_pool.specs.declared.class.ClassFile.{ClassFile}
 use Rattle.class_lookup.specs.Parts.{text_at}
-use Rattle.jop_opcodes.specs.declared.instruction.Instr.{Instr}
-use Rattle.jop_opcodes.specs.Instruction.{decoded}
-use Rattle.jop_opcodes.specs.Start.{starts_of}
+use Rattle.opcodes.specs.declared.instruction.Instr.{Instr}
+use Rattle.opcodes.specs.Instruction.{decoded}
+use Rattle.opcodes.specs.Start.{starts_of}
 use Rattle.bytecode_model.specs.Lists.{onto}
 use Rattle.bytecode_model.specs.Program.{as_instr}
 use Rattle.class_pool.specs.Found.{code_of}
@@ -76,7 +76,8 @@ named_by pool major op index (entries.Handle kind reference) = if is_ldc op then
 named_by pool major op index (entries.MethodType descriptor) = if is_ldc op then Some (Constant (entries.MethodType descriptor)) else None
 named_by pool major op index (entries.Long n) = if is_ldc2 op then Some (Constant (entries.Long n)) else None
 named_by pool major op index (entries.Double bits) = if is_ldc2 op then Some (Constant (entries.Double bits)) else None
-named_by pool major op index (entries.Class name) = if is_ldc op then Some (Constant (entries.Class name)) else if is_class_use op then Some (Class index) else None
+named_by pool major op index (entries.Class name) = if is_ldc op then Some (Constant (entries.Class name)) else if is_class_use op then Some
+    (Class index) else None
 named_by pool major op index (entries.Field owner member) = if is_field_access op then option_map (Field owner) (signature_in pool member) else None
 named_by pool major op index (entries.Method owner member) = if takes_method op then option_map (Method false owner) (signature_in pool member) else None
 named_by pool major op index (entries.InterfaceMethod owner member) =

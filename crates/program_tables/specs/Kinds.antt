@@ -11,7 +11,8 @@ use Rattle.descriptors.specs.Names.{is_class_name}
 use Rattle.descriptors.specs.Parsing.{field_in, method_in}
 use Rattle.class_pool.specs.declared.class.ClassFile.{ClassFile}
 use Rattle.bytecode_model.specs.Lists.{onto}
-use Rattle.bytecode_model.specs.Types.{IntType, LongType, Kind, OfClass, OfNumbers, OfReferences, Declared, Numeric, Reference, t_boolean, t_char, t_byte, t_short, t_int, t_long}
+use Rattle.bytecode_model.specs.Types.{IntType, LongType, Kind, OfClass, OfNumbers, OfReferences, Declared, Numeric, Reference, t_boolean, t_char, t_byte}
+use Rattle.bytecode_model.specs.Types.{t_short, t_int, t_long}
 use Rattle.class_lookup.specs.Parts.{class_text}
 use Rattle.class_lookup.specs.Hierarchy.{find_class}
 

@@ -10,11 +10,13 @@ use Rattle.program_tables.specs.Resolved.{resolved_method, resolved_methods}
 
 -- the component of an array of references that is among the types is among them too
 abbrev pub ComponentsAreTypes : Type 0
-ComponentsAreTypes = (cs : List ClassFile) (number : ℕ) (k : Kind) → slice_get (types_of cs) number ≡ Some (OfReferences k) → IsTrue (is_some (index_of (same_kind k) (types_of cs)))
+ComponentsAreTypes = (cs : List ClassFile) (number : ℕ) (k : Kind) → slice_get (types_of cs) number ≡ Some (OfReferences k)
+    → IsTrue (is_some (index_of (same_kind k) (types_of cs)))
 
 -- the method of a number is the one whose place has the number
 abbrev pub MethodsStandByNumber : Type 0
-MethodsStandByNumber = (cs : List ClassFile) (number : ℕ) → slice_get (resolved_methods cs) number ≡ onto (slice_get (methods_by_number cs) number) (resolved_method cs)
+MethodsStandByNumber = (cs : List ClassFile) (number : ℕ) → slice_get (resolved_methods cs) number ≡ onto (slice_get (methods_by_number cs) number)
+    (resolved_method cs)
 
 -- a member that has a number stands at its place
 abbrev pub MembersAreThere : Type 0

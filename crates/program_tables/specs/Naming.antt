@@ -1,8 +1,8 @@
 -- Which instructions may name an entry of the pool: JVM Specification SE 8, 4.9.1 and 6.5.
 use Rattle.std.specs.Prelude.{◌≡◌, ℕ, ◌||◌, ◌==◌, Bool, List, None, Ok}
 use Rattle.class_pool.specs.declared.class.ClassFile.{ClassFile}
-use Rattle.jop_opcodes.specs.declared.instruction.Instr.{Instr}
-use Rattle.jop_opcodes.specs.Instruction.{decoded}
+use Rattle.opcodes.specs.declared.instruction.Instr.{Instr}
+use Rattle.opcodes.specs.Instruction.{decoded}
 use Rattle.program_tables.specs.Instructions.{is_ldc, is_ldc2, is_field_access, is_class_use, takes_method, named_in}
 
 -- it loads a constant, accesses a field, calls a method (185 is invokeinterface), or uses a class

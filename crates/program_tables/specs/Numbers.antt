@@ -90,7 +90,8 @@ reference_arrays k = []
 
 abbrev pub used_by : (op : ℕ) → Option Kind → List Kind
 used_by op None = []
-used_by op (Some k) = if op == 189 then reference_arrays (OfReferences k) else if op == 192 then reference_arrays k else if op == 193 then reference_arrays k else []
+used_by op (Some k) = if op == 189 then reference_arrays (OfReferences k) else if op == 192 then reference_arrays k else if op == 193 then reference_arrays k
+    else []
 
 abbrev pub class_kind : List ClassFile → ClassFile → Option Named → Option Kind
 class_kind cs c (Some (Class index)) = kind_of_entry cs c.pool index

@@ -7,7 +7,7 @@ use Rattle.class_pool.specs.declared.entry.Entry.TheVariants as entries
 use Rattle.class_pool.specs.declared.class.Member.{Member}
 use Rattle.class_pool.specs.declared.class.ClassFile.{ClassFile}
 use Rattle.class_lookup.specs.Parts.{text_at}
-use Rattle.jop_opcodes.specs.declared.instruction.Instr.{Instr}
+use Rattle.opcodes.specs.declared.instruction.Instr.{Instr}
 use Rattle.bytecode_model.specs.Lists.{onto, index_of}
 use Rattle.bytecode_model.specs.Program.{Operand, NoOperand, AnInt, ALong, AString, AStatic, AField, AMethod, AType}
 use Rattle.class_pool.specs.Found.{code_of}
@@ -63,7 +63,8 @@ method_operand cs named m = option_map_or (AMethod named) (onto m (method_number
 abbrev pub operand_by : List ClassFile → (current : ℕ) → ClassFile → (op : ℕ) → Named → Operand
 operand_by cs current c op (Constant entry) = constant_operand cs c.pool entry
 operand_by cs current c op (Class index) = option_map_or AType (kind_of_entry cs c.pool index) NoOperand
-operand_by cs current c op (Field index s) = option_map_or (λ n. option_map_or (field_operand cs n) (find_field cs n s) NoOperand) (class_named cs c index) NoOperand
+operand_by cs current c op (Field index s) = option_map_or (λ n. option_map_or (field_operand cs n) (find_field cs n s) NoOperand)
+    (class_named cs c index) NoOperand
 operand_by cs current c op (Method of_interface index s) =
     option_map_or (λ n. method_operand cs n (onto (find_method cs n s) (method_taken cs op current n))) (class_named cs c index) NoOperand
 

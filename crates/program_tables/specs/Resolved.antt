@@ -1,6 +1,7 @@
 -- The program that a list of class files is: JVM Specification SE 8, 5.4.
 -- The list has the classes that the virtual machine knows, those that are linked, and last the one that is run.
-use Rattle.std.specs.Prelude.{ℕ, ◌-◌, pos, true, false, not, ◌||◌, ◌==◌, if◌then◌else◌, List, [], ◌∷◌, ◌++◌, length, map, Option, Some, None, unwrap_or, slice_get}
+use Rattle.std.specs.Prelude.{ℕ, ◌-◌, pos, true, false, not, ◌||◌, ◌==◌, if◌then◌else◌, List, [], ◌∷◌, ◌++◌, length, map, Option, Some, None, unwrap_or}
+use Rattle.std.specs.Prelude.{slice_get}
 use Rattle.std.specs.Int.{w32, w64, cast_signed}
 use Rattle.std.specs.Option.{option_map, option_map_or}
 use Rattle.std.specs.List.{filter_map, flat_map, enumerate_from}
@@ -23,7 +24,8 @@ use Rattle.class_lookup.specs.Lookup.{Place, field_at, method_at}
 use Rattle.class_lookup.specs.Selection.{select}
 use Rattle.program_tables.specs.Core.{raised_classes}
 use Rattle.program_tables.specs.Kinds.{kind_of_entry, field_declared, parameters_declared, result_declared}
-use Rattle.program_tables.specs.Numbers.{methods_by_number, method_number, static_fields, instance_fields, types_of, class_type_number, constant_entry, strings_of, string_number}
+use Rattle.program_tables.specs.Numbers.{methods_by_number, method_number, static_fields, instance_fields, types_of, class_type_number, constant_entry}
+use Rattle.program_tables.specs.Numbers.{strings_of, string_number}
 use Rattle.program_tables.specs.Operands.{string_object, operand_in, guarded_in, at_instruction}
 
 -- ---- methods

@@ -6,6 +6,7 @@ use Rattle.std.specs.declared.hash.FoldHasher.{FoldHasher}
 use Rattle.std.specs.declared.hash.BuildHasherDefault.{BuildHasherDefault}
 use Rattle.std.specs.Option.{option_map}
 use Rattle.std.specs.List.{AllByRecursion}
+use Rattle.base.specs.Sizes.{longest_file}
 use Rattle.class_pool.specs.declared.entry.Entry.{Entry}
 use Rattle.class_pool.specs.Grammar.{entry_at}
 use Rattle.class_pool.specs.declared.class.ClassFile.{ClassFile}
@@ -53,4 +54,4 @@ numbers_among strings cs = map (λ text. index_of (same_text text) strings) (tex
 -- a class's pool and its code have as many entries and bytes as a class file's (4.1, 4.7.3)
 pub record HasBounds (c : ClassFile) : Type 0 where
   pub pool : length c.pool < 2 ^ 16
-  pub code : AllByRecursion (λ m. IfSome (code_of m) (λ k. length k.code ≤ 33554432)) c.methods
+  pub code : AllByRecursion (λ m. IfSome (code_of m) (λ k. length k.code ≤ longest_file)) c.methods

@@ -8,7 +8,8 @@ use Rattle.class_lookup.specs.Hierarchy.{find_class}
 use Rattle.program_tables.specs.declared.text_type.EntryClass.{EntryClass}
 use Rattle.program_tables.specs.declared.text_type.EntryClass.TheVariants as variants
 use Rattle.program_tables.specs.declared.text_type.TextType.{TextType}
-use Rattle.program_tables.specs.Kinds.{type_named, kind_of_type, class_in_type, classes_in_field_descriptor, classes_in_method_descriptor, field_declared, parameters_declared, result_declared}
+use Rattle.program_tables.specs.Kinds.{type_named, kind_of_type, class_in_type, classes_in_field_descriptor, classes_in_method_descriptor, field_declared}
+use Rattle.program_tables.specs.Kinds.{parameters_declared, result_declared}
 use Rattle.program_tables.specs.Meanings.{declared_seen}
 use Rattle.class_lookup.specs.Symbols.{texts}
 use Rattle.program_tables.specs.Tables.{kind_seen}

@@ -1,5 +1,6 @@
 -- What pool entries name and can't be resolved: JVM Specification SE 8, 5.4.3, 5.4.4, and the linking exceptions of 6.5.
-use Rattle.std.specs.Prelude.{ℕ, Bool, true, false, not, ◌&&◌, ◌||◌, ◌==◌, if◌then◌else◌, List, [], ◌∷◌, ◌++◌, length, map, Option, Some, None, is_some, slice_get}
+use Rattle.std.specs.Prelude.{ℕ, Bool, true, false, not, ◌&&◌, ◌||◌, ◌==◌, if◌then◌else◌, List, [], ◌∷◌, ◌++◌, length, map, Option, Some, None, is_some}
+use Rattle.std.specs.Prelude.{slice_get}
 use Rattle.std.specs.Option.{option_map_or}
 use Rattle.std.specs.List.{filter, find, flat_map, list_all, range_with_len}
 use Rattle.class_pool.specs.declared.class.Code.{Code}
@@ -133,7 +134,8 @@ is_right_method cs caller c of_interface op index s m k =
     && (not (op == 183) || is_special cs caller c index m)
     && is_callable_name cs caller op s
 
-abbrev pub why_method_found : List ClassFile → (caller : ℕ) → ClassFile → (of_interface : Bool) → (op index : ℕ) → Signature → Place → Option Member → Option Why
+abbrev pub why_method_found : List ClassFile → (caller : ℕ) → ClassFile → (of_interface : Bool) → (op index : ℕ) → Signature → Place → Option Member
+    → Option Why
 why_method_found cs caller c of_interface op index s m None = Some NoMethod
 why_method_found cs caller c of_interface op index s m (Some k) =
     first_some (unless (may_use_method cs caller c index m k) NotAccessible ∷ unless (is_right_method cs caller c of_interface op index s m k) WrongKind ∷ [])
@@ -172,7 +174,8 @@ implements_all cs c = not (is_concrete cs c) || list_all (is_implemented cs c) (
 
 -- ---- what names classes and members in a class, in the order in which it is tried
 
--- the class itself; the descriptor of a field or of a method; an instruction of a method; the class that an exception handler catches; a class in a stack map frame
+-- the class itself; the descriptor of a field or of a method; an instruction of a method; the class that an exception handler catches; a class in a
+-- stack map frame
 pub data Mention : Type 0 where
   ThisClass : Mention
   FieldDescriptor : Member → Mention

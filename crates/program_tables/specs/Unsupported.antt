@@ -12,11 +12,12 @@ use Rattle.descriptors.specs.Parsing.{field_in, method_in}
 use Rattle.class_pool.specs.declared.class.Member.{Member}
 use Rattle.class_pool.specs.declared.class.ClassFile.{ClassFile}
 use Rattle.class_lookup.specs.Parts.{text_at}
-use Rattle.jop_opcodes.specs.declared.instruction.Instr.{Instr}
-use Rattle.jop_opcodes.specs.Row.{row_of}
+use Rattle.opcodes.specs.declared.instruction.Instr.{Instr}
+use Rattle.opcodes.specs.Row.{row_of}
 use Rattle.class_lookup.specs.Parts.{signature_of, is_interface_class, is_native, is_static, is_clinit, has_code}
 use Rattle.program_tables.specs.declared.refusal.Item.{Item}
-use Rattle.program_tables.specs.declared.refusal.Item.TheVariants.{Opcode, LdcFloat, LdcClass, LdcMethod, LdcDouble, NewarrayFloat, NewarrayDouble, DescriptorFloat, DescriptorDouble, Native, InterfaceCode}
+use Rattle.program_tables.specs.declared.refusal.Item.TheVariants.{Opcode, LdcFloat, LdcClass, LdcMethod, LdcDouble, NewarrayFloat, NewarrayDouble}
+use Rattle.program_tables.specs.declared.refusal.Item.TheVariants.{DescriptorFloat, DescriptorDouble, Native, InterfaceCode}
 use Rattle.program_tables.specs.declared.refusal.Site.{Site}
 use Rattle.program_tables.specs.declared.refusal.Site.TheVariants as sites
 use Rattle.program_tables.specs.Core.{is_io}
@@ -79,7 +80,8 @@ items_of_named (Some (Method of_interface index s)) = items_of_types (types_in_m
 
 -- newarray (188) of float and of double
 abbrev pub items_of_newarray : Instr → List Item
-items_of_newarray i = if i.op == 188 then items_where (unsigned_abs i.first == 6) NewarrayFloat ++ items_where (unsigned_abs i.first == 7) NewarrayDouble else []
+items_of_newarray i = if i.op == 188 then items_where (unsigned_abs i.first == 6) NewarrayFloat
+    ++ items_where (unsigned_abs i.first == 7) NewarrayDouble else []
 
 abbrev pub items_at_instruction : ClassFile → Instr → List Item
 items_at_instruction c i =
@@ -110,7 +112,3 @@ items_in_method c e =
 unfoldable pub unsupported_in : ClassFile → List (Site × Item)
 unsupported_in c =
     flat_map (λ e. sited (sites.Field e.0) (items_at_field c e.1)) (enumerate_from 0 c.fields) ++ flat_map (items_in_method c) (enumerate_from 0 c.methods)
-
--- the item stands there
-abbrev pub IsUnsupported : ClassFile → Site → Item → Type 0
-IsUnsupported c site item = Contains (unsupported_in c) (site, item)

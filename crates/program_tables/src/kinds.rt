@@ -1,13 +1,12 @@
 //! What objects of the types are that Class entries and descriptors name (JVM Specification SE 8, 4.3.2, 4.4.1).
-ghost use Rattle.std.specs.Prelude.{◌≡◌, ◌<◌, option_map, IfOk, IfSome};
-ghost use Rattle.bytecode_model.specs.Lists.{onto};
-ghost use Rattle.program_tables.specs.Kinds.{type_named, array_code, kind_of_type};
+ghost use Rattle.std.specs.Prelude.{◌≡◌, ◌<◌, option_map, IfSome};
+ghost use Rattle.program_tables.specs.Kinds.{array_code, kind_of_type};
 ghost use Rattle.program_tables.specs.Tables.{kind_seen};
 
 use crate::text_type::{entry_type, field_type_in};
+use base::NoMemory;
 use class_lookup::Classes;
 use descriptors::{Element, FieldType};
-use jop_base::NoMemory;
 use std::alloc::Global;
 
 /// What an object is: an instance of a class or an array of numbers, or an array of so many dimensions whose innermost elements are
@@ -58,17 +57,4 @@ pub(crate) fn kind_of_type(classes: &Classes, of: &FieldType) -> Option<ObjectKi
         dimensions: u16::from(of.dimensions.checked_sub(1)?),
         base: Base::Numbers(array_code(&of.element)),
     })
-}
-
-/// What an object of a type is that a Class entry names by this text.
-pub fn kind_named(
-    alloc: Global,
-    classes: &Classes,
-    text: &[u16],
-) -> Result<Option<ObjectKind>, NoMemory>
-    ensures kind { IfOk result (λ kind. option_map kind_seen kind ≡ onto (type_named text.now) (kind_of_type classes.now)) }
-    ensures within { IfOk result (λ kind. IfSome kind (λ k. k.dimensions < 256)) }
-{
-    let of = field_type_in(alloc, text)?;
-    Ok(entry_type(classes, text, &of).kind)
 }

@@ -19,10 +19,10 @@ mod text_type;
 mod texts;
 mod types;
 
-pub use kinds::{Base, ObjectKind, kind_named};
+pub use kinds::{Base, ObjectKind};
 pub use meanings::{
     Meaning, class_meaning, constant_operand, entry_of, field_at, is_static_field, kind_in,
-    meaning_at, method_at, plain,
+    meaning_at, plain,
 };
 pub use members::{Members, Places, instance_fields_of, members_of};
 pub use mentions::{Mentioned, mentioned_by};

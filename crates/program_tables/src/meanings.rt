@@ -3,7 +3,7 @@ ghost use Rattle.std.specs.Prelude.{◌≡◌, ℕ, ◌<◌, List, length, Some,
 ghost use Rattle.std.specs.Option.{option_copied};
 ghost use Rattle.class_pool.specs.declared.class.ClassFile.{ClassFile};
 ghost use Rattle.class_pool.specs.Grammar.{entry_at};
-ghost use Rattle.class_lookup.specs.Lookup.{field_at, method_at};
+ghost use Rattle.class_lookup.specs.Lookup.{field_at};
 ghost use Rattle.program_tables.specs.Entries.{meaning_at, meanings_in, meaning_seen, meanings_seen, type_meaning, kind_in};
 ghost use Rattle.program_tables.specs.Meanings.{operand_seen};
 ghost use Rattle.program_tables.specs.Numbers.{is_static_field, strings_of};
@@ -88,7 +88,8 @@ pub fn class_meaning(texts: &TextTypes<'_>, class: u32, index: u16) -> Meaning
 
 /// What the entry of an index means, by the table of its class; nothing where there is none.
 pub fn meaning_at(made: &[Meaning], index: u32) -> Meaning
-    ensures { (cs : List ClassFile) (current : ℕ) (c : ClassFile) → meanings_seen made.now ≡ meanings_in cs current c → meaning_seen result ≡ meaning_at cs current c index }
+    ensures { (cs : List ClassFile) (current : ℕ) (c : ClassFile) → meanings_seen made.now ≡ meanings_in cs current c
+        → meaning_seen result ≡ meaning_at cs current c index }
 {
     if index == 0 {
         return plain(Operand::Nothing);
@@ -131,21 +132,6 @@ pub fn field_at(classes: &Classes, place: Place) -> Option<&Member>
         classes
             .class(place.class)
             .fields
-            .as_slice()
-            .get(place.index)
-    } else {
-        None
-    }
-}
-
-/// The method of this place.
-pub fn method_at(classes: &Classes, place: Place) -> Option<&Member>
-    ensures { option_copied result ≡ method_at classes.now place }
-{
-    if place.class < classes.class_count() {
-        classes
-            .class(place.class)
-            .methods
             .as_slice()
             .get(place.index)
     } else {

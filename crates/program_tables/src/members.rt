@@ -5,12 +5,12 @@ ghost use Rattle.class_lookup.specs.Lookup.{same_place};
 ghost use Rattle.program_tables.specs.Numbers.{methods_by_number, fields_by_number, static_fields, own_instance_fields};
 ghost use Rattle.program_tables.specs.Members.{members_in, takes, own_members, chosen, AreNumbered};
 
+use base::NoMemory;
 use class_lookup::parts::has_flags;
 use class_lookup::{ClassFile, Classes, Place};
 use class_pool::Member;
 use class_rules::flags::ACC_STATIC;
 use indexmap::IndexMap;
-use jop_base::NoMemory;
 use std::alloc::Global;
 use std::marker::Model;
 

@@ -1,6 +1,7 @@
 //! The array types and the strings that classes mention, in the order of first mention.
 ghost use Rattle.std.specs.Prelude.{◌≡◌, ℕ, ◌≤◌, ◌<◌, ◌^◌, List, [], ◌∷◌, length, map, Some, slice_get, IfOk, OnOk};
 ghost use Rattle.std.specs.List.{flat_map, AllByRecursion};
+ghost use Rattle.base.specs.Sizes.{longest_file};
 ghost use Rattle.bytecode_model.specs.Types.{Kind, OfReferences, same_kind};
 ghost use Rattle.class_pool.specs.declared.class.ClassFile.{ClassFile};
 ghost use Rattle.class_pool.specs.Grammar.{entry_at};
@@ -9,7 +10,8 @@ ghost use Rattle.program_tables.specs.Lists.{with_item, with_items};
 ghost use Rattle.program_tables.specs.Instructions.{instructions_in, instructions_of, named_in};
 ghost use Rattle.program_tables.specs.Kinds.{kind_of_entry};
 ghost use Rattle.program_tables.specs.Marks.{AreAdded, AreArrays, AreLiterals, AreMentions};
-ghost use Rattle.program_tables.specs.Numbers.{reference_arrays, used_by, class_kind, arrays_mentioned_by, arrays_mentioned_in, first_types, types_of, strings_of, string_in, constant_named, constant_entry, strings_in};
+ghost use Rattle.program_tables.specs.Numbers.{reference_arrays, used_by, class_kind, arrays_mentioned_by, arrays_mentioned_in, first_types, types_of};
+ghost use Rattle.program_tables.specs.Numbers.{strings_of, string_in, constant_named, constant_entry, strings_in};
 ghost use Rattle.program_tables.specs.Tables.{kind_seen, kinds_of, HasBounds};
 
 use crate::kinds::{Base, ObjectKind};
@@ -18,12 +20,12 @@ use crate::naming::naming_at;
 use crate::strings::Strings;
 use crate::texts::TextTypes;
 use crate::types::Types;
+use base::NoMemory;
 use class_lookup::{ClassFile, Classes};
 use class_pool::Entry;
 use indexmap::IndexSet;
-use jop_base::NoMemory;
-use jop_opcodes::laws::starts_follow_one_another;
-use jop_opcodes::{Instr, starts};
+use opcodes::laws::starts_follow_one_another;
+use opcodes::{Instr, starts};
 use std::alloc::Global;
 
 /// The array type codes of the arrays of numbers (6.5.newarray).
@@ -60,7 +62,8 @@ fn add_literal(
     units: &[u16],
 ) -> Result<(), NoMemory>
     requires { number < length literals.now.added.items }
-    ensures put { OnOk result ((items : ℕ → List (List ℕ)) → AreAdded same_text items literals.old.strings literals.old.added.items → items number ≡ units.now ∷ []
+    ensures put { OnOk result ((items : ℕ → List (List ℕ)) → AreAdded same_text items literals.old.strings literals.old.added.items
+        → items number ≡ units.now ∷ []
         → (literals.new.strings ≡ with_item same_text literals.old.strings units.now)
         × AreAdded same_text items literals.new.strings literals.new.added.items) }
     ensures long { OnOk result (length literals.new.added.items ≡ length literals.old.added.items) }
@@ -85,7 +88,8 @@ fn add_constant(
     requires number { number < length classes.now }
     requires class { slice_get classes.now number ≡ Some class.now }
     requires added { AreLiterals classes.now literals.now }
-    ensures strings { OnOk result (literals.new.strings ≡ with_items same_text literals.old.strings (string_in class.now.pool (entry_at class.now.pool index))) }
+    ensures strings { OnOk result (literals.new.strings ≡ with_items same_text literals.old.strings
+        (string_in class.now.pool (entry_at class.now.pool index))) }
     ensures added { OnOk result (AreLiterals classes.now literals.new) }
 {
     match entry_at(&class.pool, index) {
@@ -109,7 +113,8 @@ fn add_fields(
     requires number { number < length classes.now }
     requires class { slice_get classes.now number ≡ Some class.now }
     requires added { AreLiterals classes.now literals.now }
-    ensures strings { OnOk result (literals.new.strings ≡ with_items same_text literals.old.strings (flat_map (λ f. string_in class.now.pool (constant_entry class.now f)) class.now.fields)) }
+    ensures strings { OnOk result (literals.new.strings ≡ with_items same_text literals.old.strings
+        (flat_map (λ f. string_in class.now.pool (constant_entry class.now f)) class.now.fields)) }
     ensures added { OnOk result (AreLiterals classes.now literals.new) }
 {
     for field in class.fields.as_slice() {
@@ -149,7 +154,8 @@ fn add_array_of(types: &mut IndexSet<ObjectKind>, kind: ObjectKind) -> Result<()
 /// Puts the types of arrays of references within the type of a symbol last, unless they are there.
 fn add_type(arrays: &mut Arrays, number: u32, kind: ObjectKind) -> Result<(), NoMemory>
     requires { number < length arrays.now.added.items }
-    ensures put { OnOk result ((items : ℕ → List Kind) → AreAdded same_kind items (kinds_of arrays.old.types) arrays.old.added.items → items number ≡ reference_arrays (kind_seen kind)
+    ensures put { OnOk result ((items : ℕ → List Kind) → AreAdded same_kind items (kinds_of arrays.old.types) arrays.old.added.items
+        → items number ≡ reference_arrays (kind_seen kind)
         → (kinds_of arrays.new.types ≡ with_items same_kind (kinds_of arrays.old.types) (reference_arrays (kind_seen kind)))
         × AreAdded same_kind items (kinds_of arrays.new.types) arrays.new.added.items) }
     ensures long { OnOk result (length arrays.new.added.items ≡ length arrays.old.added.items) }
@@ -166,7 +172,8 @@ fn add_type(arrays: &mut Arrays, number: u32, kind: ObjectKind) -> Result<(), No
 fn add_used(arrays: &mut Arrays, number: u32, op: u8, kind: ObjectKind) -> Result<(), NoMemory>
     requires number { number < length arrays.now.added.items }
     requires within { kind.dimensions < 256 }
-    ensures put { OnOk result ((items : ℕ → List Kind) → AreAdded same_kind items (kinds_of arrays.old.types) arrays.old.added.items → items number ≡ reference_arrays (kind_seen kind)
+    ensures put { OnOk result ((items : ℕ → List Kind) → AreAdded same_kind items (kinds_of arrays.old.types) arrays.old.added.items
+        → items number ≡ reference_arrays (kind_seen kind)
         → (kinds_of arrays.new.types ≡ with_items same_kind (kinds_of arrays.old.types) (used_by op (Some (kind_seen kind))))
         × AreAdded same_kind items (kinds_of arrays.new.types) arrays.new.added.items) }
     ensures long { OnOk result (length arrays.new.added.items ≡ length arrays.old.added.items) }
@@ -194,7 +201,8 @@ fn add_class(
     requires number { number < length texts.now }
     requires class { slice_get texts.now number ≡ Some class.now }
     requires added { AreArrays texts.now arrays.now }
-    ensures types { OnOk result (kinds_of arrays.new.types ≡ with_items same_kind (kinds_of arrays.old.types) (used_by op (kind_of_entry texts.now class.now.pool index))) }
+    ensures types { OnOk result (kinds_of arrays.new.types ≡ with_items same_kind (kinds_of arrays.old.types)
+        (used_by op (kind_of_entry texts.now class.now.pool index))) }
     ensures added { OnOk result (AreArrays texts.now arrays.new) }
 {
     let _ = class;
@@ -219,8 +227,10 @@ impl Mentions {
         requires number { number < length texts.now }
         requires class { slice_get texts.now number ≡ Some class.now }
         requires added { AreMentions texts.now self.now }
-        ensures types { OnOk result (kinds_of self.new.arrays.types ≡ with_items same_kind (kinds_of self.old.arrays.types) (used_by instr.now.op (class_kind texts.now class.now (named_in class.now instr.now)))) }
-        ensures strings { OnOk result (self.new.literals.strings ≡ with_items same_text self.old.literals.strings (string_in class.now.pool (constant_named (named_in class.now instr.now)))) }
+        ensures types { OnOk result (kinds_of self.new.arrays.types ≡ with_items same_kind (kinds_of self.old.arrays.types)
+            (used_by instr.now.op (class_kind texts.now class.now (named_in class.now instr.now)))) }
+        ensures strings { OnOk result (self.new.literals.strings ≡ with_items same_text self.old.literals.strings
+            (string_in class.now.pool (constant_named (named_in class.now instr.now)))) }
         ensures added { OnOk result (AreMentions texts.now self.new) }
     {
         match named_in(class, instr) {
@@ -251,11 +261,12 @@ impl Mentions {
         code: &[u8],
     ) -> Result<(), NoMemory>
         requires pool { length class.now.pool < 2 ^ 16 }
-        requires small { length code.now ≤ 33554432 }
+        requires small { length code.now ≤ longest_file }
         requires number { number < length texts.now }
         requires class { slice_get texts.now number ≡ Some class.now }
         requires added { AreMentions texts.now self.now }
-        ensures types { OnOk result (kinds_of self.new.arrays.types ≡ with_items same_kind (kinds_of self.old.arrays.types) (flat_map (arrays_mentioned_by texts.now class.now) (instructions_in code.now))) }
+        ensures types { OnOk result (kinds_of self.new.arrays.types ≡ with_items same_kind (kinds_of self.old.arrays.types)
+            (flat_map (arrays_mentioned_by texts.now class.now) (instructions_in code.now))) }
         ensures strings { OnOk result (self.new.literals.strings ≡ with_items same_text self.old.literals.strings
             (flat_map (λ p. string_in class.now.pool (constant_named (named_in class.now p.instr))) (instructions_in code.now))) }
         ensures added { OnOk result (AreMentions texts.now self.new) }
@@ -282,7 +293,8 @@ impl Mentions {
         requires number { number < length texts.now }
         requires class { slice_get texts.now number ≡ Some class.now }
         requires added { AreMentions texts.now self.now }
-        ensures types { OnOk result (kinds_of self.new.arrays.types ≡ with_items same_kind (kinds_of self.old.arrays.types) (arrays_mentioned_in texts.now class.now)) }
+        ensures types { OnOk result (kinds_of self.new.arrays.types ≡ with_items same_kind (kinds_of self.old.arrays.types)
+            (arrays_mentioned_in texts.now class.now)) }
         ensures strings { OnOk result (self.new.literals.strings ≡ with_items same_text self.old.literals.strings
             (flat_map (λ m. flat_map (λ p. string_in class.now.pool (constant_named (named_in class.now p.instr))) (instructions_of m)) class.now.methods)) }
         ensures added { OnOk result (AreMentions texts.now self.new) }
@@ -307,7 +319,8 @@ impl Mentions {
         requires number { number < length texts.now }
         requires class { slice_get texts.now number ≡ Some class.now }
         requires added { AreMentions texts.now self.now }
-        ensures types { OnOk result (kinds_of self.new.arrays.types ≡ with_items same_kind (kinds_of self.old.arrays.types) (arrays_mentioned_in texts.now class.now)) }
+        ensures types { OnOk result (kinds_of self.new.arrays.types ≡ with_items same_kind (kinds_of self.old.arrays.types)
+            (arrays_mentioned_in texts.now class.now)) }
         ensures strings { OnOk result (self.new.literals.strings ≡ with_items same_text self.old.literals.strings (strings_in class.now)) }
         ensures added { OnOk result (AreMentions texts.now self.new) }
     {

@@ -8,8 +8,8 @@ ghost use Rattle.program_tables.specs.Tables.{seen_in};
 ghost use Rattle.program_tables.specs.Taken.{takes_entry};
 
 use class_pool::{ClassFile, Entry, Pool};
-use jop_opcodes::Instr;
-use jop_opcodes::mnemonics::{
+use opcodes::Instr;
+use opcodes::mnemonics::{
     ANEWARRAY, CHECKCAST, GETSTATIC, INSTANCEOF, INVOKEINTERFACE, INVOKESPECIAL, INVOKESTATIC,
     INVOKEVIRTUAL, LDC, LDC_W, LDC2_W, NEW, PUTFIELD,
 };

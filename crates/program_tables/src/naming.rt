@@ -1,13 +1,14 @@
 //! Which instructions may name an entry of the pool (JVM Specification SE 8, 4.9.1 and 6.5).
 ghost use Rattle.std.specs.Prelude.{◌≡◌, ◌<◌, ◌≤◌, None, Ok, IfSome, false, length};
-ghost use Rattle.jop_opcodes.specs.Bytes.{u1};
-ghost use Rattle.jop_opcodes.specs.Instruction.{decoded};
+ghost use Rattle.base.specs.Sizes.{longest_file};
+ghost use Rattle.opcodes.specs.Bytes.{u1};
+ghost use Rattle.opcodes.specs.Instruction.{decoded};
 ghost use Rattle.program_tables.specs.Naming.{may_name, NamesNothing, NamesNothingAt, IsOpcodeAt};
 
 use crate::named::{is_class_use, is_field_access, is_ldc, takes_method};
-use jop_opcodes::laws::instructions_are_read;
-use jop_opcodes::mnemonics::{INVOKEINTERFACE, LDC2_W};
-use jop_opcodes::{Instr, decode};
+use opcodes::laws::instructions_are_read;
+use opcodes::mnemonics::{INVOKEINTERFACE, LDC2_W};
+use opcodes::{Instr, decode};
 
 /// The opcode in front of one whose operands are wider (6.5.wide).
 const WIDE: u8 = 196;
@@ -44,7 +45,7 @@ pub fn may_name(op: u8) -> bool
 #[inline(always)]
 pub fn naming_at(code: &[u8], pc: u32) -> Option<Instr>
     requires inside { pc < length code.now }
-    requires small { length code.now ≤ 33554432 }
+    requires small { length code.now ≤ longest_file }
     ensures there { IfSome result (λ instr. decoded code.now pc ≡ Ok instr) }
     ensures none { result ≡ None → NamesNothingAt code.now pc }
 {

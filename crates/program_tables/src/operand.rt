@@ -1,8 +1,8 @@
 //! What resolved classes give to instructions and handlers, and what their members are (JVM Specification SE 8, 4.3, 4.4, 4.7.3 and 5.4.3).
 
 use crate::kinds::ObjectKind;
-use items::Items;
-use jop_opcodes::Instr;
+use base::Items;
+use opcodes::Instr;
 
 /// What the pool entry means that an instruction names.
 #[derive(Clone, Copy)]

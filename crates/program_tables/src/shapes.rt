@@ -9,13 +9,12 @@ use crate::laws::{members_are_there, methods_stand_by_number};
 use crate::members::Places;
 use crate::operand::{Declared, MethodShape};
 use crate::texts::TextTypes;
+use base::{Items, NoMemory};
 use class_lookup::parts::{has_flags, text_at};
 use class_lookup::{ClassFile, Place};
 use class_pool::Member;
 use class_rules::flags::ACC_STATIC;
 use descriptors::names::is_instance_initializer;
-use items::Items;
-use jop_base::NoMemory;
 use std::alloc::Global;
 
 /// What a method of a class is apart from its code.

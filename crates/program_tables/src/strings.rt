@@ -1,11 +1,13 @@
+//! The string literals of a program, each once.
+
 ghost use Rattle.std.specs.Prelude.{◌≡◌, ◌+◌, ◌<◌, ◌^◌, [], ◌∷◌, ◌++◌, length, None, Some, IfOk, IfSome, OnOk, slice_get};
 ghost use Rattle.bytecode_model.specs.Lists.{onto, index_of};
 ghost use Rattle.class_lookup.specs.Parts.{same_text};
 ghost use Rattle.program_tables.specs.Lists.{with_item};
 ghost use Rattle.program_tables.specs.Tables.{numbers_among};
 
+use base::NoMemory;
 use class_lookup::Classes;
-use jop_base::NoMemory;
 use std::alloc::Global;
 use std::collections::BTreeMap;
 use std::marker::Model;

@@ -6,7 +6,8 @@ ghost use Rattle.bytecode_model.specs.Lists.{onto};
 ghost use Rattle.bytecode_model.specs.Types.{OfClass};
 ghost use Rattle.class_lookup.specs.Hierarchy.{find_class};
 ghost use Rattle.descriptors.specs.Parsing.{field_in};
-ghost use Rattle.program_tables.specs.Kinds.{class_in_type, classes_in_method_type, classes_in_method_descriptor, number_declared, declared_of, parameters_declared, result_declared};
+ghost use Rattle.program_tables.specs.Kinds.{class_in_type, classes_in_method_type, classes_in_method_descriptor, number_declared, declared_of};
+ghost use Rattle.program_tables.specs.Kinds.{parameters_declared, result_declared};
 ghost use Rattle.program_tables.specs.Meanings.{declared_seen, is_of_class};
 ghost use Rattle.program_tables.specs.Tables.{kind_seen};
 ghost use Rattle.program_tables.specs.Texts.{class_in_text, kind_of_text, IsClassOf, IsTextType};
@@ -14,11 +15,10 @@ ghost use Rattle.program_tables.specs.Unresolved.{are_there};
 
 use crate::kinds::{Base, ObjectKind, kind_of_type};
 use crate::operand::Declared;
+use base::{FormatFault, Items, NoMemory};
 use class_lookup::Classes;
 use descriptors::names::is_class_name;
 use descriptors::{Element, FieldType, MethodType, field_type, method_type};
-use items::Items;
-use jop_base::{FormatFault, NoMemory};
 use std::alloc::Global;
 
 /// The class that a Class entry names, or that of its array's elements.

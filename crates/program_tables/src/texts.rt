@@ -3,7 +3,8 @@ ghost use Rattle.std.specs.Prelude.{◌≡◌, ◌<◌, ℕ, List, length, map, 
 ghost use Rattle.std.specs.Option.{option_copied, IsSomeAnd};
 ghost use Rattle.class_pool.specs.declared.class.ClassFile.{ClassFile};
 ghost use Rattle.class_lookup.specs.Parts.{class_text};
-ghost use Rattle.program_tables.specs.Kinds.{class_in_entry, classes_in_field_descriptor, classes_in_method_descriptor, kind_of_entry, field_declared, parameters_declared, result_declared};
+ghost use Rattle.program_tables.specs.Kinds.{class_in_entry, classes_in_field_descriptor, classes_in_method_descriptor, kind_of_entry, field_declared};
+ghost use Rattle.program_tables.specs.Kinds.{parameters_declared, result_declared};
 ghost use Rattle.program_tables.specs.Meanings.{declared_seen};
 ghost use Rattle.class_lookup.specs.Symbols.{texts, symbol};
 ghost use Rattle.program_tables.specs.Tables.{kind_seen};
@@ -13,8 +14,8 @@ ghost use Rattle.program_tables.specs.Unresolved.{are_there};
 use crate::kinds::ObjectKind;
 use crate::operand::Declared;
 use crate::text_type::{EntryClass, TextType, text_type};
+use base::NoMemory;
 use class_lookup::Classes;
-use jop_base::NoMemory;
 use std::alloc::Global;
 use std::marker::Model;
 

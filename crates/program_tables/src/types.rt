@@ -5,8 +5,8 @@ ghost use Rattle.bytecode_model.specs.Types.{same_kind};
 ghost use Rattle.program_tables.specs.Tables.{kind_seen};
 
 use crate::kinds::ObjectKind;
+use base::NoMemory;
 use indexmap::IndexSet;
-use jop_base::NoMemory;
 use std::marker::Model;
 
 /// The types by number: the arrays of numbers, the classes, and the arrays of references. Contracts see them as the list of

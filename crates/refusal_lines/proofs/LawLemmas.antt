@@ -11,8 +11,8 @@ use Rattle.core_classes.specs.Core.{core, boot, boot_plan}
 use Rattle.core_classes.specs.Laws.{CoreIsNamed, BootSaysPlan}
 use Rattle.program_tables.specs.Core.{boot_name}
 use Rattle.program_tables.specs.Unresolved as program
-use Rattle.jop_program.specs.Linked.{calls_of, main_name, linked_classes}
-use Rattle.jop_program.proofs.RefusalLemmas.{few_calls}
+use Rattle.program_resolution.specs.Linked.{calls_of, main_name, linked_classes}
+use Rattle.program_resolution.proofs.RefusalLemmas.{few_calls}
 use Rattle.refusal_lines.specs.Entries.{is_there, missing}
 use Rattle.refusal_lines.specs.Laws.{MissingInProgram}
 

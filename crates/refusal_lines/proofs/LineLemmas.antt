@@ -4,9 +4,9 @@ use Rattle.std.specs.Prelude.{codes, decimal}
 use Rattle.std.specs.List.{concat}
 use Rattle.std.specs.declared.option.Option.{Option}
 use Rattle.std.specs.declared.result.Result.{Result}
-use Rattle.outcome_lines.specs.declared.line.Place.{Place}
-use Rattle.outcome_lines.specs.Line.{place_parts}
-use Rattle.outcome_lines.specs.Said.{Said}
+use Rattle.answer_lines.specs.declared.line.Place.{Place}
+use Rattle.answer_lines.specs.Line.{place_parts}
+use Rattle.answer_lines.specs.Said.{Said}
 
 abbrev pub item_line : (file : ℕ) → Place → (item : List ℕ) → List ℕ
 item_line file place item = concat (codes "link: unsupported file=" ∷ decimal file ∷ (place_parts place ++ codes " item=" ∷ item ∷ codes "\n" ∷ []))

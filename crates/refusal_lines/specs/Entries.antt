@@ -1,5 +1,5 @@
--- What a pool entry names that isn't resolved, in bytes (JVM Specification SE 8, 4.4 and 4.4.7): the class, or the class, a dot, the name and the descriptor of a
--- member; but where a class isn't there the first such class that the entry names.
+-- What a pool entry names that isn't resolved, in bytes (JVM Specification SE 8, 4.4 and 4.4.7): the class, or the class, a dot, the name and the
+-- descriptor of a member; but where a class isn't there the first such class that the entry names.
 use Rattle.std.specs.Prelude.{ℕ, not, Bool, ◌||◌, List, [], ◌∷◌, ◌++◌, Option, find}
 use Rattle.std.specs.Option.{option_map_or}
 use Rattle.std.specs.List.{list_any}

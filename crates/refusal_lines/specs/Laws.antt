@@ -3,7 +3,7 @@ use Rattle.std.specs.Prelude.{◌≡◌, ℕ, List}
 use Rattle.class_pool.specs.declared.class.ClassFile.{ClassFile}
 use Rattle.core_classes.specs.Core.{core}
 use Rattle.program_tables.specs.Unresolved.{missing_class}
-use Rattle.jop_program.specs.Linked.{linked_classes}
+use Rattle.program_resolution.specs.Linked.{linked_classes}
 use Rattle.refusal_lines.specs.Entries.{missing}
 
 -- Of any names, the first of which no class is there is the first of which the program of the files has none: for want of it linking refuses them with NoClass.

@@ -3,3 +3,4 @@ pub mod Lines
 pub mod Entries
 pub mod Naming
 pub mod Laws
+pub mod Room

@@ -1,15 +1,16 @@
--- The lines of refusals: of files that are no program, of a method that breaks a rule of the verifier, and of an image past a limit. Each line is its parts, one
--- after another.
+-- The lines of refusals: of files that are no program, of a method that breaks a rule of the verifier, and of an image past a limit. Each line is its
+-- parts, one after another.
 use Rattle.std.specs.Prelude.{ℕ, Bool, true, false, List, [], ◌∷◌, ◌++◌, codes, decimal}
-use Rattle.outcome_lines.specs.declared.line.Place.{Place}
-use Rattle.outcome_lines.specs.declared.line.Place.TheVariants as places
-use Rattle.outcome_lines.specs.Line.{place_parts}
+use Rattle.answer_lines.specs.declared.line.Place.{Place}
+use Rattle.answer_lines.specs.declared.line.Place.TheVariants as places
+use Rattle.answer_lines.specs.Line.{place_parts}
 use Rattle.program_tables.specs.declared.refusal.Site.{Site}
 use Rattle.program_tables.specs.declared.refusal.Site.TheVariants as sites
 use Rattle.bytecode_verifier.specs.declared.fault.MethodRule.{MethodRule}
 use Rattle.image_builder.specs.declared.fault.Counted.{Counted}
-use Rattle.jop_program.specs.declared.refusal.ProgramRefusal.{ProgramRefusal}
-use Rattle.jop_program.specs.declared.refusal.ProgramRefusal.TheVariants.{BadClass, UnsupportedVersion, Duplicate, Unsupported, Unresolved, BadHierarchy, NoMain, TooManyClasses, NoMemory}
+use Rattle.program_resolution.specs.declared.refusal.ProgramRefusal.{ProgramRefusal}
+use Rattle.program_resolution.specs.declared.refusal.ProgramRefusal.TheVariants.{BadClass, UnsupportedVersion, Duplicate, Unsupported, Unresolved, BadHierarchy}
+use Rattle.program_resolution.specs.declared.refusal.ProgramRefusal.TheVariants.{NoMain, TooManyClasses, NoMemory}
 use Rattle.refusal_lines.specs.Names.{item_name, why_name, rule_name, limit_name}
 
 abbrev pub place_of : Site → Place
@@ -28,7 +29,8 @@ refusal_parts (Unresolved file entry why) name =
     codes "link: unresolved file=" ∷ decimal file ∷ codes " entry=" ∷ decimal entry ∷ codes " why=" ∷ why_name why ∷ codes " name=" ∷ name ∷ codes "\n" ∷ []
 refusal_parts (BadHierarchy file) name = codes "link: bad hierarchy file=" ∷ decimal file ∷ codes "\n" ∷ []
 refusal_parts NoMain name = codes "link: no main\n" ∷ []
-refusal_parts (TooManyClasses count limit) name = codes "link: too large " ∷ codes "Classes" ∷ codes " count=" ∷ decimal count ∷ codes " limit=" ∷ decimal limit ∷ codes "\n" ∷ []
+refusal_parts (TooManyClasses count limit) name = codes "link: too large " ∷ codes "Classes" ∷ codes " count=" ∷ decimal count ∷ codes " limit=" ∷ decimal limit
+    ∷ codes "\n" ∷ []
 refusal_parts NoMemory name = codes "no memory\n" ∷ []
 
 -- where its line can't be put, nothing else is said
@@ -39,7 +41,8 @@ is_want_of_memory refusal = false
 -- the rule that fails first, in a method of a file at a place of its code
 abbrev pub failure_parts : (file method pc : ℕ) → MethodRule → List (List ℕ)
 failure_parts file method pc rule =
-    codes "link: not verified file=" ∷ decimal file ∷ codes " method=" ∷ decimal method ∷ codes " pc=" ∷ decimal pc ∷ codes " rule=" ∷ rule_name rule ∷ codes "\n" ∷ []
+    codes "link: not verified file=" ∷ decimal file ∷ codes " method=" ∷ decimal method ∷ codes " pc=" ∷ decimal pc ∷ codes " rule=" ∷ rule_name rule
+    ∷ codes "\n" ∷ []
 
 -- the first limit that an image passes
 abbrev pub limit_parts : Counted → (count limit : ℕ) → List (List ℕ)

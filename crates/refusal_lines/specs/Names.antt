@@ -1,8 +1,9 @@
 -- The names that refusals give to items of class files, to reasons, to rules of the verifier and to what has limits.
 use Rattle.std.specs.Prelude.{ℕ, List, codes}
-use Rattle.jop_opcodes.specs.Row.{row_of}
+use Rattle.opcodes.specs.Row.{row_of}
 use Rattle.program_tables.specs.declared.refusal.Item.{Item}
-use Rattle.program_tables.specs.declared.refusal.Item.TheVariants.{Opcode, LdcFloat, LdcClass, LdcMethod, LdcDouble, NewarrayFloat, NewarrayDouble, DescriptorFloat, DescriptorDouble, Native, InterfaceCode}
+use Rattle.program_tables.specs.declared.refusal.Item.TheVariants.{Opcode, LdcFloat, LdcClass, LdcMethod, LdcDouble, NewarrayFloat, NewarrayDouble}
+use Rattle.program_tables.specs.declared.refusal.Item.TheVariants.{DescriptorFloat, DescriptorDouble, Native, InterfaceCode}
 use Rattle.program_tables.specs.declared.refusal.Why.{Why}
 use Rattle.program_tables.specs.declared.refusal.Why.TheVariants.{NoClass, NoField, NoMethod, NotAccessible, WrongKind, NotImplemented}
 use Rattle.verifier_types.specs.declared.checked.Rule.{Rule}

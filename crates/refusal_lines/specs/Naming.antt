@@ -6,9 +6,9 @@ use Rattle.class_pool.specs.Grammar.{entry_at}
 use Rattle.class_pool.specs.declared.class.ClassFile.{ClassFile}
 use Rattle.class_lookup.specs.Parts.{name_of}
 use Rattle.core_classes.specs.Core.{core}
-use Rattle.jop_program.specs.Resolving.{AreClassesOf}
-use Rattle.jop_program.specs.declared.refusal.ProgramRefusal.{ProgramRefusal}
-use Rattle.jop_program.specs.declared.refusal.ProgramRefusal.TheVariants.{Duplicate, Unresolved}
+use Rattle.program_resolution.specs.Resolving.{AreClassesOf}
+use Rattle.program_resolution.specs.declared.refusal.ProgramRefusal.{ProgramRefusal}
+use Rattle.program_resolution.specs.declared.refusal.ProgramRefusal.TheVariants.{Duplicate, Unresolved}
 use Rattle.refusal_lines.specs.Entries.{unresolved_bytes}
 
 -- the refusal's name in the files' classes; nothing where it names no class or member

@@ -3,13 +3,14 @@ ghost use Rattle.std.specs.Prelude.{◌≡◌, ◌++◌, option_map, IfOk, OnOk}
 ghost use Rattle.std.specs.Option.{option_copied};
 ghost use Rattle.class_pool.specs.Utf8.{utf8_bytes};
 ghost use Rattle.class_pool.specs.Grammar.{entry_at};
-ghost use Rattle.refusal_lines.specs.Entries.{missing, classes_in_member, classes_in_entry, descriptor_in, signature_bytes, member_bytes, entry_bytes, unresolved_bytes};
+ghost use Rattle.refusal_lines.specs.Entries.{missing, classes_in_member, classes_in_entry, descriptor_in, signature_bytes, member_bytes, entry_bytes};
+ghost use Rattle.refusal_lines.specs.Entries.{unresolved_bytes};
 
 use crate::missing::{Known, missing_in_descriptor, missing_in_name};
+use base::NoMemory;
 use class_lookup::parts::{class_text, text_at};
 use class_pool::utf8::{put_text, text_bytes};
 use class_pool::{Entry, Pool};
-use jop_base::NoMemory;
 use program_tables::Why;
 use std::alloc::Global;
 
@@ -42,7 +43,8 @@ fn missing_in_member(
     owner: u16,
     member: u16,
 ) -> Result<Option<Vec<u8>>, NoMemory>
-    ensures { IfOk result (λ bytes. option_map (λ b. b.items) bytes ≡ option_map utf8_bytes (missing known.now.before.now known.now.files.now (classes_in_member pool.now owner member))) }
+    ensures { IfOk result (λ bytes. option_map (λ b. b.items) bytes ≡ option_map utf8_bytes
+        (missing known.now.before.now known.now.files.now (classes_in_member pool.now owner member))) }
 {
     match missing_in_name(alloc, known, class_text(pool, owner))? {
         Some(bytes) => Ok(Some(bytes)),
@@ -58,7 +60,8 @@ fn missing_in_entry(
     pool: &Pool,
     entry: &Entry,
 ) -> Result<Option<Vec<u8>>, NoMemory>
-    ensures { IfOk result (λ bytes. option_map (λ b. b.items) bytes ≡ option_map utf8_bytes (missing known.now.before.now known.now.files.now (classes_in_entry pool.now entry.now))) }
+    ensures { IfOk result (λ bytes. option_map (λ b. b.items) bytes ≡ option_map utf8_bytes
+        (missing known.now.before.now known.now.files.now (classes_in_entry pool.now entry.now))) }
 {
     match entry {
         Entry::Utf8(units) => missing_in_descriptor(alloc, known, units.as_slice()),

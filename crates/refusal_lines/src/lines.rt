@@ -1,16 +1,16 @@
 //! The lines of refusals, put into a sink.
 ghost use Rattle.std.specs.Prelude.{◌≡◌, [], false};
 ghost use Rattle.std.specs.List.{concat};
-ghost use Rattle.jop_outside.specs.Outside.{HasCause};
-ghost use Rattle.outcome_lines.specs.Said.{Said};
+ghost use Rattle.outside.specs.Outside.{HasCause};
+ghost use Rattle.answer_lines.specs.Said.{Said};
 ghost use Rattle.refusal_lines.specs.Lines.{place_of, refusal_parts, is_want_of_memory, failure_parts, limit_parts};
 
 use crate::names::{item_name, limit_name, rule_name, why_name};
+use answer_lines::{Line, LinkLine, Named, Place, say};
 use bytecode_verifier::MethodRule;
 use image_builder::Counted;
-use jop_outside::{Failed, Sink};
-use jop_program::ProgramRefusal;
-use outcome_lines::{Line, LinkLine, Named, Place, say};
+use outside::{Failed, Sink};
+use program_resolution::ProgramRefusal;
 use program_tables::{Item, Site, Why};
 
 fn place_of(site: Site) -> Place
@@ -24,7 +24,8 @@ fn place_of(site: Site) -> Place
 }
 
 fn say_item<O: Sink>(sink: &mut O, file: u32, site: Site, item: Item) -> Result<(), Failed>
-    ensures said { Said false (concat (refusal_parts (ProgramRefusal.Unsupported file site item) [])) (O.held sink.old) (O.held sink.new) (O.faults sink.old) (O.faults sink.new) result }
+    ensures said { Said false (concat (refusal_parts (ProgramRefusal.Unsupported file site item) [])) (O.held sink.old) (O.held sink.new) (O.faults sink.old)
+        (O.faults sink.new) result }
     ensures cause { HasCause (O.faults sink.old) (O.faults sink.new) result }
 {
     let place = place_of(site);
@@ -39,7 +40,8 @@ fn say_entry<O: Sink>(
     why: Why,
     name: &[u8],
 ) -> Result<(), Failed>
-    ensures said { Said false (concat (refusal_parts (ProgramRefusal.Unresolved file entry why) name.now)) (O.held sink.old) (O.held sink.new) (O.faults sink.old) (O.faults sink.new) result }
+    ensures said { Said false (concat (refusal_parts (ProgramRefusal.Unresolved file entry why) name.now)) (O.held sink.old) (O.held sink.new)
+        (O.faults sink.old) (O.faults sink.new) result }
     ensures cause { HasCause (O.faults sink.old) (O.faults sink.new) result }
 {
     let why = why_name(why).as_bytes();
@@ -55,7 +57,8 @@ pub fn say_refusal<O: Sink>(
     refusal: ProgramRefusal,
     name: &[u8],
 ) -> Result<(), Failed>
-    ensures said { Said (is_want_of_memory refusal) (concat (refusal_parts refusal name.now)) (O.held sink.old) (O.held sink.new) (O.faults sink.old) (O.faults sink.new) result }
+    ensures said { Said (is_want_of_memory refusal) (concat (refusal_parts refusal name.now)) (O.held sink.old) (O.held sink.new) (O.faults sink.old)
+        (O.faults sink.new) result }
     ensures cause { HasCause (O.faults sink.old) (O.faults sink.new) result }
 {
     match refusal {

@@ -7,13 +7,12 @@ ghost use Rattle.class_lookup.specs.Parts.{same_text, name_of};
 ghost use Rattle.program_tables.specs.Kinds.{class_in_type, classes_in_method_type, classes_in_field_descriptor, classes_in_method_descriptor};
 ghost use Rattle.refusal_lines.specs.Entries.{is_there, missing, class_in_name, classes_in_descriptor};
 
+use base::{FormatFault, NoMemory, is_text};
 use class_lookup::parts::name_of;
 use class_pool::ClassFile;
 use class_pool::utf8::text_bytes;
 use descriptors::names::is_class_name;
 use descriptors::{Element, FieldType, MethodType, field_type, method_type};
-use items::is_text;
-use jop_base::{FormatFault, NoMemory};
 use std::alloc::Global;
 
 /// The classes that there are besides the one that is run.
@@ -111,7 +110,8 @@ fn missing_in_field(
     known: &Known<'_>,
     descriptor: &[u16],
 ) -> Result<Option<Vec<u8>>, NoMemory>
-    ensures { IfOk result (λ bytes. option_map (λ b. b.items) bytes ≡ option_map utf8_bytes (missing known.now.before.now known.now.files.now (classes_in_field_descriptor descriptor.now))) }
+    ensures { IfOk result (λ bytes. option_map (λ b. b.items) bytes ≡ option_map utf8_bytes
+        (missing known.now.before.now known.now.files.now (classes_in_field_descriptor descriptor.now))) }
 {
     match field_type(alloc, descriptor) {
         Ok(of) => found_bytes(alloc, missing_in_type(known, &of)),
@@ -127,7 +127,8 @@ fn missing_in_parameters(
     known: &Known<'_>,
     descriptor: &[u16],
 ) -> Result<Option<Vec<u8>>, NoMemory>
-    ensures { IfOk result (λ bytes. option_map (λ b. b.items) bytes ≡ option_map utf8_bytes (missing known.now.before.now known.now.files.now (classes_in_method_descriptor descriptor.now))) }
+    ensures { IfOk result (λ bytes. option_map (λ b. b.items) bytes ≡ option_map utf8_bytes
+        (missing known.now.before.now known.now.files.now (classes_in_method_descriptor descriptor.now))) }
 {
     match method_type(alloc, descriptor) {
         Ok(of) => found_bytes(alloc, missing_in_method(known, &of)),
@@ -143,7 +144,8 @@ pub(crate) fn missing_in_descriptor(
     known: &Known<'_>,
     descriptor: &[u16],
 ) -> Result<Option<Vec<u8>>, NoMemory>
-    ensures { IfOk result (λ bytes. option_map (λ b. b.items) bytes ≡ option_map utf8_bytes (missing known.now.before.now known.now.files.now (classes_in_descriptor descriptor.now))) }
+    ensures { IfOk result (λ bytes. option_map (λ b. b.items) bytes ≡ option_map utf8_bytes
+        (missing known.now.before.now known.now.files.now (classes_in_descriptor descriptor.now))) }
 {
     match missing_in_field(alloc, known, descriptor)? {
         Some(bytes) => Ok(Some(bytes)),
@@ -158,7 +160,8 @@ pub(crate) fn missing_in_name(
     known: &Known<'_>,
     text: &[u16],
 ) -> Result<Option<Vec<u8>>, NoMemory>
-    ensures { IfOk result (λ bytes. option_map (λ b. b.items) bytes ≡ option_map utf8_bytes (missing known.now.before.now known.now.files.now (class_in_name text.now))) }
+    ensures { IfOk result (λ bytes. option_map (λ b. b.items) bytes ≡ option_map utf8_bytes
+        (missing known.now.before.now known.now.files.now (class_in_name text.now))) }
 {
     if is_class_name(text) {
         found_bytes(alloc, missing_name(known, text))

@@ -4,7 +4,7 @@ ghost use Rattle.refusal_lines.specs.Names.{item_name, why_name, walk_rule_name,
 
 use bytecode_verifier::{MethodRule, Rule};
 use image_builder::Counted;
-use jop_opcodes::name;
+use opcodes::name;
 use program_tables::{Item, Why};
 
 /// The name of an item that this machine doesn't support.

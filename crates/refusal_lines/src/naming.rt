@@ -6,19 +6,19 @@ ghost use Rattle.class_pool.specs.Grammar.{entry_at as entry_in};
 ghost use Rattle.class_rules.specs.Grammar.{IsClassOf};
 ghost use Rattle.class_lookup.specs.Parts.{name_of as name_in_pool};
 ghost use Rattle.core_classes.specs.Core.{core};
-ghost use Rattle.jop_program.specs.Resolving.{AreClassesOf};
+ghost use Rattle.program_resolution.specs.Resolving.{AreClassesOf};
 ghost use Rattle.refusal_lines.specs.Entries.{unresolved_bytes as bytes_told};
 ghost use Rattle.refusal_lines.specs.Naming.{named_bytes, IsNamed};
 
 use crate::entries::{entry_at, unresolved_bytes};
 use crate::missing::Known;
+use base::NoMemory;
 use class_file::read_class;
 use class_lookup::parts::name_of;
 use class_pool::ClassFile;
 use class_pool::utf8::text_bytes;
 use core_classes::core_classes;
-use jop_base::NoMemory;
-use jop_program::ProgramRefusal;
+use program_resolution::ProgramRefusal;
 use program_tables::Why;
 use std::alloc::Global;
 
@@ -69,7 +69,8 @@ fn entry_named(
     entry: u32,
     why: Why,
 ) -> Result<Vec<u8>, NoMemory>
-    ensures { IfOk result (λ bytes. bytes.items ≡ option_map_or (bytes_told known.now.before.now known.now.files.now class.now.pool why) (entry_in class.now.pool entry) []) }
+    ensures { IfOk result (λ bytes. bytes.items ≡ option_map_or (bytes_told known.now.before.now known.now.files.now class.now.pool why)
+        (entry_in class.now.pool entry) []) }
 {
     match entry_at(&class.pool, entry) {
         Some(entry) => unresolved_bytes(alloc, known, &class.pool, why, entry),

@@ -13,10 +13,10 @@ use Rattle.descriptors.specs.Parsing.{field_in, type_from}
 use Rattle.class_rules.specs.Found.{MethodsHaveCode}
 use Rattle.class_rules.specs.Grammar.{IsClass}
 use Rattle.class_rules.specs.Rules.{IsRightMethod}
-use Rattle.jop_opcodes.specs.declared.instruction.Instr.{Instr}
-use Rattle.jop_opcodes.specs.declared.instruction.DecodeFault.{DecodeFault}
-use Rattle.jop_opcodes.specs.Instruction.{decoded}
-use Rattle.jop_opcodes.specs.Target.{WholeIsWithin}
+use Rattle.opcodes.specs.declared.instruction.Instr.{Instr}
+use Rattle.opcodes.specs.declared.instruction.DecodeFault.{DecodeFault}
+use Rattle.opcodes.specs.Instruction.{decoded}
+use Rattle.opcodes.specs.Target.{WholeIsWithin}
 use Rattle.bytecode_model.specs.Lists.{onto}
 use Rattle.bytecode_model.specs.Program.{as_instr, instr_at}
 use Rattle.lists.specs.Lemmas.{onto_some}

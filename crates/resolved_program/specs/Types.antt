@@ -6,7 +6,8 @@ use Rattle.bytecode_model.specs.Types.{Kind, OfClass, OfNumbers, OfReferences, s
 use Rattle.resolved_program.specs.declared.types.TypeName.{TypeName}
 use Rattle.resolved_program.specs.declared.types.TypeName.TheVariants.{Primitive, Class, Array}
 
--- what is named among types: arrays of numbers by their array type code, a class by its number, and arrays of references by the number of their component's type
+-- what is named among types: arrays of numbers by their array type code, a class by its number, and arrays of references by the number of their
+-- component's type
 abbrev pub name_among : List Kind → Kind → Option TypeName
 name_among types (OfNumbers code) = Some (Primitive code)
 name_among types (OfClass class) = Some (Class class)

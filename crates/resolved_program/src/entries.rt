@@ -9,16 +9,15 @@ ghost use Rattle.program_tables.specs.Tables.{HasBounds};
 ghost use Rattle.resolved_program.specs.Entries.{AreTables};
 
 use crate::instances::Instances;
+use base::{Items, NoMemory};
 use class_hierarchy::Hierarchy;
 use class_lookup::parts::has_flags;
-use class_lookup::{ClassFile, Place};
+use class_lookup::{ClassFile, Place, method_at};
 use class_pool::{Entry, Member};
 use class_rules::flags::ACC_PROTECTED;
-use items::Items;
-use jop_base::NoMemory;
 use program_tables::{
     Meaning, Members, Operand, StringNumbers, TextTypes, class_meaning, constant_operand, field_at,
-    is_static_field, method_at, plain,
+    is_static_field, plain,
 };
 use std::alloc::Global;
 

@@ -3,10 +3,10 @@ ghost use Rattle.std.specs.Prelude.{◌≡◌, ◌+◌, ◌^◌, ◌<◌, length
 ghost use Rattle.program_tables.specs.Numbers.{own_instance_fields, instance_fields, instance_number};
 ghost use Rattle.resolved_program.specs.Instances.{own_lists, instance_counts, fields_above};
 
+use base::NoMemory;
 use class_hierarchy::Hierarchy;
 use class_lookup::laws::{classes_extend_what_is_above, superclasses_stand_above};
 use class_lookup::{Classes, Place};
-use jop_base::NoMemory;
 use program_tables::{Places, instance_fields_of};
 use std::alloc::Global;
 

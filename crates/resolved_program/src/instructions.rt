@@ -15,9 +15,9 @@ ghost use Rattle.program_tables.specs.Tables.{kind_seen};
 ghost use Rattle.program_tables.specs.Taken.{takes_entry};
 
 use crate::program::Program;
-use jop_opcodes::laws::instructions_end_within;
-use jop_opcodes::mnemonics::INVOKESPECIAL;
-use jop_opcodes::{Instr, decode};
+use opcodes::laws::instructions_end_within;
+use opcodes::mnemonics::INVOKESPECIAL;
+use opcodes::{Instr, decode};
 use program_tables::laws::methods_stand_by_number;
 use program_tables::{Handler, Instruction, ObjectKind, Operand, entry_of, kind_in, takes_entry};
 
@@ -25,7 +25,8 @@ impl Program {
     /// Whether an instruction of the class takes what the entry gives that it names.
     fn takes(&self, class: u32, instr: &Instr) -> bool
         requires { class < length self.now }
-        ensures { (c : ClassFile) → slice_get self.now class ≡ Some c → result ≡ option_map_or (takes_entry c.major instr.now.op) (entry_at c.pool (index_of_entry instr.now)) false }
+        ensures { (c : ClassFile) → slice_get self.now class ≡ Some c
+            → result ≡ option_map_or (takes_entry c.major instr.now.op) (entry_at c.pool (index_of_entry instr.now)) false }
     {
         let file = self.class(class);
         match entry_of(&file.pool, instr.first.unsigned_abs()) {

@@ -2,11 +2,11 @@
 ghost use Rattle.std.specs.Prelude.{◌≡◌, IfOk};
 ghost use Rattle.program_tables.specs.Numbers.{member_text};
 
+use base::NoMemory;
 use class_lookup::ClassFile;
 use class_lookup::parts::{name_of, text_at};
 use class_pool::Member;
 use class_pool::utf8::put_text;
-use jop_base::NoMemory;
 use std::alloc::Global;
 
 /// The dot between a class's name and a member's.

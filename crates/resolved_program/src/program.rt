@@ -7,25 +7,24 @@ ghost use Rattle.class_pool.specs.Found.{code_of};
 ghost use Rattle.class_lookup.specs.Hierarchy.{find_class, superclass, superinterfaces, extends, IsAcyclic};
 ghost use Rattle.class_lookup.specs.Lookup.{method_at, find_field, find_method};
 ghost use Rattle.class_lookup.specs.Selection.{select, special};
-ghost use Rattle.program_tables.specs.Numbers.{methods_by_number, method_number, method_text, fields_by_number, field_number, static_fields, static_number, instance_fields, instance_number, types_of, strings_of};
+ghost use Rattle.program_tables.specs.Numbers.{methods_by_number, method_number, method_text, fields_by_number, field_number, static_fields, static_number};
+ghost use Rattle.program_tables.specs.Numbers.{instance_fields, instance_number, types_of, strings_of};
 ghost use Rattle.program_tables.specs.Meanings.{declared_seen, HasShape};
 ghost use Rattle.program_tables.specs.Resolved.{at_method, declared_at, resolved};
 ghost use Rattle.program_tables.specs.Resolving.{IsResolved};
 ghost use Rattle.program_tables.specs.Tables.{kind_seen, HasBounds};
 ghost use Rattle.program_tables.specs.Entries.{meaning_at, meaning_seen};
 ghost use Rattle.resolved_program.specs.Resolved.{AreResolved};
-ghost use Rattle.resolved_program.specs.Types.{name_among};
 
 use crate::instances::Instances;
 use crate::names::member_text;
 use crate::tables::{ProgramTables, tables_of};
 use crate::types::{TypeName, name_at};
+use base::{Items, NoMemory};
 use class_hierarchy::{Hierarchy, Place};
 use class_lookup::{ClassFile, Classes};
 use class_pool::{Code, Member};
 use class_rules::laws::methods_have_code;
-use items::Items;
-use jop_base::NoMemory;
 use program_tables::laws::components_are_types;
 use program_tables::{
     Declared, Meaning, Members, Mentioned, MethodShape, Strings, Types, field_type_at, meaning_at,
@@ -332,13 +331,6 @@ impl Program {
         self.members.fields.at(number)
     }
 
-    /// The number of the field at a place of a class's list of fields.
-    pub fn field_number(&self, place: Place) -> Option<u32>
-        ensures { result ≡ field_number self.now place }
-    {
-        self.members.fields.number(place)
-    }
-
     /// What the field at a place of a class's list of fields holds (4.3.2, 4.5).
     pub fn field_type(&self, place: Place) -> Option<Declared>
         ensures { option_map declared_seen result ≡ declared_at self.now place }
@@ -398,15 +390,6 @@ impl Program {
         ensures { result ≡ length (types_of self.now) }
     {
         self.mentioned.types.count()
-    }
-
-    /// The name of the type of this number.
-    pub fn type_name(&self, number: u32) -> TypeName
-        requires { number < length (types_of self.now) }
-        ensures { Some result ≡ onto (slice_get (types_of self.now) number) (name_among (types_of self.now)) }
-    {
-        components_are_types();
-        name_at(&self.mentioned.types, number)
     }
 
     /// The types by number, as what their objects are.

@@ -10,9 +10,8 @@ ghost use Rattle.resolved_program.specs.Instances.{own_lists, instance_counts};
 
 use crate::entries::{Tables, all_meanings};
 use crate::instances::{Instances, instances_of};
+use base::{Items, NoMemory};
 use class_hierarchy::Hierarchy;
-use items::Items;
-use jop_base::NoMemory;
 use program_tables::{
     Declared, Meaning, Members, Mentioned, MethodShape, StringNumbers, Strings, TextTypes,
     field_types_of, members_of, mentioned_by, shapes_of,

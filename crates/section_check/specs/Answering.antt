@@ -8,4 +8,5 @@ use Rattle.section_check.specs.Conditions.{Answers}
 -- no two answers are right, so that all checks that answer rightly answer the same
 abbrev pub AnswersAreOne : Type 0
 AnswersAreOne =
-    (g : Digraph) (costs : List ℕ) (c : Certified) (bounds : List ℕ) (loads : List (Option ℕ)) (a b : Result (Option ℕ) SectionFault) → Answers g costs c bounds loads a → Answers g costs c bounds loads b → a ≡ b
+    (g : Digraph) (costs : List ℕ) (c : Certified) (bounds : List ℕ) (loads : List (Option ℕ)) (a b : Result (Option ℕ) SectionFault)
+    → Answers g costs c bounds loads a → Answers g costs c bounds loads b → a ≡ b

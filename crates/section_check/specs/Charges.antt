@@ -17,7 +17,8 @@ walk_charge costs loops u (v ∷ vs) = slice_index costs u + edge_charge loops u
 
 -- a walk costs what its start, its nodes and its edges are charged
 abbrev pub CostsAreCharged : Type 0
-CostsAreCharged = (costs : List ℕ) (loops : List BoundedLoop) (u : ℕ) (vs : List ℕ) → cost_of costs loops (u ∷ vs) ≡ start_charge loops u + walk_charge costs loops u vs
+CostsAreCharged = (costs : List ℕ) (loops : List BoundedLoop) (u : ℕ) (vs : List ℕ)
+    → cost_of costs loops (u ∷ vs) ≡ start_charge loops u + walk_charge costs loops u vs
 
 -- a start in a loop pays its load
 abbrev pub StartsPayLoads : Type 0
@@ -25,4 +26,5 @@ StartsPayLoads = (loops : List BoundedLoop) (l : BoundedLoop) (u : ℕ) → Cont
 
 -- an edge into a loop from outside pays its load
 abbrev pub EdgesPayLoads : Type 0
-EdgesPayLoads = (loops : List BoundedLoop) (l : BoundedLoop) (u v : ℕ) → Contains loops l → Contains l.members v → ¬ Contains l.members u → l.load ≤ edge_charge loops u v
+EdgesPayLoads = (loops : List BoundedLoop) (l : BoundedLoop) (u v : ℕ) → Contains loops l → Contains l.members v → ¬ Contains l.members u
+    → l.load ≤ edge_charge loops u v

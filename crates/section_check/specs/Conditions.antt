@@ -82,4 +82,5 @@ abbrev pub Answers : Digraph → List ℕ → Certified → List ℕ → List (O
 Answers g costs c bounds loads (Ok value) = IsAccepted g costs c bounds loads × (value ≡ value_of c (priced c.loops bounds loads))
 Answers g costs c bounds loads (Err (faults.Member u)) = IsFirstMisplaced g c bounds loads u
 Answers g costs c bounds loads (Err (faults.Edge u v)) = AreWellPlaced g c bounds loads × IsFirstFailingEdge g costs c (priced c.loops bounds loads) u v
-Answers g costs c bounds loads (Err (faults.Exit u)) = AreWellPlaced g c bounds loads × EdgesHold g costs c (priced c.loops bounds loads) × IsFirstFailingExit g costs c u
+Answers g costs c bounds loads (Err (faults.Exit u)) = AreWellPlaced g c bounds loads × EdgesHold g costs c (priced c.loops bounds loads)
+    × IsFirstFailingExit g costs c u

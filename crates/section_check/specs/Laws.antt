@@ -19,19 +19,22 @@ loops_of c bounds loads = map bounded (priced c.loops bounds loads)
 abbrev pub OwnBoundsSuffice : Type 0
 OwnBoundsSuffice =
     (g part : Digraph) (c : Certified) (bounds : List ℕ) (loads : List (Option ℕ)) → AreWellPlaced g c bounds loads → ((u v : ℕ) → Edge part u v → Edge g u v)
-    → (last : ℕ) (ns : List ℕ) → Walk part 0 last ns → ((l : PricedLoop) → Contains (priced c.loops bounds loads) l → IsHeader part l.certified.header → KeepsBound part l.certified.header l.bound ns)
+    → (last : ℕ) (ns : List ℕ) → Walk part 0 last ns → ((l : PricedLoop) → Contains (priced c.loops bounds loads) l → IsHeader part l.certified.header
+    → KeepsBound part l.certified.header l.bound ns)
     → All (IsKept ns) (loops_of c bounds loads)
 
 -- where an accepted section has no value, no exit is reached from node 0, whatever the bounds
 abbrev pub NoValueNoExit : Type 0
 NoValueNoExit =
-    (g : Digraph) (costs : List ℕ) (c : Certified) (bounds : List ℕ) (loads : List (Option ℕ)) → IsAccepted g costs c bounds loads → value_of c (priced c.loops bounds loads) ≡ None
+    (g : Digraph) (costs : List ℕ) (c : Certified) (bounds : List ℕ) (loads : List (Option ℕ)) → IsAccepted g costs c bounds loads
+    → value_of c (priced c.loops bounds loads) ≡ None
     → (exit : ℕ) (ns : List ℕ) → Contains g.exits exit → ¬ Walk g 0 exit ns
 
 -- no bounded walk costs more than the value of an accepted section, and where it has none there is no such walk
 abbrev pub AcceptedBoundWalks : Type 0
 AcceptedBoundWalks =
-    (g : Digraph) (costs : List ℕ) (c : Certified) (bounds : List ℕ) (loads : List (Option ℕ)) → IsAccepted g costs c bounds loads → BoundsWalks g costs (loops_of c bounds loads) (value_of c (priced c.loops bounds loads))
+    (g : Digraph) (costs : List ℕ) (c : Certified) (bounds : List ℕ) (loads : List (Option ℕ)) → IsAccepted g costs c bounds loads
+    → BoundsWalks g costs (loops_of c bounds loads) (value_of c (priced c.loops bounds loads))
 
 -- in an accepted section, no iteration of a loop whose header is reached and listed costs more than the section says of the loop
 abbrev pub AcceptedBoundIterations : Type 0

@@ -21,7 +21,8 @@ least_same P Q None to from h = λ u q. h u (from u q)
 least_same P Q (Some n) to from h = (to n h.0, λ u less q. h.1 u less (from u q))
 
 -- the least number with one property or the other is the lesser of the least with each
-pub least_either : (P Q R : ℕ → Type 0) (a b : Option ℕ) → ((u : ℕ) → P u → R u) → ((u : ℕ) → Q u → R u) → ((u : ℕ) → R u → P u ⊎ Q u) → IsLeast P a → IsLeast Q b → IsLeast R (lesser_of a b)
+pub least_either : (P Q R : ℕ → Type 0) (a b : Option ℕ) → ((u : ℕ) → P u → R u) → ((u : ℕ) → Q u → R u) → ((u : ℕ) → R u → P u ⊎ Q u) → IsLeast P a
+    → IsLeast Q b → IsLeast R (lesser_of a b)
 least_either P Q R None None p q cases ha hb = λ u r. elim (cases u r) [ inl x ↦ ha u x | inr y ↦ hb u y ]
 least_either P Q R None (Some n) p q cases ha hb = (q n hb.0, λ u less r. elim (cases u r) [ inl x ↦ ha u x | inr y ↦ hb.1 u less y ])
 least_either P Q R (Some m) None p q cases ha hb = (p m ha.0, λ u less r. elim (cases u r) [ inl x ↦ ha.1 u less x | inr y ↦ hb u y ])

@@ -27,6 +27,7 @@ pub record AreRegions (ls : List CertifiedLoop) (loads : List (Option ℕ)) (reg
 -- an accepted section stays accepted, with its value, where its loops are marked as regions
 abbrev pub MarkedStaysAccepted : Type 0
 MarkedStaysAccepted =
-    (g : Digraph) (costs : List ℕ) (c : Certified) (bounds : List ℕ) (loads : List (Option ℕ)) (regions : List Bool) → AreRegions c.loops loads regions → IsAccepted g costs c bounds loads
+    (g : Digraph) (costs : List ℕ) (c : Certified) (bounds : List ℕ) (loads : List (Option ℕ)) (regions : List Bool) → AreRegions c.loops loads regions
+    → IsAccepted g costs c bounds loads
     → IsAccepted g costs (with_regions c regions) bounds loads
     × (value_of (with_regions c regions) (priced (marked c.loops regions) bounds loads) ≡ value_of c (priced c.loops bounds loads))

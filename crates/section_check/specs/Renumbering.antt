@@ -28,12 +28,15 @@ moved node c = record { nodes = map (λ p. (node p.0, p.1)) c.nodes; loops = map
 -- an accepted section stays accepted under other numbers, with its value
 abbrev pub RenumberedStaysAccepted : Type 0
 RenumberedStaysAccepted =
-    (d g : Digraph) (node : ℕ → ℕ) (costs others : List ℕ) (c : Certified) (bounds : List ℕ) (loads : List (Option ℕ)) → IsRenumbered d g node → AreMovedCosts d node costs others
+    (d g : Digraph) (node : ℕ → ℕ) (costs others : List ℕ) (c : Certified) (bounds : List ℕ) (loads : List (Option ℕ)) → IsRenumbered d g node
+    → AreMovedCosts d node costs others
     → IsAccepted d costs c bounds loads
-    → IsAccepted g others (moved node c) bounds loads × (value_of (moved node c) (priced (map (moved_loop node) c.loops) bounds loads) ≡ value_of c (priced c.loops bounds loads))
+    → IsAccepted g others (moved node c) bounds loads × (value_of (moved node c) (priced (map (moved_loop node) c.loops) bounds loads) ≡ value_of c
+    (priced c.loops bounds loads))
 
 -- and it stays in form
 abbrev pub RenumberedStaysInForm : Type 0
 RenumberedStaysInForm =
-    (d g : Digraph) (node : ℕ → ℕ) (costs : List ℕ) (c : Certified) (bounds : List ℕ) (loads : List (Option ℕ)) → IsRenumbered d g node → IsAccepted d costs c bounds loads
+    (d g : Digraph) (node : ℕ → ℕ) (costs : List ℕ) (c : Certified) (bounds : List ℕ) (loads : List (Option ℕ)) → IsRenumbered d g node
+    → IsAccepted d costs c bounds loads
     → IsInForm c bounds loads → IsInForm (moved node c) bounds loads

@@ -1,8 +1,8 @@
 -- Loops cross exactly where the sets of their members' places do.
 use Rattle.std.proofs.Common.{◌≡◌, ℕ, ◌<◌, List, length, get_or, Contains, Option, Some, None, refl, sym, ap, ◌∙◌, subst, arith}
 use Rattle.lists.specs.Members.{contains_at, place_of}
-use Rattle.crossing_sets.specs.Family.{set_at}
-use Rattle.crossing_sets.specs.Crossing as sets
+use Rattle.section_index.specs.Family.{set_at}
+use Rattle.section_index.specs.Crossing as sets
 use Rattle.loop_nest.proofs.Rising.{same_place}
 use Rattle.section_check.specs.Section.{CertifiedLoop}
 use Rattle.section_check.specs.Placing.{IsAt, LiesIn, AreCrossed}

@@ -5,7 +5,7 @@ use Rattle.std.proofs.lemmas.Bool.{cases_lt}
 use Rattle.std.proofs.lemmas.List.Elements.{Contains-get_or, Contains-append_left, Contains-append_right, Contains-append_cases}
 use Rattle.lists.specs.Members.{map_contains, nil_contains}
 use Rattle.loop_nest.specs.Digraph.{AreSources}
-use Rattle.crossing_sets.specs.Family.{set_at}
+use Rattle.section_index.specs.Family.{set_at}
 use Rattle.loop_nest.proofs.Elements.{from_map}
 use Rattle.loop_nest.proofs.Searching.{sources_has, from_sources}
 use Rattle.section_check.specs.Section.{CertifiedLoop}

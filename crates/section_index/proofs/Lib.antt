@@ -3,3 +3,8 @@ mod Ranks
 mod Crossed
 mod Holding
 mod Faults
+mod CrossingElements
+mod Moving
+mod Sweeping
+mod Crossings
+mod Falling

@@ -11,7 +11,7 @@ use Rattle.std.proofs.lemmas.List.Kept.{Contains-dedup_nat}
 use Rattle.std.proofs.lemmas.List.Sorted.{Contains-permutation}
 use Rattle.std.proofs.lemmas.Map.Keys.{IsStrictlyIncreasing-dedup}
 use Rattle.lists.specs.Members.{contains_at}
-use Rattle.crossing_sets.specs.Family.{AreSets, set_at}
+use Rattle.section_index.specs.Family.{AreSets, set_at}
 use Rattle.section_check.specs.Section.{CertifiedLoop, MembersRise}
 use Rattle.section_check.specs.Placing.{IsAt}
 use Rattle.section_check.specs.Least.{IsLeast, IsMemberBeyond}

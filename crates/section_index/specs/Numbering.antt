@@ -1,7 +1,7 @@
 -- Numbers among which the members of a section's loops stand, and the loops that hold each number.
 use Rattle.std.specs.Prelude.{◌≡◌, ℕ, ◌<◌, List, [], length, slice_index, slice_index_or, Contains}
 use Rattle.std.specs.List.Sorted.{IsStrictlyIncreasing}
-use Rattle.crossing_sets.specs.Family.{set_at}
+use Rattle.section_index.specs.Family.{set_at}
 use Rattle.section_check.specs.Section.{CertifiedLoop}
 use Rattle.section_check.specs.Placing.{IsAt, CrossesAnother}
 

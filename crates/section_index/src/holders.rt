@@ -4,8 +4,8 @@ ghost use Rattle.section_check.specs.Section.{MembersRise};
 ghost use Rattle.section_check.specs.Least.{IsLeast};
 ghost use Rattle.section_index.specs.Numbering.{AreNumbers, ArePlaced, ArePairs, AreHolders, Crosses};
 
-use crossing_sets::family::Family;
-use crossing_sets::first_crossing;
+use crate::crossing_sets::family::Family;
+use crate::crossing_sets::first_crossing;
 use loop_nest::digraph::Sources;
 use section_check::section::CertLoop;
 use std::alloc::{AllocError, Global};

@@ -8,14 +8,15 @@ ghost use Rattle.section_check.specs.Conditions.{Answers};
 ghost use Rattle.section_check.specs.Laws.{BoundsWalks, loops_of};
 
 mod aside;
+mod crossing_sets;
 mod faulty;
 mod holders;
 mod numbering;
 
 use aside::leads_aside;
+use base::NoMemory;
 use faulty::faulty_header;
 use holders::{crossing, holders};
-use jop_base::NoMemory;
 use loop_nest::Graph;
 use numbering::{numbered, numbers};
 use section_check::section::{Section, SectionFault};

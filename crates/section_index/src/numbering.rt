@@ -4,7 +4,7 @@ ghost use Rattle.std.specs.List.Sorted.{IsStrictlyIncreasing};
 ghost use Rattle.section_check.specs.Section.{MembersRise};
 ghost use Rattle.section_index.specs.Numbering.{AreNodes, AreNumbers, IsPlaced, ArePlaces, ArePlaced};
 
-use crossing_sets::family::Family;
+use crate::crossing_sets::family::Family;
 use section_check::placing::first_member_beyond;
 use section_check::section::CertLoop;
 use std::alloc::{AllocError, Global};

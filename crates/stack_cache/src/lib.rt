@@ -7,7 +7,7 @@
 ghost use Rattle.std.specs.Prelude.{◌≡◌, ℕ, ◌+◌, ◌<◌, List, length, replicate, vec_len, slice_index, slice_set, IfOk};
 ghost use Rattle.stack_cache.specs.Size.{IsSize, HoldsWords};
 
-use jop_base::NoMemory;
+use base::NoMemory;
 use std::alloc::Global;
 use std::marker::Model;
 

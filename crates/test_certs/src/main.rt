@@ -9,9 +9,7 @@
 ghost use Rattle.std.specs.Prelude.{◌≡◌};
 ghost use Rattle.bound_cert.specs.Certificate.{IsInGrammar};
 
-use bound_cert::{Cert, CertSection, write_cert};
-use cert_lines::SectionKind;
-use cert_reader::{CertFault, read_cert};
+use bound_cert::{Cert, CertFault, CertSection, SectionKind, read_cert, write_cert};
 use std::alloc::{AllocError, Global};
 use std::io;
 

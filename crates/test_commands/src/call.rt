@@ -3,7 +3,7 @@
 use crate::row::{files_of, input_of, numbers_of, words_of};
 use jop_cli::jop;
 use jop_core::NoWatch;
-use jop_outside::{MemFiles, MemSink, MemSource};
+use outside::{MemFiles, MemSink, MemSource};
 use std::alloc::{AllocError, Global};
 use std::io;
 use test_rows::RowFault;
@@ -25,7 +25,7 @@ pub struct Came {
     pub err: Vec<u8>,
 }
 
-// What comes of a call of these words over objects in memory, where they are few enough for one.
+/// What comes of a call of these words over objects in memory, where they are few enough for one.
 fn called(
     alloc: Global,
     words: &[&str],
@@ -69,7 +69,7 @@ pub fn made(
     Ok(called(alloc, &words, files, input, failing)?)
 }
 
-// The sum of bytes, each added to 31 times the sum before it, in 32 bits.
+/// The sum of bytes, each added to 31 times the sum before it, in 32 bits.
 fn sum_of(bytes: &[u8]) -> u32 {
     let mut sum: u32 = 0;
     for byte in bytes {
@@ -78,7 +78,7 @@ fn sum_of(bytes: &[u8]) -> u32 {
     sum
 }
 
-// Prints what was put out: few bytes themselves, of more how many and their sum.
+/// Prints what was put out: few bytes themselves, of more how many and their sum.
 fn print_out(rt: &HostRuntime, out: &[u8]) -> io::Result<()> {
     if out.len() > 64 {
         return println!(rt; "{} bytes, sum {:08x}", out.len(), sum_of(out));
@@ -89,7 +89,7 @@ fn print_out(rt: &HostRuntime, out: &[u8]) -> io::Result<()> {
     println!(rt; ".")
 }
 
-// Prints the lines of a trace: of one with more than 24 lines the first eight and the last eight.
+/// Prints the lines of a trace: of one with more than 24 lines the first eight and the last eight.
 fn print_lines(rt: &HostRuntime, text: &str) -> io::Result<()> {
     let count = text.lines().count();
     for (number, line) in text.lines().enumerate() {
@@ -100,7 +100,7 @@ fn print_lines(rt: &HostRuntime, text: &str) -> io::Result<()> {
     Ok(())
 }
 
-// Prints words, what came of their call, and what `out` and `err` hold.
+/// Prints words, what came of their call, and what `out` and `err` hold.
 fn print_call(rt: &HostRuntime, words: &[&str], came: &Came) -> io::Result<()> {
     for word in words {
         print!(rt; "{word} ")?;
@@ -115,7 +115,7 @@ fn print_call(rt: &HostRuntime, words: &[&str], came: &Came) -> io::Result<()> {
     Ok(())
 }
 
-// The numbers of the calls that a line says to fail.
+/// The numbers of the calls that a line says to fail.
 fn failing_of(alloc: Global, line: &str) -> Result<Failing, AllocError> {
     Ok(Failing {
         files: numbers_of(alloc, line, '/')?,

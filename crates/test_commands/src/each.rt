@@ -5,10 +5,10 @@ use std::alloc::{AllocError, Global};
 use std::io;
 use test_rows::RowFault;
 
-// No more calls than this are tried.
+/// No more calls than this are tried.
 const MOST: u64 = 100_000;
 
-// What was put on out or on err, beside what is put there where no call fails.
+/// What was put on out or on err, beside what is put there where no call fails.
 #[derive(Clone, Copy, PartialEq, Eq)]
 enum Held {
     Nothing,
@@ -19,7 +19,7 @@ enum Held {
     Other,
 }
 
-// A status with what was put on out and on err.
+/// A status with what was put on out and on err.
 #[derive(Clone, Copy, PartialEq, Eq)]
 struct Answer {
     status: u8,
@@ -27,7 +27,7 @@ struct Answer {
     err: Held,
 }
 
-// The list of the number of the call that fails, if it is one on the object of this mark.
+/// The list of the number of the call that fails, if it is one on the object of this mark.
 fn listed(alloc: Global, is_of_mark: bool, number: u64) -> Result<Vec<u64>, AllocError> {
     let mut numbers = Vec::new(alloc);
     if is_of_mark {
@@ -36,7 +36,7 @@ fn listed(alloc: Global, is_of_mark: bool, number: u64) -> Result<Vec<u64>, Allo
     Ok(numbers)
 }
 
-// One call on the object of a mark fails.
+/// One call on the object of a mark fails.
 fn failing_at(alloc: Global, mark: &str, number: u64) -> Result<Failing, AllocError> {
     Ok(Failing {
         files: listed(alloc, mark == "/", number)?,
@@ -58,7 +58,7 @@ fn held_of(bytes: &[u8], good: &[u8]) -> Held {
     }
 }
 
-// What stands on err may be the line of a fault; that of a fault of err itself stands behind a front of the line that was put.
+/// What stands on err may be the line of a fault; that of a fault of err itself stands behind a front of the line that was put.
 fn line_of(bytes: &[u8], good: &[u8]) -> Held {
     if bytes == b"read fault\n".as_slice() {
         return Held::ReadFault;
@@ -97,7 +97,7 @@ fn print_answer(rt: &HostRuntime, answer: Answer) -> io::Result<()> {
     )
 }
 
-// Prints the answers where one call more fails from time to time, each that isn't that before it, until none fails.
+/// Prints the answers where one call more fails from time to time, each that isn't that before it, until none fails.
 fn show_answers(
     rt: &HostRuntime,
     mark: &str,

@@ -30,7 +30,7 @@ use std::io;
 use test_rows::RowFault;
 use watch::show_watches;
 
-// Does what a line says, and gives what the last call of `link` put out.
+/// Does what a line says, and gives what the last call of `link` put out.
 fn do_line(rt: &HostRuntime, line: &str, last: Vec<u8>) -> Result<Vec<u8>, RowFault> {
     if let Some(digits) = line.strip_prefix("watch ") {
         show_watches(rt, digits)?;

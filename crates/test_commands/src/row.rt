@@ -3,12 +3,12 @@
 use std::alloc::{AllocError, Global};
 use test_rows::{RowFault, hex_bytes};
 
-// Whether an item is no word, but says what the input has or which calls fail.
+/// Whether an item is no word, but says what the input has or which calls fail.
 fn is_setting(item: &str) -> bool {
     matches!(item.as_bytes(), [b'<' | b'/' | b'!' | b'^' | b'?', ..])
 }
 
-// The word of an item.
+/// The word of an item.
 fn word_of(item: &str) -> &str {
     match item.split_once('=') {
         Some((word, _)) => word,
@@ -16,7 +16,7 @@ fn word_of(item: &str) -> &str {
     }
 }
 
-// The bytes of the file that an item's word names, if it has one.
+/// The bytes of the file that an item's word names, if it has one.
 fn file_of(alloc: Global, item: &str, last: &[u8]) -> Result<Option<Vec<u8>>, RowFault> {
     match item.split_once('=') {
         None => Ok(None),

@@ -3,15 +3,15 @@ ghost use Rattle.std.specs.Prelude.{◌≡◌, length};
 
 use jop_cli::jop;
 use jop_core::{MemWatch, Seen};
-use jop_outside::{SureFiles, SureSink, SureSource};
+use outside::{SureFiles, SureSink, SureSource};
 use std::alloc::{AllocError, Global};
 use std::io;
 use test_rows::{RowFault, hex_bytes};
 
-// Of more states than this only the first and the last are shown.
+/// Of more states than this only the first and the last are shown.
 const SHOWN: usize = 8;
 
-// Runs the last of two files, with a watch.
+/// Runs the last of two files, with a watch.
 fn run(alloc: Global, files: Vec<Option<Vec<u8>>>, watch: &mut MemWatch)
     requires { length files.items ≡ 2 }
 {
@@ -31,7 +31,7 @@ fn run(alloc: Global, files: Vec<Option<Vec<u8>>>, watch: &mut MemWatch)
     let _ = outcome;
 }
 
-// The watch after a run of an image.
+/// The watch after a run of an image.
 fn watched(alloc: Global, image: &[u8], mut watch: MemWatch) -> Result<MemWatch, AllocError> {
     let image = image.to_vec(alloc)?;
     let files = vec![in alloc; None, Some(image)]?;
@@ -46,7 +46,7 @@ fn show_state(rt: &HostRuntime, state: &Seen) -> io::Result<()> {
     )
 }
 
-// Prints the states that a watch holds, of many the first and the last.
+/// Prints the states that a watch holds, of many the first and the last.
 fn show_states(rt: &HostRuntime, states: &[Seen]) -> io::Result<()> {
     println!(rt; "{} states", states.len())?;
     let last = states.len().saturating_sub(1);

@@ -38,7 +38,7 @@ pub fn show_calls(out: &mut String, f: &FlowProgram, m: u32) -> Result<(), Alloc
     Ok(())
 }
 
-// Whether each of some methods is marked.
+/// Whether each of some methods is marked.
 fn are_marked(marks: &[bool], methods: &[u32]) -> bool {
     for m in methods {
         if marks.get(*m as usize) != Some(&true) {
@@ -48,7 +48,7 @@ fn are_marked(marks: &[bool], methods: &[u32]) -> bool {
     true
 }
 
-// Whether each method stands behind all that its calls may run.
+/// Whether each method stands behind all that its calls may run.
 fn is_targets_first(alloc: Global, f: &FlowProgram, methods: &[u32]) -> Result<bool, AllocError> {
     let mut earlier = vec![in alloc; false; f.method_count() as usize]?;
     for m in methods {
@@ -65,7 +65,7 @@ fn is_targets_first(alloc: Global, f: &FlowProgram, methods: &[u32]) -> Result<b
     Ok(true)
 }
 
-// Turns a cycle of calls so that its least number comes first.
+/// Turns a cycle of calls so that its least number comes first.
 fn turn_to_least(cycle: &mut [u32]) {
     let (mut place, mut least) = (0, u32::MAX);
     for (i, m) in cycle.iter().enumerate() {
@@ -77,7 +77,7 @@ fn turn_to_least(cycle: &mut [u32]) {
     cycle.rotate_left(place.min(cycle.len()));
 }
 
-// Writes the names of methods behind a title.
+/// Writes the names of methods behind a title.
 fn titled(
     alloc: Global,
     title: &str,
@@ -90,7 +90,7 @@ fn titled(
     Ok(out)
 }
 
-// The methods of an order, by number.
+/// The methods of an order, by number.
 fn sorted_text(
     alloc: Global,
     f: &FlowProgram,

@@ -10,7 +10,7 @@ use method_flow::FlowProgram;
 use std::alloc::{AllocError, Global};
 use test_rows::RowFault;
 
-// Writes a node behind a mark.
+/// Writes a node behind a mark.
 fn show_node(out: &mut String, graph: &MethodGraph, mark: &str, u: u32) -> Result<(), AllocError> {
     match graph.nodes.as_slice().get(u as usize) {
         Some((place, false)) => write!(out, "{mark}{place}"),
@@ -19,7 +19,7 @@ fn show_node(out: &mut String, graph: &MethodGraph, mark: &str, u: u32) -> Resul
     }
 }
 
-// Writes nodes, and ends the line.
+/// Writes nodes, and ends the line.
 fn show_nodes(out: &mut String, graph: &MethodGraph, nodes: &[u32]) -> Result<(), AllocError> {
     for u in nodes {
         show_node(out, graph, " ", *u)?;
@@ -27,7 +27,7 @@ fn show_nodes(out: &mut String, graph: &MethodGraph, nodes: &[u32]) -> Result<()
     writeln!(out, "")
 }
 
-// Writes the nodes, the edges and the exits of a graph.
+/// Writes the nodes, the edges and the exits of a graph.
 fn show_graph(alloc: Global, out: &mut String, graph: &MethodGraph) -> Result<(), AllocError> {
     let nodes: Vec<u32> = (0..graph.graph.nodes()).collect(alloc)?;
     write!(out, "  nodes")?;
@@ -41,12 +41,12 @@ fn show_graph(alloc: Global, out: &mut String, graph: &MethodGraph) -> Result<()
     show_nodes(out, graph, graph.graph.exits())
 }
 
-// The next loop around a loop.
+/// The next loop around a loop.
 fn outer_of<'a>(loops: &'a [Loop], l: &Loop) -> Option<&'a Loop> {
     loops.get(l.outer()? as usize)
 }
 
-// Writes a loop of a method, and its region.
+/// Writes a loop of a method, and its region.
 fn show_loop(
     alloc: Global,
     out: &mut String,
@@ -73,7 +73,7 @@ fn show_loop(
     show_regions(alloc, out, f, m, Some(&members), "  ")
 }
 
-// Writes the loops of a method, or the nodes that the reduction of its graph leaves.
+/// Writes the loops of a method, or the nodes that the reduction of its graph leaves.
 fn show_loops(
     alloc: Global,
     out: &mut String,
@@ -98,7 +98,7 @@ fn show_loops(
     }
 }
 
-// What is found of a method.
+/// What is found of a method.
 fn method_text(alloc: Global, f: &FlowProgram, m: u32) -> Result<String, RowFault>
     requires { m < length f.now.methods }
 {
@@ -111,7 +111,7 @@ fn method_text(alloc: Global, f: &FlowProgram, m: u32) -> Result<String, RowFaul
     Ok(out)
 }
 
-// Whether a name is that of a method of the core classes.
+/// Whether a name is that of a method of the core classes.
 fn is_of_core(name: &str) -> bool {
     name.starts_with("java/") || name.starts_with("jop/Io.")
 }

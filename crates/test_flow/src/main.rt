@@ -23,7 +23,7 @@ use program::verified;
 use std::io;
 use test_rows::RowFault;
 
-// Prints what a word asks of a program.
+/// Prints what a word asks of a program.
 fn answer(rt: &HostRuntime, word: &str, program: &Verified, roots: &str) -> Result<(), RowFault> {
     program.is_typed();
     let flow = flow_of(rt.alloc(), program.program())?;
@@ -41,7 +41,7 @@ fn answer(rt: &HostRuntime, word: &str, program: &Verified, roots: &str) -> Resu
     Ok(())
 }
 
-// Answers a line.
+/// Answers a line.
 fn answer_line(rt: &HostRuntime, line: &str) -> Result<(), RowFault> {
     let words: Vec<&str> = line.split(' ').collect(rt.alloc())?;
     let [word, title, main, roots, files @ ..] = words.as_slice() else {

@@ -1,7 +1,7 @@
 //! The program of a row's class files.
 
 use bytecode_verifier::{Verified, VerifyFault, verify};
-use jop_program::{ProgramRefusal, resolve};
+use program_resolution::{ProgramRefusal, resolve};
 use std::alloc::Global;
 use test_rows::{RowFault, hex_bytes};
 

@@ -2,8 +2,8 @@
 ghost use Rattle.std.specs.Prelude.{◌<◌, length};
 
 use crate::calls::show_names;
+use base::NoMemory;
 use call_regions::{Region, loop_region, region};
-use jop_base::NoMemory;
 use method_flow::FlowProgram;
 use std::alloc::Global;
 use test_rows::RowFault;
@@ -14,7 +14,7 @@ const CACHES: [(u32, u32); 4] = [(1, 8), (2, 16), (16, 4), (16, 64)];
 /// The blocks, and the words of a block, of a cache that each region fits.
 const GREATEST: (u32, u32) = (1024, 1024);
 
-// The region of a method, or of the loop of these members of it.
+/// The region of a method, or of the loop of these members of it.
 fn region_of(
     alloc: Global,
     f: &FlowProgram,

@@ -26,7 +26,7 @@ pub enum Asked<'a> {
     Walks,
 }
 
-// Prints the value of the greatest walk, and the listed nodes with their potentials.
+/// Prints the value of the greatest walk, and the listed nodes with their potentials.
 fn show_potentials(rt: &HostRuntime, solved: &Solved) -> io::Result<()> {
     print!(rt; "  value {}, potentials", solved.value())?;
     for (u, p) in solved.section().nodes() {
@@ -35,7 +35,7 @@ fn show_potentials(rt: &HostRuntime, solved: &Solved) -> io::Result<()> {
     println!(rt; "")
 }
 
-// Prints the value of the greatest walk, and the section that shows it.
+/// Prints the value of the greatest walk, and the section that shows it.
 fn show_section(rt: &HostRuntime, solved: &Solved) -> io::Result<()> {
     show_potentials(rt, solved)?;
     for l in solved.section().loops() {
@@ -48,7 +48,7 @@ fn show_section(rt: &HostRuntime, solved: &Solved) -> io::Result<()> {
     Ok(())
 }
 
-// Prints the value of the greatest walk, and which loops are regions in its section.
+/// Prints the value of the greatest walk, and which loops are regions in its section.
 fn show_loop_kinds(rt: &HostRuntime, solved: &Solved) -> io::Result<()> {
     println!(rt; "  value {}", solved.value())?;
     for l in solved.section().loops() {
@@ -58,7 +58,7 @@ fn show_loop_kinds(rt: &HostRuntime, solved: &Solved) -> io::Result<()> {
     Ok(())
 }
 
-// Prints why there is no greatest walk.
+/// Prints why there is no greatest walk.
 fn show_none(rt: &HostRuntime, fault: Option<SolveFault>) -> io::Result<()> {
     match fault {
         None => println!(rt; "  no walk"),
@@ -67,7 +67,7 @@ fn show_none(rt: &HostRuntime, fault: Option<SolveFault>) -> io::Result<()> {
     }
 }
 
-// Prints the greatest walk, without its section where only its value is asked.
+/// Prints the greatest walk, without its section where only its value is asked.
 fn show_longest(
     rt: &HostRuntime,
     problem: &Problem,
@@ -95,7 +95,7 @@ fn show_longest(
     }
 }
 
-// Prints the greatest walk where some loops are regions.
+/// Prints the greatest walk where some loops are regions.
 fn show_regions(
     rt: &HostRuntime,
     problem: &Problem,
@@ -120,7 +120,7 @@ fn show_regions(
     }
 }
 
-// Prints the value of the greatest walk, and whether the section that shows it is accepted.
+/// Prints the value of the greatest walk, and whether the section that shows it is accepted.
 fn show_accepted(rt: &HostRuntime, problem: &Problem, nest: &Nest, loads: &[u64]) -> io::Result<()>
     requires nest { IsNest problem.now.graph nest.now }
     requires reducible { IsReducible problem.now.graph }
@@ -145,7 +145,7 @@ fn show_accepted(rt: &HostRuntime, problem: &Problem, nest: &Nest, loads: &[u64]
     }
 }
 
-// Prints the value of the greatest walk, whatever iterations cost, and whether they exceed 64 bits.
+/// Prints the value of the greatest walk, whatever iterations cost, and whether they exceed 64 bits.
 fn show_greatest(rt: &HostRuntime, problem: &Problem, nest: &Nest, loads: &[u64]) -> io::Result<()>
     requires nest { IsNest problem.now.graph nest.now }
     requires reducible { IsReducible problem.now.graph }
@@ -171,7 +171,7 @@ fn show_greatest(rt: &HostRuntime, problem: &Problem, nest: &Nest, loads: &[u64]
     }
 }
 
-// Prints the greatest walk as it is found in several ways.
+/// Prints the greatest walk as it is found in several ways.
 fn show_walks(rt: &HostRuntime, problem: &Problem, nest: &Nest, loads: &[u64]) -> io::Result<()>
     requires nest { IsNest problem.now.graph nest.now }
     requires reducible { IsReducible problem.now.graph }
@@ -196,7 +196,7 @@ pub fn show_found(rt: &HostRuntime, problem: &Problem, asked: Asked<'_>) -> io::
     }
 }
 
-// What an entry of each loop loads: nothing for a region that doesn't fit.
+/// What an entry of each loop loads: nothing for a region that doesn't fit.
 fn loads_of(alloc: Global, problem: &Problem) -> Result<Vec<u64>, AllocError> {
     let mut loads = Vec::new(alloc);
     for load in &problem.loads {
@@ -205,7 +205,7 @@ fn loads_of(alloc: Global, problem: &Problem) -> Result<Vec<u64>, AllocError> {
     Ok(loads)
 }
 
-// Prints what is asked of the greatest walk of a graph with these loops.
+/// Prints what is asked of the greatest walk of a graph with these loops.
 fn show_asked(rt: &HostRuntime, problem: &Problem, nest: &Nest, asked: Asked<'_>) -> io::Result<()>
     requires nest { IsNest problem.now.graph nest.now }
     requires reducible { IsReducible problem.now.graph }
@@ -224,7 +224,7 @@ fn show_asked(rt: &HostRuntime, problem: &Problem, nest: &Nest, asked: Asked<'_>
     }
 }
 
-// So many nodes of cost 1, one after another, if there are any.
+/// So many nodes of cost 1, one after another, if there are any.
 fn chain(alloc: Global, nodes: u32) -> Result<Option<Problem>, AllocError> {
     let mut edges = Vec::new(alloc);
     for u in 1..nodes {
@@ -242,7 +242,7 @@ fn chain(alloc: Global, nodes: u32) -> Result<Option<Problem>, AllocError> {
     }))
 }
 
-// Prints how many basic blocks a graph has, and how many nodes the first has.
+/// Prints how many basic blocks a graph has, and how many nodes the first has.
 fn show_first_block(rt: &HostRuntime, g: &Graph) -> io::Result<()> {
     let Ok(blocks) = blocks(rt.alloc(), g) else {
         return Err(io::Error::from(AllocError));

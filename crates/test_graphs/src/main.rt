@@ -42,7 +42,7 @@ use show::{show_blocks, show_check, show_counts, show_nest};
 use std::io;
 use test_rows::RowFault;
 
-// Prints what is found of what a line asks.
+/// Prints what is found of what a line asks.
 fn answer(rt: &HostRuntime, question: &Question) -> io::Result<()> {
     match question {
         Question::Nest(graph) => show_nest(rt, graph),
@@ -57,13 +57,13 @@ fn answer(rt: &HostRuntime, question: &Question) -> io::Result<()> {
     }
 }
 
-// Answers a line.
+/// Answers a line.
 fn answer_line(rt: &HostRuntime, line: &str) -> Result<(), RowFault> {
     let question = Question::parse(rt.alloc(), line)?;
     answer(rt, &question).map_err(RowFault::Output)
 }
 
-// Prints a line and its number, and answers it or says that it is no row.
+/// Prints a line and its number, and answers it or says that it is no row.
 fn show_line(rt: &HostRuntime, number: u64, line: &str) -> io::Result<()> {
     println!(*rt; "{number}: {line}")?;
     match answer_line(rt, line) {

@@ -10,7 +10,7 @@ use section_index::check_with_index;
 use std::alloc::AllocError;
 use std::io;
 
-// Prints nodes, each behind a blank.
+/// Prints nodes, each behind a blank.
 fn show_nodes(rt: &HostRuntime, nodes: &[u32]) -> io::Result<()> {
     for u in nodes {
         print!(rt; " {u}")?;
@@ -18,12 +18,12 @@ fn show_nodes(rt: &HostRuntime, nodes: &[u32]) -> io::Result<()> {
     Ok(())
 }
 
-// The next loop around a loop.
+/// The next loop around a loop.
 fn outer_of<'a>(loops: &'a [Loop], l: &Loop) -> Option<&'a Loop> {
     loops.get(l.outer()? as usize)
 }
 
-// Prints a loop and the next loop around it.
+/// Prints a loop and the next loop around it.
 fn show_loop(rt: &HostRuntime, loops: &[Loop], l: &Loop) -> io::Result<()> {
     print!(rt; "  loop {}:", l.header())?;
     show_nodes(rt, l.members())?;
@@ -33,7 +33,7 @@ fn show_loop(rt: &HostRuntime, loops: &[Loop], l: &Loop) -> io::Result<()> {
     }
 }
 
-// Prints loops.
+/// Prints loops.
 fn show_loops(rt: &HostRuntime, loops: &[Loop]) -> io::Result<()> {
     for l in loops {
         show_loop(rt, loops, l)?;
@@ -41,7 +41,7 @@ fn show_loops(rt: &HostRuntime, loops: &[Loop]) -> io::Result<()> {
     Ok(())
 }
 
-// Prints nodes behind a title, and ends the line.
+/// Prints nodes behind a title, and ends the line.
 fn show_titled(rt: &HostRuntime, title: &str, nodes: &[u32]) -> io::Result<()> {
     print!(rt; "  {title}")?;
     show_nodes(rt, nodes)?;
@@ -57,7 +57,7 @@ pub fn show_nest(rt: &HostRuntime, g: &Graph) -> io::Result<()> {
     }
 }
 
-// Prints basic blocks.
+/// Prints basic blocks.
 fn show_chains(rt: &HostRuntime, chains: &[Vec<u32>]) -> io::Result<()> {
     for chain in chains {
         show_titled(rt, "block", chain)?;
@@ -90,7 +90,7 @@ pub fn show_counts(rt: &HostRuntime, g: &Graph) -> io::Result<()> {
     }
 }
 
-// Prints what a check of a section says.
+/// Prints what a check of a section says.
 fn show_answer(rt: &HostRuntime, answer: Result<Option<u64>, SectionFault>) -> io::Result<()> {
     match answer {
         Ok(Some(value)) => println!(rt; "  value {value}"),

@@ -44,7 +44,7 @@ fn bounded_loops<'a>(
     Ok(loops)
 }
 
-// What a node costs.
+/// What a node costs.
 fn cost_of(problem: &Problem, node: u32) -> u64 {
     match problem.costs.get(node as usize) {
         Some(cost) => *cost,
@@ -105,7 +105,7 @@ pub enum Greatest {
     CutOff,
 }
 
-// Puts the walks that go on from a walk's node onto the unfinished ones.
+/// Puts the walks that go on from a walk's node onto the unfinished ones.
 fn go_on(
     alloc: Global,
     problem: &Problem,
@@ -123,7 +123,7 @@ fn go_on(
     Ok(())
 }
 
-// What the greatest walk to an exit costs among the unfinished ones and those that go on from them.
+/// What the greatest walk to an exit costs among the unfinished ones and those that go on from them.
 fn greatest_of(
     alloc: Global,
     problem: &Problem,

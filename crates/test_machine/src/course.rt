@@ -22,7 +22,7 @@ pub struct Course {
     different: u32,
 }
 
-// The default settings, but for the words of memory.
+/// The default settings, but for the words of memory.
 fn config_of(memory: u32) -> Option<Config> {
     if !(16..=16_777_216).contains(&memory) {
         return None;
@@ -37,7 +37,7 @@ fn config_of(memory: u32) -> Option<Config> {
     })
 }
 
-// A machine at reset over an image, in a memory of so many words.
+/// A machine at reset over an image, in a memory of so many words.
 fn at_reset(alloc: Global, image: &[u32], memory: u32) -> Result<Machine<1024>, RowFault> {
     match config_of(memory) {
         Some(config) if can_start(image, config) => {
@@ -47,7 +47,7 @@ fn at_reset(alloc: Global, image: &[u32], memory: u32) -> Result<Machine<1024>, 
     }
 }
 
-// Runs a machine to its next boundary.
+/// Runs a machine to its next boundary.
 fn go_on(machine: &mut Machine<1024>, device: &mut Keeper) {
     for _ in 0..CYCLES {
         if machine.clock() == u64::MAX || machine.cycle(device) != Tick::Went {
@@ -59,7 +59,7 @@ fn go_on(machine: &mut Machine<1024>, device: &mut Keeper) {
     }
 }
 
-// Whether these are all bytes that a device was given.
+/// Whether these are all bytes that a device was given.
 fn has_put(device: &Keeper, bytes: &[u32]) -> bool {
     for (byte, number) in device.output.iter().zip(bytes) {
         if u32::from(*byte) != *number {
@@ -69,7 +69,7 @@ fn has_put(device: &Keeper, bytes: &[u32]) -> bool {
     device.output.len() == bytes.len()
 }
 
-// Whether an on-chip word is the only one that is written.
+/// Whether an on-chip word is the only one that is written.
 fn is_only(word: u32, written: &[&str]) -> bool {
     match written {
         [text] => is_word(word, text),
@@ -77,7 +77,7 @@ fn is_only(word: u32, written: &[&str]) -> bool {
     }
 }
 
-// Whether a machine stands before an instruction, with the frames that are written.
+/// Whether a machine stands before an instruction, with the frames that are written.
 fn stands_at(
     alloc: Global,
     machine: &Machine<1024>,
@@ -88,7 +88,7 @@ fn stands_at(
     Ok(is_before && agrees(alloc, machine, layout, written)?)
 }
 
-// Whether a machine is about to look for a handler of the object at the place that is written.
+/// Whether a machine is about to look for a handler of the object at the place that is written.
 fn is_raising(machine: &Machine<1024>, written: &[&str]) -> bool {
     machine.halt() == Halt::Running
         && machine.mpc() == RAISE
@@ -123,7 +123,7 @@ impl Course {
         Ok(())
     }
 
-    // Counts a comparison, and says where it fails.
+    /// Counts a comparison, and says where it fails.
     fn compare(&mut self, rt: &HostRuntime, same: bool) -> Result<(), RowFault> {
         if !same {
             println!(*rt; "{} boundary {} differs", self.name, self.boundaries)?;
@@ -132,7 +132,7 @@ impl Course {
         Ok(())
     }
 
-    // Counts a boundary, and runs to the next one.
+    /// Counts a boundary, and runs to the next one.
     fn pass(&mut self) {
         self.boundaries = self.boundaries.wrapping_add(1);
         go_on(&mut self.machine, &mut self.device);

@@ -1,6 +1,6 @@
 //! The device of the machines of the table.
 ghost use Rattle.std.specs.Prelude.{None, []};
-ghost use Rattle.jop_device.specs.Told.{Told, silent};
+ghost use Rattle.device_traits.specs.Told.{Told, silent};
 
 use jop_core::{DeviceFault, Devices, MemWatch, Seen, Watch};
 use std::alloc::Global;

@@ -28,12 +28,12 @@ impl Layout {
         Ok(Layout { image, methods })
     }
 
-    // How many local variables the method at a place has.
+    /// How many local variables the method at a place has.
     fn max_locals(&self, place: u32) -> Option<usize> {
         Some(*self.image.get(place as usize)? as usize >> 16)
     }
 
-    // Whether the method with the number that is written stands at a place.
+    /// Whether the method with the number that is written stands at a place.
     fn is_method(&self, place: u32, number: &str) -> bool {
         let Ok(number) = number.parse::<u32>() else {
             return false;
@@ -45,7 +45,7 @@ impl Layout {
     }
 }
 
-// A frame as it stands among the words of the stack.
+/// A frame as it stands among the words of the stack.
 #[derive(Clone, Copy)]
 struct Frame {
     method: u32,
@@ -55,7 +55,7 @@ struct Frame {
     end: usize,
 }
 
-// Whether a number is the one that is written.
+/// Whether a number is the one that is written.
 fn is_number(number: u32, written: &str) -> bool {
     match written.parse::<u32>() {
         Ok(parsed) => parsed == number,
@@ -77,14 +77,14 @@ fn are_words(words: &[u32], written: &[&str]) -> bool {
     words.len() == written.len()
 }
 
-// Whether the words of local variables and of operands are those that are written, with a `:` between them.
+/// Whether the words of local variables and of operands are those that are written, with a `:` between them.
 fn are_values(locals: &[u32], operands: &[u32], written: &[&str]) -> Option<bool> {
     let middle = written.iter().position(|text| *text == ":")?;
     let (before, behind) = (written.get(..middle)?, written.get(middle..)?.get(1..)?);
     Some(are_words(locals, before) && are_words(operands, behind))
 }
 
-// The frame that goes on at the words that its callee saved, and ends where the callee begins.
+/// The frame that goes on at the words that its callee saved, and ends where the callee begins.
 fn caller_of(saved: &[u32], end: usize) -> Option<Frame> {
     let [_, next, vp, _, method] = saved else {
         return None;
@@ -97,7 +97,7 @@ fn caller_of(saved: &[u32], end: usize) -> Option<Frame> {
     })
 }
 
-// The caller of a frame, where the frame is the one that is written.
+/// The caller of a frame, where the frame is the one that is written.
 fn caller_if(layout: &Layout, words: &[u32], frame: Frame, written: &[&str]) -> Option<Frame> {
     let [method, pc, values @ ..] = written else {
         return None;
@@ -114,7 +114,7 @@ fn caller_if(layout: &Layout, words: &[u32], frame: Frame, written: &[&str]) -> 
     caller_of(words.get(saved..operands)?, frame.first)
 }
 
-// The words of the stack, the first frame's first.
+/// The words of the stack, the first frame's first.
 fn stack_of(alloc: Global, machine: &Machine<1024>) -> Result<Vec<u32>, RowFault> {
     let mut words = Vec::new(alloc);
     for place in places::STACK..=machine.sp() {
@@ -127,7 +127,7 @@ fn stack_of(alloc: Global, machine: &Machine<1024>) -> Result<Vec<u32>, RowFault
     Ok(words)
 }
 
-// Whether a frame and its callers are those that are written, the first one first.
+/// Whether a frame and its callers are those that are written, the first one first.
 fn are_frames(layout: &Layout, words: &[u32], last: Frame, written: &[&str]) -> bool {
     let mut frame = last;
     for text in written.rsplit(|word| *word == "/") {

@@ -18,7 +18,7 @@ pub fn show_bare(rt: &HostRuntime, words: &[&str]) -> Result<(), RowFault> {
     }
 }
 
-// Shows what the bytes of a bare image are read as.
+/// Shows what the bytes of a bare image are read as.
 fn show_bare_image(rt: &HostRuntime, image: &[u8]) -> Result<(), RowFault> {
     match read_bare(rt.alloc(), image) {
         Ok(bare) => Ok(println!(*rt;
@@ -32,7 +32,7 @@ fn show_bare_image(rt: &HostRuntime, image: &[u8]) -> Result<(), RowFault> {
     }
 }
 
-// The bytes of some words, one after another.
+/// The bytes of some words, one after another.
 fn code_of(alloc: Global, parts: &[&str]) -> Result<Vec<u8>, RowFault> {
     let mut code = Vec::new(alloc);
     for part in parts {
@@ -41,7 +41,7 @@ fn code_of(alloc: Global, parts: &[&str]) -> Result<Vec<u8>, RowFault> {
     Ok(code)
 }
 
-// The bare image of a code without locals.
+/// The bare image of a code without locals.
 fn bare_image(alloc: Global, code: &[u8]) -> Result<Vec<u8>, RowFault> {
     let count = code.len();
     let mut image = b"JOPB\x00\x01\x00\x00\x00\x04\x00\x00".to_vec(alloc)?;
@@ -51,7 +51,7 @@ fn bare_image(alloc: Global, code: &[u8]) -> Result<Vec<u8>, RowFault> {
     Ok(image)
 }
 
-// A machine at reset over a bare image.
+/// A machine at reset over a bare image.
 fn at_reset(alloc: Global, image: &[u8]) -> Result<Machine<1024>, RowFault> {
     let config = Config::default();
     match read_bare(alloc, image) {
@@ -78,7 +78,7 @@ pub fn show_image(rt: &HostRuntime, words: &[&str]) -> Result<(), RowFault> {
     run_image(rt, &image, clocks)
 }
 
-// Runs an image from its reset.
+/// Runs an image from its reset.
 fn run_image(rt: &HostRuntime, image: &[u32], clocks: &[&str]) -> Result<(), RowFault> {
     let config = Config::default();
     if !can_start(image, config) {
@@ -89,7 +89,7 @@ fn run_image(rt: &HostRuntime, image: &[u32], clocks: &[&str]) -> Result<(), Row
     show_clocks(rt, &mut machine, clocks)
 }
 
-// Shows some of the on-chip words of a machine.
+/// Shows some of the on-chip words of a machine.
 fn show_places(rt: &HostRuntime, machine: &Machine<1024>) -> io::Result<()> {
     print!(*rt;
         "places {} {} {} {} {} {} {}",
@@ -108,7 +108,7 @@ fn show_places(rt: &HostRuntime, machine: &Machine<1024>) -> io::Result<()> {
     )
 }
 
-// Runs a machine, and shows its registers at some clocks, which rise, and then what it put out.
+/// Runs a machine, and shows its registers at some clocks, which rise, and then what it put out.
 fn show_clocks(
     rt: &HostRuntime,
     machine: &mut Machine<1024>,
@@ -123,7 +123,7 @@ fn show_clocks(
     Ok(show_device(rt, &device)?)
 }
 
-// Shows what a machine put out, and which of its states were seen.
+/// Shows what a machine put out, and which of its states were seen.
 fn show_device(rt: &HostRuntime, device: &Keeper) -> io::Result<()> {
     let last_byte = match device.output.last() {
         Some(byte) => *byte,
@@ -141,7 +141,7 @@ fn show_device(rt: &HostRuntime, device: &Keeper) -> io::Result<()> {
     )
 }
 
-// Goes on to a clock, or as far as the machine goes. The answer is that of the last cycle.
+/// Goes on to a clock, or as far as the machine goes. The answer is that of the last cycle.
 fn run_to(machine: &mut Machine<1024>, device: &mut Keeper, clock: u64) -> Tick {
     for _ in 0..clock {
         if machine.clock() >= clock || machine.clock() == u64::MAX {
@@ -155,7 +155,7 @@ fn run_to(machine: &mut Machine<1024>, device: &mut Keeper, clock: u64) -> Tick 
     Tick::Went
 }
 
-// The words for the answer of a cycle.
+/// The words for the answer of a cycle.
 fn answer_text(last: Tick) -> &'static str {
     match last {
         Tick::Went => "went",
@@ -166,7 +166,7 @@ fn answer_text(last: Tick) -> &'static str {
     }
 }
 
-// The word for how a machine has halted.
+/// The word for how a machine has halted.
 fn halt_text(halt: Halt) -> &'static str {
     match halt {
         Halt::Running => "running",

@@ -33,7 +33,7 @@ use course::Course;
 use std::io;
 use test_rows::RowFault;
 
-// Does what a line says of a machine on its way.
+/// Does what a line says of a machine on its way.
 fn follow(
     rt: &HostRuntime,
     course: &mut Course,
@@ -50,7 +50,7 @@ fn follow(
     }
 }
 
-// Does what a line says of a part of the machine, or of a machine at some clocks.
+/// Does what a line says of a part of the machine, or of a machine at some clocks.
 fn show(rt: &HostRuntime, word: &str, rest: &[&str]) -> Result<(), RowFault> {
     match word {
         "stack" => parts::show_stack(rt, rest),
@@ -65,7 +65,7 @@ fn show(rt: &HostRuntime, word: &str, rest: &[&str]) -> Result<(), RowFault> {
     }
 }
 
-// Begins the run of an image.
+/// Begins the run of an image.
 fn begin(rt: &HostRuntime, course: &mut Option<Course>, rest: &[&str]) -> Result<(), RowFault> {
     let [name, memory, image @ ..] = rest else {
         return Err(RowFault::Malformed);
@@ -74,7 +74,7 @@ fn begin(rt: &HostRuntime, course: &mut Option<Course>, rest: &[&str]) -> Result
     Ok(())
 }
 
-// Does what the words of a line say.
+/// Does what the words of a line say.
 fn do_words(rt: &HostRuntime, course: &mut Option<Course>, words: &[&str]) -> Result<(), RowFault> {
     let [word, rest @ ..] = words else {
         return Err(RowFault::Malformed);
@@ -91,7 +91,7 @@ fn do_words(rt: &HostRuntime, course: &mut Option<Course>, words: &[&str]) -> Re
     }
 }
 
-// Does what a line says, or says that it is no row.
+/// Does what a line says, or says that it is no row.
 fn do_line(rt: &HostRuntime, course: &mut Option<Course>, line: &str) -> io::Result<()> {
     let words: Vec<&str> = line.split_whitespace().collect(rt.alloc())?;
     match do_words(rt, course, &words) {
@@ -100,7 +100,7 @@ fn do_line(rt: &HostRuntime, course: &mut Option<Course>, line: &str) -> io::Res
     }
 }
 
-// Does what all lines say.
+/// Does what all lines say.
 fn do_lines(rt: &HostRuntime, course: &mut Option<Course>) -> io::Result<()> {
     for line in rt.lines(rt.alloc()) {
         do_line(rt, course, line?.as_str())?;

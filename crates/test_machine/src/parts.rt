@@ -21,7 +21,7 @@ pub fn show_stack(rt: &HostRuntime, words: &[&str]) -> Result<(), RowFault> {
     Ok(show_ends(rt, &stack)?)
 }
 
-// Shows on-chip words at both ends.
+/// Shows on-chip words at both ends.
 fn show_ends(rt: &HostRuntime, stack: &StackCache<1024>) -> io::Result<()> {
     println!(*rt;
         "0: {}, 1022: {}, 1023: {}, limit {}",
@@ -32,7 +32,7 @@ fn show_ends(rt: &HostRuntime, stack: &StackCache<1024>) -> io::Result<()> {
     )
 }
 
-// The cycles of `stmra`, `wait` and `ldmrd`: one, those until the port is ready, and one more.
+/// The cycles of `stmra`, `wait` and `ldmrd`: one, those until the port is ready, and one more.
 fn cycles_of_a_read(memory: &mut Memory, place: u32) -> Option<u32> {
     memory.start_read(place);
     for waited in 1..100 {
@@ -58,7 +58,7 @@ pub fn show_read(rt: &HostRuntime, words: &[&str]) -> Result<(), RowFault> {
     show_cycles(rt, &mut memory, place)
 }
 
-// Reads a place, and shows how many cycles that takes, and the word there.
+/// Reads a place, and shows how many cycles that takes, and the word there.
 fn show_cycles(rt: &HostRuntime, memory: &mut Memory, place: u32) -> Result<(), RowFault> {
     match cycles_of_a_read(memory, place) {
         Some(cycles) => Ok(println!(*rt; "{cycles} cycles, {}", memory.value())?),
@@ -91,7 +91,7 @@ pub fn show_settings(rt: &HostRuntime) -> Result<(), RowFault> {
     Ok(())
 }
 
-// Loads a method where the cache doesn't hold it, as the machine does. Its words are its place and the next.
+/// Loads a method where the cache doesn't hold it, as the machine does. Its words are its place and the next.
 fn fetch(cache: &mut MethodCache, m: u32, count: u32) {
     let words = [m, m.wrapping_add(1)];
     if count <= 2 && !cache.select(m) && cache.can_load(count) {
@@ -116,7 +116,7 @@ pub fn show_methods(rt: &HostRuntime, words: &[&str]) -> Result<(), RowFault> {
     Ok(())
 }
 
-// Fetches a method of so many words, such as `7:2`.
+/// Fetches a method of so many words, such as `7:2`.
 fn show_fetch(rt: &HostRuntime, cache: &mut MethodCache, method: &str) -> Result<(), RowFault> {
     let Some((m, count)) = method.split_once(':') else {
         return Err(RowFault::Malformed);
@@ -127,7 +127,7 @@ fn show_fetch(rt: &HostRuntime, cache: &mut MethodCache, method: &str) -> Result
     Ok(show_words(rt, cache, m)?)
 }
 
-// Shows the block that is filled next, and the first words of a method.
+/// Shows the block that is filled next, and the first words of a method.
 fn show_words(rt: &HostRuntime, cache: &MethodCache, m: u32) -> io::Result<()> {
     println!(*rt;
         " next {}, holds {}: {} {} {}",

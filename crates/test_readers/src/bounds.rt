@@ -1,11 +1,12 @@
 //! Bounds of loops.
 ghost use Rattle.std.specs.Prelude.{ℕ, ◌≤◌, length};
+ghost use Rattle.base.specs.Sizes.{longest_file};
 
 use loop_bounds::{Bounds, BoundsFault, read_bounds};
 use std::alloc::AllocError;
 use std::io;
 
-// Shows the bound of a loop.
+/// Shows the bound of a loop.
 fn show_bound(rt: &HostRuntime, bounds: &Bounds, name: &[u8], pc: u32) -> io::Result<()> {
     match bounds.bound(name, pc) {
         Some(bound) => print!(rt; " {bound}"),
@@ -13,7 +14,7 @@ fn show_bound(rt: &HostRuntime, bounds: &Bounds, name: &[u8], pc: u32) -> io::Re
     }
 }
 
-// Shows the bounds at the places 0 and 4 of the methods `a` and `b`.
+/// Shows the bounds at the places 0 and 4 of the methods `a` and `b`.
 fn show_some(rt: &HostRuntime, bounds: &Bounds) -> io::Result<()> {
     print!(rt; "bounds")?;
     show_bound(rt, bounds, b"a", 0)?;
@@ -25,7 +26,7 @@ fn show_some(rt: &HostRuntime, bounds: &Bounds) -> io::Result<()> {
 
 /// Shows what a text of bounds is read as.
 pub fn show_bounds(rt: &HostRuntime, text: &[u8]) -> io::Result<()>
-    requires { length text.now ≤ 33554432 }
+    requires { length text.now ≤ longest_file }
 {
     match read_bounds(rt.alloc(), text) {
         Ok(bounds) => show_some(rt, &bounds),

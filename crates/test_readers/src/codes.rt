@@ -1,14 +1,15 @@
 //! Codes, instruction by instruction.
 ghost use Rattle.std.specs.Prelude.{ℕ, ◌<◌, ◌≤◌, length};
+ghost use Rattle.base.specs.Sizes.{longest_file};
 
-use jop_opcodes::{DecodeFault, Instr, Kind, case, decode, kind, name, raises, starts, target};
+use opcodes::{DecodeFault, Instr, Kind, case, decode, kind, name, raises, starts, target};
 use std::io;
 use test_rows::{RowFault, numbers};
 
 /// The most bytes of a code.
 const MOST: usize = 33_554_432;
 
-// The word for where control goes.
+/// The word for where control goes.
 fn kind_word(kind: Kind) -> &'static str {
     match kind {
         Kind::Plain => "plain",
@@ -21,7 +22,7 @@ fn kind_word(kind: Kind) -> &'static str {
     }
 }
 
-// Shows an instruction, but for its targets.
+/// Shows an instruction, but for its targets.
 fn show_instruction(rt: &HostRuntime, pc: u32, instr: &Instr) -> io::Result<()> {
     let (wide, op) = (if instr.wide { "wide " } else { "" }, instr.op);
     let (length, first, second) = (instr.length, instr.first, instr.second);
@@ -32,10 +33,10 @@ fn show_instruction(rt: &HostRuntime, pc: u32, instr: &Instr) -> io::Result<()> 
     )
 }
 
-// Shows the instruction at a place.
+/// Shows the instruction at a place.
 fn show(rt: &HostRuntime, code: &[u8], pc: u32) -> io::Result<()>
     requires inside { pc < length code.now }
-    requires small { length code.now ≤ 33554432 }
+    requires small { length code.now ≤ longest_file }
 {
     let instr = match decode(code, pc) {
         Ok(instr) => instr,
@@ -53,9 +54,9 @@ fn show(rt: &HostRuntime, code: &[u8], pc: u32) -> io::Result<()>
     println!(rt;)
 }
 
-// Shows the instructions of a code that begin at some places.
+/// Shows the instructions of a code that begin at some places.
 fn show_starts(rt: &HostRuntime, code: &[u8], starts: &[u32]) -> io::Result<()>
-    requires small { length code.now ≤ 33554432 }
+    requires small { length code.now ≤ longest_file }
 {
     for pc in starts {
         if (*pc as usize) < code.len() {

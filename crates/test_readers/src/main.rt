@@ -23,7 +23,7 @@ use test_rows::RowFault;
 /// The most bytes of a text.
 const MOST: usize = 33_554_432;
 
-// The text that a row stands for.
+/// The text that a row stands for.
 fn text_of(alloc: Global, row: &[u8]) -> Result<Vec<u8>, AllocError> {
     row.iter()
         .map(|byte| match *byte {
@@ -34,7 +34,7 @@ fn text_of(alloc: Global, row: &[u8]) -> Result<Vec<u8>, AllocError> {
         .collect(alloc)
 }
 
-// Shows what a text is read as.
+/// Shows what a text is read as.
 fn show_text(rt: &HostRuntime, word: &str, row: &str) -> Result<(), RowFault> {
     let text = text_of(rt.alloc(), row.as_bytes())?;
     if text.len() > MOST {
@@ -47,7 +47,7 @@ fn show_text(rt: &HostRuntime, word: &str, row: &str) -> Result<(), RowFault> {
     }
 }
 
-// Does what a line says.
+/// Does what a line says.
 fn show(rt: &HostRuntime, line: &str) -> Result<(), RowFault> {
     let (word, row) = line.split_once(' ').unwrap_or((line, ""));
     match word {
@@ -57,7 +57,7 @@ fn show(rt: &HostRuntime, line: &str) -> Result<(), RowFault> {
     }
 }
 
-// Does what a line says, or says that it is no row.
+/// Does what a line says, or says that it is no row.
 fn show_line(rt: &HostRuntime, line: &str) -> io::Result<()> {
     match show(rt, line) {
         Ok(()) => Ok(()),

@@ -1,5 +1,6 @@
 //! Microprograms.
 ghost use Rattle.std.specs.Prelude.{ℕ, ◌≤◌, length};
+ghost use Rattle.base.specs.Sizes.{longest_file};
 
 use micro_isa::Turns;
 use microcode_asm::{AsmFault, Rom, assemble};
@@ -8,7 +9,7 @@ use microcode_rom::{CONSTANTS, ENTRIES, TURNS, WORDS, raise_entry};
 use std::alloc::AllocError;
 use std::io;
 
-// Shows the words of a microprogram.
+/// Shows the words of a microprogram.
 fn show_words(rt: &HostRuntime, rom: &Rom) -> io::Result<()> {
     for word in rom.words.as_slice() {
         print!(rt; " {word:04x}")?;
@@ -16,7 +17,7 @@ fn show_words(rt: &HostRuntime, rom: &Rom) -> io::Result<()> {
     Ok(())
 }
 
-// Shows where the instructions of a microprogram begin, and where a raise does.
+/// Shows where the instructions of a microprogram begin, and where a raise does.
 fn show_entries(rt: &HostRuntime, rom: &Rom) -> io::Result<()> {
     for (op, entry) in rom.entries.as_slice().iter().enumerate() {
         if *entry != 0 {
@@ -29,7 +30,7 @@ fn show_entries(rt: &HostRuntime, rom: &Rom) -> io::Result<()> {
     }
 }
 
-// Shows the constants of a microprogram that aren't 0.
+/// Shows the constants of a microprogram that aren't 0.
 fn show_constants(rt: &HostRuntime, rom: &Rom) -> io::Result<()> {
     for (number, value) in rom.consts.as_slice().iter().enumerate() {
         if *value != 0 {
@@ -39,7 +40,7 @@ fn show_constants(rt: &HostRuntime, rom: &Rom) -> io::Result<()> {
     Ok(())
 }
 
-// Shows how often the branches of a microprogram are taken.
+/// Shows how often the branches of a microprogram are taken.
 fn show_turns(rt: &HostRuntime, rom: &Rom) -> io::Result<()> {
     for (from, turns) in rom.turns.as_slice() {
         match *turns {
@@ -51,7 +52,7 @@ fn show_turns(rt: &HostRuntime, rom: &Rom) -> io::Result<()> {
     Ok(())
 }
 
-// Shows a microprogram.
+/// Shows a microprogram.
 fn show_rom(rt: &HostRuntime, rom: &Rom) -> io::Result<()> {
     print!(rt; "asm")?;
     show_words(rt, rom)?;
@@ -63,7 +64,7 @@ fn show_rom(rt: &HostRuntime, rom: &Rom) -> io::Result<()> {
 
 /// Shows what a microprogram is assembled to.
 pub fn show_assembled(rt: &HostRuntime, text: &[u8]) -> io::Result<()>
-    requires { length text.now ≤ 33554432 }
+    requires { length text.now ≤ longest_file }
 {
     match assemble(rt.alloc(), text) {
         Ok(rom) => show_rom(rt, &rom),
@@ -73,7 +74,7 @@ pub fn show_assembled(rt: &HostRuntime, text: &[u8]) -> io::Result<()>
     }
 }
 
-// Shows which parts of a microprogram are those of the shipped one.
+/// Shows which parts of a microprogram are those of the shipped one.
 fn show_shipped(rt: &HostRuntime, rom: &Rom) -> io::Result<()> {
     let words = rom.words.as_slice() == WORDS.as_slice();
     let entries = rom.entries.as_slice() == ENTRIES.as_slice();

@@ -1,6 +1,6 @@
 //! Why a row isn't done.
 
-use jop_base::NoMemory;
+use base::NoMemory;
 use std::alloc::{AllocError, AllocFailed};
 use std::io;
 use std::num::ParseIntError;

@@ -18,7 +18,7 @@ pub fn numbers<N: FromStr<Err = ParseIntError> + Drop>(
     Ok(numbers)
 }
 
-// The value of a hexadecimal digit in lower case.
+/// The value of a hexadecimal digit in lower case.
 fn digit_of(byte: u8) -> Result<u8, RowFault>
     ensures { IfOk result (λ digit. digit < 16) }
 {

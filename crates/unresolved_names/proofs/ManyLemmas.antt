@@ -2,9 +2,9 @@
 use Rattle.std.proofs.Common.{◌≡◌, ℕ, suc, ◌+◌, ◌-◌, ◌<◌, ◌≤◌, List, ◌++◌, Option, Some, None, refl, sym, ap, ◌∙◌, append_assoc, arith}
 use Rattle.std.proofs.lemmas.List.{append-nil}
 use Rattle.bytecode_model.specs.Lists.{onto}
-use Rattle.jop_base.specs.declared.fault.FormatFault.{FormatFault}
-use Rattle.jop_base.specs.declared.fault.FormatFault.TheVariants as faults
-use Rattle.jop_base.specs.Reading.{Fails}
+use Rattle.base.specs.declared.fault.FormatFault.{FormatFault}
+use Rattle.base.specs.declared.fault.FormatFault.TheVariants as faults
+use Rattle.base.specs.Reading.{Fails}
 use Rattle.program_tables.specs.FrameClasses.{Part, many}
 
 -- what was read before, and what is still read

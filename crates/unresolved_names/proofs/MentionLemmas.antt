@@ -9,8 +9,8 @@ use Rattle.class_pool.specs.declared.class.Code.{Code}
 use Rattle.class_pool.specs.declared.class.Member.{Member}
 use Rattle.class_pool.specs.declared.class.ClassFile.{ClassFile}
 use Rattle.class_pool.specs.Found.{code_of}
-use Rattle.jop_opcodes.specs.declared.instruction.Instr.{Instr}
-use Rattle.jop_opcodes.specs.Instruction.{decoded}
+use Rattle.opcodes.specs.declared.instruction.Instr.{Instr}
+use Rattle.opcodes.specs.Instruction.{decoded}
 use Rattle.bytecode_model.specs.Program.{as_instr}
 use Rattle.program_tables.specs.Instructions.{Placed, placed_at, instructions_in, index_of_entry, named_in}
 use Rattle.program_tables.specs.Naming.{NamesNothingAt}

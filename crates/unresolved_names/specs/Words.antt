@@ -8,7 +8,8 @@ use Rattle.class_lookup.specs.Lookup.{Place}
 use Rattle.class_lookup.specs.Access.{is_accessible_member}
 use Rattle.program_tables.specs.declared.refusal.Why.{Why}
 use Rattle.program_tables.specs.Instructions.{Named}
-use Rattle.program_tables.specs.Unresolved.{may_name_entry, may_use_field, may_use_method, is_named_rightly, is_special, is_right_method, why_class, why_class_use, why_field_found, why_field, why_method_found, why_method, why_named}
+use Rattle.program_tables.specs.Unresolved.{may_name_entry, may_use_field, may_use_method, is_named_rightly, is_special, is_right_method, why_class}
+use Rattle.program_tables.specs.Unresolved.{why_class_use, why_field_found, why_field, why_method_found, why_method, why_named}
 
 -- a member of the class owner may be used by the class caller through the class named
 unfoldable pub accessible_member : List ClassFile → (caller named owner : ℕ) → Member → Bool
@@ -38,7 +39,8 @@ rightly_special cs caller c index m = is_special cs caller c index m
 unfoldable pub right_method : List ClassFile → (caller : ℕ) → ClassFile → (of_interface : Bool) → (op index : ℕ) → Signature → Place → Member → Bool
 right_method cs caller c of_interface op index s m k = is_right_method cs caller c of_interface op index s m k
 
-unfoldable pub found_method_reason : List ClassFile → (caller : ℕ) → ClassFile → (of_interface : Bool) → (op index : ℕ) → Signature → Place → Option Member → Option Why
+unfoldable pub found_method_reason : List ClassFile → (caller : ℕ) → ClassFile → (of_interface : Bool) → (op index : ℕ) → Signature → Place → Option Member
+    → Option Why
 found_method_reason cs caller c of_interface op index s m k = why_method_found cs caller c of_interface op index s m k
 
 unfoldable pub method_reason : List ClassFile → (caller : ℕ) → ClassFile → (of_interface : Bool) → (op index : ℕ) → Signature → Option Why

@@ -7,6 +7,7 @@ ghost use Rattle.program_tables.specs.Core.{is_boot};
 ghost use Rattle.program_tables.specs.Unresolved.{is_free, same_bool};
 ghost use Rattle.unresolved_names.specs.Words.{accessible_member};
 
+use base::is_text;
 use class_hierarchy::Hierarchy;
 use class_lookup::Classes;
 use class_lookup::parts::{has_flags, name_of};
@@ -15,7 +16,6 @@ use class_rules::flags::{
     ACC_ABSTRACT, ACC_FINAL, ACC_PRIVATE, ACC_PROTECTED, ACC_PUBLIC, ACC_STATIC,
 };
 use descriptors::names::{is_class_initializer, is_instance_initializer};
-use items::is_text;
 
 /// Whether the rules on access don't bind the class: it is the one that is run.
 pub(crate) fn is_free(classes: &Classes, class: u32) -> bool

@@ -14,7 +14,7 @@ use class_hierarchy::{Hierarchy, Place};
 use class_lookup::parts::{has_flags, text_at};
 use class_pool::{ClassFile, Member};
 use class_rules::flags::ACC_STATIC;
-use jop_opcodes::mnemonics::{GETSTATIC, PUTFIELD, PUTSTATIC};
+use opcodes::mnemonics::{GETSTATIC, PUTFIELD, PUTSTATIC};
 use program_tables::{TextTypes, Why};
 
 fn needs_static_field(op: u8) -> bool

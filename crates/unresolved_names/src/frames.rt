@@ -1,14 +1,14 @@
 //! The classes that a StackMapTable names (JVM Specification SE 8, 4.7.4).
 ghost use Rattle.std.specs.Prelude.{◌≡◌, ◌≤◌, ◌<◌, ◌-◌, IfOk};
 ghost use Rattle.std.specs.List.{list_all};
-ghost use Rattle.jop_base.specs.Reading.{Gives};
+ghost use Rattle.base.specs.Reading.{Gives};
 ghost use Rattle.class_pool.specs.Grammar.{entry_at, is_class};
 ghost use Rattle.program_tables.specs.FrameClasses.{many, type_in, counted, full_in, frame_in, frame_classes, classes_in_frames};
 ghost use Rattle.unresolved_names.specs.Frames.{index_in, place_in, change_in};
 
+use base::{FormatFault, NoMemory};
 use class_pool::numbers::{u8_at, u16_at};
 use class_pool::{Code, Pool};
-use jop_base::{FormatFault, NoMemory};
 use std::alloc::Global;
 
 /// One index and what stands behind it.

@@ -2,6 +2,7 @@
 ghost use Rattle.std.specs.Prelude.{◌≡◌, ◌≤◌, ◌<◌, ◌^◌, [], length, IfOk, IfSome, Some, slice_get};
 ghost use Rattle.std.specs.List.{flat_map};
 ghost use Rattle.std.specs.Option.{option_map_or};
+ghost use Rattle.base.specs.Sizes.{longest_file};
 ghost use Rattle.class_pool.specs.Found.{code_of};
 ghost use Rattle.class_lookup.specs.Parts.{signature_of};
 ghost use Rattle.program_tables.specs.Instructions.{placed_at, instructions_in};
@@ -19,13 +20,13 @@ use crate::methods::why_method;
 use crate::names::{is_entry_there, is_field_there, is_method_there, why_class};
 use crate::parts::class_named;
 use crate::supertypes::refused_class;
+use base::NoMemory;
 use class_hierarchy::Hierarchy;
 use class_lookup::Classes;
 use class_pool::{ClassFile, Code, Member};
-use jop_base::NoMemory;
-use jop_opcodes::laws::starts_follow_one_another;
-use jop_opcodes::mnemonics::NEW;
-use jop_opcodes::starts;
+use opcodes::laws::starts_follow_one_another;
+use opcodes::mnemonics::NEW;
+use opcodes::starts;
 use program_tables::{Named, TextTypes, Why, named_in, naming_at};
 use std::alloc::Global;
 
@@ -141,7 +142,7 @@ fn refused_at_place(
     requires texts { texts.now ≡ classes.now }
     requires pool { length class.now.pool < 2 ^ 16 }
     requires inside { pc < length code.now }
-    requires small { length code.now ≤ 33554432 }
+    requires small { length code.now ≤ longest_file }
     ensures { result ≡ first (option_map_or (refused_instruction classes.now caller class.now method.now) (placed_at code.now pc) []) }
 {
     match naming_at(code, pc) {
@@ -170,7 +171,7 @@ fn first_at_instructions(
     requires own { slice_get classes.now caller ≡ Some class.now }
     requires texts { texts.now ≡ classes.now }
     requires pool { length class.now.pool < 2 ^ 16 }
-    requires small { length code.now ≤ 33554432 }
+    requires small { length code.now ≤ longest_file }
     ensures { IfOk result (λ found. found ≡ first (flat_map (refused_instruction classes.now caller class.now method.now) (instructions_in code.now))) }
 {
     starts_follow_one_another();
@@ -271,7 +272,7 @@ fn first_in_code(
     requires own { slice_get classes.now caller ≡ Some class.now }
     requires texts { texts.now ≡ classes.now }
     requires pool { length class.now.pool < 2 ^ 16 }
-    requires small { length code.now.code ≤ 33554432 }
+    requires small { length code.now.code ≤ longest_file }
     requires of_method { code_of method.now ≡ Some code.now }
     ensures { IfOk result (λ found. found ≡ first (flat_map (refused_mention classes.now caller class.now) (mentions_in_code class.now method.now code.now))) }
 {
@@ -302,7 +303,7 @@ fn first_in_method(
     requires own { slice_get classes.now caller ≡ Some class.now }
     requires texts { texts.now ≡ classes.now }
     requires pool { length class.now.pool < 2 ^ 16 }
-    requires small { IfSome (code_of method.now) (λ k. length k.code ≤ 33554432) }
+    requires small { IfSome (code_of method.now) (λ k. length k.code ≤ longest_file) }
     ensures { IfOk result (λ found. found ≡ first (flat_map (refused_mention classes.now caller class.now) (mentions_in_method class.now method.now))) }
 {
     if !is_method_there(texts, caller, class, method.descriptor) {
@@ -326,7 +327,8 @@ fn first_in_methods(
     requires own { slice_get classes.now caller ≡ Some class.now }
     requires texts { texts.now ≡ classes.now }
     requires bounds { HasBounds class.now }
-    ensures { IfOk result (λ found. found ≡ first (flat_map (λ m. flat_map (refused_mention classes.now caller class.now) (mentions_in_method class.now m)) class.now.methods)) }
+    ensures { IfOk result (λ found. found ≡ first (flat_map (λ m. flat_map (refused_mention classes.now caller class.now)
+        (mentions_in_method class.now m)) class.now.methods)) }
 {
     for method in class.methods.as_slice() {
         if let Some(found) = first_in_method(alloc, classes, texts, caller, class, method)? {

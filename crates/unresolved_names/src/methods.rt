@@ -10,14 +10,14 @@ ghost use Rattle.unresolved_names.specs.Words.{found_method_reason, method_reaso
 
 use crate::access::{is_accessible_member, is_as_needed, is_free};
 use crate::names::{is_entry_there, is_method_there, may_name_entry};
-use crate::parts::{Through, class_named, method_at, method_found};
+use crate::parts::{Through, class_named, method_found};
 use class_hierarchy::{Hierarchy, Place};
-use class_lookup::Classes;
 use class_lookup::parts::{has_flags, text_at};
+use class_lookup::{Classes, method_at};
 use class_pool::{ClassFile, Member};
 use class_rules::flags::{ACC_ABSTRACT, ACC_PRIVATE, ACC_STATIC};
 use descriptors::names::{is_class_initializer, is_instance_initializer};
-use jop_opcodes::mnemonics::{INVOKEINTERFACE, INVOKESPECIAL, INVOKESTATIC, INVOKEVIRTUAL};
+use opcodes::mnemonics::{INVOKEINTERFACE, INVOKESPECIAL, INVOKESTATIC, INVOKEVIRTUAL};
 use program_tables::{TextTypes, Why};
 
 /// Whether there is such a method, and it isn't abstract.
@@ -206,7 +206,8 @@ fn why_method_found(
     requires through { through.class < length classes.now }
     requires named { class_named classes.now class.now index ≡ Some through.class }
     requires may { through.may_be_named ≡ nameable_entry classes.now caller class.now index }
-    ensures { (s : Signature) → s.name ≡ name.now → result ≡ found_method_reason classes.now caller class.now of_interface op index s place (method_at classes.now place) }
+    ensures { (s : Signature) → s.name ≡ name.now → result ≡ found_method_reason classes.now caller class.now of_interface op index s place
+        (method_at classes.now place) }
 {
     let Some(method) = method_at(classes.classes(), place) else {
         return Some(Why::NoMethod);

@@ -1,7 +1,7 @@
 //! The classes and members that references mean.
 ghost use Rattle.std.specs.Prelude.{◌≡◌, ◌<◌, length, IfSome, Some, slice_get};
 ghost use Rattle.std.specs.Option.{option_copied};
-ghost use Rattle.class_lookup.specs.Lookup.{field_at, find_field, find_method, method_at};
+ghost use Rattle.class_lookup.specs.Lookup.{field_at, find_field, find_method};
 ghost use Rattle.program_tables.specs.Operands.{class_named};
 ghost use Rattle.unresolved_names.specs.Causes.{signature_at};
 
@@ -74,21 +74,6 @@ pub(crate) fn field_at(classes: &Classes, place: Place) -> Option<&Member>
         classes
             .class(place.class)
             .fields
-            .as_slice()
-            .get(place.index)
-    } else {
-        None
-    }
-}
-
-/// The method of this place.
-pub(crate) fn method_at(classes: &Classes, place: Place) -> Option<&Member>
-    ensures { option_copied result ≡ method_at classes.now place }
-{
-    if place.class < classes.class_count() {
-        classes
-            .class(place.class)
-            .methods
             .as_slice()
             .get(place.index)
     } else {

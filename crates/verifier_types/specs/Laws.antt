@@ -12,8 +12,10 @@ use Rattle.verifier_types.specs.Taken.{item_taken, reference_taken, numbers_take
 -- the rules go on with what is taken, and where it isn't there the rule on the stack fails
 pub record TakingLaw : Type 0 where
   pub item : (stack : List VarType) (go : VarType → List VarType → Checked) → on_type stack go ≡ found (item_taken stack) rule.Stack (λ x. go x.0 x.1)
-  pub reference : (stack : List VarType) (go : VarType → List VarType → Checked) → on_reference stack go ≡ found (reference_taken stack) rule.Stack (λ x. go x.0 x.1)
-  pub numbers : (ns : List NumberType) (stack : List VarType) (go : List VarType → Checked) → on_number_types ns stack go ≡ found (numbers_taken ns stack) rule.Stack go
+  pub reference : (stack : List VarType) (go : VarType → List VarType → Checked)
+      → on_reference stack go ≡ found (reference_taken stack) rule.Stack (λ x. go x.0 x.1)
+  pub numbers : (ns : List NumberType) (stack : List VarType) (go : List VarType → Checked)
+      → on_number_types ns stack go ≡ found (numbers_taken ns stack) rule.Stack go
   pub arguments : (P : Program) (seen : VarType → VarType) (ds : List Declared) (stack : List VarType) (go : List VarType → List VarType → Checked)
       → on_argument_types P seen ds stack go ≡ found (arguments_taken P seen (map type_of ds) stack) rule.Stack (λ x. go x.0 x.1)
 

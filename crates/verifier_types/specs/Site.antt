@@ -28,7 +28,8 @@ abbrev pub checked_seen : Checked → typing.TypeFrame → rules.Checked
 checked_seen (Fails r) f = rules.Fails (rule_seen r)
 checked_seen (Leaves l) f = rules.Leaves (if l.falls then Some f else None) l.access l.init l.target
 
--- what stands around an instruction: the program, the method with its number and its body, the frames that its StackMapTable gives by place, and the instruction's place
+-- what stands around an instruction: the program, the method with its number and its body, the frames that its StackMapTable gives by place, and the
+-- instruction's place
 pub record Site : Type 0 where
   pub program : Program
   pub number : ℕ
@@ -45,7 +46,8 @@ check_at s f r = checks.row_check s.program s.number s.method s.body s.maps s.pl
 abbrev pub target_at : Site → typing.TypeFrame → ℤ → Option typing.TypeFrame
 target_at s f offset = checks.frame_at s.program s.number s.method s.body s.maps s.place f (natural (pos s.place +ℤ offset))
 
--- the code's answer and the frame that it leaves are what the rules say of the row, with the frame that it was given, the lists of types of local variables being the first ones before and the second ones after
+-- the code's answer and the frame that it leaves are what the rules say of the row, with the frame that it was given, the lists of types of local
+-- variables being the first ones before and the second ones after
 abbrev pub ChecksOver : (before after : List (List typing.VarType)) → Site → Row → (old : TypeFrame) → Checked → (new : TypeFrame) → Type 0
 ChecksOver before after s row old checked new = checked_seen checked (frame_seen after new) ≡ check_at s (frame_seen before old) row
 

@@ -10,7 +10,7 @@ ghost use Rattle.verifier_types.specs.Site.{Site, Checks};
 use crate::checked::{Checked, GOES, Rule, uses};
 use crate::frame::TypeFrame;
 use crate::types::{NumberType, VarType};
-use jop_base::NoMemory;
+use base::NoMemory;
 use program_tables::{Base, ObjectKind};
 
 const T_LONG: u8 = 11;

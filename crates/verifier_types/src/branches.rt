@@ -32,7 +32,9 @@ pub fn check_branch(
     taken: &[NumberType],
     target: Option<&TypeFrame>,
 ) -> Checked
-    ensures checks { let ls = lists_seen lists.old in (s : Site) (test : rows.Takes (map number_seen taken.now) Bool) (offset : ℤ) → s.program ≡ resolved lists.old.classes → target_at s (frame_seen ls frame.old) offset ≡ frame_at_seen ls target.entry → ChecksIn ls s (rows.Branch (map number_seen taken.now) test offset) frame.old result frame.new }
+    ensures checks { let ls = lists_seen lists.old in (s : Site) (test : rows.Takes (map number_seen taken.now) Bool) (offset : ℤ)
+        → s.program ≡ resolved lists.old.classes → target_at s (frame_seen ls frame.old) offset ≡ frame_at_seen ls target.entry → ChecksIn ls s (rows.Branch
+        (map number_seen taken.now) test offset) frame.old result frame.new }
     ensures kept { lists.new ≡ lists.old }
 {
     if !frame.operands.pop_numbers(taken) {
@@ -52,7 +54,9 @@ pub fn check_same(
     frame: &mut TypeFrame,
     target: Option<&TypeFrame>,
 ) -> Checked
-    ensures checks { let ls = lists_seen lists.old in (s : Site) (wanted : Bool) (offset : ℤ) → s.program ≡ resolved lists.old.classes → target_at s (frame_seen ls frame.old) offset ≡ frame_at_seen ls target.entry → ChecksIn ls s (rows.BranchSame wanted offset) frame.old result frame.new }
+    ensures checks { let ls = lists_seen lists.old in (s : Site) (wanted : Bool) (offset : ℤ) → s.program ≡ resolved lists.old.classes
+        → target_at s (frame_seen ls frame.old) offset ≡ frame_at_seen ls target.entry → ChecksIn ls s (rows.BranchSame wanted
+        offset) frame.old result frame.new }
     ensures kept { lists.new ≡ lists.old }
 {
     let first = match frame.operands.pop_reference() {
@@ -77,7 +81,9 @@ pub fn check_null(
     frame: &mut TypeFrame,
     target: Option<&TypeFrame>,
 ) -> Checked
-    ensures checks { let ls = lists_seen lists.old in (s : Site) (wanted : Bool) (offset : ℤ) → s.program ≡ resolved lists.old.classes → target_at s (frame_seen ls frame.old) offset ≡ frame_at_seen ls target.entry → ChecksIn ls s (rows.BranchNull wanted offset) frame.old result frame.new }
+    ensures checks { let ls = lists_seen lists.old in (s : Site) (wanted : Bool) (offset : ℤ) → s.program ≡ resolved lists.old.classes
+        → target_at s (frame_seen ls frame.old) offset ≡ frame_at_seen ls target.entry → ChecksIn ls s (rows.BranchNull wanted
+        offset) frame.old result frame.new }
     ensures kept { lists.new ≡ lists.old }
 {
     let item = match frame.operands.pop_reference() {
@@ -98,7 +104,8 @@ pub fn check_jump(
     frame: &TypeFrame,
     target: Option<&TypeFrame>,
 ) -> Checked
-    ensures checks { let ls = lists_seen lists.old in (s : Site) (offset : ℤ) → s.program ≡ resolved lists.old.classes → target_at s (frame_seen ls frame.now) offset ≡ frame_at_seen ls target.entry → ChecksIn ls s (rows.Jump offset) frame.now result frame.now }
+    ensures checks { let ls = lists_seen lists.old in (s : Site) (offset : ℤ) → s.program ≡ resolved lists.old.classes
+        → target_at s (frame_seen ls frame.now) offset ≡ frame_at_seen ls target.entry → ChecksIn ls s (rows.Jump offset) frame.now result frame.now }
     ensures kept { lists.new ≡ lists.old }
 {
     Checked::Leaves(Left {

@@ -11,7 +11,8 @@ use crate::locals::Locals;
 
 /// Whether a local variable of the first may stand for that of the same index of the second.
 fn stands_at(lists: &LocalLists<'_>, from: Locals, to: Locals, index: u32) -> bool
-    ensures { let ls = lists_seen lists.now in result ≡ stands (resolved lists.now.classes) (slice_get (locals_seen ls from) index) (slice_get (locals_seen ls to) index) }
+    ensures { let ls = lists_seen lists.now in result ≡ stands (resolved lists.now.classes) (slice_get (locals_seen ls from) index)
+        (slice_get (locals_seen ls to) index) }
 {
     match (from.local(lists, index), to.local(lists, index)) {
         (Some(from), Some(to)) => lists.is_assignable(from, to),

@@ -13,7 +13,7 @@ use crate::local_lists::LocalLists;
 use crate::locals::Locals;
 use crate::operands::Operands;
 use crate::types::VarType;
-use jop_base::NoMemory;
+use base::NoMemory;
 use std::alloc::Global;
 
 /// What is known before an instruction. What the types of its local variables are is told with the lists that they refer to.
@@ -44,7 +44,8 @@ fn takes_one(lists: &LocalLists<'_>, operands: &Operands, item: VarType) -> bool
 impl TypeFrame {
     /// Whether control may go on with the other frame where this one stands.
     pub fn flows_to(&self, lists: &mut LocalLists<'_>, other: &TypeFrame) -> bool
-        ensures flows { let ls = lists_seen lists.old in result ≡ is_assignable_frame (resolved lists.old.classes) (frame_seen ls self.now) (frame_seen ls other.now) }
+        ensures flows { let ls = lists_seen lists.old in result ≡ is_assignable_frame (resolved lists.old.classes) (frame_seen ls self.now)
+            (frame_seen ls other.now) }
         ensures kept { lists.new ≡ lists.old }
     {
         let operands = are_assignable_operands(lists, &self.operands, &other.operands);
@@ -55,7 +56,8 @@ impl TypeFrame {
 
     /// Whether control may go on with the other frame where the local variables of this one stand with one operand alone.
     pub fn raises_to(&self, lists: &mut LocalLists<'_>, item: VarType, other: &TypeFrame) -> bool
-        ensures flows { let ls = lists_seen lists.old in result ≡ is_assignable_frame (resolved lists.old.classes) (record (frame_seen ls self.now) { stack = type_seen item ∷ [] }) (frame_seen ls other.now) }
+        ensures flows { let ls = lists_seen lists.old in result ≡ is_assignable_frame (resolved lists.old.classes)
+            (record (frame_seen ls self.now) { stack = type_seen item ∷ [] }) (frame_seen ls other.now) }
         ensures kept { lists.new ≡ lists.old }
     {
         let operand = takes_one(lists, &other.operands, item);

@@ -1,5 +1,6 @@
 //! Lists of types of local variables.
-ghost use Rattle.std.specs.Prelude.{◌≡◌, ◌↔◌, ◌<◌, ◌≤◌, ◌^◌, ℕ, nat_lt, if◌then◌else◌, [], length, option_map, slice_get, Some, None, IsTrue, IfOk, IfSome, OnOk, OnErr};
+ghost use Rattle.std.specs.Prelude.{◌≡◌, ◌↔◌, ◌<◌, ◌≤◌, ◌^◌, ℕ, nat_lt, if◌then◌else◌, [], length, option_map, slice_get, Some, None, IsTrue, IfOk, IfSome};
+ghost use Rattle.std.specs.Prelude.{OnOk, OnErr};
 ghost use Rattle.bytecode_typing.specs.Assignable as typing;
 ghost use Rattle.bytecode_typing.specs.Tests.{all_two};
 ghost use Rattle.persistent_lists.specs.Tables.{list_at};
@@ -11,9 +12,9 @@ ghost use Rattle.verifier_types.specs.Numbered.{type_numbered, IsNumberOf, IsOnl
 
 use crate::assignable::is_assignable;
 use crate::types::VarType;
+use base::NoMemory;
 use class_hierarchy::Hierarchy;
 use indexmap::IndexSet;
-use jop_base::NoMemory;
 use persistent_lists::{Difference, SharedLists};
 use std::alloc::Global;
 use std::marker::Model;
@@ -198,7 +199,8 @@ impl<'a> LocalLists<'a> {
 
     /// Whether each type of the first list may stand for that of the second; none where one of the lists isn't there, or no class at all.
     pub(crate) fn stand_apart(&mut self, first: u32, second: u32) -> Option<bool>
-        ensures answer { let ls = lists_seen self.old in IfSome result (λ answer. answer ≡ all_two (typing.is_assignable (resolved self.old.classes)) (types_at ls first) (types_at ls second)) }
+        ensures answer { let ls = lists_seen self.old in IfSome result
+            (λ answer. answer ≡ all_two (typing.is_assignable (resolved self.old.classes)) (types_at ls first) (types_at ls second)) }
         ensures kept { self.new ≡ self.old }
     {
         let classes = self.classes;

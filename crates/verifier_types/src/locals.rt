@@ -9,7 +9,7 @@ ghost use Rattle.verifier_types.specs.Written.{IsSubstitutedAt};
 
 use crate::local_lists::LocalLists;
 use crate::types::VarType;
-use jop_base::NoMemory;
+use base::NoMemory;
 
 /// The types of the local variables of a frame: the number of a list of types, which other frames may have too. Contracts see them with
 /// the lists (`locals_seen`).
@@ -43,7 +43,8 @@ impl Locals {
     ) -> Result<(), NoMemory>
         requires { index < length (locals_seen (lists_seen lists.old) self.old) }
         ensures lists { OnOk result (HasListsOf lists.old lists.new) }
-        ensures written { OnOk result (locals_seen (lists_seen lists.new) self.new ≡ slice_set (locals_seen (lists_seen lists.old) self.old) index (type_seen item)) }
+        ensures written { OnOk result (locals_seen (lists_seen lists.new) self.new ≡ slice_set (locals_seen (lists_seen lists.old) self.old) index
+            (type_seen item)) }
     {
         self.list = lists.push_with(self.list, index, item)?;
         Ok(())
@@ -52,7 +53,8 @@ impl Locals {
     /// The first half of a `long` whose second half is about to be written is known no longer.
     fn forget_half(&mut self, lists: &mut LocalLists<'_>, index: u32) -> Result<(), NoMemory>
         ensures lists { OnOk result (HasListsOf lists.old lists.new) }
-        ensures forgotten { OnOk result (locals_seen (lists_seen lists.new) self.new ≡ without_half is_long_type typing.Top (locals_seen (lists_seen lists.old) self.old) index) }
+        ensures forgotten { OnOk result (locals_seen (lists_seen lists.new) self.new ≡ without_half is_long_type typing.Top
+            (locals_seen (lists_seen lists.old) self.old) index) }
     {
         if index == 0 {
             return Ok(());
@@ -73,7 +75,8 @@ impl Locals {
         requires here { index < length (locals_seen (lists_seen lists.old) self.old) }
         requires last { slice_get (locals_seen (lists_seen lists.old) self.old) (index + 1) ≡ None }
         ensures lists { OnOk result (HasListsOf lists.old lists.new) }
-        ensures stored { IfOk result (λ done. (if done then Some (locals_seen (lists_seen lists.new) self.new) else None) ≡ stored_at is_long_type typing.Top (locals_seen (lists_seen lists.old) self.old) index (type_seen item)) }
+        ensures stored { IfOk result (λ done. (if done then Some (locals_seen (lists_seen lists.new) self.new) else None) ≡ stored_at is_long_type typing.Top
+            (locals_seen (lists_seen lists.old) self.old) index (type_seen item)) }
     {
         if item.is_long() {
             return Ok(false);
@@ -92,7 +95,8 @@ impl Locals {
         requires fits { index + 1 < 2 ^ 32 }
         requires behind { index + 1 < length (locals_seen (lists_seen lists.old) self.old) }
         ensures lists { OnOk result (HasListsOf lists.old lists.new) }
-        ensures written { OnOk result (locals_seen (lists_seen lists.new) self.new ≡ slice_set (slice_set (locals_seen (lists_seen lists.old) self.old) (index + 1) typing.Top) index (type_seen item)) }
+        ensures written { OnOk result (locals_seen (lists_seen lists.new) self.new ≡ slice_set
+            (slice_set (locals_seen (lists_seen lists.old) self.old) (index + 1) typing.Top) index (type_seen item)) }
     {
         self.write(lists, index + 1, VarType::Top)?;
         self.write(lists, index, item)
@@ -111,7 +115,8 @@ impl Locals {
         requires here { slice_get (locals_seen (lists_seen lists.old) self.old) index ≡ Some (type_seen old) }
         requires behind { index + 1 < length (locals_seen (lists_seen lists.old) self.old) }
         ensures lists { OnOk result (HasListsOf lists.old lists.new) }
-        ensures stored { OnOk result (Some (locals_seen (lists_seen lists.new) self.new) ≡ stored_at is_long_type typing.Top (locals_seen (lists_seen lists.old) self.old) index (type_seen item)) }
+        ensures stored { OnOk result (Some (locals_seen (lists_seen lists.new) self.new) ≡ stored_at is_long_type typing.Top
+            (locals_seen (lists_seen lists.old) self.old) index (type_seen item)) }
     {
         if item.is_long() || old.is_long() {
             self.store_both(lists, index, item)
@@ -128,7 +133,8 @@ impl Locals {
         item: VarType,
     ) -> Result<bool, NoMemory>
         ensures lists { OnOk result (HasListsOf lists.old lists.new) }
-        ensures stored { IfOk result (λ done. (if done then Some (locals_seen (lists_seen lists.new) self.new) else None) ≡ stored_at is_long_type typing.Top (locals_seen (lists_seen lists.old) self.old) index (type_seen item)) }
+        ensures stored { IfOk result (λ done. (if done then Some (locals_seen (lists_seen lists.new) self.new) else None) ≡ stored_at is_long_type typing.Top
+            (locals_seen (lists_seen lists.old) self.old) index (type_seen item)) }
     {
         if index >= lists.max_locals() {
             return Ok(false);
@@ -152,7 +158,8 @@ impl Locals {
         item: VarType,
     ) -> Result<bool, NoMemory>
         ensures lists { OnOk result (HasListsOf lists.old lists.new) }
-        ensures stored { IfOk result (λ done. (if done then Some (locals_seen (lists_seen lists.new) self.new) else None) ≡ stored is_long_type typing.Top (locals_seen (lists_seen lists.old) self.old) index (type_seen item)) }
+        ensures stored { IfOk result (λ done. (if done then Some (locals_seen (lists_seen lists.new) self.new) else None) ≡ stored is_long_type typing.Top
+            (locals_seen (lists_seen lists.old) self.old) index (type_seen item)) }
     {
         self.forget_half(lists, index)?;
         self.store_at(lists, index, item)
@@ -167,7 +174,8 @@ impl Locals {
         new: VarType,
     ) -> Result<(), NoMemory>
         ensures lists { OnOk result (HasListsOf lists.old lists.new) }
-        ensures substituted { OnOk result (locals_seen (lists_seen lists.new) self.new ≡ map (substituted (type_seen old) (type_seen new)) (locals_seen (lists_seen lists.old) self.old)) }
+        ensures substituted { OnOk result (locals_seen (lists_seen lists.new) self.new ≡ map (substituted (type_seen old) (type_seen new))
+            (locals_seen (lists_seen lists.old) self.old)) }
     {
         if old.is_initialized() {
             return Ok(());
@@ -189,7 +197,8 @@ impl Locals {
         new: VarType,
     ) -> Result<(), NoMemory>
         ensures lists { OnOk result (HasListsOf lists.old lists.new) }
-        ensures substituted { OnOk result (IsSubstitutedAt index (type_seen old) (type_seen new) (locals_seen (lists_seen lists.old) self.old) (locals_seen (lists_seen lists.new) self.new)) }
+        ensures substituted { OnOk result (IsSubstitutedAt index (type_seen old) (type_seen new) (locals_seen (lists_seen lists.old) self.old)
+            (locals_seen (lists_seen lists.new) self.new)) }
     {
         match self.local(lists, index) {
             Some(item) => self.write(lists, index, item.substituted(old, new)),

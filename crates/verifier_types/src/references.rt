@@ -7,7 +7,7 @@ ghost use Rattle.verifier_types.specs.Site.{Site, Checks};
 use crate::checked::{Checked, Rule, uses};
 use crate::frame::TypeFrame;
 use crate::types::VarType;
-use jop_base::NoMemory;
+use base::NoMemory;
 use program_tables::ObjectKind;
 
 /// `checkcast`.

@@ -16,8 +16,8 @@ use crate::operands::Operands;
 use crate::slices::{holds_made, substitute, words_of};
 use crate::types::{NumberType, VarType};
 use crate::words::{Form, Group, Width};
+use base::NoMemory;
 use class_hierarchy::Hierarchy;
-use jop_base::NoMemory;
 use std::alloc::Global;
 
 impl Operands {
@@ -152,7 +152,8 @@ impl Operands {
 
     /// Drops, copies or exchanges the topmost words, and says whether they were there and no `long` was split.
     pub fn shuffle(&mut self, form: Form, upper: Width, lower: Width) -> Result<bool, NoMemory>
-        ensures { IfOk result (λ done. (if done then Some (operands_seen self.new) else None) ≡ shuffle is_long_type (form_seen form) (width_seen upper) (width_seen lower) (operands_seen self.old)) }
+        ensures { IfOk result (λ done. (if done then Some (operands_seen self.new) else None) ≡ shuffle is_long_type (form_seen form) (width_seen upper)
+            (width_seen lower) (operands_seen self.old)) }
     {
         let first = match self.pop_words(upper) {
             Some(group) => group,

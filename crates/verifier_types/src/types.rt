@@ -1,6 +1,7 @@
 //! Verification types (JVM Specification SE 8, 4.10.1.2).
 ghost use Rattle.std.specs.Prelude.{◌≡◌, ◌+◌, ◌&&◌, nat_le};
-ghost use Rattle.bytecode_typing.specs.Types.{is_long_type, is_reference_type, is_initialized, is_this, number_type, type_words, moves, moved_words, substituted};
+ghost use Rattle.bytecode_typing.specs.Types.{is_long_type, is_reference_type, is_initialized, is_this, number_type, type_words, moves, moved_words};
+ghost use Rattle.bytecode_typing.specs.Types.{substituted};
 ghost use Rattle.bytecode_typing.specs.Rules.{is_number_type};
 ghost use Rattle.verifier_types.specs.Seen.{number_seen, moved_seen, type_seen};
 ghost use Rattle.verifier_types.specs.Taken.{is_made};

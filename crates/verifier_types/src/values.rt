@@ -13,7 +13,7 @@ use crate::frame::TypeFrame;
 use crate::local_lists::LocalLists;
 use crate::types::{Moved, NumberType, VarType};
 use crate::words::{Form, Width};
-use jop_base::NoMemory;
+use base::NoMemory;
 
 /// A value of this type is put on the stack.
 pub fn check_push(frame: &mut TypeFrame, item: VarType) -> Result<Checked, NoMemory>
@@ -29,7 +29,8 @@ pub fn check_compute(
     taken: &[NumberType],
     given: NumberType,
 ) -> Result<Checked, NoMemory>
-    ensures { IfOk result (λ c. (s : Site) (compute : rows.Takes (map number_seen taken.now) (Option ℤ)) → Checks s (rows.Compute (map number_seen taken.now) (number_seen given) compute) frame.old c frame.new) }
+    ensures { IfOk result (λ c. (s : Site) (compute : rows.Takes (map number_seen taken.now) (Option ℤ))
+        → Checks s (rows.Compute (map number_seen taken.now) (number_seen given) compute) frame.old c frame.new) }
 {
     if !frame.operands.pop_numbers(taken) {
         return Ok(Checked::Fails(Rule::Stack));
@@ -46,7 +47,8 @@ pub fn check_load(
     sort: Moved,
     index: u32,
 ) -> Result<Checked, NoMemory>
-    ensures { IfOk result (λ c. (s : Site) → s.body.max_locals ≡ max_locals → ChecksIn (lists_seen lists.now) s (rows.Load (moved_seen sort) index) frame.old c frame.new) }
+    ensures { IfOk result (λ c. (s : Site) → s.body.max_locals ≡ max_locals
+        → ChecksIn (lists_seen lists.now) s (rows.Load (moved_seen sort) index) frame.old c frame.new) }
 {
     if !sort.is_within(index, max_locals) {
         return Ok(Checked::Fails(Rule::Operand));
@@ -71,7 +73,8 @@ pub fn check_store(
     index: u32,
 ) -> Result<Checked, NoMemory>
     ensures lists { OnOk result (HasListsOf lists.old lists.new) }
-    ensures checks { IfOk result (λ c. (s : Site) → s.body.max_locals ≡ max_locals → ChecksOver (lists_seen lists.old) (lists_seen lists.new) s (rows.Store (moved_seen sort) index) frame.old c frame.new) }
+    ensures checks { IfOk result (λ c. (s : Site) → s.body.max_locals ≡ max_locals
+        → ChecksOver (lists_seen lists.old) (lists_seen lists.new) s (rows.Store (moved_seen sort) index) frame.old c frame.new) }
 {
     if !sort.is_within(index, max_locals) {
         return Ok(Checked::Fails(Rule::Operand));

@@ -9,7 +9,7 @@ use Rattle.lists.specs.Lemmas.{some_same}
 use Rattle.lists.specs.Members.{rising_apart}
 use Rattle.method_flow.specs.declared.flow.Call.{Call}
 use Rattle.method_flow.specs.Flow.{places_of}
-use Rattle.walk_bounds.specs.Limited.{limit, limited}
+use Rattle.compact_walks.specs.Limited.{limit, limited}
 use Rattle.wcet.specs.declared.telling.Told.{Told}
 use Rattle.wcet.specs.Telling.{AreAdded, added_by, IsSmallTold}
 

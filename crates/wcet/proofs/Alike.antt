@@ -16,7 +16,7 @@ use Rattle.bound_rules.specs.Laws.{ChargedLoopsAreOne}
 use Rattle.bound_rules.specs.Numbers.{LiveNest, no_fees, AreCharged, AreLoads, is_in_charged}
 use Rattle.bound_rules.proofs.Numbering.{same_loads_by}
 use Rattle.bound_rules.proofs.Views.{same_lists}
-use Rattle.walk_bounds.proofs.Loops.{no_loop}
+use Rattle.compact_walks.proofs.Loops.{no_loop}
 
 abbrev pub members_of : List NaturalLoop → List (List ℕ)
 members_of ls = map (λ (l : NaturalLoop). l.members) ls

@@ -8,7 +8,7 @@ use Rattle.std.proofs.lemmas.Option.{slice_get-get_or}
 use Rattle.lists.specs.Lemmas.{some_same, none≢some, some_is, some_in}
 use Rattle.section_check.specs.Least.{IsLeast, lesser_of}
 use Rattle.section_check.specs.LeastLemmas.{least_either}
-use Rattle.jop_opcodes.specs.Start.{IsStart, AreStarts}
+use Rattle.opcodes.specs.Start.{IsStart, AreStarts}
 use Rattle.bytecode_model.specs.Program.{Program, Body, body_of}
 use Rattle.method_flow.specs.declared.flow.Call.{Call}
 use Rattle.method_flow.specs.Calls.{IsCall, IsStartOf, IsTarget}

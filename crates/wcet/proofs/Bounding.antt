@@ -7,11 +7,11 @@ use Rattle.std.proofs.lemmas.List.Elements.{Contains-get_or}
 use Rattle.loop_nest.specs.Nest.{NaturalLoop, headers_of}
 use Rattle.loop_bounds.specs.Bounds.{LoopBound}
 use Rattle.method_flow.specs.Flow.{Flow}
-use Rattle.flow_costs.specs.Costs.{bounds_of, bound_of_node}
+use Rattle.node_costs.specs.Costs.{bounds_of, bound_of_node}
 use Rattle.bound_rules.specs.declared.faults.BoundRefusal.{BoundRefusal}
 use Rattle.bound_rules.specs.declared.faults.BoundRefusal.TheVariants.{MissingBound, NoMemory}
 use Rattle.bound_rules.specs.Fitting.{header_bound, header_bounds}
-use Rattle.walk_bounds.proofs.Loops.{no_loop}
+use Rattle.compact_walks.proofs.Loops.{no_loop}
 use Rattle.wcet.specs.declared.shape.Shape.{Shape}
 use Rattle.wcet.specs.Prepared.{AreAllSome, AreBounds, IsNoneOf, IsUnbounded, nest_of}
 

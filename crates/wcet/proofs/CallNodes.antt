@@ -7,7 +7,7 @@ use Rattle.std.proofs.lemmas.Option.{slice_get-get_or}
 use Rattle.lists.specs.Lemmas.{holds_at, some_in}
 use Rattle.lists.specs.Members.{map_contains, place_of}
 use Rattle.loop_nest.proofs.Elements.{from_map}
-use Rattle.jop_opcodes.specs.Start.{IsStart, AreStarts}
+use Rattle.opcodes.specs.Start.{IsStart, AreStarts}
 use Rattle.bytecode_model.specs.Program.{Program, body_of}
 use Rattle.method_flow.specs.declared.flow.Call.{Call}
 use Rattle.method_flow.specs.Flow.{Coded, IsCoded, IsCodedOf, IsFlowOf, places_of}
@@ -15,7 +15,7 @@ use Rattle.method_flow.specs.Kinds.{RowsAreOfTheirKinds}
 use Rattle.path_solver.specs.Reaching.{IsFlagged}
 use Rattle.flow_graph.proofs.Starting.{call_at, among_at, body, call_listed, listed_calls}
 use Rattle.bound_rules.specs.Numbers.{HasCall}
-use Rattle.walk_bounds.specs.Charging.{AreMarked}
+use Rattle.compact_walks.specs.Charging.{AreMarked}
 use Rattle.wcet.specs.Known.{Setting}
 use Rattle.wcet.specs.Prepared.{IsCallAt, AreCallNodes, AreCallNodesOf}
 

@@ -5,7 +5,7 @@ use Rattle.std.proofs.lemmas.List.{get_or-map, length-map}
 use Rattle.cache_regions.specs.Region.{AreDistinct}
 use Rattle.section_check.specs.LeastLemmas.{least_same}
 use Rattle.bytecode_model.specs.Program.{Program}
-use Rattle.cert_lines.specs.Lines.{IsBound}
+use Rattle.bound_cert.specs.CertLines.{IsBound}
 use Rattle.bound_cert.specs.declared.cert.CertSection.{CertSection}
 use Rattle.bound_cert.specs.declared.cert.SectionSort.{SectionSort}
 use Rattle.bound_cert.specs.Certificate.{IsInGrammar, sort_of}
@@ -22,7 +22,7 @@ use Rattle.bound_rules.specs.Numbers.{IsFull}
 use Rattle.bound_rules.specs.Numbers.IsFull.{fits as full_fits, exceeds as full_exceeds}
 use Rattle.bound_rules.specs.Told.{Valued, SaysFull, value_in, with_cycles}
 use Rattle.bound_rules.specs.Told.SaysFull.{fits as says_fits, exceeds as says_exceeds}
-use Rattle.walk_bounds.specs.Limited.{limit}
+use Rattle.compact_walks.specs.Limited.{limit}
 use Rattle.wcet.specs.declared.known.Known.{Known}
 use Rattle.wcet.specs.declared.methods.Methods.{Methods}
 use Rattle.wcet.specs.Known.{Setting, bounds_in, ForEach, known_at, IsKnownOf}

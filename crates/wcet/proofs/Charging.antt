@@ -14,10 +14,10 @@ use Rattle.method_flow.specs.declared.timing.Timing.{Timing}
 use Rattle.bound_rules.specs.Fitting.{LoopFits, loads_of}
 use Rattle.bound_rules.specs.Numbers.{HasCall, IsCharged, AreCharged, AreLoads}
 use Rattle.bound_rules.proofs.Sums.{same_loads}
-use Rattle.walk_bounds.specs.Charging.{AreOutermost}
-use Rattle.walk_bounds.specs.Laws.{OthersHaveOneAround, OutermostAreApart}
-use Rattle.walk_bounds.specs.Moving.{moved_natural}
-use Rattle.walk_bounds.proofs.Charged.{charged_long}
+use Rattle.compact_walks.specs.Charging.{AreOutermost}
+use Rattle.compact_walks.specs.Laws.{OthersHaveOneAround, OutermostAreApart}
+use Rattle.compact_walks.specs.Moving.{moved_natural}
+use Rattle.compact_walks.proofs.Charged.{charged_long}
 use Rattle.wcet.specs.declared.charges.Charges.{Charges}
 use Rattle.wcet.specs.declared.shape.Shape.{Shape}
 use Rattle.wcet.specs.Known.{Setting, ForEach}

@@ -4,7 +4,7 @@ use Rattle.std.specs.Prelude.{unwrap_or, if◌then◌else◌}
 use Rattle.std.proofs.lemmas.Bool.{cases_Bool}
 use Rattle.std.proofs.lemmas.List.Elements.{All-contains}
 use Rattle.lists.specs.Lemmas.{some_in}
-use Rattle.jop_opcodes.specs.Start.{IsStart, AreStarts}
+use Rattle.opcodes.specs.Start.{IsStart, AreStarts}
 use Rattle.bytecode_model.specs.Program.{Program, body_of}
 use Rattle.method_flow.specs.Calls.{IsTarget, targets_of}
 use Rattle.method_flow.specs.Costs.{IsOwnCost}
@@ -26,7 +26,7 @@ use Rattle.bound_rules.specs.Laws.{CalledFit}
 use Rattle.bound_rules.specs.Numbers.{Numbers, AreCharged, is_in_charged, full_and_back, loops_adds}
 use Rattle.bound_rules.proofs.Numbering.{in_charged}
 use Rattle.bound_rules.proofs.Owning.{same_own}
-use Rattle.walk_bounds.specs.Limited.{limit, limited, AreSmallAt}
+use Rattle.compact_walks.specs.Limited.{limit, limited, AreSmallAt}
 use Rattle.wcet.specs.declared.known.Known.{Known}
 use Rattle.wcet.specs.declared.prepared.Prepared.{Prepared}
 use Rattle.wcet.specs.Known.{known_at, AreTold, Agrees}

@@ -15,7 +15,7 @@ use Rattle.bound_rules.specs.Bounding.{ExceedsSize, IsTooLarge, IsFirstTooLarge}
 use Rattle.bound_rules.specs.Bounding.ExceedsSize.{full as size_full, printed as size_printed, inside as size_inside, loops as size_loops}
 use Rattle.bound_rules.specs.Laws.{PrintedIsTold}
 use Rattle.bound_rules.specs.Numbers.{Numbers, AreNumbers, IsPrinted}
-use Rattle.walk_bounds.specs.Limited.{limit, limited, limited_of}
+use Rattle.compact_walks.specs.Limited.{limit, limited, limited_of}
 use Rattle.wcet.specs.declared.known.Known.{Known}
 use Rattle.wcet.specs.declared.ending.MethodBound.TheVariants.{Printed}
 use Rattle.wcet.specs.Known.{Setting, known_at, ExceedsBeside}

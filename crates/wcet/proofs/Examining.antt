@@ -7,7 +7,7 @@ use Rattle.path_solver.specs.Longest.IsTooLarge.{walk}
 use Rattle.bytecode_model.specs.Program.{Program}
 use Rattle.bound_cert.specs.declared.cert.CertSection.{CertSection}
 use Rattle.method_flow.specs.Flow.{Coded, IsCoded}
-use Rattle.walk_bounds.specs.Limited.{limit, limited}
+use Rattle.compact_walks.specs.Limited.{limit, limited}
 use Rattle.wcet.specs.declared.fit.Fit.{Fit}
 use Rattle.wcet.specs.declared.found.Walked.{Walked}
 use Rattle.wcet.specs.declared.found.Walked.TheVariants.{Never, Shown, Large}

@@ -8,8 +8,8 @@ use Rattle.bytecode_model.specs.Program.{Program}
 use Rattle.method_flow.specs.Keeping.{BoundOf}
 use Rattle.method_flow.specs.declared.timing.Timing.{Timing}
 use Rattle.bound_rules.specs.Laws.{AgreeOnLive}
-use Rattle.walk_bounds.specs.Limited.{AreSmallAt}
-use Rattle.walk_bounds.specs.Solving.{loops_of}
+use Rattle.compact_walks.specs.Limited.{AreSmallAt}
+use Rattle.compact_walks.specs.Solving.{loops_of}
 use Rattle.wcet.specs.declared.known.Known.{Known}
 use Rattle.wcet.specs.declared.prepared.Prepared.{Prepared}
 use Rattle.wcet.specs.declared.fit.Fit.{Fit}

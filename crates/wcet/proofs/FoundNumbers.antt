@@ -15,7 +15,7 @@ use Rattle.bound_rules.specs.Costs.{added}
 use Rattle.bound_rules.specs.Fitting.{RegionFits, loads_of}
 use Rattle.bound_rules.specs.Numbers.{Numbers, LiveNest, charged_loops, no_fees, IsValue, loops_adds, IsInside, IsLoops, IsFull}
 use Rattle.bound_rules.specs.Numbers.IsFull.{fits as fits_full, exceeds as exceeds_full}
-use Rattle.walk_bounds.specs.Limited.{limit, limited, limited_of, AreSmallAt}
+use Rattle.compact_walks.specs.Limited.{limit, limited, limited_of, AreSmallAt}
 use Rattle.wcet.specs.declared.known.Known.{Known}
 use Rattle.wcet.specs.declared.prepared.Prepared.{Prepared}
 use Rattle.wcet.specs.declared.fit.Fit.{Fit}

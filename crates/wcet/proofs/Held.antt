@@ -10,8 +10,8 @@ use Rattle.section_check.specs.Bounded.{holds}
 use Rattle.section_check.proofs.Elements.{contains_from_holds, holds_from_contains}
 use Rattle.path_solver.specs.Reaching.{IsFlagged}
 use Rattle.bound_rules.specs.Numbers.{is_in_charged}
-use Rattle.walk_bounds.specs.Charging.{IsInFlagged, AreHeld}
-use Rattle.walk_bounds.specs.Moving.{moved_nest}
+use Rattle.compact_walks.specs.Charging.{IsInFlagged, AreHeld}
+use Rattle.compact_walks.specs.Moving.{moved_nest}
 use Rattle.wcet.specs.declared.shape.Shape.{Shape}
 use Rattle.wcet.specs.Prepared.{AreWithout, nest_of}
 

@@ -11,7 +11,7 @@ use Rattle.method_flow.specs.Keeping.{BoundOf}
 use Rattle.method_flow.specs.Live.{CanEnd}
 use Rattle.method_flow.specs.declared.timing.Timing.{Timing}
 use Rattle.bound_rules.specs.Fitting.{RegionFits}
-use Rattle.walk_bounds.specs.Limited.{limit, limited}
+use Rattle.compact_walks.specs.Limited.{limit, limited}
 use Rattle.wcet.specs.declared.known.Known.{Known}
 use Rattle.wcet.specs.declared.prepared.Prepared.{Prepared}
 use Rattle.wcet.specs.declared.fit.Fit.{Fit}

@@ -4,7 +4,7 @@ use Rattle.std.specs.Prelude.{◌⊎◌, option_map, unwrap_or}
 use Rattle.std.proofs.lemmas.Bool.{cases_lt, cond_below, cond_above}
 use Rattle.lists.specs.Members.{at_head, in_tail}
 use Rattle.bound_rules.specs.Costs.{greater, greatest_of}
-use Rattle.walk_bounds.specs.Limited.{limit, limited, limited_of}
+use Rattle.compact_walks.specs.Limited.{limit, limited, limited_of}
 use Rattle.wcet.specs.Telling.{with_back}
 
 -- ---- numbers

@@ -28,9 +28,9 @@ use Rattle.flow_graph.proofs.Starting.{target_calls}
 use Rattle.bound_rules.specs.Costs.{greatest_of}
 use Rattle.bound_rules.specs.Laws.{ValuesAreTold, IterationsAreTold, HeadersAreInstructions}
 use Rattle.bound_rules.specs.Numbers.{LiveNest, charged_loops}
-use Rattle.walk_bounds.specs.Laws.{GraphsAreMoved, MovedReachesExit, MovedIsNest, MovedIsGreatest, MovedWalkExceeds, MovedIterationsExceed}
-use Rattle.walk_bounds.specs.Limited.{limit, SomeExceeds}
-use Rattle.walk_bounds.specs.Moving.{IsMoved}
+use Rattle.compact_walks.specs.Laws.{GraphsAreMoved, MovedReachesExit, MovedIsNest, MovedIsGreatest, MovedWalkExceeds, MovedIterationsExceed}
+use Rattle.compact_walks.specs.Limited.{limit, SomeExceeds}
+use Rattle.compact_walks.specs.Moving.{IsMoved}
 use Rattle.wcet.specs.declared.known.Known.{Known}
 use Rattle.wcet.specs.declared.prepared.Prepared.{Prepared}
 use Rattle.wcet.specs.Known.{known_at}

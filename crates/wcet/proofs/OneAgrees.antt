@@ -16,8 +16,8 @@ use Rattle.bound_rules.specs.Fitting.{RegionFits, loads_of}
 use Rattle.bound_rules.specs.Numbers.{Numbers, charged_loops, no_fees, IsInside, IsLoops, IsFull}
 use Rattle.bound_rules.specs.Numbers.IsFull.{fits as fits_full, exceeds as exceeds_full}
 use Rattle.bound_rules.proofs.Sums.{same_loads}
-use Rattle.walk_bounds.specs.Limited.{limit, limited, limited_of, AreSmallAt}
-use Rattle.walk_bounds.specs.Solving.{loops_of}
+use Rattle.compact_walks.specs.Limited.{limit, limited, limited_of, AreSmallAt}
+use Rattle.compact_walks.specs.Solving.{loops_of}
 use Rattle.wcet.specs.declared.known.Known.{Known}
 use Rattle.wcet.specs.declared.prepared.Prepared.{Prepared}
 use Rattle.wcet.specs.declared.fit.Fit.{Fit}

@@ -4,7 +4,7 @@ use Rattle.std.specs.Prelude.{if◌then◌else◌}
 use Rattle.std.proofs.lemmas.List.{length-map}
 use Rattle.loop_nest.specs.Digraph.{Digraph}
 use Rattle.section_check.specs.Bounded.{BoundedLoop}
-use Rattle.jop_opcodes.specs.Start.{AreStarts}
+use Rattle.opcodes.specs.Start.{AreStarts}
 use Rattle.micro_flow.specs.Costs.{CostsAreSmall, RaiseIsSmall}
 use Rattle.path_solver.specs.Reaching.{IsFlagged}
 use Rattle.path_solver.specs.Regions.{charged}
@@ -21,8 +21,8 @@ use Rattle.bound_rules.specs.Costs.{added}
 use Rattle.bound_rules.specs.Fitting.{RegionFits}
 use Rattle.bound_rules.specs.Laws.{CalledFit, ChargesAreOne, ChargedLoopsAreOne, LiveGraphsAreOne}
 use Rattle.bound_rules.specs.Numbers.{Numbers, LiveNest, charged_loops, no_fees, IsValue, AreCharged, AreLoads, is_in_charged, full_and_back, loops_adds, IsInside, IsLoops}
-use Rattle.walk_bounds.specs.Limited.{limited}
-use Rattle.walk_bounds.specs.Moving.{moved_natural}
+use Rattle.compact_walks.specs.Limited.{limited}
+use Rattle.compact_walks.specs.Moving.{moved_natural}
 use Rattle.wcet.specs.declared.known.Known.{Known}
 use Rattle.wcet.specs.declared.prepared.Prepared.{Prepared}
 use Rattle.wcet.specs.Known.{known_at, AreTold, Agrees}

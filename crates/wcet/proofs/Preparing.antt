@@ -19,13 +19,13 @@ use Rattle.method_flow.specs.Nodes.IsReached.{first, later}
 use Rattle.method_flow.specs.Regions.{load}
 use Rattle.method_flow.specs.declared.timing.Timing.{Timing}
 use Rattle.flow_graph.specs.Laws.{IsGraphWhere}
-use Rattle.flow_costs.specs.Costs.{AreOwnCosts, method_load}
-use Rattle.flow_costs.proofs.Loading.{load_of}
+use Rattle.node_costs.specs.Costs.{AreOwnCosts, method_load}
+use Rattle.node_costs.proofs.Loading.{load_of}
 use Rattle.bound_rules.specs.declared.faults.BoundRefusal.{BoundRefusal}
 use Rattle.bound_rules.specs.Costs.{added_at}
 use Rattle.bound_rules.specs.Fitting.{RegionFits, header_bound}
-use Rattle.walk_bounds.specs.Limited.{limit, limited}
-use Rattle.walk_bounds.specs.Moving.{moved_natural}
+use Rattle.compact_walks.specs.Limited.{limit, limited}
+use Rattle.compact_walks.specs.Moving.{moved_natural}
 use Rattle.wcet.specs.declared.known.Known.{Known}
 use Rattle.wcet.specs.declared.telling.Told.{Told}
 use Rattle.wcet.specs.declared.shape.Shape.{Shape}

@@ -12,8 +12,8 @@ use Rattle.loop_nest.specs.Nest.{NaturalLoop, IsLoopOf, IsNest}
 use Rattle.section_check.specs.Bounded.{BoundedLoop, IsKept, IsBoundedWalk}
 use Rattle.path_solver.specs.Laws.{LeadsOut, LiesOnBoundedWalk}
 use Rattle.path_solver.specs.Longest.{bounded_loops}
-use Rattle.jop_opcodes.specs.declared.instruction.Instr.{Instr}
-use Rattle.jop_opcodes.specs.Row as opcodes
+use Rattle.opcodes.specs.declared.instruction.Instr.{Instr}
+use Rattle.opcodes.specs.Row as opcodes
 use Rattle.bytecode_model.specs.Program.{Program, body_of, instr_at}
 use Rattle.bytecode_model.specs.Rows.{Row}
 use Rattle.bytecode_model.specs.Steps.{row_in}

@@ -19,8 +19,8 @@ use Rattle.bound_rules.specs.declared.faults.BoundRefusal.TheVariants.{NoMethod,
 use Rattle.bound_rules.specs.Bounding.{IsLeftWith}
 use Rattle.bound_rules.specs.Fitting.{header_bound}
 use Rattle.bound_rules.specs.Laws.{HeadersAreInstructions}
-use Rattle.walk_bounds.specs.Moving.{IsMoved}
-use Rattle.walk_bounds.specs.Laws.{GraphsAreMoved, PartsAreSound, EndsAreOne, MovedIsNest, IsSoundPart}
+use Rattle.compact_walks.specs.Moving.{IsMoved}
+use Rattle.compact_walks.specs.Laws.{GraphsAreMoved, PartsAreSound, EndsAreOne, MovedIsNest, IsSoundPart}
 use Rattle.wcet.specs.declared.shape.Shape.{Shape}
 use Rattle.wcet.specs.Prepared.{node_of, nest_of, IsShapeOf, IsLeftBy, IsUnbounded}
 use Rattle.wcet.specs.Ready.{IsReady}

@@ -15,7 +15,7 @@ use Rattle.loop_nest.proofs.Ends.{ends_within}
 use Rattle.method_flow.specs.Compact.{IsCompact}
 use Rattle.flow_graph.specs.Numbering.{IsCompactOf}
 use Rattle.flow_graph.specs.declared.numbering.Compact.{Compact}
-use Rattle.walk_bounds.proofs.Loops.{member_within}
+use Rattle.compact_walks.proofs.Loops.{member_within}
 use Rattle.wcet.specs.declared.shape.Shape.{Shape}
 use Rattle.wcet.specs.Prepared.{IsShapeOf}
 

@@ -11,8 +11,8 @@ use Rattle.section_check.specs.Placing.{IsAt, IsHeld, AreWellPlaced}
 use Rattle.section_check.specs.Placing.IsMisplaced.{lists_no_node, holds_no_node}
 use Rattle.section_check.specs.Renumbering.{moved, moved_loop}
 use Rattle.path_solver.specs.Regions.{charged}
-use Rattle.walk_bounds.specs.Moving.{moved_nest}
-use Rattle.walk_bounds.proofs.Loops.{headers_moved as nest_headers, no_loop}
+use Rattle.compact_walks.specs.Moving.{moved_nest}
+use Rattle.compact_walks.proofs.Loops.{headers_moved as nest_headers, no_loop}
 use Rattle.wcet.proofs.Alike.{members_of}
 
 -- ---- loops

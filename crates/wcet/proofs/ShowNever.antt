@@ -19,7 +19,7 @@ use Rattle.method_flow.specs.declared.timing.Timing.{Timing}
 use Rattle.bound_rules.specs.Laws.{ReachesStarts}
 use Rattle.bound_rules.specs.Told.{Valued}
 use Rattle.bound_rules.specs.Sections.{AreFees, IsNoNode, MeetsSection}
-use Rattle.walk_bounds.specs.Limited.{AreSmallAt}
+use Rattle.compact_walks.specs.Limited.{AreSmallAt}
 use Rattle.wcet.specs.declared.known.Known.{Known}
 use Rattle.wcet.specs.declared.prepared.Prepared.{Prepared}
 use Rattle.wcet.specs.Known.{AreTold}

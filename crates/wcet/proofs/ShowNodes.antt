@@ -10,7 +10,7 @@ use Rattle.loop_nest.proofs.Ends.{ends_within}
 use Rattle.section_check.specs.Section.{CertifiedLoop}
 use Rattle.section_check.specs.Placing.{AreWellPlaced}
 use Rattle.path_solver.specs.Solution.{Solution}
-use Rattle.walk_bounds.specs.Solving.{IsShown, fees_of}
+use Rattle.compact_walks.specs.Solving.{IsShown, fees_of}
 use Rattle.wcet.specs.declared.prepared.Prepared.{Prepared}
 use Rattle.wcet.specs.Prepared.{IsInShape, IsShapeOf}
 use Rattle.wcet.specs.Found.{problem_of}

@@ -19,7 +19,7 @@ use Rattle.bound_rules.specs.Numbers.{is_in_charged}
 use Rattle.bound_rules.specs.Told.{Valued, value_in, with_cycles, SaysFull, SaysCalled, is_in_region}
 use Rattle.bound_rules.specs.Told.SaysFull.{fits as says_fits, exceeds as says_exceeds}
 use Rattle.bound_rules.proofs.Numbering.{in_charged}
-use Rattle.walk_bounds.specs.Limited.{limit, limited}
+use Rattle.compact_walks.specs.Limited.{limit, limited}
 use Rattle.wcet.specs.declared.known.Known.{Known}
 use Rattle.wcet.specs.declared.prepared.Prepared.{Prepared}
 use Rattle.wcet.specs.Known.{known_at, AreTold, IsToldOf, IsFullBy}

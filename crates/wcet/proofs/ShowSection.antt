@@ -25,10 +25,10 @@ use Rattle.bound_rules.specs.Laws.{CalledFit, ReachesStarts}
 use Rattle.bound_rules.specs.Told.{Valued, SaysCalled, is_in_region, is_without_loads}
 use Rattle.bound_rules.specs.Sections.{IsFee, AreFees, SectionView, IsNoNode, LacksBound, MeetsSection, section_bounds}
 use Rattle.bound_rules.specs.Sections.IsFee.{no_region, fits as region_fits}
-use Rattle.walk_bounds.specs.Limited.{AreSmallAt}
-use Rattle.walk_bounds.specs.Moving.{IsMoved}
-use Rattle.walk_bounds.specs.Laws.{MovedIsRenumbered}
-use Rattle.walk_bounds.specs.Solving.{IsShown, fees_of}
+use Rattle.compact_walks.specs.Limited.{AreSmallAt}
+use Rattle.compact_walks.specs.Moving.{IsMoved}
+use Rattle.compact_walks.specs.Laws.{MovedIsRenumbered}
+use Rattle.compact_walks.specs.Solving.{IsShown, fees_of}
 use Rattle.wcet.specs.declared.known.Known.{Known}
 use Rattle.wcet.specs.declared.prepared.Prepared.{Prepared}
 use Rattle.wcet.specs.Known.{AreTold}

@@ -11,16 +11,16 @@ use Rattle.section_check.specs.Section.{CertifiedLoop, Certified, IsInForm, list
 use Rattle.section_check.specs.Placing.{IsAt, IsHeld}
 use Rattle.section_check.specs.Renumbering.{moved, IsRenumbered, RenumberedStaysInForm}
 use Rattle.path_solver.specs.Solution.{Solution}
-use Rattle.cert_lines.specs.declared.line.SectionKind.TheVariants.{Loops}
+use Rattle.bound_cert.specs.declared.lines.line.SectionKind.TheVariants.{Loops}
 use Rattle.bound_cert.specs.Certificate.{IsLoopInText, IsSectionInText}
 use Rattle.method_flow.specs.Keeping.{BoundOf}
 use Rattle.bound_rules.specs.Fitting.{header_bound}
-use Rattle.walk_bounds.specs.Limited.{limit}
-use Rattle.walk_bounds.specs.Moving.{moved_natural}
-use Rattle.walk_bounds.specs.Solving.{IsShown, fees_of}
-use Rattle.walk_bounds.proofs.Kept.{all_of}
-use Rattle.walk_bounds.proofs.Renumbering.{rising_moved}
-use Rattle.walk_bounds.proofs.Loops.{headers_moved}
+use Rattle.compact_walks.specs.Limited.{limit}
+use Rattle.compact_walks.specs.Moving.{moved_natural}
+use Rattle.compact_walks.specs.Solving.{IsShown, fees_of}
+use Rattle.compact_walks.proofs.Kept.{all_of}
+use Rattle.compact_walks.proofs.Renumbering.{rising_moved}
+use Rattle.compact_walks.proofs.Loops.{headers_moved}
 use Rattle.wcet.specs.declared.found.Walked.{Walked}
 use Rattle.wcet.specs.declared.found.Walked.TheVariants.{Never, Shown, Large}
 use Rattle.wcet.specs.declared.prepared.Prepared.{Prepared}

@@ -24,7 +24,7 @@ use Rattle.bound_rules.specs.Sections.{IsSectionEdge}
 use Rattle.bound_rules.specs.Told.{TargetValues, most_cycles, within_limit}
 use Rattle.bound_rules.proofs.Greatest.{IsGreatestOf, greatest_is}
 use Rattle.bound_rules.proofs.Owning.{same_of_each}
-use Rattle.walk_bounds.specs.Limited.{limit, limited, AreSmallAt}
+use Rattle.compact_walks.specs.Limited.{limit, limited, AreSmallAt}
 use Rattle.wcet.specs.declared.known.Known.{Known}
 use Rattle.wcet.specs.declared.prepared.Prepared.{Prepared}
 use Rattle.wcet.specs.Known.{known_at, AreTold}

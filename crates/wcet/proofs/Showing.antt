@@ -2,7 +2,7 @@
 use Rattle.std.proofs.Common.{◌≡◌, ℕ, Bool, true, false, List, Some, sym, subst, inr}
 use Rattle.std.specs.Prelude.{IfSome, slice_get}
 use Rattle.lists.specs.Lemmas.{some_in}
-use Rattle.jop_opcodes.specs.Start.{IsStart, AreStarts}
+use Rattle.opcodes.specs.Start.{IsStart, AreStarts}
 use Rattle.bytecode_model.specs.Program.{Program, body_of}
 use Rattle.bound_cert.specs.declared.cert.CertSection.{CertSection}
 use Rattle.section_check.specs.Section.{Certified}
@@ -14,8 +14,8 @@ use Rattle.flow_graph.proofs.Joining.{reached_alike}
 use Rattle.flow_graph.proofs.Starting.{IsPlaced, body, first_placed, next_placed}
 use Rattle.bound_rules.specs.Laws.{CalledFit, ReachesStarts}
 use Rattle.bound_rules.specs.Sections.{MeetsSection}
-use Rattle.walk_bounds.specs.Moving.{IsMoved}
-use Rattle.walk_bounds.specs.Laws.{GraphsAreMoved, MovedIsRenumbered, MovedReachesExit}
+use Rattle.compact_walks.specs.Moving.{IsMoved}
+use Rattle.compact_walks.specs.Laws.{GraphsAreMoved, MovedIsRenumbered, MovedReachesExit}
 use Rattle.wcet.specs.declared.found.Walked.{Walked}
 use Rattle.wcet.specs.declared.found.Walked.TheVariants.{Never, Shown, Large}
 use Rattle.wcet.specs.Prepared.{node_of}

@@ -4,23 +4,23 @@ use Rattle.std.proofs.lemmas.List.{length-map}
 use Rattle.lists.specs.Lemmas.{none≢some, some_same, onto_some, some_is}
 use Rattle.micro_flow.specs.Costs.{CostsAreSmall, RaiseIsSmall}
 use Rattle.micro_flow.specs.Walk.{IsCost, IsRaiseCost}
-use Rattle.jop_opcodes.specs.declared.instruction.Instr.{Instr}
-use Rattle.jop_opcodes.specs.Bytes.{u1}
-use Rattle.jop_opcodes.specs.Form.{Form, NotAnOpcode, Fixed, Widened, TableSwitch, LookupSwitch, Wide}
-use Rattle.jop_opcodes.specs.Instruction.{decoded}
-use Rattle.jop_opcodes.specs.Row.{row_of}
-use Rattle.jop_opcodes.specs.Start.{AreStarts}
-use Rattle.jop_opcodes.proofs.WithinLemmas.{IsWithin-decoded}
-use Rattle.jop_opcodes.proofs.SwitchLemmas.{SwitchIs, switch_is}
+use Rattle.opcodes.specs.declared.instruction.Instr.{Instr}
+use Rattle.opcodes.specs.Bytes.{u1}
+use Rattle.opcodes.specs.Form.{Form, NotAnOpcode, Fixed, Widened, TableSwitch, LookupSwitch, Wide}
+use Rattle.opcodes.specs.Instruction.{decoded}
+use Rattle.opcodes.specs.Row.{row_of}
+use Rattle.opcodes.specs.Start.{AreStarts}
+use Rattle.opcodes.proofs.WithinLemmas.{IsWithin-decoded}
+use Rattle.opcodes.proofs.SwitchLemmas.{SwitchIs, switch_is}
 use Rattle.bytecode_model.specs.Program.{Program, Body, body_of, instr_at, as_instr}
 use Rattle.method_flow.specs.declared.timing.Timing.{Timing}
 use Rattle.method_flow.specs.Costs.{params, IsOwnCost}
 use Rattle.method_flow.specs.Flow.{Coded, IsCoded, IsCodedOf, range_of}
 use Rattle.method_flow.specs.Kinds.{RowsAreOfTheirKinds}
 use Rattle.method_flow.specs.Nodes.{Node, At, RaiseAt}
-use Rattle.flow_costs.proofs.Filling.{greatest_small, opcode_small}
+use Rattle.node_costs.proofs.Filling.{greatest_small, opcode_small}
 use Rattle.flow_graph.proofs.Starting.{body}
-use Rattle.walk_bounds.specs.Limited.{limit}
+use Rattle.compact_walks.specs.Limited.{limit}
 
 -- ---- the cases of a switch
 

@@ -6,12 +6,12 @@ use Rattle.std.proofs.lemmas.List.Elements.{All-contains, All-get_or}
 use Rattle.lists.specs.Lemmas.{none≢some, some_same}
 use Rattle.bound_rules.specs.Costs.{greatest_of}
 use Rattle.bound_rules.proofs.Greatest.{IsGreatestOf, greatest_is}
-use Rattle.walk_bounds.specs.Limited.{limit, limited}
+use Rattle.compact_walks.specs.Limited.{limit, limited}
 use Rattle.wcet.specs.declared.known.Known.{Known}
 use Rattle.wcet.specs.declared.telling.Told.{Told}
 use Rattle.method_flow.specs.declared.flow.Call.{Call}
 use Rattle.method_flow.specs.Flow.{Coded, Flow}
-use Rattle.flow_costs.specs.Costs.{code_load, method_load}
+use Rattle.node_costs.specs.Costs.{code_load, method_load}
 use Rattle.wcet.specs.Known.{Setting, unknown, known_at, IsLimited}
 use Rattle.wcet.specs.Telling.{IsToldBy, AreToldBy, AreToldIn, IsSmallTold, with_back}
 use Rattle.wcet.proofs.Greater.{greatest_small}

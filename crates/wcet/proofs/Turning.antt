@@ -8,7 +8,7 @@ use Rattle.std.proofs.lemmas.List.Elements.{All-get_or}
 use Rattle.lists.specs.Lemmas.{some_same, holds_at, some_in}
 use Rattle.lists.specs.Members.{has_or_not, map_contains}
 use Rattle.loop_nest.specs.Digraph.{Digraph}
-use Rattle.jop_opcodes.specs.Start.{IsStart, AreStarts}
+use Rattle.opcodes.specs.Start.{IsStart, AreStarts}
 use Rattle.bytecode_model.specs.Program.{Program, body_of}
 use Rattle.method_flow.specs.declared.flow.Call.{Call}
 use Rattle.method_flow.specs.declared.timing.Timing.{Timing}
@@ -23,9 +23,9 @@ use Rattle.method_flow.specs.Recursion.{MayCall}
 use Rattle.method_flow.specs.Regions.{load}
 use Rattle.flow_graph.specs.Where.{IsEdgeWhere, GoesWhere}
 use Rattle.flow_graph.proofs.Joining.{reached_alike}
-use Rattle.flow_costs.specs.Costs.{AreOwnCosts}
+use Rattle.node_costs.specs.Costs.{AreOwnCosts}
 use Rattle.bound_rules.specs.Costs.{added_at, greatest_of}
-use Rattle.walk_bounds.specs.Limited.{limit, limited}
+use Rattle.compact_walks.specs.Limited.{limit, limited}
 use Rattle.wcet.specs.declared.known.Known.{Known}
 use Rattle.wcet.specs.declared.telling.Told.{Told}
 use Rattle.wcet.specs.Known.{known_at, AreTold}

@@ -16,8 +16,8 @@ use Rattle.method_flow.specs.Nodes.IsReached.{first}
 use Rattle.method_flow.specs.declared.timing.Timing.{Timing}
 use Rattle.bound_rules.specs.Laws.{AgreeOnLive}
 use Rattle.bound_rules.specs.Numbers.{IsValue}
-use Rattle.walk_bounds.specs.Limited.{limit, limited, limited_of, AreSmallAt}
-use Rattle.walk_bounds.specs.Solving.{loops_of}
+use Rattle.compact_walks.specs.Limited.{limit, limited, limited_of, AreSmallAt}
+use Rattle.compact_walks.specs.Solving.{loops_of}
 use Rattle.wcet.specs.declared.known.Known.{Known}
 use Rattle.wcet.specs.declared.prepared.Prepared.{Prepared}
 use Rattle.wcet.specs.declared.fit.Fit.{Fit}

@@ -7,9 +7,9 @@ use Rattle.loop_nest.specs.Digraph.{Digraph, IsDigraph}
 use Rattle.loop_nest.specs.Nest.{NaturalLoop, headers_of, header_at, members_at, IsLoopOf, IsAround, IsNest}
 use Rattle.loop_nest.proofs.Ends.{ends_within}
 use Rattle.section_check.specs.Placing.{IsAt}
-use Rattle.walk_bounds.specs.Moving.{moved_natural, moved_nest}
-use Rattle.walk_bounds.proofs.Loops.{no_loop, member_within, members_moved, header_moved, header_of, members_of}
-use Rattle.walk_bounds.proofs.Renumbering.{moved_back}
+use Rattle.compact_walks.specs.Moving.{moved_natural, moved_nest}
+use Rattle.compact_walks.proofs.Loops.{no_loop, member_within, members_moved, header_moved, header_of, members_of}
+use Rattle.compact_walks.proofs.Renumbering.{moved_back}
 
 pub header_within : (d : Digraph) → IsDigraph d → (l : NaturalLoop) → IsLoopOf d l → l.header < d.nodes
 header_within d wf l is = let e = is.header in (ends_within wf e.0 l.header e.1.edge).1

@@ -9,7 +9,7 @@ use Rattle.method_flow.specs.Costs.{IsPrintedOf}
 use Rattle.method_flow.specs.declared.timing.Timing.{Timing}
 use Rattle.bound_rules.specs.Bounding.{IsFirstTooLarge, KeepSize}
 use Rattle.bound_rules.specs.Numbers.{Numbers, AreNumbers, IsPrinted}
-use Rattle.walk_bounds.specs.Limited.{limit}
+use Rattle.compact_walks.specs.Limited.{limit}
 use Rattle.wcet.specs.declared.known.Known.{Known}
 use Rattle.wcet.specs.declared.ending.MethodBound.{MethodBound}
 use Rattle.wcet.specs.declared.ending.MethodBound.TheVariants.{Printed, TooLarge}
@@ -38,10 +38,11 @@ pub record IsPrintedSmall (set : Setting) (full bound : Option ℕ) : Type 0 whe
 abbrev pub IsLargeWithin : Program → List Known → (m large : ℕ) → Type 0
 IsLargeWithin P table m x = IsWithin P m x × ((known_at table x).too_large ≡ true)
 
--- Of all that may run while m does: every family of numbers of m agrees with what is known, and has a number that is too large just where that is known; and where none is
--- too large, the numbers that are known are those of m. The least of those with one that is too large is `least`.
+-- Of all that may run while m does: every family of numbers of m agrees with what is known, and has a number that is too large just where that is
+-- known; and where none is too large, the numbers that are known are those of m. The least of those with one that is too large is `least`.
 pub record AreKnownWithin (P : Program) (t : Timing) (bound_of : BoundOf) (table : List Known) (least : Option ℕ) (m : ℕ) : Type 0 where
-  pub agree : (N : Numbers) → AreNumbers P t bound_of m N → (x : ℕ) → IsWithin P m x → Agrees P t N x (known_at table x) × (IsTrue (known_at table x).too_large ↔ ExceedsBeside P t bound_of N x)
+  pub agree : (N : Numbers) → AreNumbers P t bound_of m N → (x : ℕ) → IsWithin P m x
+      → Agrees P t N x (known_at table x) × (IsTrue (known_at table x).too_large ↔ ExceedsBeside P t bound_of N x)
   pub known : ((x : ℕ) → IsWithin P m x → (known_at table x).too_large ≡ false) → AreNumbers P t bound_of m (numbers_by table)
   pub is_least : IsLeast (IsLargeWithin P table m) least
 

@@ -7,8 +7,8 @@ use Rattle.path_solver.specs.Reaching.{ReachesExit}
 use Rattle.path_solver.specs.Longest.{WalkExceeds, IterationsExceed}
 use Rattle.path_solver.specs.Solution.{Solution}
 use Rattle.bytecode_model.specs.Program.{Program}
-use Rattle.cert_lines.specs.declared.line.SectionKind.{SectionKind}
-use Rattle.cert_lines.specs.declared.line.SectionKind.TheVariants.{Inside, Loops}
+use Rattle.bound_cert.specs.declared.lines.line.SectionKind.{SectionKind}
+use Rattle.bound_cert.specs.declared.lines.line.SectionKind.TheVariants.{Inside, Loops}
 use Rattle.bound_cert.specs.declared.cert.CertSection.{CertSection}
 use Rattle.bound_cert.specs.Certificate.{IsSectionInText}
 use Rattle.method_flow.specs.Keeping.{BoundOf}
@@ -19,8 +19,8 @@ use Rattle.bound_rules.specs.Fitting.{RegionFits, loads_of}
 use Rattle.bound_rules.specs.Told.{Valued, value_in}
 use Rattle.bound_rules.specs.Sections.{MeetsSection}
 use Rattle.wcet.specs.declared.known.Known.{Known}
-use Rattle.walk_bounds.specs.Limited.{limit, limited, picked, AreSmallAt, SomeExceeds}
-use Rattle.walk_bounds.specs.Solving.{Problem, loops_of, IsShown}
+use Rattle.compact_walks.specs.Limited.{limit, limited, picked, AreSmallAt, SomeExceeds}
+use Rattle.compact_walks.specs.Solving.{Problem, loops_of, IsShown}
 use Rattle.wcet.specs.declared.fit.Fit.{Fit}
 use Rattle.wcet.specs.declared.found.Walked.{Walked}
 use Rattle.wcet.specs.declared.found.Walked.TheVariants.{Never, Shown, Large}
@@ -42,7 +42,15 @@ abbrev pub costs_of : Prepared → List ℕ
 costs_of p = picked p.shape.nodes p.costs.items
 
 abbrev pub problem_of : Prepared → Problem
-problem_of p = record { graph = p.shape.graph; nest = p.shape.nest; costs = costs_of p; bounds = p.bounds.items; loads = p.charges.loads.items; regions = p.charges.flags.items }
+problem_of p = record {
+  graph = p.shape.graph;
+  nest = p.shape.nest;
+  costs = costs_of p;
+  bounds = p.bounds.items;
+  loads = p.charges.loads.items;
+  regions
+      = p.charges.flags.items;
+}
 
 -- the greatest walk costs so much, by a solution that this section has under the other numbers
 pub record IsShownBy (p : Prepared) (value : ℕ) (s : Certified) : Type 0 where
@@ -57,7 +65,8 @@ pub record IsShownBy (p : Prepared) (value : ℕ) (s : Certified) : Type 0 where
 pub data IsLargeBy (p : Prepared) (value : ℕ) : Type 0 where
   node : SomeExceeds p.shape.nodes p.costs.items → value ≡ limit → IsLargeBy p value
   walk : AreSmallAt p.shape.nodes p.costs.items → WalkExceeds p.shape.graph (costs_of p) (loops_of (problem_of p)) → value ≡ limit → IsLargeBy p value
-  iterations : AreSmallAt p.shape.nodes p.costs.items → IsGreatest p.shape.graph (costs_of p) (loops_of (problem_of p)) value → value < limit → IterationsExceed p.shape.graph (costs_of p) (loops_of (problem_of p)) → IsLargeBy p value
+  iterations : AreSmallAt p.shape.nodes p.costs.items → IsGreatest p.shape.graph (costs_of p) (loops_of (problem_of p)) value → value < limit
+      → IterationsExceed p.shape.graph (costs_of p) (loops_of (problem_of p)) → IsLargeBy p value
 
 abbrev pub IsWalked : Prepared → Walked → Type 0
 IsWalked p Never = AreSmallAt p.shape.nodes p.costs.items × (¬ ReachesExit p.shape.graph 0)
@@ -87,7 +96,11 @@ abbrev pub section_unless : (too_large : Bool) → CertSection → Option CertSe
 section_unless too_large s = if too_large then None else Some s
 
 abbrev pub found_by : (method : ℕ) → Fit → Walked → Found
-found_by m fit Never = record { known = record { fits = fit.fits; asked = None; full = None; too_large = false }; section = Some (section_by m fit (record { nodes = []; loops = [] })) }
+found_by m fit Never = record {
+  known = record { fits = fit.fits; asked = None; full = None; too_large = false };
+  section = Some
+      (section_by m fit (record { nodes = []; loops = [] }));
+}
 found_by m fit (Shown value s) = record { known = known_by fit value false; section = section_unless (known_by fit value false).too_large (section_by m fit s) }
 found_by m fit (Large value) = record { known = known_by fit value true; section = None }
 
@@ -107,11 +120,12 @@ pub record IsSectionOf (m : ℕ) (k : Known) (s : CertSection) : Type 0 where
 abbrev pub ShowsNumber : Program → Timing → BoundOf → (table : List Known) → (method : ℕ) → Known → CertSection → Type 0
 ShowsNumber P t bound_of table m k s = (earlier : List Valued) → Cover P table earlier m → MeetsSection P t bound_of earlier s k.asked
 
--- What is found of the method m: for each program of the table, where the numbers of all that it may call are known, what is known of it; and where none of its numbers
--- is too large, its section.
+-- What is found of the method m: for each program of the table, where the numbers of all that it may call are known, what is known of it; and where
+-- none of its numbers is too large, its section.
 pub record IsFoundOf (set : Setting) (table : List Known) (m : ℕ) (f : Found) : Type 0 where
   pub limited : IsLimited f.known
   pub known : ForEach set (λ P. AreTold P set.timing table m → IsKnownOf P set.timing (bounds_in set) table m f.known)
   pub none : f.known.too_large ≡ true → f.section ≡ None
   pub some : f.known.too_large ≡ false → f.section ≢ None
-  pub section : IfSome f.section (λ s. IsSectionOf m f.known s × ForEach set (λ P. AreTold P set.timing table m → ShowsNumber P set.timing (bounds_in set) table m f.known s))
+  pub section : IfSome f.section (λ s. IsSectionOf m f.known s
+      × ForEach set (λ P. AreTold P set.timing table m → ShowsNumber P set.timing (bounds_in set) table m f.known s))

@@ -15,6 +15,8 @@ use Rattle.wcet.specs.Found.{IsFitOf, IsWalked, found_by}
 -- where a method is prepared for a program, and all is told that it may call, what is found by its walks is known of it
 abbrev pub KnownIs : Type 0
 KnownIs =
-    (P : Program) (t : Timing) (bound_of : BoundOf) (f : Flow) (k : Coded) (table : List Known) (m : ℕ) (p : Prepared) (fit : Fit) (walked : Walked) → IsFlowOf P f → slice_get f.methods m ≡ Some k → IsCoded k
-    → t.read ≤ 63 → t.write ≤ 63 → AreTold P t table m → All IsLimited table → IsInShape p → IsPreparedFor P t bound_of table m p → p.fits ≡ fit.fits → IsFitOf P t m fit → IsWalked p walked
+    (P : Program) (t : Timing) (bound_of : BoundOf) (f : Flow) (k : Coded) (table : List Known) (m : ℕ) (p : Prepared) (fit : Fit) (walked : Walked)
+    → IsFlowOf P f → slice_get f.methods m ≡ Some k → IsCoded k
+    → t.read ≤ 63 → t.write ≤ 63 → AreTold P t table m → All IsLimited table → IsInShape p → IsPreparedFor P t bound_of table m p → p.fits ≡ fit.fits
+    → IsFitOf P t m fit → IsWalked p walked
     → IsKnownOf P t bound_of table m (found_by m fit walked).known

@@ -9,10 +9,10 @@ use Rattle.method_flow.specs.Live.{CanEnd}
 use Rattle.method_flow.specs.Recursion.{MayCall}
 use Rattle.method_flow.specs.declared.timing.Timing.{Timing}
 use Rattle.method_flow.specs.Regions.{load}
-use Rattle.flow_costs.specs.Costs.{bounds_of}
+use Rattle.node_costs.specs.Costs.{bounds_of}
 use Rattle.bound_rules.specs.Fitting.{RegionFits, loads_of}
 use Rattle.bound_rules.specs.Numbers.{Numbers, IsInside, IsLoops, IsFull, charged_loops, no_fees}
-use Rattle.walk_bounds.specs.Limited.{limit, limited, limited_of}
+use Rattle.compact_walks.specs.Limited.{limit, limited, limited_of}
 use Rattle.wcet.specs.declared.known.Known.{Known}
 
 -- a program's table, the bounds of its loops and the timing of the machine
@@ -71,18 +71,21 @@ pub record HasNumbers (P : Program) (t : Timing) (N : Numbers) (m : ℕ) (k : Kn
 -- a number of the method is too large, or iterations of its loops are so together, under the costs of the number that is asked of it; what is printed apart
 pub data ExceedsBeside (P : Program) (t : Timing) (bound_of : BoundOf) (N : Numbers) (m : ℕ) : Type 0 where
   full : (n : ℕ) → N.full m ≡ Some n → 2 ^ 64 ≤ n → ExceedsBeside P t bound_of N m
-  inside : RegionFits P t m → (h : IsInside P t bound_of N m) → IterationsExceed h.flow.graph h.costs (charged_loops h.flow (no_fees h.flow)) → ExceedsBeside P t bound_of N m
-  loops : ¬ RegionFits P t m → (h : IsLoops P t bound_of N m) → IterationsExceed h.flow.graph h.costs (charged_loops h.flow h.fees) → ExceedsBeside P t bound_of N m
+  inside : RegionFits P t m → (h : IsInside P t bound_of N m) → IterationsExceed h.flow.graph h.costs (charged_loops h.flow (no_fees h.flow))
+      → ExceedsBeside P t bound_of N m
+  loops : ¬ RegionFits P t m → (h : IsLoops P t bound_of N m) → IterationsExceed h.flow.graph h.costs (charged_loops h.flow h.fees)
+      → ExceedsBeside P t bound_of N m
 
 -- ---- one method
 
--- the number with all loads, by the one that is asked: with the loads of all that may run where these fit the cache together, and else with those of the method itself
+-- the number with all loads, by the one that is asked: with the loads of all that may run where these fit the cache together, and else with those of
+-- the method itself
 pub data IsFullBy (P : Program) (t : Timing) (m : ℕ) (k : Known) : Type 0 where
   fits : (together : RegionFits P t m) → k.full ≡ option_map (λ n. limited (n + loads_of together)) k.asked → IsFullBy P t m k
   exceeds : ¬ RegionFits P t m → k.full ≡ option_map (λ n. limited (n + load P t.read m)) k.asked → IsFullBy P t m k
 
--- what is said of a method whatever its numbers: whether what may run while it does fits the cache together, whether it can end, and what its number with all loads has
--- beside the one that is asked of it
+-- what is said of a method whatever its numbers: whether what may run while it does fits the cache together, whether it can end, and what its number
+-- with all loads has beside the one that is asked of it
 pub record IsToldOf (P : Program) (t : Timing) (m : ℕ) (k : Known) : Type 0 where
   pub fits : IsTrue k.fits ↔ RegionFits P t m
   pub asked : IsSome k.asked ↔ CanEnd P m
@@ -93,10 +96,12 @@ pub record IsToldOf (P : Program) (t : Timing) (m : ℕ) (k : Known) : Type 0 wh
 abbrev pub AreTold : Program → Timing → List Known → (method : ℕ) → Type 0
 AreTold P t table m = (x : ℕ) → MayCall P m x → IsToldOf P t x (known_at table x)
 
--- What is known of a method, by what is known of all that it may call: every family of numbers that agrees on these agrees on it, and has a number of it that is too
--- large exactly where that is known; and where none is, the family that has exactly these numbers has those of the method.
+-- What is known of a method, by what is known of all that it may call: every family of numbers that agrees on these agrees on it, and has a number of
+-- it that is too large exactly where that is known; and where none is, the family that has exactly these numbers has those of the method.
 pub record IsKnownOf (P : Program) (t : Timing) (bound_of : BoundOf) (table : List Known) (m : ℕ) (k : Known) : Type 0 where
   pub told : IsToldOf P t m k
   pub agrees : (N : Numbers) → ((x : ℕ) → MayCall P m x → Agrees P t N x (known_at table x)) → AreNumbersOf P t bound_of N m → Agrees P t N m k
-  pub exceeds : (N : Numbers) → ((x : ℕ) → MayCall P m x → Agrees P t N x (known_at table x)) → AreNumbersOf P t bound_of N m → IsTrue k.too_large ↔ ExceedsBeside P t bound_of N m
-  pub found : k.too_large ≡ false → (N : Numbers) → ((x : ℕ) → MayCall P m x → HasNumbers P t N x (known_at table x)) → HasNumbers P t N m k → AreNumbersOf P t bound_of N m
+  pub exceeds : (N : Numbers) → ((x : ℕ) → MayCall P m x → Agrees P t N x (known_at table x)) → AreNumbersOf P t bound_of N m
+      → IsTrue k.too_large ↔ ExceedsBeside P t bound_of N m
+  pub found : k.too_large ≡ false → (N : Numbers) → ((x : ℕ) → MayCall P m x → HasNumbers P t N x (known_at table x)) → HasNumbers P t N m k
+      → AreNumbersOf P t bound_of N m

@@ -8,11 +8,11 @@ use Rattle.method_flow.specs.Keeping.{BoundOf}
 use Rattle.method_flow.specs.Regions.{load}
 use Rattle.method_flow.specs.declared.timing.Timing.{Timing}
 use Rattle.flow_graph.specs.Where.{IsEdgeWhere}
-use Rattle.flow_costs.specs.Costs.{AreOwnCosts}
+use Rattle.node_costs.specs.Costs.{AreOwnCosts}
 use Rattle.bound_rules.specs.declared.faults.BoundRefusal.{BoundRefusal}
 use Rattle.bound_rules.specs.declared.faults.BoundRefusal.TheVariants.{NoMemory}
 use Rattle.bound_rules.specs.Numbers.{Numbers, AreNumbers}
-use Rattle.walk_bounds.specs.Limited.{limit}
+use Rattle.compact_walks.specs.Limited.{limit}
 use Rattle.wcet.specs.declared.known.Known.{Known}
 use Rattle.wcet.specs.declared.telling.Told.{Told}
 use Rattle.wcet.specs.declared.shape.Shape.{Shape}
@@ -25,20 +25,24 @@ use Rattle.call_regions.specs.Calling.{IsTargetsFirst}
 -- the graph where just those calls go on of which a target can end is the live graph
 abbrev pub GraphsWhereTargetsEnd : Type 0
 GraphsWhereTargetsEnd =
-    (P : Program) (t : Timing) (f : Flow) (m : ℕ) (k : Coded) (table : List Known) (back : ℕ) (told : List Told) (g : Digraph) → IsFlowOf P f → slice_get f.methods m ≡ Some k → IsCoded k
+    (P : Program) (t : Timing) (f : Flow) (m : ℕ) (k : Coded) (table : List Known) (back : ℕ) (told : List Told) (g : Digraph) → IsFlowOf P f
+    → slice_get f.methods m ≡ Some k → IsCoded k
     → AreTold P t table m → AreToldBy table back f k.calls told → IsGraphBy (IsEdgeWhere P m k.calls (map (λ s. s.goes_on) told)) P m g → IsLiveGraph P m g
 
 -- costs with what is told of calls are the costs of the nodes of the live graph
 abbrev pub CostsAreLimited : Type 0
 CostsAreLimited =
-    (P : Program) (t : Timing) (f : Flow) (m : ℕ) (k : Coded) (table : List Known) (told : List Told) (own costs : List ℕ) (without : List Bool) (g : Digraph) → IsFlowOf P f → slice_get f.methods m ≡ Some k → IsCoded k
-    → AreOwnCosts P t m k.code own → All (λ c. c < limit) own → AreToldBy table (load P t.read m) f k.calls told → AreAdded own k.calls told without costs → IsLiveGraph P m g
+    (P : Program) (t : Timing) (f : Flow) (m : ℕ) (k : Coded) (table : List Known) (told : List Told) (own costs : List ℕ) (without : List Bool) (g : Digraph)
+    → IsFlowOf P f → slice_get f.methods m ≡ Some k → IsCoded k
+    → AreOwnCosts P t m k.code own → All (λ c. c < limit) own → AreToldBy table (load P t.read m) f k.calls told → AreAdded own k.calls told without costs
+    → IsLiveGraph P m g
     → AreLimitedCosts P t m (λ q. adds_by P t table m (slice_index_or without (2 * q) false) q) g costs
 
 -- where the method is one of those for which all is ready, its live graph has a nest, and each loop a bound
 abbrev pub ReadyHasShape : Type 0
 ReadyHasShape =
-    (P : Program) (t : Timing) (bound_of : BoundOf) (root m : ℕ) (order : List ℕ) (g : Digraph) (s : Shape) (fault : BoundRefusal) → IsReady P bound_of root order → Contains order m → IsLiveGraph P m g
+    (P : Program) (t : Timing) (bound_of : BoundOf) (root m : ℕ) (order : List ℕ) (g : Digraph) (s : Shape) (fault : BoundRefusal)
+    → IsReady P bound_of root order → Contains order m → IsLiveGraph P m g
     → (IsLeftBy g m fault → fault ≡ NoMemory)
     × (IsShapeOf g s → IsUnbounded bound_of m s fault → fault ≡ NoMemory)
 
@@ -59,4 +63,5 @@ numbers_by table = record { inside = λ m. (known_at table m).asked; loops = λ 
 abbrev pub KnownAreNumbers : Type 0
 KnownAreNumbers =
     (P : Program) (t : Timing) (bound_of : BoundOf) (root : ℕ) (order : List ℕ) (table : List Known) → IsTargetsFirst P root order
-    → ((m : ℕ) → Contains order m → IsKnownOf P t bound_of table m (known_at table m)) → ((m : ℕ) → Contains order m → (known_at table m).too_large ≡ false) → AreNumbers P t bound_of root (numbers_by table)
+    → ((m : ℕ) → Contains order m → IsKnownOf P t bound_of table m (known_at table m)) → ((m : ℕ) → Contains order m → (known_at table m).too_large ≡ false)
+    → AreNumbers P t bound_of root (numbers_by table)

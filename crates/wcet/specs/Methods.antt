@@ -26,12 +26,13 @@ AreBehindCalls P ms = (i m x : ℕ) → slice_get ms i ≡ Some m → MayCall P 
 abbrev pub IsLargeAmong : List Known → List ℕ → ℕ → Type 0
 IsLargeAmong table ms m = Contains ms m × ((known_at table m).too_large ≡ true)
 
--- Of the methods that were looked at: what is known of each, the least with a number that is too large, and where there is none the sections of all, which meet their
--- conditions one behind the other.
+-- Of the methods that were looked at: what is known of each, the least with a number that is too large, and where there is none the sections of all,
+-- which meet their conditions one behind the other.
 pub record AreMethodsFound (set : Setting) (done : List ℕ) (a : Methods) : Type 0 where
   pub long : length a.table.items ≡ length set.flow.methods
   pub limited : All IsLimited a.table.items
-  pub known : ForEach set (λ P. AreBehindCalls P done → (m : ℕ) → Contains done m → IsKnownOf P set.timing (bounds_in set) a.table.items m (known_at a.table.items m))
+  pub known : ForEach set (λ P. AreBehindCalls P done → (m : ℕ) → Contains done m
+      → IsKnownOf P set.timing (bounds_in set) a.table.items m (known_at a.table.items m))
   pub least : IsLeast (IsLargeAmong a.table.items done) a.least
   pub in_text : All (IsSectionInText 2) a.sections.items
   pub methods : IfNone a.least (map (λ s. s.method) a.sections.items ≡ done)

@@ -1,5 +1,6 @@
 -- What the walks of a method are asked on: its live graph on nodes without gaps, its loops with their bounds and charges, and costs.
-use Rattle.std.specs.Prelude.{◌≡◌, ◌≢◌, ◌↔◌, ◌⊎◌, ℕ, ◌+◌, ◌*◌, ◌/◌, ◌<◌, Bool, true, false, List, [], length, map, All, Contains, Option, Some, None, IsSome, IsTrue, unwrap_or, slice_get, slice_index, slice_index_or}
+use Rattle.std.specs.Prelude.{◌≡◌, ◌≢◌, ◌↔◌, ◌⊎◌, ℕ, ◌+◌, ◌*◌, ◌/◌, ◌<◌, Bool, true, false, List, [], length, map, All, Contains, Option, Some, None, IsSome}
+use Rattle.std.specs.Prelude.{IsTrue, unwrap_or, slice_get, slice_index, slice_index_or}
 use Rattle.loop_nest.specs.Digraph.{Digraph}
 use Rattle.loop_nest.specs.Reduction.{IsReducible, Leaves}
 use Rattle.loop_nest.specs.Nest.{NaturalLoop, IsNest, headers_of}
@@ -9,7 +10,7 @@ use Rattle.path_solver.specs.Regions.{charged, AreRegionsApart}
 use Rattle.bytecode_model.specs.Program.{Program}
 use Rattle.method_flow.specs.declared.flow.Call.{Call}
 use Rattle.method_flow.specs.Flow.{Coded, IsCoded, IsCodedOf}
-use Rattle.flow_costs.specs.Costs.{AreOwnCosts}
+use Rattle.node_costs.specs.Costs.{AreOwnCosts}
 use Rattle.method_flow.specs.Nodes.{Node, number_of, IsReached}
 use Rattle.flow_graph.specs.Laws.{IsGraphWhere}
 use Rattle.method_flow.specs.Calls.{targets_of}
@@ -25,8 +26,8 @@ use Rattle.bound_rules.specs.declared.faults.BoundRefusal.TheVariants.{Irreducib
 use Rattle.bound_rules.specs.Costs.{added_at, greatest_of}
 use Rattle.bound_rules.specs.Fitting.{RegionFits, LoopFits, loads_of, header_bound, header_bounds}
 use Rattle.bound_rules.specs.Numbers.{HasCall, AreCharged, AreLoads, is_in_charged}
-use Rattle.walk_bounds.specs.Limited.{limit, limited}
-use Rattle.walk_bounds.specs.Moving.{moved_nest}
+use Rattle.compact_walks.specs.Limited.{limit, limited}
+use Rattle.compact_walks.specs.Moving.{moved_nest}
 use Rattle.wcet.specs.declared.known.Known.{Known}
 use Rattle.wcet.specs.declared.charges.Charges.{Charges}
 use Rattle.wcet.specs.declared.shape.Shape.{Shape}
@@ -61,7 +62,8 @@ IsLeftAs m node left fault = ⊥
 
 -- it has none, since the reduction leaves these nodes; of want of memory nothing is said
 abbrev pub IsLeftBy : Digraph → (method : ℕ) → BoundRefusal → Type 0
-IsLeftBy g m (Irreducible x nodes) = (x ≡ m) × ((d : Digraph) × (node : ℕ → ℕ) × (left : List ℕ) × IsCompact g d node × Leaves d left × (left ≢ []) × (nodes.items ≡ map node left))
+IsLeftBy g m (Irreducible x nodes) = (x ≡ m) × ((d : Digraph) × (node : ℕ → ℕ) × (left : List ℕ) × IsCompact g d node × Leaves d left × (left ≢ [])
+    × (nodes.items ≡ map node left))
 IsLeftBy g m NoMemory = Unit {0}
 IsLeftBy g m fault = ⊥
 
@@ -86,7 +88,8 @@ pub data IsCandidate (P : Program) (t : Timing) (m : ℕ) (members : List ℕ) (
 
 -- so of each loop
 abbrev pub AreCandidates : Program → Timing → (method : ℕ) → Shape → List (Option ℕ) → Type 0
-AreCandidates P t m s candidates = (i : ℕ) (l : NaturalLoop) (o : Option ℕ) → IsAt (nest_of s) i l → slice_get candidates i ≡ Some o → IsCandidate P t m l.members o
+AreCandidates P t m s candidates = (i : ℕ) (l : NaturalLoop) (o : Option ℕ) → IsAt (nest_of s) i l → slice_get candidates i ≡ Some o
+    → IsCandidate P t m l.members o
 
 -- a call stands at one of these nodes
 abbrev pub IsCallAt : List Call → (members : List ℕ) → Type 0
@@ -113,7 +116,8 @@ IsNoneOf m headers found fault = ⊥
 -- where all that may run fits the cache together no loop is charged, and else the outermost ones are that can be
 pub data AreChargesOf (P : Program) (t : Timing) (m : ℕ) (s : Shape) (fits : Bool) (c : Charges) : Type 0 where
   none : fits ≡ true → ((i : ℕ) → ¬ IsFlagged c.flags.items i) → AreChargesOf P t m s fits c
-  some : fits ≡ false → AreCharged P t m (nest_of s) c.flags.items → AreLoads P t m (nest_of s) c.flags.items (charged c.loads.items c.flags.items) → AreChargesOf P t m s fits c
+  some : fits ≡ false → AreCharged P t m (nest_of s) c.flags.items → AreLoads P t m (nest_of s) c.flags.items (charged c.loads.items c.flags.items)
+      → AreChargesOf P t m s fits c
 
 -- ---- costs
 
@@ -167,16 +171,19 @@ pub record IsPreparedFor (P : Program) (t : Timing) (bound_of : BoundOf) (table 
 -- it has the shape of the method's graph where its calls are told this
 abbrev pub IsShapeWith : Setting → (method : ℕ) → List Told → Shape → Type 0
 IsShapeWith set m told s =
-    (k : Coded) → slice_get set.flow.methods m ≡ Some k → (g : Digraph) × IsGraphWhere k (map (λ c. c.goes_on) told) g × (g.nodes ≡ 2 * length k.code) × IsShapeOf g s
+    (k : Coded) → slice_get set.flow.methods m ≡ Some k → (g : Digraph) × IsGraphWhere k (map (λ c. c.goes_on) told) g × (g.nodes ≡ 2 * length k.code)
+    × IsShapeOf g s
 
 -- or that graph has none
 abbrev pub HasNoShapeWith : Setting → (method : ℕ) → List Told → BoundRefusal → Type 0
 HasNoShapeWith set m told fault =
-    (fault ≡ NoMemory) ⊎ ((k : Coded) → slice_get set.flow.methods m ≡ Some k → (g : Digraph) × IsGraphWhere k (map (λ c. c.goes_on) told) g × IsLeftBy g m fault)
+    (fault ≡ NoMemory) ⊎ ((k : Coded) → slice_get set.flow.methods m ≡ Some k
+    → (g : Digraph) × IsGraphWhere k (map (λ c. c.goes_on) told) g × IsLeftBy g m fault)
 
 -- why it can't be said: the live graph has no nest, or a loop of it no bound; of want of memory nothing is said
 abbrev pub IsNotPrepared : Program → BoundOf → (method : ℕ) → BoundRefusal → Type 0
-IsNotPrepared P bound_of m fault = (fault ≡ NoMemory) ⊎ ((g : Digraph) × IsLiveGraph P m g × (IsLeftBy g m fault ⊎ ((s : Shape) × IsShapeOf g s × IsUnbounded bound_of m s fault)))
+IsNotPrepared P bound_of m fault = (fault ≡ NoMemory) ⊎ ((g : Digraph) × IsLiveGraph P m g
+    × (IsLeftBy g m fault ⊎ ((s : Shape) × IsShapeOf g s × IsUnbounded bound_of m s fault)))
 
 -- how many calls the method has
 abbrev pub call_count : Setting → (method : ℕ) → ℕ

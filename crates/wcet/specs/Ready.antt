@@ -19,7 +19,8 @@ abbrev pub IsWantOfMemory : BoundRefusal → Type 0
 IsWantOfMemory NoMemory = Unit {0}
 IsWantOfMemory fault = ⊥
 
--- why there is no certificate then: a number is too large, and the method is the least of which one is; of want of memory nothing is said, and no other cause is left
+-- why there is no certificate then: a number is too large, and the method is the least of which one is; of want of memory nothing is said, and no
+-- other cause is left
 abbrev pub IsSizeCause : Program → Timing → BoundOf → (root : ℕ) → BoundRefusal → Type 0
 IsSizeCause P t bound_of root (TooLarge m) = IsFirstTooLarge P t bound_of root m
 IsSizeCause P t bound_of root NoMemory = Unit {0}

@@ -41,7 +41,8 @@ pub record AreLeastWithin (set : Setting) (done : List ℕ) (table : List Known)
 -- of each of these methods what is printed of it, or the least method with a number that is too large
 pub record AreMethodBounds (set : Setting) (methods : List ℕ) (bounds : List MethodBound) : Type 0 where
   pub long : length bounds ≡ length methods
-  pub each : ForEach set (λ P. (i m : ℕ) (x : MethodBound) → slice_get methods i ≡ Some m → slice_get bounds i ≡ Some x → IsMethodBound P set.timing (bounds_in set) m x)
+  pub each : ForEach set (λ P. (i m : ℕ) (x : MethodBound) → slice_get methods i ≡ Some m → slice_get bounds i ≡ Some x
+      → IsMethodBound P set.timing (bounds_in set) m x)
 
 -- all methods are found of an order for which all is ready, whichever method it is that they run for
 pub record AreFoundFor (set : Setting) (order : List ℕ) (a : Methods) : Type 0 where

@@ -15,12 +15,14 @@ use Rattle.wcet.specs.Found.{IsWalked, found_by, IsSectionOf, ShowsNumber}
 -- where a method is prepared for a program, and all is told that it may call, the section that is found shows the number that is asked of it
 abbrev pub FoundShows : Type 0
 FoundShows =
-    (P : Program) (t : Timing) (bound_of : BoundOf) (f : Flow) (k : Coded) (table : List Known) (m : ℕ) (p : Prepared) (fit : Fit) (walked : Walked) → IsFlowOf P f → slice_get f.methods m ≡ Some k → IsCoded k
+    (P : Program) (t : Timing) (bound_of : BoundOf) (f : Flow) (k : Coded) (table : List Known) (m : ℕ) (p : Prepared) (fit : Fit) (walked : Walked)
+    → IsFlowOf P f → slice_get f.methods m ≡ Some k → IsCoded k
     → AreTold P t table m → IsInShape p → IsPreparedFor P t bound_of table m p → p.fits ≡ fit.fits → IsWalked p walked
     → IfSome (found_by m fit walked).section (ShowsNumber P t bound_of table m (found_by m fit walked).known)
 
 -- and it is one of the method that can be written, whatever the program
 abbrev pub FoundInText : Type 0
 FoundInText =
-    (bound_of : BoundOf) (m : ℕ) (p : Prepared) (fit : Fit) (walked : Walked) → m < 2 ^ 32 → p.shape.size ≤ 2 ^ 32 → IsInShape p → AreBounds bound_of m p.shape p.bounds.items → p.fits ≡ fit.fits → IsWalked p walked
+    (bound_of : BoundOf) (m : ℕ) (p : Prepared) (fit : Fit) (walked : Walked) → m < 2 ^ 32 → p.shape.size ≤ 2 ^ 32 → IsInShape p
+    → AreBounds bound_of m p.shape p.bounds.items → p.fits ≡ fit.fits → IsWalked p walked
     → IfSome (found_by m fit walked).section (IsSectionOf m (found_by m fit walked).known)

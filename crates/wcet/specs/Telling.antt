@@ -1,20 +1,21 @@
 -- What the calls of a method are told of all that they may run.
-use Rattle.std.specs.Prelude.{◌≡◌, ◌≢◌, ◌↔◌, ℕ, ◌+◌, ◌*◌, ◌<◌, ◌≤◌, Bool, false, if◌then◌else◌, List, length, All, Contains, Option, Some, IsSome, IsTrue, option_map, unwrap_or, slice_get, slice_index, slice_index_or}
+use Rattle.std.specs.Prelude.{◌≡◌, ◌≢◌, ◌↔◌, ℕ, ◌+◌, ◌*◌, ◌<◌, ◌≤◌, Bool, false, if◌then◌else◌, List, length, All, Contains, Option, Some, IsSome, IsTrue}
+use Rattle.std.specs.Prelude.{option_map, unwrap_or, slice_get, slice_index, slice_index_or}
 use Rattle.method_flow.specs.declared.flow.Call.{Call}
 use Rattle.method_flow.specs.Flow.{Coded, Flow, targets_of_call}
 use Rattle.bound_rules.specs.Costs.{greatest_of}
-use Rattle.walk_bounds.specs.Limited.{limit, limited}
+use Rattle.compact_walks.specs.Limited.{limit, limited}
 use Rattle.wcet.specs.declared.known.Known.{Known}
 use Rattle.wcet.specs.declared.telling.Told.{Told}
-use Rattle.flow_costs.specs.Costs.{method_load}
+use Rattle.node_costs.specs.Costs.{method_load}
 use Rattle.wcet.specs.Known.{Setting, known_at}
 
 -- a number with so many cycles more, when control comes back
 abbrev pub with_back : ℕ → Option ℕ → Option ℕ
 with_back back o = option_map (λ n. limited (n + back)) o
 
--- Of the methods that a call may run: whether one of them can end, the greatest of their numbers as far as they are asked of them, and the greatest with all loads and
--- the load of the caller when control comes back to it.
+-- Of the methods that a call may run: whether one of them can end, the greatest of their numbers as far as they are asked of them, and the greatest
+-- with all loads and the load of the caller when control comes back to it.
 pub record IsToldBy (table : List Known) (back : ℕ) (targets : List ℕ) (told : Told) : Type 0 where
   pub goes_on : IsTrue told.goes_on ↔ ((x : ℕ) × Contains targets x × IsSome (known_at table x).full)
   pub inside : told.inside ≡ unwrap_or (greatest_of (λ x. (known_at table x).asked) targets) 0
@@ -32,7 +33,8 @@ IsSmallTold s = (s.inside ≤ limit) × (s.full ≤ limit)
 -- each of the calls of the method m, where its load is that of the table
 abbrev pub AreToldIn : Setting → (method : ℕ) → List Known → List Told → Type 0
 AreToldIn set m table told =
-    All IsSmallTold told × ((k : Coded) → slice_get set.flow.methods m ≡ Some k → AreToldBy table (method_load set.timing.read set.flow.methods m) set.flow k.calls told)
+    All IsSmallTold told × ((k : Coded) → slice_get set.flow.methods m ≡ Some k
+    → AreToldBy table (method_load set.timing.read set.flow.methods m) set.flow k.calls told)
 
 -- what is added at a call, where it costs nothing for loads or does
 abbrev pub added_by : (without_loads : Bool) → Told → ℕ

@@ -1,29 +1,31 @@
 //! The bounds of the loops of a method, and which of them are charged the loads of what may run in them.
-ghost use Rattle.std.specs.Prelude.{◌≡◌, ◌*◌, ◌<◌, ℕ, List, None, length, map, is_some, unwrap_or, slice_index, slice_index_or, false, true, All, IfOk, IfErr, MatchBool, MatchOption};
+ghost use Rattle.std.specs.Prelude.{◌≡◌, ◌*◌, ◌<◌, ℕ, List, None, length, map, is_some, unwrap_or, slice_index, slice_index_or, false, true, All, IfOk, IfErr};
+ghost use Rattle.std.specs.Prelude.{MatchBool, MatchOption};
 ghost use Rattle.loop_nest.specs.Nest.{headers_of};
-ghost use Rattle.walk_bounds.specs.Moving.{moved_nest};
+ghost use Rattle.compact_walks.specs.Moving.{moved_nest};
 ghost use Rattle.wcet.specs.Known.{bounds_in, ForEach};
 ghost use Rattle.path_solver.specs.Reaching.{IsFlagged};
 ghost use Rattle.path_solver.specs.Regions.{AreRegionsApart};
-ghost use Rattle.walk_bounds.specs.Charging.{AreMarked, AreOutermost};
+ghost use Rattle.compact_walks.specs.Charging.{AreMarked, AreOutermost};
 ghost use Rattle.method_flow.specs.declared.flow.Call.{Call};
 ghost use Rattle.method_flow.specs.Flow.{IsCoded};
-ghost use Rattle.wcet.specs.Prepared.{AreAllSome, AreBounds, AreCallNodes, AreCallNodesOf, AreCandidates, AreChargesOf, IsCallAt, IsCandidate, IsNoneOf, IsShapeOf, IsUnbounded, node_of};
+ghost use Rattle.wcet.specs.Prepared.{AreAllSome, AreBounds, AreCallNodes, AreCallNodesOf, AreCandidates, AreChargesOf, IsCallAt, IsCandidate, IsNoneOf};
+ghost use Rattle.wcet.specs.Prepared.{IsShapeOf, IsUnbounded, node_of};
 ghost use Rattle.loop_nest.specs.Digraph.{Digraph};
 
 use super::shape::Shape;
 use super::task::Task;
+use base::NoMemory;
 use bound_rules::BoundRefusal;
 use call_regions::{Region, loop_region};
-use flow_costs::{bounds_of_headers, loads};
-use jop_base::NoMemory;
-use jop_opcodes::laws::starts_follow_one_another;
+use compact_walks::laws::outermost_are_apart;
+use compact_walks::{numbers, outermost};
 use loop_nest::loops::Loop;
 use method_flow::laws::rows_are_of_their_kinds;
 use method_flow::{Call, FlowMethod};
+use node_costs::{bounds_of_headers, loads};
+use opcodes::laws::starts_follow_one_another;
 use std::alloc::Global;
-use walk_bounds::laws::outermost_are_apart;
-use walk_bounds::{numbers, outermost};
 
 /// Which loops of a nest are charged at each entry, and the loads of each of these.
 #[derive(Drop)]

@@ -2,17 +2,17 @@
 ghost use Rattle.std.specs.Prelude.{◌≡◌, ◌*◌, ◌<◌, ◌≤◌, length, All, IfOk};
 ghost use Rattle.std.specs.List.Sorted.{IsStrictlyIncreasing};
 ghost use Rattle.method_flow.specs.Flow.{places_of};
-ghost use Rattle.walk_bounds.specs.Limited.{limit};
+ghost use Rattle.compact_walks.specs.Limited.{limit};
 ghost use Rattle.wcet.specs.Telling.{AreAdded, IsSmallTold, added_by};
 ghost use Rattle.wcet.specs.Prepared.{AreCostsBy, AreWithout, IsShapeOf};
 ghost use Rattle.loop_nest.specs.Digraph.{Digraph};
 
 use super::shape::Shape;
 use super::telling::Told;
-use jop_base::NoMemory;
+use base::NoMemory;
+use compact_walks::{held, limited_sum};
 use method_flow::Call;
 use std::alloc::Global;
-use walk_bounds::{held, limited_sum};
 
 /// What is added at a call, where it costs nothing for loads or does.
 fn added(told: Told, without_loads: bool) -> u128

@@ -4,7 +4,7 @@ ghost use Rattle.bound_cert.specs.Certificate.{IsInGrammar};
 ghost use Rattle.bound_rules.specs.Bounding.{KeepSize};
 ghost use Rattle.bound_rules.specs.Conditions.{MeetsConditions};
 ghost use Rattle.bound_rules.specs.Numbers.{IsPrinted};
-ghost use Rattle.walk_bounds.specs.Limited.{limit};
+ghost use Rattle.compact_walks.specs.Limited.{limit};
 ghost use Rattle.wcet.specs.Ending.{AreKnownWithin, AreReadyFound, IsMethodBound, IsPastLimit, IsPrintedBy, IsPrintedSmall};
 ghost use Rattle.wcet.specs.Known.{bounds_in, ForEach};
 ghost use Rattle.wcet.specs.Ready.{IsSizeCause};
@@ -14,7 +14,7 @@ use super::methods::{Methods, lesser};
 use super::task::Task;
 use bound_cert::Cert;
 use bound_rules::BoundRefusal;
-use flow_costs::printed;
+use node_costs::printed;
 
 /// What `bound` answers of a method.
 #[derive(Clone, Copy)]

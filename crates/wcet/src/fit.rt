@@ -1,13 +1,13 @@
 //! Whether all that may run while a method does fits the cache together.
 ghost use Rattle.std.specs.Prelude.{◌<◌, ◌≤◌, length, IfOk};
-ghost use Rattle.walk_bounds.specs.Limited.{limit};
+ghost use Rattle.compact_walks.specs.Limited.{limit};
 ghost use Rattle.wcet.specs.Known.{ForEach};
 ghost use Rattle.wcet.specs.Found.{IsFitOf};
 
 use super::task::Task;
+use base::NoMemory;
 use call_regions::{Region, region};
-use flow_costs::{load, loads};
-use jop_base::NoMemory;
+use node_costs::{load, loads};
 use std::alloc::Global;
 
 /// Whether all that may run while a method does fits the cache together, and the loads that its number with all loads has beside the

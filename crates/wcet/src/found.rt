@@ -1,8 +1,8 @@
 //! What is found of one method.
 ghost use Rattle.std.specs.Prelude.{◌≡◌, ◌<◌, ◌≤◌, ◌^◌, ℕ, Some, length, slice_get, All, IfOk, IfErr};
 ghost use Rattle.method_flow.specs.Flow.{Coded, IsCoded};
-ghost use Rattle.walk_bounds.specs.Limited.{limit, ArePicked, AreSmallAt};
-ghost use Rattle.walk_bounds.specs.Solving.{IsShown};
+ghost use Rattle.compact_walks.specs.Limited.{limit, ArePicked, AreSmallAt};
+ghost use Rattle.compact_walks.specs.Solving.{IsShown};
 ghost use Rattle.wcet.specs.declared.found.Walked.TheVariants.{Never, Shown, Large};
 ghost use Rattle.wcet.specs.Known.{bounds_in, ForEach, AreTold, IsLimited, IsSetting};
 ghost use Rattle.wcet.specs.Prepared.{IsInShape, IsNotPrepared};
@@ -14,13 +14,13 @@ use super::known::Known;
 use super::prepared::{Prepared, prepare};
 use super::show_laws::{found_in_text, found_shows};
 use super::task::Task;
+use base::NoMemory;
 use bound_cert::{CertSection, SectionKind};
 use bound_rules::BoundRefusal;
-use jop_base::NoMemory;
+use compact_walks::{Answer, limited_sum, moved, picked, solve};
 use path_solver::solved::Solved;
 use section_check::section::Section;
 use std::alloc::Global;
-use walk_bounds::{Answer, limited_sum, moved, picked, solve};
 
 /// What is known of a method, and its section where none of its numbers is too large.
 #[derive(Drop)]

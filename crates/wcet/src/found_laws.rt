@@ -6,7 +6,7 @@ ghost use Rattle.wcet.specs.FoundLaws.{KnownIs};
 pub fn known_is()
     ensures { KnownIs }
 {
-    jop_opcodes::laws::starts_follow_one_another();
+    opcodes::laws::starts_follow_one_another();
     method_flow::laws::rows_are_of_their_kinds();
     method_flow::laws::calls_are_invokes();
     method_flow::laws::ending_is_a_walk();
@@ -18,8 +18,8 @@ pub fn known_is()
     bound_rules::laws::headers_are_instructions();
     bound_rules::laws::charged_loops_are_one();
     path_solver::laws::lies_on_bounded_walk();
-    walk_bounds::laws::graphs_are_moved();
-    walk_bounds::laws::moved_reaches_exit();
-    walk_bounds::laws::moved_is_nest();
-    walk_bounds::laws::moved_is_greatest();
+    compact_walks::laws::graphs_are_moved();
+    compact_walks::laws::moved_reaches_exit();
+    compact_walks::laws::moved_is_nest();
+    compact_walks::laws::moved_is_greatest();
 }

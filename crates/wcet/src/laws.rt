@@ -6,7 +6,7 @@ ghost use Rattle.wcet.specs.Laws.{AllAgree, CostsAreLimited, GraphsWhereTargetsE
 pub fn graphs_where_targets_end()
     ensures { GraphsWhereTargetsEnd }
 {
-    jop_opcodes::laws::starts_follow_one_another();
+    opcodes::laws::starts_follow_one_another();
     method_flow::laws::rows_are_of_their_kinds();
 }
 
@@ -14,7 +14,7 @@ pub fn graphs_where_targets_end()
 pub fn costs_are_limited()
     ensures { CostsAreLimited }
 {
-    jop_opcodes::laws::starts_follow_one_another();
+    opcodes::laws::starts_follow_one_another();
     method_flow::laws::rows_are_of_their_kinds();
 }
 
@@ -22,10 +22,10 @@ pub fn costs_are_limited()
 pub fn ready_has_shape()
     ensures { ReadyHasShape }
 {
-    walk_bounds::laws::parts_are_sound();
-    walk_bounds::laws::graphs_are_moved();
-    walk_bounds::laws::ends_are_one();
-    walk_bounds::laws::moved_is_nest();
+    compact_walks::laws::parts_are_sound();
+    compact_walks::laws::graphs_are_moved();
+    compact_walks::laws::ends_are_one();
+    compact_walks::laws::moved_is_nest();
     bound_rules::laws::headers_are_instructions();
 }
 

@@ -6,7 +6,7 @@ ghost use Rattle.std.specs.Prelude.{◌≡◌, ◌≤◌, ◌<◌, ℕ, length, 
 ghost use Rattle.bytecode_model.specs.Program.{Program};
 ghost use Rattle.cache_regions.specs.Region.{AreDistinct};
 ghost use Rattle.method_flow.specs.Flow.{IsFlowOf};
-ghost use Rattle.flow_costs.specs.Costs.{bounds_of};
+ghost use Rattle.node_costs.specs.Costs.{bounds_of};
 ghost use Rattle.bound_cert.specs.Certificate.{IsInGrammar};
 ghost use Rattle.bound_rules.specs.Bounding.{KeepSize};
 ghost use Rattle.bound_rules.specs.Conditions.{MeetsConditions};
@@ -31,12 +31,12 @@ pub mod show_laws;
 mod task;
 mod telling;
 
+use base::NoMemory;
 use bound_cert::Cert;
 use bound_rules::BoundRefusal;
 use call_regions::Order;
 pub use ending::MethodBound;
 use ending::certificate;
-use jop_base::NoMemory;
 use loop_bounds::Bounds;
 use method_flow::{FlowProgram, Timing};
 use methods::examine_all;
@@ -92,7 +92,8 @@ pub fn bounds_of_all(
     requires distinct { AreDistinct order.now.methods }
     requires ready { (P : Program) → IsFlowOf P f.now → (root : ℕ) × IsReady P (bounds_of f.now b.now) root order.now.methods }
     ensures long { IfOk result (λ bounds. length bounds.items ≡ length order.now.methods) }
-    ensures bounds { IfOk result (λ bounds. (P : Program) → IsFlowOf P f.now → (i m : ℕ) (x : MethodBound) → slice_get order.now.methods i ≡ Some m → slice_get bounds.items i ≡ Some x → IsMethodBound P t (bounds_of f.now b.now) m x) }
+    ensures bounds { IfOk result (λ bounds. (P : Program) → IsFlowOf P f.now → (i m : ℕ) (x : MethodBound) → slice_get order.now.methods i ≡ Some m
+        → slice_get bounds.items i ≡ Some x → IsMethodBound P t (bounds_of f.now b.now) m x) }
 {
     let task = Task::new(f, b, t);
     match examine_all(alloc, &task, order.methods.as_slice()) {

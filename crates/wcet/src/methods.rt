@@ -10,9 +10,9 @@ use super::found::{Found, examine};
 use super::known::{Known, UNKNOWN};
 use super::laws::ready_has_shape;
 use super::task::Task;
+use base::NoMemory;
 use bound_cert::CertSection;
 use bound_rules::BoundRefusal;
-use jop_base::NoMemory;
 use std::alloc::Global;
 
 /// What is known of each method, the least of those of which a number is too large, and the sections of those before it.

@@ -2,7 +2,8 @@
 ghost use Rattle.std.specs.Prelude.{◌≡◌, ◌<◌, ◌↔◌, length, All, IfOk, IfErr, IsTrue};
 ghost use Rattle.bound_rules.specs.Fitting.{RegionFits};
 ghost use Rattle.wcet.specs.Known.{bounds_in, ForEach, AreTold, IsLimited};
-ghost use Rattle.wcet.specs.Prepared.{AreBounds, AreChargesOf, AreMethodCosts, AreToldWith, HasNoShapeWith, IsInShape, IsNotPrepared, IsPreparedFor, IsShapeWith, IsUnbounded, call_count};
+ghost use Rattle.wcet.specs.Prepared.{AreBounds, AreChargesOf, AreMethodCosts, AreToldWith, HasNoShapeWith, IsInShape, IsNotPrepared, IsPreparedFor};
+ghost use Rattle.wcet.specs.Prepared.{IsShapeWith, IsUnbounded, call_count};
 
 use super::charges::{Charges, charges_of, loop_bounds};
 use super::costs::costs;
@@ -11,10 +12,10 @@ use super::laws::{costs_are_limited, graphs_where_targets_end};
 use super::shape::{Shape, shape_in, told_graph};
 use super::task::Task;
 use super::telling::{Told, tell};
+use base::NoMemory;
 use bound_rules::BoundRefusal;
-use flow_costs::own_costs;
-use jop_base::NoMemory;
-use jop_opcodes::laws::starts_follow_one_another;
+use node_costs::own_costs;
+use opcodes::laws::starts_follow_one_another;
 use std::alloc::Global;
 
 /// The live graph of a method with its loops, whether all that may run while the method does fits the cache together, the bounds of
@@ -119,7 +120,8 @@ pub fn prepare(
     ensures shape { IfOk result IsInShape }
     ensures same { IfOk result (λ p. p.fits ≡ fits) }
     ensures bounds { IfOk result (λ p. AreBounds (bounds_in task.now) m p.shape p.bounds.items) }
-    ensures prepared { IfOk result (λ p. ForEach task.now (λ P. AreTold P task.now.timing table.now m → IsPreparedFor P task.now.timing (bounds_in task.now) table.now m p)) }
+    ensures prepared { IfOk result (λ p. ForEach task.now (λ P. AreTold P task.now.timing table.now m
+        → IsPreparedFor P task.now.timing (bounds_in task.now) table.now m p)) }
     ensures cause { IfErr result (λ e. ForEach task.now (λ P. AreTold P task.now.timing table.now m → IsNotPrepared P (bounds_in task.now) m e)) }
 {
     graphs_where_targets_end();

@@ -9,15 +9,14 @@ ghost use Rattle.loop_nest.specs.Digraph.{Digraph, IsDigraph};
 ghost use Rattle.wcet.specs.Prepared.{IsLeftAs, IsLeftBy, IsShapeOf};
 
 use super::telling::{Told, goes_on};
+use base::{Items, NoMemory};
 use bound_rules::BoundRefusal;
+use compact_walks::numbers;
 use flow_graph::{Compact, compact, graph_where};
-use items::Items;
-use jop_base::NoMemory;
 use loop_nest::loops::{Nest, NestFault};
 use loop_nest::{Graph, nest};
 use method_flow::FlowMethod;
 use std::alloc::Global;
-use walk_bounds::numbers;
 
 /// The graph of the nodes that node 0 reaches of another one, the numbers that these have there, its loops, and how many nodes the
 /// other one has.
@@ -32,7 +31,8 @@ pub struct Shape {
 /// The graph of a method where the calls go on of which that is told.
 pub fn told_graph(alloc: Global, m: &FlowMethod, told: &[Told]) -> Result<Graph, NoMemory>
     requires { length told.now ≡ length m.now.calls }
-    ensures graph { IfOk result (λ g. (P : Program) (n : ℕ) → IsCodedOf P n m.now → IsGraphBy (IsEdgeWhere P n m.now.calls (map (λ s. s.goes_on) told.now)) P n g) }
+    ensures graph { IfOk result (λ g. (P : Program) (n : ℕ) → IsCodedOf P n m.now
+        → IsGraphBy (IsEdgeWhere P n m.now.calls (map (λ s. s.goes_on) told.now)) P n g) }
     ensures nodes { IfOk result (λ g. g.nodes ≡ 2 * length m.now.code) }
 {
     let goes = goes_on(alloc, told)?;

@@ -9,7 +9,7 @@ use super::ending::{MethodBound, method_bound};
 use super::known::Known;
 use super::methods::{Methods, lesser};
 use super::task::Task;
-use jop_base::NoMemory;
+use base::NoMemory;
 use method_flow::{Call, FlowProgram};
 use std::alloc::Global;
 
@@ -62,7 +62,7 @@ fn least_within(task: &Task<'_>, m: u32, table: &[Known], least: &[Option<u32>])
     requires long { length least.now ≡ length task.now.flow.methods }
     ensures { ForEach task.now (λ P. AreLeastCalled P table.now m least.now → IsLeast (IsLargeWithin P table.now m) result) }
 {
-    jop_opcodes::laws::starts_follow_one_another();
+    opcodes::laws::starts_follow_one_another();
     method_flow::laws::rows_are_of_their_kinds();
     let _ = task.flow().method_count();
     let called = least_called(task.flow(), task.method(m).calls(), least);
@@ -106,7 +106,8 @@ fn bounds(
 ) -> Result<Vec<MethodBound>, NoMemory>
     requires known { All (λ m. m < length table.now) order.now }
     requires long { length least.now ≡ length table.now }
-    requires within { All (λ m. ForEach task.now (λ P. AreKnownWithin P task.now.timing (bounds_in task.now) table.now (slice_index_or least.now m None) m)) order.now }
+    requires within { All (λ m. ForEach task.now (λ P. AreKnownWithin P task.now.timing (bounds_in task.now) table.now
+        (slice_index_or least.now m None) m)) order.now }
     ensures { IfOk result (λ bounds. AreMethodBounds task.now order.now bounds.items) }
 {
     let mut bounds = Vec::new(alloc);

@@ -6,13 +6,13 @@ ghost use Rattle.wcet.specs.ShowLaws.{FoundInText, FoundShows};
 pub fn found_shows()
     ensures { FoundShows }
 {
-    jop_opcodes::laws::starts_follow_one_another();
+    opcodes::laws::starts_follow_one_another();
     method_flow::laws::rows_are_of_their_kinds();
     method_flow::laws::calls_are_invokes();
     bound_rules::laws::called_fit();
     section_check::laws::renumbered_stays_accepted();
-    walk_bounds::laws::graphs_are_moved();
-    walk_bounds::laws::moved_reaches_exit();
+    compact_walks::laws::graphs_are_moved();
+    compact_walks::laws::moved_reaches_exit();
 }
 
 /// It can be written.

@@ -1,17 +1,17 @@
 //! What the calls of a method are told of all that they may run.
 ghost use Rattle.std.specs.Prelude.{◌≡◌, ◌≤◌, ◌<◌, length, map, All, IfOk, IfSome};
 ghost use Rattle.bound_rules.specs.Costs.{greater};
-ghost use Rattle.walk_bounds.specs.Limited.{limit};
+ghost use Rattle.compact_walks.specs.Limited.{limit};
 ghost use Rattle.wcet.specs.Known.{IsLimited};
 ghost use Rattle.wcet.specs.Telling.{AreToldBy, AreToldIn, IsSmallTold, IsToldBy, with_back};
 
 use super::known::Known;
 use super::task::Task;
-use flow_costs::load;
-use jop_base::NoMemory;
+use base::NoMemory;
+use compact_walks::limited_sum;
 use method_flow::{Call, FlowProgram};
+use node_costs::load;
 use std::alloc::Global;
-use walk_bounds::limited_sum;
 
 /// Of the methods that a call may run: whether one of them can end, the greatest of their numbers as far as they are asked of them,
 /// and the greatest with all loads and the load of the caller when control comes back to it.

@@ -5,7 +5,7 @@ use Rattle.std.specs.List.{flat_map, range_with_len}
 use Rattle.std.proofs.lemmas.Bool.{cases_Bool, cases_lt}
 use Rattle.std.proofs.lemmas.List.{append_cancel_right, length-append}
 use lib.Pointwise.{pointwise, bytes_decides}
-use Rattle.jop_text.specs.Line.{lines_of}
+use Rattle.ascii_text.specs.Line.{lines_of}
 use Rattle.lists.specs.Members.{tails}
 use Rattle.loop_bounds.specs.declared.BoundsFault.{BoundsFault}
 use Rattle.loop_bounds.specs.Bounds.{LoopBound, bound_in, AreOfDifferentLoops}

@@ -9,8 +9,8 @@ use Rattle.std.proofs.lemmas.Fmt.{length-decimal-le}
 use Rattle.std.proofs.lemmas.List.{append_assoc, length-append}
 use Rattle.std.proofs.lemmas.List.Elements.{All-from_recursion}
 use Rattle.std.proofs.lemmas.List.Splits.{slice_split_none, slice_split_at, length-slice_split}
-use Rattle.jop_text.specs.Line.{lines_of, without_empty_last}
-use Rattle.jop_text.proofs.NumberLemmas.{HasOneSpelling-decimal}
+use Rattle.ascii_text.specs.Line.{lines_of, without_empty_last}
+use Rattle.ascii_text.proofs.NumberLemmas.{HasOneSpelling-decimal}
 use Rattle.loop_bounds.specs.Grammar.{IsNumber, IsLoopLine, Says}
 use Rattle.work_gen.specs.Work.{adder_name, turns_of, bound_line}
 use Rattle.work_gen.specs.Bounds.{adder_text, adder_bound}

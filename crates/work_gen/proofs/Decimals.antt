@@ -4,7 +4,7 @@ use Rattle.std.specs.Prelude.{decimal}
 use Rattle.std.specs.List.{AllByRecursion}
 use Rattle.std.specs.Str.Parse.{AllDigits}
 use Rattle.std.proofs.lemmas.Str.Parse.{tells_digits}
-use Rattle.jop_text.proofs.NumberLemmas.{HasOneSpelling-decimal}
+use Rattle.ascii_text.proofs.NumberLemmas.{HasOneSpelling-decimal}
 
 -- a test that no code from 48 to 57 passes, no digit passes
 digits_fail : (p : ℕ → Bool) → ((c : ℕ) → 48 ≤ c → c ≤ 57 → p c ≡ false) → (ds : List ℕ) → AllDigits 10 ds → AllByRecursion (λ c. p c ≡ false) ds

@@ -1,5 +1,6 @@
 -- What the laws of the class W say.
 use Rattle.std.specs.Prelude.{◌≡◌, ℕ, ◌≤◌, List, length, Some}
+use Rattle.base.specs.Sizes.{longest_file}
 use Rattle.class_rules.specs.Grammar.{IsClass}
 use Rattle.class_making.specs.Right.{IsRightPlan}
 use Rattle.class_making.specs.Laws.{HasBytes, SaysPlan}
@@ -26,7 +27,8 @@ BoundsAreRead = (n : ℕ) → n ≤ 1000 → IsRead (bounds_text n) (adder_bound
 
 -- so who reads it has these bounds, or no memory
 abbrev pub OnlyTheseAreRead : Type 0
-OnlyTheseAreRead = (n : ℕ) → n ≤ 1000 → ((bs : List LoopBound) → IsRead (bounds_text n) bs → bs ≡ adder_bounds n) × ((fault : BoundsFault) → IsRefused (bounds_text n) fault → fault ≡ NoMemory)
+OnlyTheseAreRead = (n : ℕ) → n ≤ 1000 → ((bs : List LoopBound) → IsRead (bounds_text n) bs → bs ≡ adder_bounds n)
+    × ((fault : BoundsFault) → IsRefused (bounds_text n) fault → fault ≡ NoMemory)
 
 -- the loop of each adder has a bound among them, as often as it goes round
 abbrev pub EachLoopIsBounded : Type 0
@@ -34,4 +36,4 @@ EachLoopIsBounded = (n k : ℕ) → n ≤ 1000 → 1 ≤ k → k ≤ n → bound
 
 -- it is no longer than what is read
 abbrev pub TextsAreShort : Type 0
-TextsAreShort = (n : ℕ) → n ≤ 1000 → length (bounds_text n) ≤ 33554432
+TextsAreShort = (n : ℕ) → n ≤ 1000 → length (bounds_text n) ≤ longest_file

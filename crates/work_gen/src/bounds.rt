@@ -2,11 +2,11 @@
 ghost use Rattle.std.specs.Prelude.{◌≡◌, ◌≤◌, ◌++◌, IfOk, OnOk};
 ghost use Rattle.work_gen.specs.Work.{bound_line, bounds_text};
 
-use jop_base::NoMemory;
-use jop_text::put_u64;
+use ascii_text::put_u64;
+use base::NoMemory;
 use std::alloc::Global;
 
-// Appends the line of an adder's loop.
+/// Appends the line of an adder's loop.
 #[tactic(auto, unfolding(crate::specs::Work::bound_line))]
 fn put_bound(text: &mut Vec<u8>, k: u32) -> Result<(), NoMemory>
     ensures { OnOk result (text.new.items ≡ text.old.items ++ bound_line k) }

@@ -5,12 +5,11 @@ ghost use Rattle.class_making.specs.Plans.{items_of, class_of};
 ghost use Rattle.work_gen.specs.Work.{adder_name, bytes_in, call_of, loop_bytes, call_before, adder_pieces, adder_code, adder, methods, work_plan, work};
 
 use crate::main_method::main_method;
+use base::{Items, NoMemory};
 use class_making::laws::items_are_few;
 use class_making::parts::{class, method_item, text};
 use class_making::{ClassPlan, CodePlan, MakeFault, MethodPlan, Piece};
 use class_pool::ClassFile;
-use items::Items;
-use jop_base::NoMemory;
 use std::alloc::Global;
 
 /// The flags of the class: public, with ACC_SUPER.
@@ -22,7 +21,7 @@ const PUBLIC_STATIC: u16 = 0x0009;
 /// The bytes of an adder's StackMapTable: at place 2 local variable 1 is an int too, and so it is at place 18.
 static ADDER_FRAMES: [u8; 7] = [0x00, 0x02, 0xFC, 0x00, 0x02, 0x01, 0x0F];
 
-// The name of an adder: m and its number.
+/// The name of an adder: m and its number.
 fn adder_name(alloc: Global, k: u32) -> Result<String, NoMemory>
     ensures { IfOk result (λ name. string_bytes name ≡ adder_name k) }
 {
@@ -45,7 +44,7 @@ pub(crate) fn call_of(alloc: Global, k: u32) -> Result<Vec<Piece>, NoMemory>
     Ok(vec![in alloc; Piece::Byte(0xB8), Piece::Index(item)]?)
 }
 
-// The loop of an adder, which goes round so often.
+/// The loop of an adder, which goes round so often.
 fn loop_bytes(turns: u8) -> [u8; 19]
     ensures { result ≡ loop_bytes turns }
 {
@@ -55,7 +54,7 @@ fn loop_bytes(turns: u8) -> [u8; 19]
     ]
 }
 
-// The call of the adder before, except in the first of ten.
+/// The call of the adder before, except in the first of ten.
 fn call_before(alloc: Global, k: u32) -> Result<Vec<Piece>, NoMemory>
     requires { 1 ≤ k }
     ensures { IfOk result (λ pieces. pieces.items ≡ call_before k) }
@@ -108,7 +107,7 @@ fn adder(alloc: Global, k: u32) -> Result<MethodPlan, NoMemory>
     })
 }
 
-// The adders, in order.
+/// The adders, in order.
 fn adders(alloc: Global, n: u32) -> Result<Vec<MethodPlan>, NoMemory>
     requires { n ≤ 1000 }
     ensures { IfOk result (λ plans. plans.items ≡ map adder (range_with_len 1 n)) }
@@ -140,7 +139,7 @@ fn work_plan(alloc: Global, n: u32) -> Result<ClassPlan, NoMemory>
     class(alloc, OPEN_CLASS, "W", Some(object), methods)
 }
 
-// The class file of a plan whose pool has room.
+/// The class file of a plan whose pool has room.
 fn made(alloc: Global, plan: &ClassPlan) -> Result<ClassFile, NoMemory>
     requires { length (items_of plan.now) ≤ 65534 }
     ensures { IfOk result (λ class. class ≡ class_of plan.now) }

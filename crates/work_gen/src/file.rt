@@ -6,12 +6,12 @@ ghost use Rattle.work_gen.specs.Work.{work};
 
 use crate::class::make;
 use crate::laws::work_is_a_class;
+use base::NoMemory;
 use class_pool::ClassFile;
 use class_write::write_class;
-use jop_base::NoMemory;
 use std::alloc::Global;
 
-// The bytes of a class file.
+/// The bytes of a class file.
 fn spelled(alloc: Global, class: &ClassFile) -> Result<Vec<u8>, NoMemory>
     requires { IsClass class.now }
     ensures { IfOk result (λ file. file.items ≡ class_bytes class.now) }

@@ -4,16 +4,16 @@ ghost use Rattle.std.specs.List.{flat_map};
 ghost use Rattle.work_gen.specs.Work.{call_of, is_called, called, main_end, main_pieces, main_method};
 
 use crate::class::{bytes_in, call_of};
+use base::NoMemory;
 use byteorder::{BigEndian, ByteOrder};
 use class_making::parts::{Room, method, method_item, text};
 use class_making::{MethodPlan, Piece};
-use jop_base::NoMemory;
 use std::alloc::Global;
 
 /// The flags of main: public and static.
 const PUBLIC_STATIC: u16 = 0x0009;
 
-// The call of an adder, if main calls it.
+/// The call of an adder, if main calls it.
 fn call_from_main(alloc: Global, n: u32, k: u32) -> Result<Vec<Piece>, NoMemory>
     ensures { IfOk result (λ pieces. pieces.items ≡ flat_map call_of (filter (is_called n) (k ∷ []))) }
 {
@@ -24,7 +24,7 @@ fn call_from_main(alloc: Global, n: u32, k: u32) -> Result<Vec<Piece>, NoMemory>
     }
 }
 
-// The calls of the last adder of each ten, and of the last of all.
+/// The calls of the last adder of each ten, and of the last of all.
 fn calls(alloc: Global, n: u32) -> Result<Vec<Piece>, NoMemory>
     requires { n ≤ 1000 }
     ensures { IfOk result (λ pieces. pieces.items ≡ flat_map call_of (called n)) }
@@ -36,7 +36,7 @@ fn calls(alloc: Global, n: u32) -> Result<Vec<Piece>, NoMemory>
     Ok(pieces)
 }
 
-// The call that writes the sum, and the return.
+/// The call that writes the sum, and the return.
 fn main_end(alloc: Global) -> Result<Vec<Piece>, NoMemory>
     ensures { IfOk result (λ pieces. pieces.items ≡ main_end) }
 {

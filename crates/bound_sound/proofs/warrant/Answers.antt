@@ -1,6 +1,6 @@
 use Rattle.std.proofs.Common.{ℕ, sym, subst}
 use Rattle.std.specs.declared.option.Option.{Option}
-use Rattle.flow_costs.specs.Costs.{bounds_of}
+use Rattle.node_costs.specs.Costs.{bounds_of}
 use Rattle.activations.specs.Warrant.{BoundsActivations}
 use Rattle.bound_sound.proofs.warrant.Goals as goal
 

@@ -6,7 +6,7 @@ ghost use Rattle.jop_core.specs.Steps.{meaning};
 
 use crate::machine::Machine;
 use crate::steps::Step;
-use jop_device::Seen;
+use device_traits::Seen;
 use microcode_rom::entry;
 
 impl<const N: usize> Machine<N> {

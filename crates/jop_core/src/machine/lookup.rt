@@ -7,7 +7,7 @@ use crate::code::code_at;
 use crate::machine::{Machine, NOT_FETCHED};
 
 impl<const N: usize> Machine<N> {
-    // Makes the method at A's place the current one, and loads it where the cache doesn't hold it.
+    /// Makes the method at A's place the current one, and loads it where the cache doesn't hold it.
     pub(super) fn switch(&mut self)
         ensures { self.new ≡ switched self.old }
     {
@@ -19,7 +19,7 @@ impl<const N: usize> Machine<N> {
         }
     }
 
-    // Where the code of a method begins and how many words it has, if it can be switched to.
+    /// Where the code of a method begins and how many words it has, if it can be switched to.
     fn extent(&self, m: u32) -> Option<(u32, u32)>
         ensures { result ≡ (if can_switch self.now m then Some (code_place self.now.port.words m, code_words self.now.port.words m) else None) }
     {
@@ -35,7 +35,7 @@ impl<const N: usize> Machine<N> {
         }
     }
 
-    // Looks up a method whose code lies at a place of memory.
+    /// Looks up a method whose code lies at a place of memory.
     #[tactic(auto, using(crate::proofs::Fetching::not_fetched, crate::proofs::Pausing::paused_at))]
     fn look_up(&mut self, m: u32, place: u32, words: u32)
         requires can { can_switch self.old m ≡ true }

@@ -7,11 +7,11 @@ use crate::halt::Halt;
 use crate::machine::Machine;
 use crate::places::STACK;
 use crate::steps::Action;
+use base::{branch_holds, number, shift_right, sign_extend8, sign_extend16, signed_less};
 use micro_isa::Operation;
-use word32::{branch_holds, number, shift_right, sign_extend8, sign_extend16, signed_less};
 
 impl<const N: usize> Machine<N> {
-    // Pops, and sets A: what an operation on B and A does with its result.
+    /// Pops, and sets A: what an operation on B and A does with its result.
     fn replace(&mut self, word: u32)
         ensures { self.new ≡ replaced word self.old }
     {
@@ -19,8 +19,8 @@ impl<const N: usize> Machine<N> {
         self.a = word;
     }
 
-    // What a microinstruction that doesn't branch does, apart from its flags, where `ldin` is given this input.
-    // One match decides among all of them.
+    /// What a microinstruction that doesn't branch does, apart from its flags, where `ldin` is given this input.
+    /// One match decides among all of them.
     #[inline(always)]
     pub(super) fn act(&mut self, action: &Action, input: Option<u8>)
         ensures { self.new ≡ acted input (body_of action.now) self.old }
@@ -118,7 +118,7 @@ impl<const N: usize> Machine<N> {
         self.memory.start_read(top);
     }
 
-    // Pushes what was read.
+    /// Pushes what was read.
     fn push_value(&mut self)
         ensures { self.new ≡ operated None Operation.Ldmrd self.old }
     {
@@ -141,7 +141,7 @@ impl<const N: usize> Machine<N> {
         self.memory.start_write(address, top);
     }
 
-    // Goes to the target of the current opcode.
+    /// Goes to the target of the current opcode.
     fn go_to_target(&mut self)
         ensures { self.new ≡ operated None Operation.Jbg self.old }
     {
@@ -166,7 +166,7 @@ impl<const N: usize> Machine<N> {
         ((self.jpc as u32 + 65533 + offset) % 65536) as u16
     }
 
-    // Halts, where the top frame is boot's.
+    /// Halts, where the top frame is boot's.
     #[tactic(auto, using(crate::proofs::Pausing::paused_halted))]
     fn halt_at_boot(&mut self, halt: Halt)
         requires { halt ≢ Halt.Running }
@@ -179,7 +179,7 @@ impl<const N: usize> Machine<N> {
     }
 }
 
-// The next byte of the input, and all bits at its end.
+/// The next byte of the input, and all bits at its end.
 fn word_of_input(input: Option<u8>) -> u32
     ensures { result ≡ input_word input }
 {

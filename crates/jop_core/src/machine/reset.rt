@@ -9,17 +9,16 @@ use crate::code::code_at;
 use crate::halt::Halt;
 use crate::machine::{Machine, NOT_FETCHED};
 use crate::places;
-use bare_image::Bare;
-use jop_base::NoMemory;
+use base::laws::packed_has_words;
+use base::{NoMemory, pack};
+use image_file::Bare;
 use memory_timing::{Config, Memory};
 use method_cache::MethodCache;
 use microcode_rom::{constant, entry};
 use stack_cache::StackCache;
 use std::alloc::Global;
-use word32::laws::packed_has_words;
-use word32::pack;
 
-// What a machine begins with, but for the words of its image and of its code.
+/// What a machine begins with, but for the words of its image and of its code.
 #[derive(Clone, Copy)]
 pub(crate) struct Boot {
     // The place of boot's method, its locals, and the words of its frame.
@@ -66,7 +65,7 @@ impl<const N: usize> Machine<N> {
         Machine::begin(alloc, boot, &[], &code, config)
     }
 
-    // A machine at reset, whose boot method has this code.
+    /// A machine at reset, whose boot method has this code.
     #[tactic(auto, using(crate::proofs::Fetching::not_fetched))]
     fn begin(
         alloc: Global,
@@ -112,7 +111,7 @@ impl<const N: usize> Machine<N> {
     }
 }
 
-// What a linked machine begins with.
+/// What a linked machine begins with.
 fn boot_of(image: &[u32]) -> Boot
     requires header { 16 ≤ length image.now }
     requires boot { slice_index image.now 1 < length image.now }
@@ -130,7 +129,7 @@ fn boot_of(image: &[u32]) -> Boot
     }
 }
 
-// The first byte of code that has a word.
+/// The first byte of code that has a word.
 fn first_of(code: &[u32]) -> u8
     requires { 0 < length code.now }
     ensures { result ≡ first_byte code.now }
@@ -138,7 +137,7 @@ fn first_of(code: &[u32]) -> u8
     (code[0] / 16_777_216) as u8
 }
 
-// The on-chip words at reset, of an image of so many words.
+/// The on-chip words at reset, of an image of so many words.
 fn reset_stack<const N: usize>(
     alloc: Global,
     boot: Boot,
@@ -185,7 +184,7 @@ pub fn can_start_bare(bare: &Bare, config: Config) -> bool
     is_loadable(bare.code().len().div_ceil(4) as u32, config)
 }
 
-// Whether a method of so many words can be loaded into a cache with these settings.
+/// Whether a method of so many words can be loaded into a cache with these settings.
 fn is_loadable(words: u32, config: Config) -> bool
     ensures { result ≡ can_load words (empty config.blocks config.block_words) }
 {

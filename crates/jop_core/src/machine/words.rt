@@ -5,10 +5,10 @@ ghost use Rattle.jop_core.specs.Cycle.{byte_at};
 ghost use Rattle.jop_core.specs.Meaning.{bytes_of};
 
 use crate::machine::Machine;
-use word32::byte_of_word;
+use base::byte_of_word;
 
 impl<const N: usize> Machine<N> {
-    // A place among the on-chip words.
+    /// A place among the on-chip words.
     pub(super) fn place(&self, place: u64) -> u32
         ensures place { result ≡ place_of self.now place }
         ensures within { result < N }
@@ -28,7 +28,7 @@ impl<const N: usize> Machine<N> {
         self.a = x;
     }
 
-    // Pops the top word.
+    /// Pops the top word.
     pub(super) fn pop(&mut self) -> u32
         ensures popped { self.new ≡ popped self.old }
         ensures top { result ≡ self.old.a }
@@ -55,7 +55,7 @@ impl<const N: usize> Machine<N> {
         self.push(word);
     }
 
-    // Pops into the on-chip word at a place.
+    /// Pops into the on-chip word at a place.
     pub(super) fn store(&mut self, place: u64)
         ensures { self.new ≡ stored place self.old }
     {
@@ -64,7 +64,7 @@ impl<const N: usize> Machine<N> {
         self.stack.write(place, top);
     }
 
-    // The byte at jpc. Its word is fetched where it isn't the one that was fetched last.
+    /// The byte at jpc. Its word is fetched where it isn't the one that was fetched last.
     #[inline(always)]
     #[tactic(auto, using(crate::proofs::Fetching::byte_among), unfolding(crate::specs::Meaning::IsFetched))]
     pub(super) fn byte(&mut self) -> u8

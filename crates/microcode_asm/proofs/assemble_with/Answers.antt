@@ -1,6 +1,6 @@
 use Rattle.std.proofs.Common.{◌≡◌, ◌∙◌, ℕ, List, Option, refl, sym, arith}
 use Rattle.indexmap.specs.IndexMap.{get_by}
-use Rattle.microcode_lines.specs.Statements.{line_of}
+use Rattle.microcode_asm.specs.Statements.{line_of}
 use Rattle.microcode_asm.specs.Programs.{Places, places_of}
 use Rattle.microcode_asm.specs.SoFar.{Kept, kept, places_by, with_text}
 use Rattle.microcode_asm.proofs.LabelLemmas.{has_text}

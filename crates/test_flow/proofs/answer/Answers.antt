@@ -1,6 +1,6 @@
 use Rattle.std.proofs.Common.{◌≡◌, ℕ, List, subst, sym}
 use Rattle.program_tables.specs.Resolved.{resolved}
-use Rattle.well_placed.specs.WellPlaced.{WellPlaced}
+use Rattle.bytecode_typing.specs.WellPlaced.{WellPlaced}
 use Rattle.bytecode_typing.specs.Lawful.{Lawful}
 use Rattle.test_flow.proofs.answer.Goals as goal
 

@@ -1,7 +1,7 @@
 use Rattle.std.proofs.Common.{ℕ, List, sym, subst}
 use Rattle.std.specs.Prelude.{IfOk, IfErr}
 use Rattle.std.proofs.lemmas.Result.{err_from_is_err_and}
-use Rattle.flow_costs.specs.Costs.{bounds_of}
+use Rattle.node_costs.specs.Costs.{bounds_of}
 use Rattle.bound_rules.specs.Bounding.{KeepSize}
 use Rattle.bound_rules.specs.Conditions.{MeetsConditions}
 use Rattle.bound_rules.specs.Numbers.{IsPrinted}

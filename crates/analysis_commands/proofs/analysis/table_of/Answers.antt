@@ -3,7 +3,7 @@ use Rattle.std.specs.Prelude.{IfOk, slice_get}
 use Rattle.class_pool.specs.declared.class.ClassFile.{ClassFile}
 use Rattle.program_tables.specs.Resolved.{resolved}
 use Rattle.bytecode_typing.specs.Lawful.{Lawful}
-use Rattle.well_placed.specs.WellPlaced.{WellPlaced}
+use Rattle.bytecode_typing.specs.WellPlaced.{WellPlaced}
 use Rattle.method_flow.specs.Flow.{Coded, IsFlowOf}
 use Rattle.analysis_commands.specs.Analysis.{name_of}
 use Rattle.analysis_commands.proofs.analysis.table_of.Goals as goal

@@ -1,5 +1,5 @@
 use Rattle.std.proofs.Common.{◌≡◌, map, take}
-use Rattle.analysis_lines.specs.Lines.{names_text}
+use Rattle.answer_lines.specs.AnalysisLines.{names_text}
 use Rattle.analysis_commands.specs.Answers.{table_name}
 use Rattle.analysis_commands.proofs.subjects.names_text.Given as goal
 

@@ -1,5 +1,5 @@
 use Rattle.std.proofs.Common.{◌≡◌, ◌++◌, take}
-use Rattle.analysis_lines.specs.Lines.{nodes_text}
+use Rattle.answer_lines.specs.AnalysisLines.{nodes_text}
 use Rattle.analysis_commands.proofs.subjects.put_nodes.Given as goal
 
 abbrev pub invariant-loop-node : goal.invariant-loop-node

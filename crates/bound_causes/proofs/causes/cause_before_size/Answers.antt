@@ -1,4 +1,4 @@
-use Rattle.flow_costs.specs.Costs.{bounds_of}
+use Rattle.node_costs.specs.Costs.{bounds_of}
 use Rattle.call_regions.proofs.Sorting.{if_err}
 use Rattle.bound_causes.specs.Naming.{IsNamedBy}
 use Rattle.bound_causes.proofs.Telling.{cause_of}

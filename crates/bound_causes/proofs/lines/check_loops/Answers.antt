@@ -1,5 +1,5 @@
 use Rattle.std.proofs.Common.{◌≡◌, ℕ, Option, IfErr, sym, subst, rules}
-use Rattle.flow_costs.specs.Costs.{bounds_of}
+use Rattle.node_costs.specs.Costs.{bounds_of}
 use Rattle.call_regions.proofs.Sorting.{if_err}
 use Rattle.bound_rules.specs.declared.faults.BoundRefusal.{BoundRefusal}
 use Rattle.bound_causes.specs.Causes.{IsLoopCause, AreSearched}

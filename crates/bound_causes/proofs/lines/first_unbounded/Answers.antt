@@ -1,6 +1,6 @@
 use Rattle.std.proofs.Common.{◌≡◌, ℕ, ◌+◌, List, get_or, take, Option, IfErr, refl, sym, subst, rules}
 use Rattle.std.proofs.lemmas.List.{take_all}
-use Rattle.flow_costs.specs.Costs.{bounds_of}
+use Rattle.node_costs.specs.Costs.{bounds_of}
 use Rattle.call_regions.proofs.Sorting.{if_err}
 use Rattle.bound_rules.specs.declared.faults.BoundRefusal.{BoundRefusal}
 use Rattle.bound_causes.specs.Causes.{AreSearched, IsIrreducibleAmong}

@@ -1,5 +1,5 @@
 use Rattle.std.proofs.Common.{◌≡◌, ◌++◌, take}
-use Rattle.cert_lines.specs.Lines.{members_text}
+use Rattle.bound_cert.specs.CertLines.{members_text}
 use Rattle.bound_cert.proofs.writing.put_members.Given as goal
 
 abbrev pub invariant-loop-u : goal.invariant-loop-u

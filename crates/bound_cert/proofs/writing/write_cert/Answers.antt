@@ -1,6 +1,6 @@
 use Rattle.std.proofs.Common.{◌≡◌, ◌++◌, ℕ, List, ap, ◌∙◌, arith}
 use Rattle.std.specs.Prelude.{flat_map}
-use Rattle.cert_lines.specs.declared.line.CertLine.TheVariants.{Version, Root, Bound}
+use Rattle.bound_cert.specs.declared.lines.line.CertLine.TheVariants.{Version, Root, Bound}
 use Rattle.bound_cert.specs.declared.cert.CertSection.{CertSection}
 use Rattle.bound_cert.specs.Written.{fed, section_fed}
 use Rattle.bound_cert.proofs.Texts.{written}

@@ -1,4 +1,4 @@
-use Rattle.trace_lines.specs.Traced.{traced}
+use Rattle.run_devices.specs.Traced.{traced}
 use Rattle.boundary.specs.Traces.{TracesAll, texts}
 use Rattle.boundary.proofs.Tracing.{ended_at_once, uncaught_at_once}
 use Rattle.boundary.proofs.traces.trace.Goals as goal

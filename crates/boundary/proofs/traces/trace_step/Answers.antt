@@ -1,5 +1,5 @@
 use Rattle.std.proofs.Common.{refl}
-use Rattle.trace_lines.specs.Traced.{traced}
+use Rattle.run_devices.specs.Traced.{traced}
 use Rattle.boundary.specs.Traces.{StepTracesAll, AtBoundary, AtCycle, texts}
 use Rattle.boundary.proofs.Whole.{goes_so}
 use Rattle.boundary.proofs.Tracing.{step_traced, mode_stays}

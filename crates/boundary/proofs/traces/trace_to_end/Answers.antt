@@ -1,6 +1,6 @@
 use Rattle.std.proofs.Common.{refl, ap, sym, subst, ◌∙◌, arith}
 use Rattle.jop_core.specs.State as machine
-use Rattle.trace_lines.specs.Traced.{traced}
+use Rattle.run_devices.specs.Traced.{traced}
 use Rattle.boundary.specs.declared.answer.Boundary.TheVariants as answers
 use Rattle.boundary.specs.Answers.{IsGoing}
 use Rattle.boundary.specs.Traces.{TracesAll, texts}

@@ -3,7 +3,7 @@ use Rattle.bytecode_model.specs.State.{State}
 use Rattle.boundary.specs.Answers.{IsGoing}
 use Rattle.boundary.specs.Setting.{Setting}
 use Rattle.boundary.specs.Session.{IsStateOf}
-use Rattle.trace_lines.specs.Traced.{traced}
+use Rattle.run_devices.specs.Traced.{traced}
 use Rattle.boundary.specs.Traces.{texts}
 use Rattle.boundary.proofs.Tracing.{Far}
 use Rattle.boundary.proofs.traces.trace_to_end.Given as goal

@@ -1,8 +1,8 @@
 use Rattle.std.proofs.Common.{true, sym, ap, refl, ◌∙◌, ◌≡◌, ◌<◌, length, get_or, find, subst, Contains, Result, Ok, Err, is_ok, List, [], ◌∷◌, ℕ, zero, suc, arith}
 use Rattle.std.specs.Prelude.{not}
 use Rattle.std.specs.Result.{is_err}
-use Rattle.jop_opcodes.specs.Instruction.{decoded}
-use Rattle.jop_opcodes.specs.Start.{first_bad}
+use Rattle.opcodes.specs.Instruction.{decoded}
+use Rattle.opcodes.specs.Start.{first_bad}
 use Rattle.bytecode_verifier.proofs.WalkLemmas.{finds_here, finds_none}
 use Rattle.bytecode_verifier.proofs.methods.first_bad.Goals as goal
 

@@ -1,6 +1,6 @@
 use Rattle.std.proofs.Common.{◌≡◌, drop, find}
 use Rattle.std.specs.Prelude.{not, is_ok}
-use Rattle.jop_opcodes.specs.Instruction.{decoded}
+use Rattle.opcodes.specs.Instruction.{decoded}
 use Rattle.bytecode_verifier.proofs.methods.first_bad.Given as goal
 
 abbrev pub invariant-loop-place : goal.invariant-loop-place

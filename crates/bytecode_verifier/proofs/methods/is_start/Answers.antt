@@ -2,7 +2,7 @@ use Rattle.std.proofs.Common.{sym, ap, ◌∙◌, subst, List, ℕ}
 use Rattle.std.specs.List.Sorted.{IsStrictlyIncreasing}
 use Rattle.std.proofs.lemmas.List.Sorted.{searched}
 use Rattle.lists.specs.Members.{rising_all}
-use Rattle.jop_opcodes.specs.Start.{starts_of}
+use Rattle.opcodes.specs.Start.{starts_of}
 use Rattle.lists.specs.Numbers.{is_among}
 use Rattle.frame_types.proofs.SearchLemmas.{told}
 use Rattle.bytecode_verifier.proofs.methods.is_start.Goals as goal

@@ -1,7 +1,7 @@
 use Rattle.std.proofs.Common.{true, ap, refl, ◌∙◌}
 use Rattle.bytecode_model.specs.Lists.{natural}
 use Rattle.bytecode_model.specs.Rows as rows
-use Rattle.jop_opcodes.specs.Target.{cases_of}
+use Rattle.opcodes.specs.Target.{cases_of}
 use Rattle.program_tables.specs.Meanings.{operand_seen}
 use Rattle.program_tables.specs.Resolved.{resolved}
 use Rattle.bytecode_verifier.specs.declared.family.Family.TheVariants as family

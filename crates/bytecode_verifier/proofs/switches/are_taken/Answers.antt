@@ -1,5 +1,5 @@
 use Rattle.std.proofs.Common.{sym, ap, ◌∙◌, arith}
-use Rattle.jop_opcodes.specs.Target.{cases_of}
+use Rattle.opcodes.specs.Target.{cases_of}
 use Rattle.verifier_types.specs.Frame.{frame_seen}
 use Rattle.verifier_types.specs.Locals.{LocalTable, lists_seen}
 use Rattle.bytecode_verifier.specs.Switched.{is_case_taken}

@@ -1,6 +1,6 @@
 use Rattle.std.proofs.Common.{◌≡◌, drop}
 use Rattle.std.specs.List.{list_all}
-use Rattle.jop_opcodes.specs.Target.{cases_of}
+use Rattle.opcodes.specs.Target.{cases_of}
 use Rattle.verifier_types.specs.Frame.{frame_seen}
 use Rattle.verifier_types.specs.Locals.{lists_seen}
 use Rattle.bytecode_verifier.specs.Switched.{is_case_taken}

@@ -1,6 +1,6 @@
 use Rattle.std.proofs.Common.{sym, ap, ap₂, ◌∙◌, ◌&&◌, true, None}
 use Rattle.std.specs.List.{list_all}
-use Rattle.jop_opcodes.specs.Target.{cases_of}
+use Rattle.opcodes.specs.Target.{cases_of}
 use Rattle.bytecode_typing.specs.Rules.{Leaves}
 use Rattle.program_tables.specs.Resolved.{resolved}
 use Rattle.verifier_types.specs.declared.frame.TypeFrame.{TypeFrame}

@@ -1,5 +1,5 @@
 use Rattle.std.proofs.Common.{sym, ◌∙◌, arith}
-use Rattle.jop_opcodes.specs.Target.{cases_of}
+use Rattle.opcodes.specs.Target.{cases_of}
 use Rattle.bytecode_verifier.proofs.SwitchLemmas.{cases_within}
 use Rattle.bytecode_verifier.proofs.KeyLemmas.{key_above, key_not_above, few_rise}
 use Rattle.bytecode_verifier.proofs.switches.keys_rise.Goals as goal

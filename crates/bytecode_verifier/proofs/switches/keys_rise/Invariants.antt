@@ -1,5 +1,5 @@
 use Rattle.std.proofs.Common.{◌≡◌, drop}
-use Rattle.jop_opcodes.specs.Target.{cases_of}
+use Rattle.opcodes.specs.Target.{cases_of}
 use Rattle.bytecode_typing.specs.Walk.{keys_rise}
 use Rattle.bytecode_verifier.proofs.switches.keys_rise.Given as goal
 

@@ -1,6 +1,6 @@
 use Rattle.std.proofs.Common.{◌≡◌, ℕ, List, true, false, drop, sym, subst, ◌∙◌}
 use Rattle.class_pool.specs.declared.class.ClassFile.{ClassFile}
-use Rattle.class_reader.specs.Grammar.{IsInsideOf}
+use Rattle.class_file.specs.InsideGrammar.{IsInsideOf}
 use Rattle.class_rules.specs.Rules.{FollowsRules}
 use Rattle.class_file.proofs.ClassLaws.{behind_found, behind_read, tail_is}
 use Rattle.class_file.proofs.reader.class_behind.Goals as goal

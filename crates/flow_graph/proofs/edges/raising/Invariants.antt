@@ -1,5 +1,5 @@
 use Rattle.std.proofs.Common.{◌≡◌, filter, take}
-use Rattle.jop_opcodes.specs.Instruction.{decoded}
+use Rattle.opcodes.specs.Instruction.{decoded}
 use Rattle.flow_graph.specs.Edges.{raises_in}
 use Rattle.flow_graph.proofs.edges.raising.Given as goal
 

@@ -1,9 +1,9 @@
 use Rattle.std.proofs.Common.{◌≡◌, ◌+◌, true, refl, subst, arith}
 use Rattle.std.proofs.lemmas.Result.{on_ok_weaker}
-use Rattle.jop_opcodes.specs.declared.instruction.Instr.{Instr}
-use Rattle.jop_opcodes.specs.declared.table.Kind.{Kind}
-use Rattle.jop_opcodes.specs.Row as opcodes
-use Rattle.jop_opcodes.specs.Target.{targets_of}
+use Rattle.opcodes.specs.declared.instruction.Instr.{Instr}
+use Rattle.opcodes.specs.declared.table.Kind.{Kind}
+use Rattle.opcodes.specs.Row as opcodes
+use Rattle.opcodes.specs.Target.{targets_of}
 use Rattle.flow_graph.specs.Edges.{InstructionLeads, IsEdgeFrom}
 use Rattle.flow_graph.specs.Growing.{Grows}
 use Rattle.flow_graph.specs.Naming.{IsNextBy, goes_on}

@@ -2,7 +2,7 @@ use Rattle.std.proofs.Common.{◌≡◌, ◌∷◌, [], arith}
 use Rattle.std.specs.Prelude.{pos}
 use Rattle.std.proofs.lemmas.Int.{ints}
 use Rattle.std.proofs.lemmas.Result.{on_ok_weaker}
-use Rattle.jop_opcodes.specs.Target.{targets_of}
+use Rattle.opcodes.specs.Target.{targets_of}
 use Rattle.flow_graph.specs.Naming.{case_places}
 use Rattle.flow_graph.proofs.Leading.{first_named, others_named, named_then, named_alone}
 use Rattle.flow_graph.proofs.leads.add_named.Goals as goal

@@ -1,7 +1,7 @@
 use Rattle.std.proofs.Common.{◌≡◌, true, sym, ap, ◌∙◌}
 use Rattle.std.proofs.lemmas.Result.{on_ok_weaker}
-use Rattle.jop_opcodes.specs.Row as opcodes
-use Rattle.jop_opcodes.specs.Target.{targets_of}
+use Rattle.opcodes.specs.Row as opcodes
+use Rattle.opcodes.specs.Target.{targets_of}
 use Rattle.flow_graph.specs.Naming.{IsNamed, IsNamedBy, goes_to_targets}
 use Rattle.flow_graph.proofs.Leading.{edges_alike}
 use Rattle.flow_graph.proofs.leads.add_targets.Goals as goal

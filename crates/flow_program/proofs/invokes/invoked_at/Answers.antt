@@ -1,5 +1,5 @@
 use Rattle.std.proofs.Common.{Option, ap, ◌∙◌}
-use Rattle.jop_opcodes.specs.declared.instruction.Instr.{Instr}
+use Rattle.opcodes.specs.declared.instruction.Instr.{Instr}
 use Rattle.lists.specs.Lists.{onto}
 use Rattle.bytecode_model.specs.Program.{Operand}
 use Rattle.program_tables.specs.Resolved.{resolved}

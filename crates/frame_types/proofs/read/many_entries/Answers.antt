@@ -1,7 +1,7 @@
 use Rattle.std.proofs.Common.{◌≡◌, [], ◌∷◌, ◌++◌, map, ap, ◌∙◌}
 use Rattle.std.proofs.lemmas.List.{map-append}
 use Rattle.std.proofs.lemmas.Result.{err_from_is_err_and}
-use Rattle.class_reader.specs.Reading.{many_in}
+use Rattle.class_file.specs.InsideReading.{many_in}
 use Rattle.frame_types.specs.Table.{map_entry_in}
 use Rattle.frame_types.specs.Extents.{entry_named}
 use Rattle.frame_types.proofs.ManyLemmas.{goes_on, stops, is_done}

@@ -1,5 +1,5 @@
 use Rattle.std.proofs.Common.{◌≡◌, ◌-◌, map}
-use Rattle.class_reader.specs.Reading.{many_in}
+use Rattle.class_file.specs.InsideReading.{many_in}
 use Rattle.frame_types.specs.Table.{map_entry_in}
 use Rattle.frame_types.specs.Extents.{entry_named}
 use Rattle.frame_types.proofs.ManyLemmas.{with_front}

@@ -1,5 +1,5 @@
 use Rattle.std.proofs.Common.{◌≡◌, ◌-◌, map}
-use Rattle.class_reader.specs.Reading.{many_in}
+use Rattle.class_file.specs.InsideReading.{many_in}
 use Rattle.frame_types.specs.Table.{type_in}
 use Rattle.frame_types.specs.Steps.{named}
 use Rattle.frame_types.proofs.ManyLemmas.{with_front}

@@ -5,7 +5,7 @@ use Rattle.std.proofs.lemmas.Option.{slice_get_within}
 use Rattle.std.proofs.lemmas.Result.{on_ok_weaker}
 use Rattle.bytecode_model.specs.Program.{Method}
 use Rattle.class_pool.specs.declared.class.ClassFile.{ClassFile}
-use Rattle.word32.specs.Packed.{words_for, words_of_bytes}
+use Rattle.base.specs.Packed.{words_for, words_of_bytes}
 use Rattle.image_facts.specs.Says.{argument_words, handler_words}
 use Rattle.program_tables.specs.Resolved.{handler_of, resolved, resolved_methods}
 use Rattle.image_words.specs.Layout.{pool_place}

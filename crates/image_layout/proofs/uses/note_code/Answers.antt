@@ -3,8 +3,8 @@ use Rattle.std.specs.List.{filter_map, range_with_len}
 use Rattle.std.proofs.lemmas.Option.{slice_get-get_or}
 use Rattle.std.proofs.lemmas.List.Elements.{Contains-get_or}
 use Rattle.program_tables.proofs.ListLemmas.{no_value}
-use Rattle.jop_opcodes.specs.declared.instruction.Instr.{Instr}
-use Rattle.jop_opcodes.specs.Start.{starts_of}
+use Rattle.opcodes.specs.declared.instruction.Instr.{Instr}
+use Rattle.opcodes.specs.Start.{starts_of}
 use Rattle.program_tables.specs.Instructions.{placed_at, instructions_in}
 use Rattle.image_layout.specs.Uses.{instr_of, use_of}
 use Rattle.image_layout.proofs.UseLemmas.{before_place, place_noted, place_passed}

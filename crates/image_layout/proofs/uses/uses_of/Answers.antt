@@ -6,7 +6,7 @@ use Rattle.lists.specs.Lemmas.{some_same}
 use Rattle.class_pool.specs.Found.{code_of}
 use Rattle.class_pool.specs.declared.class.Member.{Member}
 use Rattle.class_pool.specs.declared.class.ClassFile.{ClassFile}
-use Rattle.jop_opcodes.specs.declared.instruction.Instr.{Instr}
+use Rattle.opcodes.specs.declared.instruction.Instr.{Instr}
 use Rattle.program_tables.specs.Instructions as definitions
 use Rattle.program_tables.proofs.TableLemmas.{all_at}
 use Rattle.image_layout.specs.Uses.{instr_of, use_of}

@@ -1,7 +1,7 @@
 use Rattle.std.proofs.Common.{subst, Some, []}
 use Rattle.jop_core.specs.Reset.{bare_reset}
 use Rattle.boundary.specs.Setting.{bare_setting}
-use Rattle.stream_devices.specs.Lent.{lent}
+use Rattle.run_devices.specs.Lent.{lent}
 use Rattle.jop_cli.specs.Show.{Shown}
 use Rattle.jop_cli.specs.BareFile.{RanBare}
 use Rattle.jop_cli.proofs.Watched.{bare_is_traced}

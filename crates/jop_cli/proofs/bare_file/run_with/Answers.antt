@@ -1,5 +1,5 @@
 use Rattle.std.proofs.Common.{◌≡◌, [], Some, arith}
-use Rattle.stream_devices.specs.Lent.{lent}
+use Rattle.run_devices.specs.Lent.{lent}
 use Rattle.jop_cli.proofs.Executing.{with_settings}
 use Rattle.jop_cli.proofs.Watched.{same_trace}
 use Rattle.jop_cli.proofs.bare_file.run_with.Goals as goal

@@ -1,8 +1,8 @@
 use Rattle.std.proofs.Common.{ℕ, List, refl, subst, inr}
 use Rattle.std.specs.Prelude.{Vec}
 use Rattle.std.specs.declared.alloc.Global.{Global}
-use Rattle.operand_files.specs.Files.{contents}
-use Rattle.jop_words.specs.Command.{texts}
+use Rattle.outside.specs.Files.{contents}
+use Rattle.command_line.specs.Command.{texts}
 use Rattle.jop_cli.specs.Line.{text_at}
 use Rattle.jop_cli.specs.World.{World, world}
 use Rattle.jop_cli.specs.Bounding.{PutsTwo}

@@ -1,7 +1,7 @@
 use Rattle.std.proofs.Common.{ℕ, ◌≤◌, List, length, subst, sym, inr, arith}
 use Rattle.std.specs.Prelude.{sum_by, Vec}
 use Rattle.std.specs.declared.alloc.Global.{Global}
-use Rattle.operand_files.specs.Files.{contents, files_told}
+use Rattle.outside.specs.Files.{contents, files_told}
 use Rattle.jop_cli.specs.Checking.{ChecksThree}
 use Rattle.jop_cli.proofs.Texts.{within_all, checks_read}
 use Rattle.jop_cli.proofs.checking.check_files.Goals as goal

@@ -1,7 +1,7 @@
 use Rattle.std.proofs.Common.{ℕ, List, false, sym, subst}
 use Rattle.std.specs.List.{concat}
-use Rattle.outcome_lines.specs.Said as lines
-use Rattle.jop_words.specs.Command.{texts}
+use Rattle.answer_lines.specs.Said as lines
+use Rattle.command_line.specs.Command.{texts}
 use Rattle.jop_cli.specs.declared.outcome.Ending.{Ending}
 use Rattle.jop_cli.specs.Line.{too_long_parts, line_of, is_fault}
 use Rattle.jop_cli.proofs.lines.say_ending.Goals as goal

@@ -1,6 +1,6 @@
 use Rattle.std.proofs.Common.{false, sym, subst}
-use Rattle.outcome_lines.specs.Said as lines
-use Rattle.jop_words.specs.Command.{texts}
+use Rattle.answer_lines.specs.Said as lines
+use Rattle.command_line.specs.Command.{texts}
 use Rattle.jop_cli.specs.declared.outcome.Refusal.{Refusal}
 use Rattle.jop_cli.specs.declared.outcome.Ending.TheVariants.{Refused}
 use Rattle.jop_cli.specs.Line.{line_of}

@@ -1,4 +1,4 @@
-use Rattle.linked_image.specs.Linked.{contents}
+use Rattle.image_file.specs.Linked.{contents}
 use Rattle.jop_cli.proofs.Endings.{refused}
 use Rattle.jop_cli.proofs.linked_file.unlinked.Goals as goal
 

@@ -1,9 +1,9 @@
 use Rattle.std.proofs.Common.{List, sym, subst}
 use Rattle.class_pool.specs.declared.class.ClassFile.{ClassFile}
-use Rattle.coded_methods.specs.declared.method.CodedMethod.{CodedMethod}
+use Rattle.image_facts.specs.declared.method.CodedMethod.{CodedMethod}
 use Rattle.linked_methods.specs.Placed.{AreOnly}
 use Rattle.jop_core.specs.Reset.{linked_reset}
-use Rattle.stream_devices.specs.Lent.{lent}
+use Rattle.run_devices.specs.Lent.{lent}
 use Rattle.jop_cli.specs.LinkedRun.{linked_setting}
 use Rattle.jop_cli.specs.Run.{Ran}
 use Rattle.jop_cli.specs.Show.{Shown, AreNamed}

@@ -1,5 +1,5 @@
 use Rattle.std.proofs.Common.{◌≡◌, arith}
-use Rattle.stream_devices.specs.Lent.{lent}
+use Rattle.run_devices.specs.Lent.{lent}
 use Rattle.jop_cli.proofs.Held.{with_settings}
 use Rattle.jop_cli.proofs.Watched.{same_trace}
 use Rattle.jop_cli.proofs.linked_settings.run_held.Goals as goal

@@ -1,4 +1,4 @@
-use Rattle.linked_image.specs.Linked.{contents}
+use Rattle.image_file.specs.Linked.{contents}
 use Rattle.jop_cli.proofs.linking.linked_file.Goals as goal
 
 pub returns-in-Ok-clause-fault : goal.returns-in-Ok-clause-fault

@@ -1,5 +1,5 @@
 use Rattle.std.proofs.Common.{◌≡◌, subst}
-use Rattle.linked_image.specs.Linked.{contents}
+use Rattle.image_file.specs.Linked.{contents}
 use Rattle.jopizer.specs.declared.refusal.LinkRefusal.{LinkRefusal}
 use Rattle.jopizer.specs.declared.refusal.LinkRefusal.TheVariants.{Resolving}
 use Rattle.jopizer.specs.Refused.{IsRefusal}

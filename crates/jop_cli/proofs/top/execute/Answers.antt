@@ -1,8 +1,8 @@
 use Rattle.std.proofs.Common.{◌≡◌, ℕ, Ok, inr}
 use Rattle.std.specs.declared.result.Result.{Result}
-use Rattle.jop_words.specs.declared.command.Command.{Command}
-use Rattle.jop_words.specs.declared.command.Command.TheVariants.{Run, Trace, Asm, Link, Work}
-use Rattle.jop_words.specs.Command.{texts, command_of}
+use Rattle.command_line.specs.declared.command.Command.{Command}
+use Rattle.command_line.specs.declared.command.Command.TheVariants.{Run, Trace, Asm, Link, Work}
+use Rattle.command_line.specs.Command.{texts, command_of}
 use Rattle.jop_cli.specs.World.{world}
 use Rattle.jop_cli.proofs.Executing.{does_by, assembles_risen, links_risen, bounds_risen}
 use Rattle.jop_cli.proofs.Worked.{works_risen}

@@ -1,6 +1,6 @@
 use Rattle.std.proofs.Common.{◌≡◌, take, length}
 use Rattle.std.specs.List.{flat_map}
-use Rattle.linked_image.specs.Linked.{file_bytes, contents}
+use Rattle.image_file.specs.Linked.{file_bytes, contents}
 use Rattle.jopizer.proofs.file_length.bytes_of_files.Given as goal
 
 abbrev pub invariant-loop-file : goal.invariant-loop-file

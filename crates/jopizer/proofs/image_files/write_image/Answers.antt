@@ -3,8 +3,8 @@ use Rattle.std.specs.Prelude.{IfOk}
 use Rattle.std.specs.Global.{Vec}
 use Rattle.std.specs.List.{AllByRecursion}
 use Rattle.std.proofs.lemmas.List.{length-map}
-use Rattle.linked_image.specs.Linked.{Image, IsName, IsWord, IsFile, contents}
-use Rattle.linked_image.specs.Linked as file
+use Rattle.image_file.specs.Linked.{Image, IsName, IsWord, IsFile, contents}
+use Rattle.image_file.specs.Linked as file
 use Rattle.jopizer.proofs.ImageLemmas.{fits, made_same}
 use Rattle.jopizer.proofs.image_files.write_image.Goals as goal
 

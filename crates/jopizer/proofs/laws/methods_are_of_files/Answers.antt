@@ -1,4 +1,4 @@
-use Rattle.jop_program.proofs.ResolvedLemmas.{Laws}
+use Rattle.program_resolution.proofs.ResolvedLemmas.{Laws}
 use Rattle.lists.specs.Lemmas.{none≢some}
 use Rattle.std.proofs.Common.{sym, ◌∙◌}
 use Rattle.jopizer.proofs.BootLemmas.{of_file}

@@ -1,5 +1,5 @@
 use Rattle.std.proofs.Common.{◌≡◌, take}
-use Rattle.linked_image.specs.Linked.{contents}
+use Rattle.image_file.specs.Linked.{contents}
 use Rattle.jopizer.proofs.linking.copies.Given as goal
 
 abbrev pub invariant-loop-file : goal.invariant-loop-file

@@ -1,4 +1,4 @@
-use Rattle.linked_image.specs.Linked.{contents}
+use Rattle.image_file.specs.Linked.{contents}
 use Rattle.jopizer.proofs.LinkLemmas.{begins_with_core}
 use Rattle.jopizer.proofs.linking.joined.Goals as goal
 

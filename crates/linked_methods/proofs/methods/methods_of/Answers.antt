@@ -1,6 +1,6 @@
 use Rattle.std.proofs.Common.{ap, arith, refl, subst, sym, ◌+◌, ◌∙◌, List}
 use Rattle.std.specs.Option.{option_copied}
-use Rattle.coded_methods.specs.declared.method.CodedMethod.{CodedMethod}
+use Rattle.image_facts.specs.declared.method.CodedMethod.{CodedMethod}
 use Rattle.linked_methods.proofs.Filled.{AreFilled, only_filled}
 use Rattle.linked_methods.proofs.Ended.{within, next, none_past, whole}
 use Rattle.linked_methods.proofs.methods.methods_of.Goals as goal

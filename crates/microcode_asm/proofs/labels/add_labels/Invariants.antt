@@ -2,7 +2,7 @@ use Rattle.std.proofs.Common.{◌≡◌, ℕ, List, drop, map}
 use Rattle.std.specs.Option.{option_or}
 use Rattle.std.specs.Map.{lookup}
 use Rattle.indexmap.specs.IndexMap.{get_by}
-use Rattle.microcode_lines.specs.Parts.{is}
+use Rattle.microcode_asm.specs.Parts.{is}
 use Rattle.microcode_asm.proofs.LabelLemmas.{now, has_text}
 use Rattle.microcode_asm.proofs.labels.add_labels.Given as goal
 

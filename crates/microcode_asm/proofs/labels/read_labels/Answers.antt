@@ -1,6 +1,6 @@
 use Rattle.std.proofs.Common.{◌≡◌, ℕ, List, arith}
 use Rattle.indexmap.specs.IndexMap.{get_by}
-use Rattle.microcode_lines.specs.Statements.{line_of}
+use Rattle.microcode_asm.specs.Statements.{line_of}
 use Rattle.microcode_asm.proofs.LabelLemmas.{has_text, size_small}
 use Rattle.microcode_asm.proofs.ReadLemmas.{labelled_more, words_fit}
 use Rattle.microcode_asm.proofs.labels.read_labels.Goals as goal

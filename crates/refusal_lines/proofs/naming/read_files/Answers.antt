@@ -1,5 +1,5 @@
 use Rattle.std.proofs.Common.{map}
-use Rattle.jop_program.proofs.ReadingLemmas.{read_more, file_there}
+use Rattle.program_resolution.proofs.ReadingLemmas.{read_more, file_there}
 use Rattle.refusal_lines.proofs.naming.read_files.Goals as goal
 
 pub loop-file-preserved : goal.loop-file-preserved

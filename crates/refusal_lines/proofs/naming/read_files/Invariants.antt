@@ -1,5 +1,5 @@
 use Rattle.std.proofs.Common.{map, take}
-use Rattle.jop_program.specs.Resolving.{AreClassesOf}
+use Rattle.program_resolution.specs.Resolving.{AreClassesOf}
 use Rattle.refusal_lines.proofs.naming.read_files.Given as goal
 
 abbrev pub invariant-loop-file : goal.invariant-loop-file

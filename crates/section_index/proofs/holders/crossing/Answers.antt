@@ -1,4 +1,4 @@
-use Rattle.crossing_sets.specs.Crossing as sets
+use Rattle.section_index.specs.Crossing as sets
 use Rattle.section_check.specs.Least.{IsLeast}
 use Rattle.section_index.specs.Numbering.{Crosses}
 use Rattle.section_index.proofs.Crossed.{least_crossing}

@@ -1,5 +1,5 @@
 use Rattle.std.proofs.Common.{◌≡◌, ℕ, ◌<◌, length, map}
-use Rattle.crossing_sets.specs.Family.{set_at}
+use Rattle.section_index.specs.Family.{set_at}
 use Rattle.section_check.specs.Section.{CertifiedLoop}
 use Rattle.section_check.specs.Placing.{IsAt}
 use Rattle.section_index.specs.Numbering.{ArePlaces}

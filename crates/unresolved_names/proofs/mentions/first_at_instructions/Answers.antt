@@ -2,7 +2,7 @@ use Rattle.std.proofs.Common.{◌<◌, List, ℕ, [], length, get_or, refl, sym,
 use Rattle.std.specs.Option.{option_map_or}
 use Rattle.std.specs.List.{flat_map}
 use Rattle.std.proofs.lemmas.List.Elements.{Contains-get_or}
-use Rattle.jop_opcodes.specs.Start.{starts_of}
+use Rattle.opcodes.specs.Start.{starts_of}
 use Rattle.lists.specs.Lists.{first}
 use Rattle.lists.specs.FirstLemmas.{found_here, none_first}
 use Rattle.program_tables.specs.Instructions.{placed_at}

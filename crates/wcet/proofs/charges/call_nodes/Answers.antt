@@ -2,7 +2,7 @@ use Rattle.std.proofs.Common.{◌≡◌, ℕ, ◌*◌, Bool, false, List, length
 use Rattle.std.proofs.lemmas.List.{length-replicate, with_items_is}
 use Rattle.loop_nest.proofs.Searching.{same_everywhere}
 use Rattle.method_flow.specs.declared.flow.Call.{Call}
-use Rattle.walk_bounds.specs.Charging.{AreMarked}
+use Rattle.compact_walks.specs.Charging.{AreMarked}
 use Rattle.wcet.specs.Prepared.{AreCallNodes}
 use Rattle.wcet.proofs.CallNodes.{call_inside, marked_calls}
 use Rattle.wcet.proofs.charges.call_nodes.Goals as goal

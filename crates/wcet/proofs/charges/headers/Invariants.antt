@@ -1,6 +1,6 @@
 use Rattle.std.proofs.Common.{◌≡◌, slice_index, take}
 use Rattle.loop_nest.specs.Nest.{headers_of}
-use Rattle.walk_bounds.specs.Moving.{moved_nest}
+use Rattle.compact_walks.specs.Moving.{moved_nest}
 use Rattle.wcet.proofs.charges.headers.Given as goal
 
 abbrev pub invariant-loop-l : goal.invariant-loop-l

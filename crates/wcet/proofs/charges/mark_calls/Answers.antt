@@ -2,8 +2,8 @@ use Rattle.std.proofs.Common.{◌≡◌, ℕ, ◌+◌, ◌*◌, ◌<◌, List, [
 use Rattle.std.proofs.lemmas.List.{take_more, map-append}
 use Rattle.std.proofs.lemmas.List.Elements.{All-get_or}
 use Rattle.method_flow.specs.declared.flow.Call.{Call}
-use Rattle.walk_bounds.specs.Charging.{AreMarked}
-use Rattle.walk_bounds.proofs.Marks.{marked_more}
+use Rattle.compact_walks.specs.Charging.{AreMarked}
+use Rattle.compact_walks.proofs.Marks.{marked_more}
 use Rattle.wcet.proofs.charges.mark_calls.Goals as goal
 
 pub loop-call-preserved : goal.loop-call-preserved

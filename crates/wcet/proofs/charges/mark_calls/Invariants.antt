@@ -1,5 +1,5 @@
 use Rattle.std.proofs.Common.{◌*◌, map, take}
-use Rattle.walk_bounds.specs.Charging.{AreMarked}
+use Rattle.compact_walks.specs.Charging.{AreMarked}
 use Rattle.wcet.proofs.charges.mark_calls.Given as goal
 
 abbrev pub invariant-loop-call : goal.invariant-loop-call

@@ -2,7 +2,7 @@ use Rattle.std.proofs.Common.{◌≡◌, ◌+◌, ◌*◌, ◌<◌, ◌≤◌, �
 use Rattle.std.specs.Prelude.{slice_get}
 use Rattle.std.proofs.lemmas.Option.{slice_get-get_or}
 use Rattle.method_flow.specs.declared.flow.Call.{Call}
-use Rattle.walk_bounds.specs.Limited.{limit, limited}
+use Rattle.compact_walks.specs.Limited.{limit, limited}
 use Rattle.wcet.specs.declared.telling.Told.{Told}
 use Rattle.wcet.proofs.Added.{added_none, added_more, added_all, not_yet, small_more}
 use Rattle.wcet.proofs.costs.add.Goals as goal

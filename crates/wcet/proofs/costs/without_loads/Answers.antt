@@ -2,7 +2,7 @@ use Rattle.std.proofs.Common.{◌≡◌, ◌<◌, ℕ, List, length, replicate, 
 use Rattle.std.specs.Prelude.{slice_index}
 use Rattle.std.proofs.lemmas.Result.{IfOk-weaker}
 use Rattle.loop_nest.specs.Nest.{NaturalLoop}
-use Rattle.walk_bounds.specs.Charging.{AreHeld}
+use Rattle.compact_walks.specs.Charging.{AreHeld}
 use Rattle.wcet.specs.Prepared.{AreWithout}
 use Rattle.wcet.proofs.Held.{without_all, without_charged}
 use Rattle.wcet.proofs.Shapes.{members_within}

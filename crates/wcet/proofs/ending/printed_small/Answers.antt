@@ -4,7 +4,7 @@ use Rattle.bytecode_model.specs.Program.{Program}
 use Rattle.method_flow.specs.Costs.{IsPrintedOf}
 use Rattle.method_flow.specs.Flow.{Flow, IsFlowOf}
 use Rattle.method_flow.specs.declared.timing.Timing.{Timing}
-use Rattle.walk_bounds.specs.Limited.{limit}
+use Rattle.compact_walks.specs.Limited.{limit}
 use Rattle.wcet.specs.Ending.IsPastLimit.{printed as beyond_printed}
 use Rattle.wcet.proofs.ending.printed_small.Goals as goal
 

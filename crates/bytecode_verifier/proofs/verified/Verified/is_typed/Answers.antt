@@ -4,7 +4,7 @@ use Rattle.program_tables.specs.Resolved.{resolved}
 use Rattle.bytecode_typing.specs.Lawful.{Lawful}
 use Rattle.bytecode_typing.specs.Typed.{Typed}
 use Rattle.bytecode_verifier.specs.Failure.{maps_of, types_found}
-use Rattle.well_placed.specs.WellPlaced.{WellPlaced}
+use Rattle.bytecode_typing.specs.WellPlaced.{WellPlaced}
 use Rattle.bytecode_verifier.proofs.TypingLemmas.{typings}
 use Rattle.bytecode_verifier.proofs.PlacedTables.{verified_placed}
 use Rattle.bytecode_verifier.proofs.verified.Verified.is_typed.Goals as goal

@@ -2,9 +2,9 @@ use Rattle.std.proofs.Common.{◌<◌, List, ℕ, [], Option, Some, length, get_
 use Rattle.std.specs.Option.{option_map_or}
 use Rattle.std.specs.List.{flat_map}
 use Rattle.std.proofs.lemmas.List.Elements.{Contains-get_or}
-use Rattle.jop_opcodes.specs.declared.instruction.Instr.{Instr}
-use Rattle.jop_opcodes.specs.Instruction.{decoded}
-use Rattle.jop_opcodes.specs.Start.{starts_of}
+use Rattle.opcodes.specs.declared.instruction.Instr.{Instr}
+use Rattle.opcodes.specs.Instruction.{decoded}
+use Rattle.opcodes.specs.Start.{starts_of}
 use Rattle.bytecode_model.specs.Program.{as_instr}
 use Rattle.bytecode_model.specs.Types.{Kind, same_kind}
 use Rattle.class_lookup.specs.Parts.{same_text}

@@ -2,8 +2,8 @@ use Rattle.std.proofs.Common.{◌≡◌, ◌<◌, ◌≤◌, List, ℕ, None, So
 use Rattle.std.specs.Prelude.{slice_get}
 use Rattle.std.specs.Option.{option_map}
 use Rattle.class_lookup.specs.Lookup.{Place}
-use Rattle.jop_opcodes.specs.declared.instruction.Instr.{Instr}
-use Rattle.jop_opcodes.specs.Instruction.{decoded}
+use Rattle.opcodes.specs.declared.instruction.Instr.{Instr}
+use Rattle.opcodes.specs.Instruction.{decoded}
 use Rattle.bytecode_model.specs.Program.{as_instr, NoOperand}
 use Rattle.program_tables.specs.Operands.{operand_in, guarded_in}
 use Rattle.resolved_program.proofs.InstructionLemmas.{class_there, code_here, instr_told, class_of_method, none_past_end, said_at}

@@ -1,0 +1,4 @@
+pub mod Joined
+mod Nodes
+pub mod WorkTexts
+pub mod RowLaws

@@ -1,0 +1,6 @@
+pub mod Line
+pub mod Put
+pub mod Said
+pub mod AnalysisLines
+pub mod WorkLines
+pub mod WorkRows

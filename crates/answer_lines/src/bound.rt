@@ -1,0 +1,69 @@
+//! The lines of bounds that aren't given.
+ghost use Rattle.std.specs.Prelude.{◌≡◌, [], ◌∷◌, codes, decimal, false};
+ghost use Rattle.std.specs.List.{concat};
+ghost use Rattle.outside.specs.Outside.{HasCause};
+ghost use Rattle.answer_lines.specs.Said.{Said};
+ghost use Rattle.answer_lines.specs.AnalysisLines.{cause_parts};
+
+use crate::{Piece, say_pieces};
+use outside::{Failed, Sink};
+
+/// Why no bound of a method is given, in numbers.
+#[derive(Clone, Copy)]
+pub enum BoundCause {
+    /// No method with code has the name, the one that starts the program excepted.
+    NoMethod,
+    /// Methods that may run while the method does call one another in a ring.
+    Recursion,
+    /// A loop of the method of this number has several entries.
+    Irreducible(u32),
+    /// No bound is given for the loop of this method whose header is the instruction at this place.
+    MissingBound(u32, u32),
+    /// A number of the method of this number, or iterations of its loops together, exceed 64 bits.
+    TooLarge(u32),
+}
+
+/// Puts a label and what the line names.
+fn say_subject<'a, O: Sink>(sink: &mut O, label: &'a [u8], subject: &'a [u8]) -> Result<(), Failed>
+    ensures said { Said false (concat (label.now ∷ subject.now ∷ codes "\n" ∷ [])) (O.held sink.old) (O.held sink.new) (O.faults sink.old)
+        (O.faults sink.new) result }
+    ensures cause { HasCause (O.faults sink.old) (O.faults sink.new) result }
+{
+    say_pieces(
+        sink,
+        &[Piece::Text(label), Piece::Text(subject), Piece::Text(b"\n")],
+    )
+}
+
+/// Puts the line of a loop without a bound.
+fn say_missing_bound<O: Sink>(sink: &mut O, name: &[u8], place: u32) -> Result<(), Failed>
+    ensures said { Said false (concat (codes "bound: missing bound " ∷ name.now ∷ codes " " ∷ decimal place ∷ codes "\n" ∷ [])) (O.held sink.old)
+        (O.held sink.new) (O.faults sink.old) (O.faults sink.new) result }
+    ensures cause { HasCause (O.faults sink.old) (O.faults sink.new) result }
+{
+    say_pieces(
+        sink,
+        &[
+            Piece::Text(b"bound: missing bound "),
+            Piece::Text(name),
+            Piece::Text(b" "),
+            Piece::Number(place as u128),
+            Piece::Text(b"\n"),
+        ],
+    )
+}
+
+/// Puts the line of the cause for which no bound is given. The subject is what the line names: each method of the cycle, behind a
+/// space, or else the method, and where it is irreducible its nodes, each behind a space.
+pub fn say_cause<O: Sink>(sink: &mut O, cause: BoundCause, subject: &[u8]) -> Result<(), Failed>
+    ensures said { Said false (concat (cause_parts cause subject.now)) (O.held sink.old) (O.held sink.new) (O.faults sink.old) (O.faults sink.new) result }
+    ensures cause { HasCause (O.faults sink.old) (O.faults sink.new) result }
+{
+    match cause {
+        BoundCause::NoMethod => say_pieces(sink, &[Piece::Text(b"bound: no method\n")]),
+        BoundCause::Recursion => say_subject(sink, b"bound: recursion", subject),
+        BoundCause::Irreducible(_) => say_subject(sink, b"bound: irreducible ", subject),
+        BoundCause::MissingBound(_, place) => say_missing_bound(sink, subject, place),
+        BoundCause::TooLarge(_) => say_subject(sink, b"bound: too large ", subject),
+    }
+}

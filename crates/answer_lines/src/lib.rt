@@ -1,0 +1,22 @@
+//! The lines that say how a command ended: what was written, counted or made; that a certificate holds, or why it, or the texts
+//! with which it comes, is refused; why no bound is given; and what came of a program that was made to be run and bounded:
+//! `work n=N output=B cycles=C hits=H misses=M bound=P`. No memory is taken.
+#![tactic(auto)]
+
+mod bound;
+mod check;
+pub mod laws;
+mod line;
+mod link;
+mod pieces;
+mod put;
+mod summary;
+mod texts;
+
+pub use bound::{BoundCause, say_cause};
+pub use check::{say_fault, say_held};
+pub use line::{AsmLine, Counts, Line, LinkLine, Named, Place, Sizes};
+pub use pieces::Piece;
+pub use put::{put_line, say, say_pieces};
+pub use summary::work_line;
+pub use texts::{say_bad_bounds, say_bad_cert, say_twice_bound};

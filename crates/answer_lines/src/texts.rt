@@ -1,0 +1,49 @@
+//! The lines of texts that are refused.
+ghost use Rattle.std.specs.Prelude.{◌≡◌, [], ◌∷◌, codes, decimal, false};
+ghost use Rattle.std.specs.List.{concat};
+ghost use Rattle.outside.specs.Outside.{HasCause};
+ghost use Rattle.answer_lines.specs.Said.{Said};
+ghost use Rattle.answer_lines.specs.AnalysisLines.{bad_bounds_parts, twice_bound_parts, bad_cert_parts};
+
+use crate::{Piece, say_pieces};
+use outside::{Failed, Sink};
+
+/// Puts a label and a number.
+fn say_number<O: Sink>(sink: &mut O, label: &[u8], number: u64) -> Result<(), Failed>
+    ensures said { Said false (concat (label.now ∷ decimal number ∷ codes "\n" ∷ [])) (O.held sink.old) (O.held sink.new) (O.faults sink.old)
+        (O.faults sink.new) result }
+    ensures cause { HasCause (O.faults sink.old) (O.faults sink.new) result }
+{
+    say_pieces(
+        sink,
+        &[
+            Piece::Text(label),
+            Piece::Number(number as u128),
+            Piece::Text(b"\n"),
+        ],
+    )
+}
+
+/// Puts the line of the first line of bounds that is none of their grammar.
+pub fn say_bad_bounds<O: Sink>(sink: &mut O, line: u32) -> Result<(), Failed>
+    ensures said { Said false (concat (bad_bounds_parts line)) (O.held sink.old) (O.held sink.new) (O.faults sink.old) (O.faults sink.new) result }
+    ensures cause { HasCause (O.faults sink.old) (O.faults sink.new) result }
+{
+    say_number(sink, b"bad bounds line=", line as u64)
+}
+
+/// Puts the line of the first line of bounds that bounds a loop once more.
+pub fn say_twice_bound<O: Sink>(sink: &mut O, line: u32) -> Result<(), Failed>
+    ensures said { Said false (concat (twice_bound_parts line)) (O.held sink.old) (O.held sink.new) (O.faults sink.old) (O.faults sink.new) result }
+    ensures cause { HasCause (O.faults sink.old) (O.faults sink.new) result }
+{
+    say_number(sink, b"twice bound line=", line as u64)
+}
+
+/// Puts the line of the first line with which no certificate begins.
+pub fn say_bad_cert<O: Sink>(sink: &mut O, line: u64) -> Result<(), Failed>
+    ensures said { Said false (concat (bad_cert_parts line)) (O.held sink.old) (O.held sink.new) (O.faults sink.old) (O.faults sink.new) result }
+    ensures cause { HasCause (O.faults sink.old) (O.faults sink.new) result }
+{
+    say_number(sink, b"bad cert line=", line)
+}

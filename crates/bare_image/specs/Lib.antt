@@ -1,4 +1,0 @@
-pub mod Shapes
-pub mod Bare
-pub mod Scan
-pub mod Meaning

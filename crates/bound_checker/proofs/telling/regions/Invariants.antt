@@ -1,6 +1,0 @@
-use Rattle.std.proofs.Common.{take}
-use Rattle.bound_checker.proofs.Marking.{AreMarked}
-use Rattle.bound_checker.proofs.telling.regions.Given as goal
-
-abbrev pub invariant-loop-l : goal.invariant-loop-l
-invariant-loop-l l = AreMarked (take l.l-index l.s.section.loops) l.size l.flags.items

@@ -1,0 +1,56 @@
+//! The check of certificates of execution time: whether a certificate meets the conditions of `bound_rules`, section by section,
+//! or which of them fails first.
+#![tactic(auto)]
+
+ghost use Rattle.std.specs.Prelude.{◌≡◌, ◌<◌, IfOk, IfErr};
+ghost use Rattle.bound_cert.specs.Certificate.{IsInGrammar};
+ghost use Rattle.node_costs.specs.Costs.{bounds_of};
+ghost use Rattle.cert_checker.specs.Answer.{HasWaits, Meets, Refuses};
+
+mod absent;
+mod answer;
+mod checked;
+mod ending;
+mod nodes;
+mod prepared;
+mod prices;
+mod section;
+mod sections;
+mod summaries;
+mod task;
+mod telling;
+mod values;
+
+use bound_cert::Cert;
+pub use bound_rules::CheckFault;
+pub use checked::Checked;
+use ending::check_last;
+use loop_bounds::Bounds;
+use method_flow::{FlowProgram, Timing};
+use sections::check_sections;
+use std::alloc::Global;
+use task::Task;
+
+/// Checks a certificate of a program whose loops have these bounds: each section behind those before it, and the last line. It
+/// answers the first condition that fails, or that there is no memory.
+pub fn check<'a>(
+    alloc: Global,
+    f: &'a FlowProgram,
+    b: &'a Bounds,
+    t: Timing,
+    c: &'a Cert,
+) -> Result<Checked<'a>, CheckFault>
+    requires grammar { IsInGrammar c.now }
+    requires waits { HasWaits t }
+    requires sizes { 0 < t.block_words }
+    ensures kept { IfOk result (λ k. k ≡ record { flow = f.now; bounds = b.now; timing = t; certificate = c.now }) }
+    ensures met { IfOk result (λ _. Meets f.now (bounds_of f.now b.now) t c.now) }
+    ensures fault { IfErr result (Refuses f.now (bounds_of f.now b.now) t c.now) }
+{
+    let Ok(task) = Task::new(alloc, f, b, t) else {
+        return Err(CheckFault::NoMemory);
+    };
+    let values = check_sections(alloc, &task, c.sections())?;
+    check_last(&task, &values, c)?;
+    Ok(Checked::new(f, b, t, c))
+}

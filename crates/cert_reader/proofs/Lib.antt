@@ -1,4 +1,0 @@
-pub mod Going
-pub mod Sorts
-pub mod Next
-pub mod Counting

@@ -1,0 +1,9 @@
+pub mod ItemLemmas
+pub mod FirstLemmas
+pub mod OpcodeLemmas
+pub mod BoundLemmas
+pub mod TableLemmas
+pub mod PlaceItemLemmas
+pub mod PlacedLemmas
+pub mod FinalLemmas
+pub mod MarkLemmas

@@ -1,4 +1,0 @@
-pub mod ManyLemmas
-pub mod PartLaws
-pub mod MemberLaws
-pub mod CheckLemmas

@@ -1,5 +1,0 @@
-use Rattle.class_reader.proofs.CheckLemmas.{IsCounted}
-use Rattle.class_reader.proofs.checking.named_length.Given as goal
-
-abbrev pub invariant-loop-bytes : goal.invariant-loop-bytes
-invariant-loop-bytes l = IsCounted l.attributes l.bytes-index l.total

@@ -1,7 +1,0 @@
-use Rattle.std.proofs.Common.{◌∙◌}
-use Rattle.class_refusals.specs.Descriptors.{method_item}
-use Rattle.class_refusals.proofs.TableLemmas.{no_method_item}
-use Rattle.class_refusals.proofs.tables.DescriptorItems.of_method.Goals as goal
-
-pub returns : goal.returns
-returns c = c.item_at.ensures method_item no_method_item (c.deref.ensures.value ∙ c.requires.methods)

@@ -1,0 +1,176 @@
+-- The numbers of a command that is read.
+use Rattle.std.proofs.Common.{◌≡◌, ℕ, zero, suc, ◌+◌, ◌<◌, ◌≤◌, ◌^◌, true, List, [], ◌∷◌, length, Some, None, Ok, Err, ◌⊎◌, inl, inr, refl, sym, ap, ◌∙◌, subst, arith, length-append}
+use Rattle.std.specs.Prelude.{is_some, unwrap_or, Contains, IfOk}
+use Rattle.std.specs.declared.option.Option.{Option}
+use Rattle.std.specs.declared.result.Result.{Result}
+use Rattle.std.specs.List.{flat_map}
+use Rattle.std.specs.Option.{option_to_list}
+use Rattle.std.specs.Borrow.{Bor}
+use Rattle.command_line.specs.declared.table.Verb.{Verb}
+use Rattle.command_line.specs.declared.table.Verb.TheVariants.{Link, Run, Trace, Bound, Check, Asm, Work}
+use Rattle.command_line.specs.declared.table.Name.{Name}
+use Rattle.command_line.specs.declared.table.Name.TheVariants.{Main, Method, Cycles, Stack, Memory, Blocks, BlockWords, Read, Write, Micro}
+use Rattle.command_line.specs.declared.command.Command.{Command}
+use Rattle.command_line.specs.Table.{name_word, usual, Value, Nothing, AWord, ANumber, OneOf, value_of_name, operands_of}
+use Rattle.command_line.specs.Command.{texts, given, with_value, none_given, value, settings_of, made, command_of}
+use Rattle.command_line.specs.Grammar.{Chosen, words_chosen, Means, AreChosen, values_from, AreOperands, IsCommand}
+use Rattle.command_line.specs.Range.{AreSettings, AreInRange, AreThere, OperandsFollow}
+use Rattle.command_line.proofs.Stored.{IsFull, full_with, given-same, given-other, same_or_other}
+use Rattle.command_line.proofs.Telling.{commands_told}
+
+-- what the value of an option can mean among n words
+abbrev CanMean : Value → (n : ℕ) → ℕ → Type 0
+CanMean Nothing n m = Unit {0}
+CanMean AWord n m = m < n
+CanMean (ANumber from to) n m = (from ≤ m) × (m ≤ to)
+CanMean (OneOf ns) n m = Contains ns m
+
+abbrev AreKept : List (Option ℕ) → (n : ℕ) → Type 0
+AreKept values n = (name : Name) (m : ℕ) → given values name ≡ Some m → CanMean (value_of_name name) n m
+
+means_can : (v : Value) (k : ℕ) (word : Option (List ℕ)) (m n : ℕ) → (is_some word ≡ true → k < n) → Means v k word m → CanMean v n m
+means_can Nothing k word m n there h = tt
+means_can AWord k None m n there h = absurd h
+means_can AWord k (Some word) m n there h = let below = there refl in omega (arith, h.1, below)
+means_can (ANumber from to) k None m n there h = absurd h
+means_can (ANumber from to) k (Some word) m n there h = (h.2, h.3)
+means_can (OneOf ns) k None m n there h = absurd h
+means_can (OneOf ns) k (Some word) m n there h = h.2
+
+value_there : (name : List ℕ) (value : Option (List ℕ)) (k n : ℕ) → k + length (name ∷ option_to_list value) ≤ n → is_some value ≡ true → k + 1 < n
+value_there name None k n fits h = absurd (cc)
+value_there name (Some word) k n fits h = omega (arith, fits)
+
+kept_with : (values : List (Option ℕ)) (a : Name) (x n : ℕ) → IsFull values → CanMean (value_of_name a) n x → AreKept values n → AreKept (with_value values a x) n
+kept_with values a x n full can kept name m h = elim (same_or_other a name) [
+  | inl same ↦
+      let at : given (with_value values a x) name ≡ Some x = subst (λ (b : Name). given (with_value values a x) b ≡ Some x) same (given-same values a x full) in
+      let is : x ≡ m = cc in
+      let P : ℕ → Type 0 = λ y. CanMean (value_of_name name) n y in
+      let Q : Name → Type 0 = λ b. CanMean (value_of_name b) n x in
+      subst P is (subst Q same can)
+  | inr other ↦ kept name m (sym (given-other values a name x other) ∙ h)
+]
+
+kept_chosen : (verb : Verb) (k : ℕ) (values : List (Option ℕ)) (cs : List Chosen) (n : ℕ) → IsFull values → k + length (flat_map words_chosen cs) ≤ n → AreChosen verb k cs → AreKept values n → AreKept (values_from values cs) n
+kept_chosen verb k values [] n full fits chosen kept = kept
+kept_chosen verb k values (c ∷ cs) n full fits chosen kept =
+    let both = length-append (words_chosen c) (flat_map words_chosen cs) in
+    let first : k + length (words_chosen c) ≤ n = omega (arith, both, fits) in
+    let can = means_can (value_of_name c.name) (k + 1) c.value c.means n (value_there (name_word c.name) c.value k n first) chosen.1 in
+    kept_chosen verb (k + length (words_chosen c)) (with_value values c.name c.means) cs n (full_with values c.name c.means full) (omega (arith, both, fits)) chosen.2 (kept_with values c.name c.means n full can kept)
+
+none_kept : (n : ℕ) → AreKept none_given n
+none_kept n Main m h = absurd (cc)
+none_kept n Method m h = absurd (cc)
+none_kept n Cycles m h = absurd (cc)
+none_kept n Stack m h = absurd (cc)
+none_kept n Memory m h = absurd (cc)
+none_kept n Blocks m h = absurd (cc)
+none_kept n BlockWords m h = absurd (cc)
+none_kept n Read m h = absurd (cc)
+none_kept n Write m h = absurd (cc)
+none_kept n Micro m h = absurd (cc)
+
+-- what an option means, given or not
+meant : (o : Option ℕ) (d : ℕ) (P : ℕ → Type 0) → P d → ((m : ℕ) → o ≡ Some m → P m) → P (unwrap_or o d)
+meant None d P usual some = usual
+meant (Some m) d P usual some = some m refl
+
+abbrev IsStackSize : ℕ → Type 0
+IsStackSize n = (n ≡ 256) ⊎ (n ≡ 512) ⊎ (n ≡ 1024)
+
+stack_size : (n : ℕ) → Contains (256 ∷ 512 ∷ 1024 ∷ []) n → IsStackSize n
+stack_size n (zero, lt, is) = inl (sym is)
+stack_size n (suc zero, lt, is) = inr (inl (sym is))
+stack_size n (suc (suc zero), lt, is) = inr (inr (sym is))
+stack_size n (suc (suc (suc k)), lt, is) = absurd (omega (arith, lt))
+
+settings_are : (values : List (Option ℕ)) (n : ℕ) → AreKept values n → AreSettings (settings_of values)
+settings_are values n kept =
+    let memory = meant (given values Memory) (usual Memory) (λ m. (16 ≤ m) × (m ≤ 16777216)) (omega arith, omega arith) (kept Memory) in
+    let blocks = meant (given values Blocks) (usual Blocks) (λ m. (1 ≤ m) × (m ≤ 256)) (omega arith, omega arith) (kept Blocks) in
+    let block_words = meant (given values BlockWords) (usual BlockWords) (λ m. (1 ≤ m) × (m ≤ 1024)) (omega arith, omega arith) (kept BlockWords) in
+    record {
+      cycles = meant (given values Cycles) (usual Cycles) (λ m. m < 2 ^ 63) (omega arith) (λ m h. let can = kept Cycles m h in omega (arith, can.1));
+      stack = meant (given values Stack) (usual Stack) IsStackSize (inr (inr refl)) (λ m h. stack_size m (kept Stack m h));
+      memory_least = memory.0;
+      memory_most = memory.1;
+      blocks_least = blocks.0;
+      blocks_most = blocks.1;
+      block_words_least = block_words.0;
+      block_words_most = block_words.1;
+      read_most = meant (given values Read) (usual Read) (λ m. m ≤ 63) (omega arith) (λ m h. (kept Read m h).1);
+      write_most = meant (given values Write) (usual Write) (λ m. m ≤ 63) (omega arith) (λ m h. (kept Write m h).1);
+    }
+
+named_there : (values : List (Option ℕ)) (name : Name) (n : ℕ) → value_of_name name ≡ AWord → usual name ≡ 0 → 0 < n → AreKept values n → value values name < n
+named_there values name n takes none some kept = meant (given values name) (usual name) (λ m. m < n) (omega (arith, none, some)) (λ m h. let P : Value → Type 0 = λ v. CanMean v n m in subst P takes (kept name m h))
+
+made_in_range : (verb : Verb) (values : List (Option ℕ)) (k m n : ℕ) (operands : List (List ℕ)) → AreKept values n → AreOperands (operands_of verb) operands m → AreInRange (made verb values k m)
+made_in_range Link values k m n operands kept are = tt
+made_in_range Run values k m n operands kept are = settings_are values n kept
+made_in_range Trace values k m n operands kept are = settings_are values n kept
+made_in_range Bound values k m n operands kept are = settings_are values n kept
+made_in_range Check values k m n operands kept are = settings_are values n kept
+made_in_range Asm values k m n operands kept are = tt
+made_in_range Work values k m n operands kept are = (are.2.2, are.2.3)
+
+made_there : (verb : Verb) (values : List (Option ℕ)) (k m n : ℕ) (operands : List (List ℕ)) → n ≡ k + length operands → AreKept values n → AreOperands (operands_of verb) operands m → AreThere n (made verb values k m)
+made_there Link values k m n operands all kept are =
+    let some = are.0 in
+    let below : k < n = omega (arith, all, some) in
+    (named_there values Main n refl refl (omega (arith, below)) kept, below)
+made_there Run values k m n operands all kept are = let many = are.0 in omega (arith, all, many)
+made_there Trace values k m n operands all kept are = let many = are.0 in omega (arith, all, many)
+made_there Bound values k m n operands all kept are =
+    let many = are.0 in
+    let below : k + 1 < n = omega (arith, all, many) in
+    (named_there values Method n refl refl (omega (arith, below)) kept, omega (arith, below), below)
+made_there Check values k m n operands all kept are =
+    let many = are.0 in
+    (omega (arith, all, many), omega (arith, all, many), omega (arith, all, many))
+made_there Asm values k m n operands all kept are = let many = are.0 in omega (arith, all, many)
+made_there Work values k m n operands all kept are = tt
+
+made_follow : (verb : Verb) (values : List (Option ℕ)) (k m : ℕ) → OperandsFollow (made verb values k m)
+made_follow Link values k m = tt
+made_follow Run values k m = tt
+made_follow Trace values k m = tt
+made_follow Bound values k m = refl
+made_follow Check values k m = (refl, refl)
+made_follow Asm values k m = tt
+made_follow Work values k m = tt
+
+commands_in_range : (words : List (List ℕ)) (command : Command) → IsCommand words command → AreInRange command × AreThere (length words) command
+commands_in_range words command is =
+    let k = 1 + length (flat_map words_chosen is.options) in
+    let all : length words ≡ k + length is.operands = ap length is.words_are ∙ omega (arith, length-append (flat_map words_chosen is.options) is.operands) in
+    let kept = kept_chosen is.verb 1 none_given is.options (length words) refl (omega (arith, all)) is.chosen (none_kept (length words)) in
+    let values = values_from none_given is.options in
+    let P : Command → Type 0 = λ c. AreInRange c × AreThere (length words) c in
+    subst P (sym is.command_is) (made_in_range is.verb values k is.number (length words) is.operands kept is.are_operands, made_there is.verb values k is.number (length words) is.operands all kept is.are_operands)
+
+length_texts : (ws : List (Bor (List ℕ))) → length (texts ws) ≡ length ws
+length_texts [] = refl
+length_texts (w ∷ ws) = omega (arith, length_texts ws)
+
+read_in_range : (ws : List (Bor (List ℕ))) (command : Command) → Ok command ≡ command_of (texts ws) → AreInRange command × AreThere (length ws) command
+read_in_range ws command is =
+    let both = commands_in_range (texts ws) command (commands_told (texts ws) command (sym is)) in
+    (both.0, subst (λ n. AreThere n command) (length_texts ws) both.1)
+
+pub ranges : (ws : List (Bor (List ℕ))) (r : Result Command ℕ) → r ≡ command_of (texts ws) → IfOk r AreInRange
+ranges ws (Ok command) is = (read_in_range ws command is).0
+ranges ws (Err k) is = tt
+
+pub there : (ws : List (Bor (List ℕ))) (r : Result Command ℕ) → r ≡ command_of (texts ws) → IfOk r (AreThere (length ws))
+there ws (Ok command) is = (read_in_range ws command is).1
+there ws (Err k) is = tt
+
+commands_follow : (words : List (List ℕ)) (command : Command) → IsCommand words command → OperandsFollow command
+commands_follow words command is = subst OperandsFollow (sym is.command_is) (made_follow is.verb (values_from none_given is.options) (1 + length (flat_map words_chosen is.options)) is.number)
+
+pub follow : (ws : List (Bor (List ℕ))) (r : Result Command ℕ) → r ≡ command_of (texts ws) → IfOk r OperandsFollow
+follow ws (Ok command) is = commands_follow (texts ws) command (commands_told (texts ws) command (sym is))
+follow ws (Err k) is = tt

@@ -1,0 +1,42 @@
+-- What the numbers of a command can be.
+use Rattle.std.specs.Prelude.{◌≡◌, ℕ, ◌+◌, ◌^◌, ◌<◌, ◌≤◌, ◌⊎◌}
+use Rattle.command_line.specs.declared.command.Settings.{Settings}
+use Rattle.command_line.specs.declared.command.Command.{Command}
+use Rattle.command_line.specs.declared.command.Command.TheVariants.{Link, Run, Trace, Bound, Check, Asm, Work}
+
+pub record AreSettings (settings : Settings) : Type 0 where
+  pub cycles : settings.cycles < 2 ^ 63
+  pub stack : (settings.stack ≡ 256) ⊎ (settings.stack ≡ 512) ⊎ (settings.stack ≡ 1024)
+  pub memory_least : 16 ≤ settings.memory
+  pub memory_most : settings.memory ≤ 16777216
+  pub blocks_least : 1 ≤ settings.blocks
+  pub blocks_most : settings.blocks ≤ 256
+  pub block_words_least : 1 ≤ settings.block_words
+  pub block_words_most : settings.block_words ≤ 1024
+  pub read_most : settings.read ≤ 63
+  pub write_most : settings.write ≤ 63
+
+abbrev pub AreInRange : Command → Type 0
+AreInRange (Link main first) = Unit {0}
+AreInRange (Run settings image) = AreSettings settings
+AreInRange (Trace settings micro image) = AreSettings settings
+AreInRange (Bound settings method image bounds) = AreSettings settings
+AreInRange (Check settings image bounds certificate) = AreSettings settings
+AreInRange (Asm text) = Unit {0}
+AreInRange (Work count) = (1 ≤ count) × (count ≤ 1000)
+
+-- each word that the command means by its number is one of so many
+abbrev pub AreThere : (n : ℕ) → Command → Type 0
+AreThere n (Link main first) = (main < n) × (first < n)
+AreThere n (Run settings image) = image < n
+AreThere n (Trace settings micro image) = image < n
+AreThere n (Bound settings method image bounds) = (method < n) × (image < n) × (bounds < n)
+AreThere n (Check settings image bounds certificate) = (image < n) × (bounds < n) × (certificate < n)
+AreThere n (Asm text) = text < n
+AreThere n (Work count) = Unit {0}
+
+-- the operands of a command that has several are words one behind another
+abbrev pub OperandsFollow : Command → Type 0
+OperandsFollow (Bound settings method image bounds) = bounds ≡ image + 1
+OperandsFollow (Check settings image bounds certificate) = (bounds ≡ image + 1) × (certificate ≡ image + 2)
+OperandsFollow command = Unit {0}

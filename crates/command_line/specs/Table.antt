@@ -1,0 +1,141 @@
+-- The commands, their options and their operands.
+use Rattle.std.specs.Prelude.{ℕ, ◌-◌, ◌^◌, Bool, ◌==◌, if◌then◌else◌, List, [], ◌∷◌, Some, None, codes, bytes_eq}
+use Rattle.std.specs.declared.option.Option.{Option}
+use Rattle.std.specs.List.{find, list_any}
+use Rattle.command_line.specs.declared.table.Verb.{Verb}
+use Rattle.command_line.specs.declared.table.Verb.TheVariants.{Link, Run, Trace, Bound, Check, Asm, Work}
+use Rattle.command_line.specs.declared.table.Name.{Name}
+use Rattle.command_line.specs.declared.table.Name.TheVariants.{Main, Method, Cycles, Stack, Memory, Blocks, BlockWords, Read, Write, Micro}
+
+-- ---- options
+
+abbrev pub name_word : Name → List ℕ
+name_word Main = codes "--main"
+name_word Method = codes "--method"
+name_word Cycles = codes "--cycles"
+name_word Stack = codes "--stack"
+name_word Memory = codes "--memory"
+name_word Blocks = codes "--blocks"
+name_word BlockWords = codes "--block-words"
+name_word Read = codes "--read"
+name_word Write = codes "--write"
+name_word Micro = codes "--micro"
+
+abbrev pub all_names : List Name
+all_names = Main ∷ Method ∷ Cycles ∷ Stack ∷ Memory ∷ Blocks ∷ BlockWords ∷ Read ∷ Write ∷ Micro ∷ []
+
+-- the place of an option among all
+abbrev pub place_of : Name → ℕ
+place_of Main = 0
+place_of Method = 1
+place_of Cycles = 2
+place_of Stack = 3
+place_of Memory = 4
+place_of Blocks = 5
+place_of BlockWords = 6
+place_of Read = 7
+place_of Write = 8
+place_of Micro = 9
+
+abbrev pub same_name : Name → Name → Bool
+same_name a b = place_of a == place_of b
+
+-- what an option takes: nothing, a word, a number from one to another, or one of some numbers
+pub data Value : Type 0 where
+  Nothing : Value
+  AWord : Value
+  ANumber : (from to : ℕ) → Value
+  OneOf : List ℕ → Value
+
+abbrev pub value_of_name : Name → Value
+value_of_name Main = AWord
+value_of_name Method = AWord
+value_of_name Cycles = ANumber 0 (2 ^ 63 - 1)
+value_of_name Stack = OneOf (256 ∷ 512 ∷ 1024 ∷ [])
+value_of_name Memory = ANumber 16 16777216
+value_of_name Blocks = ANumber 1 256
+value_of_name BlockWords = ANumber 1 1024
+value_of_name Read = ANumber 0 63
+value_of_name Write = ANumber 0 63
+value_of_name Micro = Nothing
+
+-- what is meant where an option isn't given
+abbrev pub usual : Name → ℕ
+usual Cycles = 1000000000
+usual Stack = 1024
+usual Memory = 262144
+usual Blocks = 16
+usual BlockWords = 64
+usual Read = 1
+usual Write = 2
+usual name = 0
+
+-- ---- commands
+
+abbrev pub verb_word : Verb → List ℕ
+verb_word Link = codes "link"
+verb_word Run = codes "run"
+verb_word Trace = codes "trace"
+verb_word Bound = codes "bound"
+verb_word Check = codes "check"
+verb_word Asm = codes "asm"
+verb_word Work = codes "work"
+
+abbrev pub all_verbs : List Verb
+all_verbs = Link ∷ Run ∷ Trace ∷ Bound ∷ Check ∷ Asm ∷ Work ∷ []
+
+-- the four that a bound depends on
+abbrev pub bound_names : List Name
+bound_names = Blocks ∷ BlockWords ∷ Read ∷ Write ∷ []
+
+abbrev pub run_names : List Name
+run_names = Cycles ∷ Stack ∷ Memory ∷ bound_names
+
+abbrev pub names_of : Verb → List Name
+names_of Link = Main ∷ []
+names_of Run = run_names
+names_of Trace = Micro ∷ run_names
+names_of Bound = Method ∷ bound_names
+names_of Check = bound_names
+names_of Asm = []
+names_of Work = []
+
+-- the options that have to be given
+abbrev pub required_of : Verb → List Name
+required_of Link = Main ∷ []
+required_of Bound = Method ∷ []
+required_of verb = []
+
+-- what operands a command has: so many, one or more, or a number from one to another
+pub data Operands : Type 0 where
+  Exactly : ℕ → Operands
+  OneOrMore : Operands
+  Number : (from to : ℕ) → Operands
+
+abbrev pub operands_of : Verb → Operands
+operands_of Link = OneOrMore
+operands_of Run = Exactly 1
+operands_of Trace = Exactly 1
+operands_of Bound = Exactly 2
+operands_of Check = Exactly 3
+operands_of Asm = Exactly 1
+operands_of Work = Number 1 1000
+
+-- ---- by their words
+
+abbrev pub verb_named : List ℕ → Option Verb
+verb_named word = find (λ verb. bytes_eq word (verb_word verb)) all_verbs
+
+abbrev pub name_named : List ℕ → Option Name
+name_named word = find (λ name. bytes_eq word (name_word name)) all_names
+
+abbrev pub has_name : Verb → Name → Bool
+has_name verb name = list_any (same_name name) (names_of verb)
+
+-- the option of a command that a word names
+abbrev pub kept_by : Verb → Option Name → Option Name
+kept_by verb None = None
+kept_by verb (Some name) = if has_name verb name then Some name else None
+
+abbrev pub name_of : Verb → List ℕ → Option Name
+name_of verb word = kept_by verb (name_named word)

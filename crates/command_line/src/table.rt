@@ -1,0 +1,125 @@
+//! The table of commands and their options.
+ghost use Rattle.std.specs.Prelude.{◌≡◌};
+ghost use Rattle.command_line.specs.Table.{verb_named, name_named, has_name, name_of};
+
+/// What a command does.
+#[derive(Clone, Copy)]
+pub(crate) enum Verb {
+    Link,
+    Run,
+    Trace,
+    Bound,
+    Check,
+    Asm,
+    Work,
+}
+
+/// An option.
+#[derive(Clone, Copy)]
+pub(crate) enum Name {
+    Main,
+    Method,
+    Cycles,
+    Stack,
+    Memory,
+    Blocks,
+    BlockWords,
+    Read,
+    Write,
+    Micro,
+}
+
+/// The command that a word names.
+pub(crate) fn verb_named(word: &str) -> Option<Verb>
+    ensures { result ≡ verb_named word.now }
+{
+    if word == "link" {
+        Some(Verb::Link)
+    } else if word == "run" {
+        Some(Verb::Run)
+    } else if word == "trace" {
+        Some(Verb::Trace)
+    } else if word == "bound" {
+        Some(Verb::Bound)
+    } else if word == "check" {
+        Some(Verb::Check)
+    } else if word == "asm" {
+        Some(Verb::Asm)
+    } else if word == "work" {
+        Some(Verb::Work)
+    } else {
+        None
+    }
+}
+
+/// The option that a word names.
+fn name_named(word: &str) -> Option<Name>
+    ensures { result ≡ name_named word.now }
+{
+    if word == "--main" {
+        Some(Name::Main)
+    } else if word == "--method" {
+        Some(Name::Method)
+    } else if word == "--cycles" {
+        Some(Name::Cycles)
+    } else if word == "--stack" {
+        Some(Name::Stack)
+    } else if word == "--memory" {
+        Some(Name::Memory)
+    } else if word == "--blocks" {
+        Some(Name::Blocks)
+    } else if word == "--block-words" {
+        Some(Name::BlockWords)
+    } else if word == "--read" {
+        Some(Name::Read)
+    } else if word == "--write" {
+        Some(Name::Write)
+    } else if word == "--micro" {
+        Some(Name::Micro)
+    } else {
+        None
+    }
+}
+
+/// Whether a command has an option.
+fn has_name(verb: Verb, name: Name) -> bool
+    ensures { result ≡ has_name verb name }
+{
+    match verb {
+        Verb::Link => matches!(name, Name::Main),
+        Verb::Run => is_of_run(name),
+        Verb::Trace => matches!(name, Name::Micro) || is_of_run(name),
+        Verb::Bound => matches!(name, Name::Method) || is_of_bound(name),
+        Verb::Check => is_of_bound(name),
+        Verb::Asm | Verb::Work => false,
+    }
+}
+
+/// Whether it is an option of `run`.
+fn is_of_run(name: Name) -> bool
+    ensures { result ≡ has_name Verb.Run name }
+{
+    matches!(name, Name::Cycles | Name::Stack | Name::Memory) || is_of_bound(name)
+}
+
+/// Whether it is one of the four that a bound depends on.
+fn is_of_bound(name: Name) -> bool
+    ensures { result ≡ has_name Verb.Check name }
+{
+    matches!(
+        name,
+        Name::Blocks | Name::BlockWords | Name::Read | Name::Write
+    )
+}
+
+/// The option of a command that a word names.
+pub(crate) fn name_of(verb: Verb, word: &str) -> Option<Name>
+    ensures { result ≡ name_of verb word.now }
+{
+    let name = name_named(word)?;
+    if has_name(verb, name) {
+        Some(name)
+    } else {
+        None
+    }
+}

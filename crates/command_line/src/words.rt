@@ -1,0 +1,214 @@
+//! The command that the words give.
+ghost use Rattle.std.specs.Prelude.{◌≡◌, ◌+◌, ◌<◌, ◌≤◌, ◌^◌, ◌∷◌, length, IfOk};
+ghost use Rattle.command_line.specs.Command.{texts, is_option, none_given, exactly_at, empty_at, made, operands_at, operands_stop, operand_number};
+ghost use Rattle.command_line.specs.Command.{least_operands, words_at, command_of};
+ghost use Rattle.command_line.specs.Given.{values_of};
+ghost use Rattle.command_line.specs.Range.{AreInRange, AreThere, OperandsFollow};
+ghost use Rattle.command_line.specs.Table.{operands_of};
+
+use crate::command::Command;
+use crate::given::{Given, NONE_GIVEN, meaning, number_from};
+use crate::table::{Name, Verb, name_of, verb_named};
+
+/// Whether a word begins as an option does.
+fn is_option(word: &str) -> bool
+    ensures { result ≡ is_option word.now }
+{
+    matches!(word.as_bytes(), [b'-', b'-', ..])
+}
+
+/// The command of the words. Else the number of the first word at which no command can go on, or the number of words where they
+/// end early.
+pub fn read_words(words: &[&str]) -> Result<Command, u32>
+    requires { length words.now < 2 ^ 32 }
+    ensures exact { result ≡ command_of (texts words.now) }
+    ensures ranges { IfOk result AreInRange }
+    ensures there { IfOk result (AreThere (length words.now)) }
+    ensures order { IfOk result OperandsFollow }
+{
+    let [word, rest @ ..] = words else {
+        return Err(0);
+    };
+    let Some(verb) = verb_named(word) else {
+        return Err(0);
+    };
+    read_options(verb, rest)
+}
+
+/// The command, whose options and operands are these words, from word 1 on.
+fn read_options(verb: Verb, words: &[&str]) -> Result<Command, u32>
+    requires { length words.now + 1 < 2 ^ 32 }
+    ensures { result ≡ words_at None verb 1 none_given (texts words.now) }
+{
+    let mut given = NONE_GIVEN;
+    let mut k = 1;
+    let mut rest = words;
+    while let [word, after @ ..] = rest {
+        if !is_option(word) {
+            return read_operands(verb, &given, k, word, after);
+        }
+        let Some(name) = name_of(verb, word) else {
+            return Err(k);
+        };
+        if given.has(name) {
+            return Err(k);
+        }
+        if matches!(name, Name::Micro) {
+            given = given.with(name, 1);
+            k += 1;
+            rest = after;
+            continue;
+        }
+        let [value, more @ ..] = after else {
+            return Err(k + 1);
+        };
+        let Some(n) = meaning(name, k + 1, value) else {
+            return Err(k + 1);
+        };
+        given = given.with(name, n);
+        k += 2;
+        rest = more;
+    }
+    Err(k)
+}
+
+/// The command, whose operands are these words, from word `k` on.
+fn read_operands(
+    verb: Verb,
+    given: &Given,
+    k: u32,
+    operand: &str,
+    rest: &[&str],
+) -> Result<Command, u32>
+    requires { k + 1 + length rest.now < 2 ^ 32 }
+    ensures { result ≡ operands_at verb (values_of given.now) k operand.now (texts rest.now) }
+{
+    if !given.has_required(verb) {
+        return Err(k);
+    }
+    match operands_stop(verb, k, operand, rest) {
+        Some(at) => Err(at),
+        None => Ok(made(verb, given, k, operand_number(verb, operand))),
+    }
+}
+
+/// The first word at which the operands stop being those of the command; word `k` is the first of them.
+fn operands_stop(verb: Verb, k: u32, operand: &str, rest: &[&str]) -> Option<u32>
+    requires { k + 1 + length rest.now < 2 ^ 32 }
+    ensures exact { result ≡ operands_stop (operands_of verb) k operand.now (texts rest.now) }
+    // Where they don't stop, as many are there as the command has.
+    ensures enough { result ≡ None → least_operands (operands_of verb) ≤ 1 + length rest.now }
+{
+    match verb {
+        Verb::Work => match number_from(1, 1000, operand) {
+            Some(_) => { if rest.is_empty() { None } else { Some(k + 1) } }
+            None => Some(k),
+        },
+        Verb::Link => {
+            if operand.is_empty() {
+                Some(k)
+            } else {
+                first_empty(k + 1, rest)
+            }
+        }
+        Verb::Run | Verb::Trace | Verb::Asm => exactly(k, 1, operand, rest),
+        Verb::Bound => exactly(k, 2, operand, rest),
+        Verb::Check => exactly(k, 3, operand, rest),
+    }
+}
+
+/// The number that an operand is, where it is one.
+fn operand_number(verb: Verb, operand: &str) -> u32
+    ensures { result ≡ operand_number (operands_of verb) operand.now }
+{
+    match verb {
+        Verb::Work => match number_from(1, 1000, operand) {
+            Some(count) => count as u32,
+            None => 0,
+        },
+        Verb::Link | Verb::Run | Verb::Trace | Verb::Bound | Verb::Check | Verb::Asm => 0,
+    }
+}
+
+/// The first word at which the operands aren't so many, of which none is empty; word `k` is the first of them.
+fn exactly(k: u32, count: u32, operand: &str, rest: &[&str]) -> Option<u32>
+    requires some { 0 < count }
+    requires few { k + 1 + length rest.now < 2 ^ 32 }
+    ensures exact { result ≡ exactly_at k count (operand.now ∷ texts rest.now) }
+    ensures enough { result ≡ None → count ≡ 1 + length rest.now }
+{
+    if operand.is_empty() {
+        Some(k)
+    } else {
+        no_operand(k + 1, count - 1, rest)
+    }
+}
+
+/// The first of these words, from word `k` on, at which they aren't so many operands, of which none is empty.
+fn no_operand(k: u32, count: u32, words: &[&str]) -> Option<u32>
+    requires { k + length words.now < 2 ^ 32 }
+    ensures exact { result ≡ exactly_at k count (texts words.now) }
+    ensures enough { result ≡ None → count ≡ length words.now }
+{
+    let mut at = k;
+    let mut left = count;
+    for word in words {
+        if left == 0 || word.is_empty() {
+            return Some(at);
+        }
+        at += 1;
+        left -= 1;
+    }
+    if left == 0 { None } else { Some(at) }
+}
+
+/// The first of these words, from word `k` on, that is empty.
+fn first_empty(k: u32, words: &[&str]) -> Option<u32>
+    requires { k + length words.now < 2 ^ 32 }
+    ensures { result ≡ empty_at k (texts words.now) }
+{
+    let mut at = k;
+    for word in words {
+        if word.is_empty() {
+            return Some(at);
+        }
+        at += 1;
+    }
+    None
+}
+
+/// The command whose first operand is word `k`, and means `count` where it is a number.
+fn made(verb: Verb, given: &Given, k: u32, count: u32) -> Command
+    requires { k + least_operands (operands_of verb) ≤ 2 ^ 32 }
+    ensures { result ≡ made verb (values_of given.now) k count }
+{
+    match verb {
+        Verb::Link => Command::Link {
+            main: given.main.unwrap_or(0),
+            first: k,
+        },
+        Verb::Run => Command::Run {
+            settings: given.settings(),
+            image: k,
+        },
+        Verb::Trace => Command::Trace {
+            settings: given.settings(),
+            micro: given.micro.is_some(),
+            image: k,
+        },
+        Verb::Bound => Command::Bound {
+            settings: given.settings(),
+            method: given.method.unwrap_or(0),
+            image: k,
+            bounds: k + 1,
+        },
+        Verb::Check => Command::Check {
+            settings: given.settings(),
+            image: k,
+            bounds: k + 1,
+            certificate: k + 2,
+        },
+        Verb::Asm => Command::Asm { text: k },
+        Verb::Work => Command::Work { count },
+    }
+}

@@ -1,5 +1,0 @@
-mod Elements
-mod Moving
-mod Sweeping
-mod Crossings
-mod Falling

@@ -1,7 +1,0 @@
-use Rattle.std.proofs.Common.{ℕ, ◌<◌, get_or}
-use Rattle.crossing_sets.specs.Classes.{HasPlace}
-use Rattle.crossing_sets.proofs.classes.note_places.Given as goal
-
-abbrev pub invariant-loop-i : goal.invariant-loop-i
-invariant-loop-i l =
-    (j : ℕ) → j < l.i → HasPlace l.set l.class l.places l.i (get_or l.set j 0)

@@ -1,4 +1,0 @@
-pub mod Family
-pub mod Crossing
-pub mod Classes
-pub mod Splitting

@@ -1,6 +1,0 @@
-use Rattle.std.proofs.Common.{◌<◌, ◌^◌}
-use Rattle.flow_costs.proofs.Loading.{IsGreatestBelow}
-use Rattle.flow_costs.proofs.stalls.greatest_load.Given as goal
-
-abbrev pub invariant-loop-m : goal.invariant-loop-m
-invariant-loop-m l = record { is : IsGreatestBelow l.read l.f.methods l.m l.greatest; small : l.greatest < 2 ^ 21 }

@@ -1,5 +1,0 @@
-use Rattle.jop_opcodes.proofs.StartLemmas.{IsFirstBad-first_bad}
-use Rattle.jop_opcodes.proofs.laws.first_bad_is_a_start.Goals as goal
-
-pub returns : goal.returns
-returns c = IsFirstBad-first_bad

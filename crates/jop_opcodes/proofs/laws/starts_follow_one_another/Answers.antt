@@ -1,5 +1,0 @@
-use Rattle.jop_opcodes.proofs.StartLemmas.{AreStarts-starts_of}
-use Rattle.jop_opcodes.proofs.laws.starts_follow_one_another.Goals as goal
-
-pub returns : goal.returns
-returns c = AreStarts-starts_of

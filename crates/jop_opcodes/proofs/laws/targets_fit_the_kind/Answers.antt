@@ -1,5 +1,0 @@
-use Rattle.jop_opcodes.proofs.TargetLemmas.{TargetsFitKind-targets_of}
-use Rattle.jop_opcodes.proofs.laws.targets_fit_the_kind.Goals as goal
-
-pub returns : goal.returns
-returns c = TargetsFitKind-targets_of

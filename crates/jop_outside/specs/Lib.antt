@@ -1,5 +1,0 @@
-pub mod Outside
-pub mod Growing
-pub mod Memory
-pub mod ReadAll
-pub mod Host

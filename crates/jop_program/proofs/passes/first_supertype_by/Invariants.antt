@@ -1,8 +1,0 @@
-use Rattle.std.proofs.Common.{◌≡◌, [], take}
-use Rattle.std.specs.List.{flat_map, enumerate_from}
-use Rattle.jop_program.specs.Linked.{files_in}
-use Rattle.jop_program.specs.Refusals.{Supertypes, causes}
-use Rattle.jop_program.proofs.passes.first_supertype_by.Given as goal
-
-abbrev pub invariant-loop-file : goal.invariant-loop-file
-invariant-loop-file l = flat_map (λ e. causes l.texts Supertypes e.0 e.1) (take l.file (enumerate_from 0 (files_in l.texts l.files))) ≡ []

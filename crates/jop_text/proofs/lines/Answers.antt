@@ -1,7 +1,0 @@
-use Rattle.std.proofs.Common.{subst, sym, List, ℕ}
-use Rattle.jop_text.specs.Line.{AreLines}
-use Rattle.jop_text.proofs.LineLemmas.{AreLines-lines_of}
-use Rattle.jop_text.proofs.lines.Goals as goal
-
-pub returns-clause-pieces : goal.returns-clause-pieces
-returns-clause-pieces c = subst (λ (ls : List (List ℕ)). AreLines c.args.text.now ls) (sym c.new.ensures) (AreLines-lines_of c.args.text.now)

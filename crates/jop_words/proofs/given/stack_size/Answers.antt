@@ -1,6 +1,0 @@
-use Rattle.std.proofs.Common.{◌∙◌, sym}
-use Rattle.jop_words.proofs.Numbers.{size-unread}
-use Rattle.jop_words.proofs.given.stack_size.Goals as goal
-
-pub returns-in_err-number-clause-exact : goal.returns-in_err-number-clause-exact
-returns-in_err-number-clause-exact c = λ k. c.from_residual.ensures ∙ size-unread k c.args.word.now (sym c.number_from.ensures ∙ c.in_err-number.was)

@@ -1,5 +1,0 @@
-use Rattle.linked_image.proofs.Sequences.{words_taken}
-use Rattle.linked_image.proofs.reading.words_of.Goals as goal
-
-pub returns : goal.returns
-returns c = words_taken c.loop-word.words.items c.args.bytes.now c.loop-word.rest.now c.loop-word.invariant c.in_default.ensures

@@ -1,3 +1,0 @@
-pub mod Linked
-pub mod Front
-pub mod Meaning

@@ -1,7 +1,0 @@
-//! That a file is that of one image.
-ghost use Rattle.linked_image.specs.Linked.{OneImage};
-
-/// The law that the file of an image is read as that image and no other: images of the same bytes are one.
-pub fn one_image()
-    ensures { OneImage }
-{}

@@ -1,4 +1,0 @@
-mod Digits
-mod Texts
-mod Reading
-mod Whole

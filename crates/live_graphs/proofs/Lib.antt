@@ -1,3 +1,0 @@
-pub mod Choosing
-pub mod Staying
-pub mod Existing

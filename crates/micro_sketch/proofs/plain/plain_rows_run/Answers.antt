@@ -1,0 +1,5 @@
+use Rattle.micro_sketch.proofs.PlainRows.Running.{rows_run}
+use Rattle.micro_sketch.proofs.plain.plain_rows_run.Goals as goal
+
+pub returns : goal.returns
+returns c = rows_run c.rows_are_steps.ensures (record { follows = c.machine_follows_the_sketch.ensures; goes_on = c.runs_go_on.ensures; loads = c.low_word_is_loaded.ensures }) c.opcodes_keep_their_costs.ensures

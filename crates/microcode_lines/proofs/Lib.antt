@@ -1,4 +1,0 @@
-pub mod Numbers
-pub mod Labels
-pub mod Names
-pub mod Lines

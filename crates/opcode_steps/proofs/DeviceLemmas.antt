@@ -1,0 +1,4 @@
+pub mod Rows
+pub mod Steps
+pub mod Examples
+pub mod DeviceStates

@@ -1,0 +1,62 @@
+-- The opcodes of the family, one by one.
+use Rattle.std.proofs.Common.{◌≡◌, ◌⊎◌, ℕ, ◌==◌, ◌||◌, Bool, true, false, List, [], ◌∷◌, inl, inr, ⊎_elim, refl, sym, ◌∙◌, subst, eqb-true}
+use Rattle.std.specs.Prelude.{IsTrue}
+use Rattle.std.specs.List.{list_any}
+use Rattle.lists.specs.Tests.{either}
+use Rattle.bytecode_model.specs.Program.{Program}
+use Rattle.machine_stands.specs.Simulates.{Simulates, is_bare}
+use Rattle.opcode_steps.specs.Heap.Family.{array_opcodes, is_of_array}
+use Rattle.opcode_steps.proofs.HeapLemmas.ArrayScenes.{Laws, Scene, Comes}
+use Rattle.opcode_steps.proofs.HeapLemmas.Loads.{iaload_comes, laload_comes, aaload_comes, baload_comes, caload_comes, saload_comes}
+use Rattle.opcode_steps.proofs.HeapLemmas.Stores.{iastore_comes, bastore_comes, castore_comes, sastore_comes}
+use Rattle.opcode_steps.proofs.HeapLemmas.LongStores.{lastore_comes}
+use Rattle.opcode_steps.proofs.HeapLemmas.References.{aastore_comes}
+use Rattle.opcode_steps.proofs.HeapLemmas.Lengths.{arraylength_comes}
+
+-- ---- a property of each opcode of a list
+
+abbrev EachOf : (ℕ → Type 0) → List ℕ → Type 0
+EachOf Q [] = Unit {0}
+EachOf Q (k ∷ ks) = Q k × EachOf Q ks
+
+one_of : (Q : ℕ → Type 0) (op : ℕ) (ks : List ℕ) → IsTrue (list_any (λ k. k == op) ks) → EachOf Q ks → Q op
+one_of Q op [] h each = absurd (cc)
+one_of Q op (k ∷ ks) h each = ⊎_elim (λ e. subst Q (eqb-true k op e) each.0) (λ rest. one_of Q op ks rest each.1) (either (k == op) (list_any (λ k. k == op) ks) h)
+
+-- ---- no bare image has them
+
+abbrev IsNotBare : ℕ → Type 0
+IsNotBare k = is_bare k ≡ false
+
+none_bare : EachOf IsNotBare array_opcodes
+none_bare = (refl, (refl, (refl, (refl, (refl, (refl, (refl, (refl, (refl, (refl, (refl, (refl, (refl, tt)))))))))))))
+
+must_be_linked : (P : Program) (k : ℕ) → IsNotBare k → (P.linked ≡ true) ⊎ IsTrue (is_bare k) → P.linked ≡ true
+must_be_linked P k none linked = ⊎_elim (λ e. e) (λ bare. let clash : false ≡ true = sym none ∙ bare in absurd (cc)) linked
+
+-- ---- all of them
+
+abbrev Line : ℕ → Type 0
+Line op = (g : Scene op) → Comes op g
+
+lines : Laws → EachOf Line array_opcodes
+lines laws = (iaload_comes laws, (laload_comes laws, (aaload_comes laws, (baload_comes laws, (caload_comes laws, (saload_comes laws, (iastore_comes laws, (lastore_comes laws, (aastore_comes laws, (bastore_comes laws, (castore_comes laws, (sastore_comes laws, (arraylength_comes laws, tt)))))))))))))
+
+pub simulates : Laws → Simulates is_of_array
+simulates laws P pl n size m answer s s' h mode family linked =
+    let op = m.opcode in
+    let bare = one_of IsNotBare op array_opcodes family none_bare in
+    one_of Line op array_opcodes family (lines laws) (record {
+      P = P;
+      pl = pl;
+      n = n;
+      size = size;
+      m = m;
+      answer = answer;
+      s = s;
+      s' = s';
+      h = h;
+      mode = mode;
+      linked = must_be_linked P op bare linked;
+      opcode = refl;
+    })

@@ -1,0 +1,5 @@
+pub mod ValueLemmas
+pub mod NumberLemmas
+pub mod DeviceLemmas
+pub mod HeapLemmas
+pub mod ObjectLemmas

@@ -1,0 +1,14 @@
+pub mod Raising
+pub mod TypeRows
+pub mod Types
+pub mod Objects
+pub mod Scenes
+pub mod TypeTests
+pub mod Monitors
+pub mod Made
+pub mod Staying
+pub mod MakingRows
+pub mod Making
+pub mod Allocation
+pub mod Arrays
+pub mod Families

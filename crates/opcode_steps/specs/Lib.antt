@@ -1,0 +1,5 @@
+pub mod Values
+pub mod Numbers
+pub mod Devices
+pub mod Heap
+pub mod Objects

@@ -1,0 +1,4 @@
+pub mod Told
+pub mod Listed
+pub mod Known
+pub mod Together

@@ -1,0 +1,19 @@
+use Rattle.std.proofs.Common.{ℕ, sym, ◌∙◌}
+use Rattle.class_pool.specs.declared.class.ClassFile.{ClassFile}
+use Rattle.program_resolution.specs.Linked.{files_in}
+use Rattle.program_resolution.specs.Refusals.{Names, causes}
+use Rattle.program_resolution.proofs.FileLemmas.{found_file, none_file, no_file}
+use Rattle.program_resolution.proofs.passes.first_duplicate.Goals as goal
+
+pub returns-in-Some : goal.returns-in-Some
+returns-in-Some c =
+    let cs = c.args.classes.now in
+    found_file (λ (e : ℕ × ClassFile). causes cs Names e.0 e.1) (files_in cs c.args.files) c.loop-file.file c.class_of_file-class.result.now c.in-Some.refusal c.class_of_file-class.ensures.file c.loop-file.invariant (sym c.refused_name.ensures ∙ c.in-Some.is)
+
+pub loop-file-preserved : goal.loop-file-preserved
+loop-file-preserved c =
+    let cs = c.args.classes.now in
+    none_file (λ (e : ℕ × ClassFile). causes cs Names e.0 e.1) (files_in cs c.args.files) c.loop-file.file c.class_of_file-class.result.now c.class_of_file-class.ensures.file c.loop-file.invariant (sym c.refused_name.ensures ∙ c.in_default.is)
+
+pub returns : goal.returns
+returns c = no_file (λ (e : ℕ × ClassFile). causes c.args.classes.now Names e.0 e.1) c.args.classes.now c.args.files c.loop-file.file c.loop-file-test.false c.loop-file.invariant

@@ -1,0 +1,9 @@
+use Rattle.std.proofs.Common.{◌≡◌, ◌+◌, ◌≤◌, [], take}
+use Rattle.std.specs.Prelude.{IfSome}
+use Rattle.std.specs.List.{flat_map, enumerate_from}
+use Rattle.program_resolution.specs.Linked.{files_in}
+use Rattle.program_resolution.specs.Refusals.{Places, causes}
+use Rattle.program_resolution.proofs.passes.first_misplaced.Given as goal
+
+abbrev pub invariant-loop-file : goal.invariant-loop-file
+invariant-loop-file l = (flat_map (λ e. causes l.classes Places e.0 e.1) (take l.file (enumerate_from 0 (files_in l.classes l.files))) ≡ []) × IfSome l.first (λ d. 23 + l.file ≤ d)

@@ -1,0 +1,4 @@
+mod Taken
+mod Joined
+mod Registers
+mod Fronts

@@ -1,0 +1,4 @@
+pub mod Lent
+pub mod Put
+pub mod Lines
+pub mod Traced

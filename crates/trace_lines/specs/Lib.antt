@@ -1,3 +1,0 @@
-pub mod Put
-pub mod Lines
-pub mod Traced

@@ -1,8 +1,0 @@
-use Rattle.std.proofs.Common.{◌≡◌, ℕ, ◌<◌, length}
-use Rattle.std.specs.Prelude.{◌↔◌}
-use Rattle.path_solver.specs.Reaching.{IsFlagged}
-use Rattle.walk_bounds.specs.Charging.{IsOutermostOf}
-use Rattle.walk_bounds.proofs.charging.outermost_but.Given as goal
-
-abbrev pub invariant-loop-i : goal.invariant-loop-i
-invariant-loop-i l = (length l.flags.items ≡ l.i) × ((k : ℕ) → k < l.i → IsFlagged l.flags.items k ↔ IsOutermostOf l.loops l.candidates k)

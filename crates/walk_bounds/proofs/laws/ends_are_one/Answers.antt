@@ -1,5 +1,0 @@
-use Rattle.walk_bounds.proofs.Parts.{ends_are_one}
-use Rattle.walk_bounds.proofs.laws.ends_are_one.Goals as goal
-
-pub returns : goal.returns
-returns c = ends_are_one c.reduction_has_one_end.ensures

@@ -1,6 +1,0 @@
-use Rattle.std.proofs.Common.{◌≡◌, take}
-use Rattle.walk_bounds.specs.Limited.{picked}
-use Rattle.walk_bounds.proofs.limited.narrowed.Given as goal
-
-abbrev pub invariant-loop-x : goal.invariant-loop-x
-invariant-loop-x l = l.narrowed.items ≡ picked (take l.x-index l.nodes) l.costs

@@ -1,2 +1,0 @@
-pub mod WellPlaced
-pub mod Laws

@@ -1,5 +1,0 @@
-use Rattle.word32.proofs.Packs.{length-words_of_bytes}
-use Rattle.word32.proofs.laws.packed_has_words.Goals as goal
-
-pub returns : goal.returns
-returns c = length-words_of_bytes

@@ -1,6 +1,0 @@
-use Rattle.std.proofs.Common.{◌≡◌, ◌++◌, take}
-use Rattle.work_lines.specs.Lines.{bytes_text}
-use Rattle.work_lines.proofs.summary.put_bytes.Given as goal
-
-abbrev pub invariant-loop-place : goal.invariant-loop-place
-invariant-loop-place l = l.text.items ≡ l.fn.text.items ++ bytes_text (take l.place l.bytes)
