@@ -1,0 +1,5 @@
+pub mod Combined
+pub mod Endings
+pub mod SlotSums
+pub mod ProfileSums
+pub mod Limits

@@ -1,0 +1,5 @@
+pub mod Watched
+pub mod Opened
+pub mod Counting
+pub mod Promises
+pub mod Worked

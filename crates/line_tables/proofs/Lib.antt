@@ -1,0 +1,5 @@
+pub mod NearLemmas
+pub mod FolderLemmas
+pub mod LineLemmas
+pub mod TableLaws
+pub mod PlaceLemmas

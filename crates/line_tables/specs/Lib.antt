@@ -1,0 +1,4 @@
+pub mod Lines
+pub mod Source
+pub mod Table
+pub mod Examples

@@ -1,0 +1,4 @@
+pub mod Notes
+pub mod Grammar
+pub mod Meaning
+pub mod Laws
