@@ -1,0 +1,5 @@
+pub mod Stack
+pub mod Heap
+pub mod Given
+pub mod Sites
+pub mod Laws
