@@ -53,42 +53,50 @@ def fetch(folder):
 
 def jars(package, room):
     """the jar files of a package, each once"""
-    subprocess.run(["dpkg-deb", "-x", package, room], check=True)
+    if not os.path.isdir(room):
+        subprocess.run(["dpkg-deb", "-x", package, room], check=True)
     found = glob.glob(f"{room}/usr/share/**/*.jar", recursive=True)
     return sorted({os.path.realpath(jar) for jar in found if os.path.isfile(jar)})
 
 
-def counted(package):
+def told(lines):
     """the methods of a package, those that adapt, and what alone refuses how many"""
-    with tempfile.TemporaryDirectory(prefix="jop-adapting-") as room:
-        path = jars(package, room)
-        if not path:
-            return 0, 0, {}
-        done = subprocess.run([f"{TOP}/tools/adapt", "--count", *path], capture_output=True, text=True, check=False)
-        if done.returncode:
-            print(f"{package}: {done.stderr.strip()[-200:]}", file=sys.stderr)
-            return 0, 0, {}
-    lines = done.stdout.splitlines()
     [place] = [number for number, line in enumerate(lines) if line.startswith("all ")]
     methods, adapted = (int(part.split("=")[1]) for part in lines[place].split()[1:])
     return methods, adapted, {form: int(count) for count, _, form in (line.partition(" ") for line in lines[place + 1:])}
+
+
+def counted(paths, room):
+    """for each package the lines that tell of its methods; all are counted in one process"""
+    calls = f"{room}/calls"
+    with open(calls, "w", encoding="utf-8") as file:
+        file.write("".join("\t".join(["--count", *path]) + "\n" for path in paths))
+    lines = []
+    with subprocess.Popen([f"{TOP}/tools/adapt", "--batch", calls], stdout=subprocess.PIPE, text=True) as process:
+        for line in process.stdout:
+            if not line.startswith("status "):
+                lines.append(line.rstrip("\n"))
+                continue
+            yield lines
+            lines = []
 
 
 def main():
     asked = words()
     if asked.fetch:
         fetch(asked.folder)
-    methods, adapted, packages, alone = 0, 0, 0, collections.Counter()
-    for name in PACKAGES:
-        files = glob.glob(f"{asked.folder}/{name}_*.deb")
-        if not files:
-            print(f"{name} isn't there")
-            continue
-        more, of, forms = counted(files[0])
-        print(f"{name} methods={more} adapted={of}", flush=True)
-        methods, adapted, packages = methods + more, adapted + of, packages + (more > 0)
-        alone.update(forms)
-    print(f"packages={packages} methods={methods} adapted={adapted} share={100 * adapted / max(1, methods):.1f} %")
+    files = {name: glob.glob(f"{asked.folder}/{name}_*.deb") for name in PACKAGES}
+    print(*[f"{name} isn't there" for name in PACKAGES if not files[name]], sep="\n")
+    methods, adapted, alone = 0, 0, collections.Counter()
+    with tempfile.TemporaryDirectory(prefix="jop-adapting-") as room:
+        paths = {name: jars(files[name][0], f"{asked.folder}/unpacked/{name}") for name in PACKAGES if files[name]}
+        paths = {name: path for name, path in paths.items() if path}
+        for name, lines in zip(paths, counted(paths.values(), room)):
+            more, of, forms = told(lines)
+            print(f"{name} methods={more} adapted={of}", flush=True)
+            methods, adapted = methods + more, adapted + of
+            alone.update(forms)
+    print(f"packages={len(paths)} methods={methods} adapted={adapted} share={100 * adapted / max(1, methods):.1f} %")
     for form, count in alone.most_common(25):
         print(f"{count} {form}")
 

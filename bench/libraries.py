@@ -6,7 +6,7 @@ Nothing of the libraries stands here: bench/libraries has the programs that call
 a number holds for activations that keep those. It isn't in the gate. Packages:
 
     apt-get install default-jdk-headless libasm-java libcommons-codec-java libbcprov-java libjzlib-java libxz-java libcommons-compress-java \\
-        libguava-java liblz4-java libzxing-core-java
+        libguava-java libzxing-core-java
 """
 import argparse
 import bz2
@@ -53,10 +53,10 @@ PIECES = [
     ("Curve", "bcprov", "org/bouncycastle/math/ec/rfc7748/X25519Field.mul([I[I[I)V", b""),
     ("Poly", "bcprov", "org/bouncycastle/crypto/macs/Poly1305.processBlock()V", b""),
     ("Deflating", "jzlib", None, b""),
-    ("Inflating", "jzlib", "com/jcraft/jzlib/InfTree.huft_build([IIII[I[I[I[I[I[I[I)I", zlib.compress(TEXT, 9)),
+    ("Inflating", "jzlib", "com/jcraft/jzlib/Adler32.update([BII)V", zlib.compress(TEXT, 9)),
     ("Crc64", "xz", "org/tukaani/xz/check/CRC64.update([BII)V", b""),
-    ("Lzma", "xz", "org/tukaani/xz/lzma/LZMADecoder.decode()V", lzma.compress(TEXT, format=lzma.FORMAT_ALONE, filters=LZMA1)),
-    ("Snappy", COMPRESS, "org/apache/commons/compress/compressors/snappy/SnappyCompressorInputStream.readSize()J", b""),
+    ("Lzma", "xz", "org/tukaani/xz/lz/LZDecoder.repeat(II)V", lzma.compress(TEXT, format=lzma.FORMAT_ALONE, filters=LZMA1)),
+    ("Snappy", COMPRESS, "org/apache/commons/compress/compressors/lz77support/AbstractLZ77CompressorInputStream.tryToCopy(I)V", b""),
     ("Bzip2", COMPRESS, "org/apache/commons/compress/compressors/bzip2/BZip2CompressorInputStream.createHuffmanDecodingTables(II)V",
      bz2.compress(TEXT, 1)),
     ("Mathematics", "guava", "com/google/common/math/IntMath.gcd(II)I", b""),

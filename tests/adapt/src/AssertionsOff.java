@@ -29,7 +29,23 @@ public class AssertionsOff {
         return sum;
     }
 
+    static int guarded(int[] cells, int k) {
+        try {
+            assert cells != null : "no cells";
+            return cells[k];
+        } finally {
+            tried += 10;
+        }
+    }
+
     public static void main(String[] args) {
+        try {
+            guarded(new int[2], 1);
+            guarded(null, 0);
+        } catch (NullPointerException e) {
+            jop.Io.write('0' + tried / 10);
+            tried = 0;
+        }
         jop.Io.write(new Inner().half(131));
         jop.Io.write(loop(5) - 400);
         jop.Io.write('0' + tried);

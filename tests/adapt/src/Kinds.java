@@ -48,7 +48,43 @@ public class Kinds {
         return of == Square.class ? "square" : of == int[].class ? "ints" : of.equals(String.class) ? "string" : of.getName();
     }
 
+    static class Trouble extends Exception {
+        private static final long serialVersionUID = 1;
+
+        Trouble(String what) {
+            super(what);
+        }
+    }
+
+    static final class Deep extends Trouble {
+        private static final long serialVersionUID = 1;
+
+        Deep(int depth) {
+            super("depth " + depth);
+        }
+
+        @Override
+        public String toString() {
+            return "deep, " + super.toString();
+        }
+    }
+
+    static void tell(Object what) {
+        System.out.println("told: " + what);
+    }
+
+    static void tellAll(int[] cells) {
+        tell(new Trouble("bad"));
+        tell(new Trouble(null));
+        tell(new Deep(7));
+        tell(new IllegalStateException("state " + cells.length));
+        System.out.println(new UnsupportedOperationException("literal").toString());
+        String text = String.valueOf(new Shape(3));
+        System.out.println(text.substring(0, text.indexOf('@')) + new int[0].toString().charAt(1));
+    }
+
     public static void main(String[] args) {
+        tellAll(new int[5]);
         Shape[] shapes = {new Shape(1), new Square(1), new Shape(2), new Square(1)};
         for (Shape one : shapes) {
             for (Shape two : shapes) {

@@ -2,6 +2,7 @@ import java.util.function.BiFunction;
 import java.util.function.Function;
 import java.util.function.IntBinaryOperator;
 import java.util.function.IntFunction;
+import java.util.function.IntToLongFunction;
 import java.util.function.Supplier;
 import java.util.function.ToIntFunction;
 
@@ -51,6 +52,10 @@ public class References {
         }
     }
 
+    private static int squared(int x) {
+        return x * x;
+    }
+
     private static int secret(int x, int y) {
         return x - y;
     }
@@ -62,6 +67,8 @@ public class References {
         ToIntFunction<Account> money = Account::money;
         IntBinaryOperator merged = Account::merged;
         IntBinaryOperator hidden = References::secret;
+        IntToLongFunction wide = References::squared;
+        System.out.println(wide.applyAsLong(-70000) + wide.applyAsLong(3));
         Account bound = new Account(7);
         Supplier<String> later = bound::toString;
         bound.money = 8;

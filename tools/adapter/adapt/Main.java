@@ -75,7 +75,10 @@ public final class Main {
         String descriptor = program.isText ? "([Ljop/Text;)V" : "([Ljava/lang/String;)V";
         MethodNode method = main.method("main", descriptor);
         int wanted = Opcodes.ACC_PUBLIC | Opcodes.ACC_STATIC;
-        if (method == null || (method.access & wanted) != wanted || !program.isText) {
+        if (method == null || (method.access & wanted) != wanted) {
+            return null;
+        }
+        if (!program.isText) {
             return method;
         }
         MethodNode first = new MethodNode(wanted, "main", "([Ljava/lang/String;)V", null, null);

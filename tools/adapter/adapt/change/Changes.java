@@ -16,7 +16,7 @@ public final class Changes {
         PrivateCalls privateCalls = new PrivateCalls(program);
         changes = List.of(new Assertions(program), new Enumerations(program, reach), new Concatenations(program),
                 new Lambdas(program, privateCalls), new LongArithmetic(program), new ArrayForms(program, reach), new InterfaceCalls(program),
-                new Locales(program), new ObjectMethods(program), new ClassObjects(program, reach), new Literals(program, reach),
+                new Locales(program), new ObjectMethods(program), new Descriptions(program), new ClassObjects(program, reach), new Literals(program, reach),
                 new Exceptions(program), privateCalls);
     }
 

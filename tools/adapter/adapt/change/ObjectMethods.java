@@ -71,6 +71,8 @@ public final class ObjectMethods implements Change {
         return switch (call.name + call.desc) {
             case "hashCode()I" -> list(Code.invokeStatic("java/lang/System", "identityHashCode", "(Ljava/lang/Object;)I"));
             case "equals(Ljava/lang/Object;)Z" -> sameness();
+            case "toText()Ljop/Text;" -> list(Code.invokeStatic(Descriptions.NAME, "toText", Descriptions.OF));
+            case "toString()Ljava/lang/String;" -> throw new TextNeeded();
             case "finalize()V" -> list(new InsnNode(Opcodes.POP));
             default -> null;
         };
