@@ -1,4 +1,5 @@
-"""The kind of tables whose rows are methods of class files of the repository, with the bounds of a file there: which number `bound` prints, and whether `check` holds it."""
+"""The kind of tables whose rows are methods of class files of the repository, with the bounds of a file there: which number `bound` prints, and
+whether `check` holds it."""
 from analysis import held
 from class_files import told
 from kind import Kind
@@ -6,7 +7,8 @@ from ran import contents
 
 
 class BoundedFiles(Kind):
-    """the first row of a case is `program`, a title, the name of the class whose main is run, the path of the bounds, and those of the class files; the others are a method each"""
+    """the first row of a case is `program`, a title, the name of the class whose main is run, and the paths of the bounds and of the class
+    files; the others are a method each"""
 
     def begins(self, row):
         return row.startswith('program ')

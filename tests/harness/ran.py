@@ -1,4 +1,5 @@
-"""The kind of tables whose rows are programs of files of the repository: a title, the name of the class whose main is run, the input, the words of memory, and paths."""
+"""The kind of tables whose rows are programs of files of the repository: a title, the name of the class whose main is run, the input, the
+words of memory, and paths."""
 import os
 
 from class_files import told

@@ -1,6 +1,9 @@
 package jop;
 
-/** Arrays that are made: of several dimensions, for multianewarray, and copies, for clone (JVM Specification SE 8, 6.5; Java Language Specification SE 8, 10.7). */
+/**
+ * Arrays that are made: of several dimensions, for multianewarray (JVM Specification SE 8, 6.5), and copies, for clone (Java Language
+ * Specification SE 8, 10.7).
+ */
 public final class Arrays {
     private Arrays() {
     }

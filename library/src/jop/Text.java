@@ -58,14 +58,20 @@ public final class Text implements CharSequence, Comparable<Text>, EqualsMethod,
 
     public static Text valueOf(int value) {
         char[] digits = new char[11];
-        int first = Digits.decimal(value, digits, 11);
-        return new Text(digits, first, 11 - first);
+        return ofDigits(digits, Digits.decimal(value, digits, 11));
     }
 
     public static Text valueOf(long value) {
         char[] digits = new char[20];
-        int first = Digits.decimal(value, digits, 20);
-        return new Text(digits, first, 20 - first);
+        return ofDigits(digits, Digits.decimal(value, digits, 20));
+    }
+
+    private static Text ofDigits(char[] digits, int first) {
+        char[] chars = new char[digits.length - first];
+        for (int i = 0; i < chars.length; i++) { //@WCA loop=20
+            chars[i] = digits[first + i];
+        }
+        return new Text(null, chars);
     }
 
     public static Text valueOf(char[] chars) {
@@ -98,11 +104,9 @@ public final class Text implements CharSequence, Comparable<Text>, EqualsMethod,
         return chars == null ? literal.length() : chars.length;
     }
 
+    /** Raises ArrayIndexOutOfBoundsException for an index outside, as the machine's String does. */
     @Override
     public char charAt(int index) {
-        if (index < 0 || index >= length()) {
-            throw new StringIndexOutOfBoundsException();
-        }
         return chars == null ? literal.charAt(index) : chars[index];
     }
 

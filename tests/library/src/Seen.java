@@ -1,4 +1,7 @@
-/** What the cases are tried on, in an order that depends on nothing but the case, and a sum of what came. TEXT is jop.Text, and String for a virtual machine. */
+/**
+ * What the cases are tried on, in an order that depends on nothing but the case, and a sum of what came. TEXT is jop.Text, and String for a
+ * virtual machine.
+ */
 public final class Seen {
     private static final int[] INTS = {
         0, 1, -1, 2, 7, 9, 10, -10, 31, 32, 0xff, 0xffff, 0x10000, 0x7fffffff, 0x80000000, 0x80000001};

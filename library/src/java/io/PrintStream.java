@@ -38,24 +38,26 @@ public class PrintStream extends OutputStream {
         Io.write(value < 256 ? value : '?');
     }
 
-    private void print(char[] chars, int first) {
-        for (int i = first; i < chars.length; i++) { //@WCA loop=64 elements
+    public void print(char[] chars) {
+        for (int i = 0; i < chars.length; i++) { //@WCA loop=64 elements
             print(chars[i]);
         }
     }
 
-    public void print(char[] chars) {
-        print(chars, 0);
+    private void printDigits(char[] digits, int first) {
+        for (int i = first; i < digits.length; i++) { //@WCA loop=20
+            Io.write(digits[i]);
+        }
     }
 
     public void print(int value) {
         char[] digits = new char[11];
-        print(digits, Digits.decimal(value, digits, 11));
+        printDigits(digits, Digits.decimal(value, digits, 11));
     }
 
     public void print(long value) {
         char[] digits = new char[20];
-        print(digits, Digits.decimal(value, digits, 20));
+        printDigits(digits, Digits.decimal(value, digits, 20));
     }
 
     public void print(boolean value) {

@@ -54,27 +54,20 @@ public final class StringBuilder implements CharSequence, Serializable, ToTextMe
         }
     }
 
-    private void check(int index) {
-        if (index < 0 || index >= count) {
-            throw new StringIndexOutOfBoundsException();
-        }
-    }
-
     private void checkRange(int first, int end) {
         if (first < 0 || first > end || end > count) {
             throw new StringIndexOutOfBoundsException();
         }
     }
 
+    /** Raises ArrayIndexOutOfBoundsException for an index outside, as the machine's String does. */
     @Override
     public char charAt(int index) {
-        check(index);
-        return chars[index];
+        return chars[index < count ? index : -1];
     }
 
     public void setCharAt(int index, char value) {
-        check(index);
-        chars[index] = value;
+        chars[index < count ? index : -1] = value;
     }
 
     /** Cuts chars off, or puts chars 0 behind. */
@@ -98,14 +91,21 @@ public final class StringBuilder implements CharSequence, Serializable, ToTextMe
 
     public StringBuilder append(int value) {
         char[] digits = new char[11];
-        int first = Digits.decimal(value, digits, 11);
-        return append(digits, first, 11 - first);
+        return appendDigits(digits, Digits.decimal(value, digits, 11));
     }
 
     public StringBuilder append(long value) {
         char[] digits = new char[20];
-        int first = Digits.decimal(value, digits, 20);
-        return append(digits, first, 20 - first);
+        return appendDigits(digits, Digits.decimal(value, digits, 20));
+    }
+
+    private StringBuilder appendDigits(char[] digits, int first) {
+        ensureCapacity(count + digits.length - first);
+        for (int i = first; i < digits.length; i++) { //@WCA loop=20
+            chars[count] = digits[i];
+            count++;
+        }
+        return this;
     }
 
     public StringBuilder append(boolean value) {
@@ -117,7 +117,13 @@ public final class StringBuilder implements CharSequence, Serializable, ToTextMe
     }
 
     public StringBuilder append(char[] added, int first, int length) {
-        return insert(count, added, first, length);
+        if ((first | length) < 0 || length > added.length - first) {
+            throw new IndexOutOfBoundsException();
+        }
+        ensureCapacity(count + length);
+        Copies.copy(added, first, chars, count, length);
+        count += length;
+        return this;
     }
 
     /** Puts a String's chars behind, `null` for null. */
@@ -132,8 +138,14 @@ public final class StringBuilder implements CharSequence, Serializable, ToTextMe
         return this;
     }
 
+    /** Puts a text's chars behind, `null` for null. */
     public StringBuilder append(Text text) {
-        return insert(count, text);
+        Text added = text == null ? Text.of("null") : text;
+        int length = added.length();
+        ensureCapacity(count + length);
+        added.getChars(0, length, chars, count);
+        count += length;
+        return this;
     }
 
     public StringBuilder append(CharSequence sequence) {
@@ -237,7 +249,7 @@ public final class StringBuilder implements CharSequence, Serializable, ToTextMe
     }
 
     public StringBuilder deleteCharAt(int index) {
-        check(index);
+        checkRange(index, index + 1);
         return delete(index, index + 1);
     }
 

@@ -33,21 +33,15 @@ public class ArrayList<E> extends AbstractList<E> implements RandomAccess, Clone
         }
     }
 
-    private void check(int place) {
-        if (place < 0 || place >= count) {
-            throw new IndexOutOfBoundsException();
-        }
-    }
-
     @Override
     public int size() {
         return count;
     }
 
+    /** Raises ArrayIndexOutOfBoundsException for a place outside. */
     @Override
     public E get(int place) {
-        check(place);
-        return (E) elements[place];
+        return (E) elements[place < count ? place : -1];
     }
 
     @Override
