@@ -1,11 +1,11 @@
 -- Needs are one, and so is what lacks first.
-use Rattle.std.proofs.Common.{◌≡◌, ℕ, ◌<◌, ◌≤◌, ◌⊎◌, Some, None, refl, sym, ◌∙◌, inl, inr, arith}
+use Rattle.std.proofs.Common.{◌≡◌, ℕ, ◌≤◌, sym, ◌∙◌, inl, inr, arith}
 use Rattle.std.proofs.lemmas.Bool.{cases_order}
 use Rattle.loop_nest.specs.Digraph.{IsBefore}
 use Rattle.bytecode_model.specs.Program.{Program}
 use Rattle.method_flow.specs.Keeping.{BoundOf}
 use Rattle.lists.specs.Lemmas.{none≢some}
-use Rattle.memory_rules.specs.Stack.{chain_words, IsStackNeedOf}
+use Rattle.memory_rules.specs.Stack.{IsStackNeedOf}
 use Rattle.memory_rules.specs.Heap.{Part, IsMostMade}
 use Rattle.memory_rules.specs.Given.{IsFirstLackingLine, HaveMakingLines, IsFirstLackingLength, HaveLengths}
 

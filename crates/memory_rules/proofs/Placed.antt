@@ -1,5 +1,5 @@
 -- The site at a place, among sites that rise by place.
-use Rattle.std.proofs.Common.{◌≡◌, ℕ, ◌<◌, ◌≤◌, List, length, map, get_or, Contains, sym, ap, ◌∙◌, subst, inl, inr, arith}
+use Rattle.std.proofs.Common.{◌≡◌, ℕ, ◌<◌, ◌≤◌, List, length, get_or, Contains, sym, ap, ◌∙◌, subst, inl, inr, arith}
 use Rattle.std.specs.declared.cmp.Ordering.TheVariants.{Less, Equal, Greater}
 use Rattle.std.specs.List.{HoldsAt}
 use Rattle.std.specs.List.Sorted.{IsStrictlyIncreasing, IsNonDecreasingBy, IsPartitionPoint}
@@ -9,9 +9,8 @@ use Rattle.std.proofs.lemmas.Bool.Decides.{nat_tests}
 use Rattle.std.proofs.lemmas.Cmp.{ranked}
 use Rattle.std.proofs.lemmas.List.{get_or-map, length-map}
 use Rattle.std.proofs.lemmas.List.Sorted.{IsNonDecreasingBy-from_default}
-use Rattle.lists.specs.Members.{rising_all, map_contains}
+use Rattle.lists.specs.Members.{rising_all}
 use Rattle.memory_rules.specs.declared.sites.Site.{Site}
-use Rattle.memory_rules.specs.declared.sites.Makes.{Makes}
 use Rattle.memory_rules.specs.declared.sites.Makes.TheVariants.{Object}
 use Rattle.memory_rules.specs.Sites.{places_of}
 

@@ -1,5 +1,5 @@
 -- What follows of these definitions.
-use Rattle.std.specs.Prelude.{◌≡◌, ◌+◌, ℕ, pos, negsuc}
+use Rattle.std.specs.Prelude.{◌≡◌, ℕ, pos, negsuc}
 use Rattle.bytecode_model.specs.Program.{Program}
 use Rattle.method_flow.specs.Keeping.{BoundOf}
 use Rattle.memory_rules.specs.Stack.{IsStackNeedOf}

@@ -1,0 +1,4 @@
+mod Telling
+mod Growing
+mod Words
+mod Places
