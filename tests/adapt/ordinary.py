@@ -10,10 +10,12 @@ MEMORY, CYCLES = "1000000", "50000000"
 
 
 class Row:
-    """a program: its name, the release for which it is compiled, and options of tools/adapt"""
+    """a program: its name, the release for which it is compiled, options of tools/adapt, and methods that `jop bound` bounds by the file `bounds` alone"""
 
     def __init__(self, line):
-        self.name, self.release, *self.options = line.split()
+        self.name, self.release, *words = line.split()
+        self.bounded = [word.removeprefix("bound=") for word in words if word.startswith("bound=")]
+        self.options = [word for word in words if not word.startswith("bound=")]
 
     def path(self, folder, end):
         """a file of the program"""
@@ -86,4 +88,17 @@ def fault_of(row, jop, folder, files):
     if ran.stdout != row.wanted():
         place = len(os.path.commonprefix([ran.stdout, row.wanted()]))
         return f"wanted {row.wanted()[place:place + 60]!r} at {place}, got {ran.stdout[place:place + 60]!r}"
-    return None
+    faults = [unbounded(method, jop, folder) for method in row.bounded]
+    return next(filter(None, faults), None)
+
+
+def unbounded(method, jop, folder):
+    """why a method has no bound, or its certificate doesn't hold; None where it does"""
+    bounds = os.path.join(folder, "bounds")
+    image, certificate = os.path.join(folder, "image"), os.path.join(folder, "certificate")
+    made = subprocess.run([jop, "bound", "--method", method, image, bounds], capture_output=True, check=False)
+    with open(certificate, "wb") as file:
+        file.write(made.stdout)
+    held = subprocess.run([jop, "check", image, bounds, certificate], capture_output=True, check=False).stderr.decode().strip()
+    number = made.stdout.decode().split(" ")[-1].strip()
+    return None if made.returncode == 0 and held == f"holds {method} {number}" else made.stderr.decode().strip() or held

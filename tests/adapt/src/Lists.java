@@ -69,7 +69,34 @@ public class Lists {
         }
     }
 
+    /** Numbers that can't be removed. */
+    static final class Count implements Iterator<int[]> {
+        private final int[] last = {0};
+
+        @Override
+        public boolean hasNext() {
+            return last[0] < 3;
+        }
+
+        @Override
+        public int[] next() {
+            last[0]++;
+            return last;
+        }
+    }
+
+    static String removed(Iterator<?> from) {
+        try {
+            from.next();
+            from.remove();
+            return "removed";
+        } catch (UnsupportedOperationException e) {
+            return e.getMessage();
+        }
+    }
+
     public static void main(String[] args) {
+        System.out.println(removed(new Count()) + removed(new Chain<String>().add("x").iterator()));
         Chain<String> chain = new Chain<>();
         chain.add("one").add("two").add("three");
         for (String word : chain) {

@@ -73,6 +73,9 @@ public final class Program {
             node = isText ? TextTypes.changed(node) : node;
             origin = Origin.PLATFORM;
         }
+        if (origin == Origin.LIBRARY) {
+            LibraryDefaults.add(node, isText);
+        }
         keep(new LoadedClass(node.name.equals(name) ? node : ClassFiles.renamed(node, name), origin));
     }
 
