@@ -1,11 +1,10 @@
 -- A certificate is written where nothing forbids a bound, it holds, and what is answered else forbids one.
-use Rattle.std.proofs.Common.{◌≡◌, ℕ, ◌+◌, true, false, List, [], ◌∷◌, Option, Some, refl, sym, ◌∙◌, ap, subst, ◌⊎◌, inl, inr, ⊎_elim}
+use Rattle.std.proofs.Common.{◌≡◌, ℕ, List, [], ◌∷◌, Option, Some, refl, sym, ◌∙◌, ap, subst, ◌⊎◌, inl, inr, ⊎_elim}
 use Rattle.std.specs.Prelude.{Ok, Vec}
 use Rattle.std.specs.declared.alloc.Global.{Global}
 use Rattle.std.specs.List.{concat}
 use Rattle.lists.specs.Lemmas.{none≢some}
 use Rattle.outside.specs.Outside.{Grew}
-use Rattle.outside.specs.Files.{AreFiles}
 use Rattle.program_tables.specs.Resolved.{resolved}
 use Rattle.bytecode_model.specs.Program.{body_of}
 use Rattle.loop_bounds.specs.declared.BoundsFault.TheVariants as texts
@@ -27,7 +26,7 @@ use Rattle.analysis_commands.specs.Bounding.{IsNamed, IsBoundBy, cause_of, subje
 use Rattle.activations.specs.Warrant.{BoundsActivations}
 use Rattle.command_line.specs.declared.command.Settings.{Settings}
 use Rattle.command_line.specs.declared.command.Command.TheVariants.{Bound}
-use Rattle.jopizer.specs.Linked.{Parts, image_of}
+use Rattle.jopizer.specs.Linked.{Parts}
 use Rattle.jopizer.specs.Laws.{OneLinked, LinkedImagesAreRead}
 use Rattle.jop_cli.specs.declared.outcome.Refusal.TheVariants.{Bound as Forbidden}
 use Rattle.jop_cli.specs.declared.outcome.Ending.{Ending}
@@ -35,15 +34,17 @@ use Rattle.jop_cli.specs.declared.outcome.Ending.TheVariants as endings
 use Rattle.jop_cli.specs.declared.outcome.Outcome.{Outcome}
 use Rattle.jop_cli.specs.declared.outcome.Outcome.TheVariants as outcomes
 use Rattle.jop_cli.specs.Line.{text_at, line_of}
-use Rattle.jop_cli.specs.World.{IsQuiet, IsUntaken}
-use Rattle.jop_cli.specs.Linking.{files_of, OperandsFault}
+use Rattle.jop_cli.specs.World.{IsQuiet}
 use Rattle.jop_cli.specs.Checking.{fault_ending}
-use Rattle.jop_cli.specs.Bounding.{cause_ending, Bounds, EndsNotBounded, BoundFault, LinkedBoundFault, PutsBound, PutsText, PutsTextFront, BoundsRead, BoundsFiles}
+use Rattle.jop_cli.specs.Bounding.{cause_ending, Bounds, EndsNotBounded}
+use Rattle.jop_cli.specs.Asking.{bounding}
 use Rattle.jop_cli.specs.Answer.{outcome_of}
-use Rattle.jop_cli.specs.Calls.{Call, NothingFailed, LacksMemory, AreTold}
+use Rattle.jop_cli.specs.Calls.{Call, NothingFailed, LacksMemory}
 use Rattle.jop_cli.specs.Correct.{BoundsTexts, IsBounded, Forbids, AnswersForbidden, BoundingIsComplete, BoundRefusalsAreCaused, CheckedBoundsAreKept, WrittenBoundsAreKept, BoundsAreKept}
-use Rattle.jop_cli.proofs.Wholly.{IsWholly, wholly, executed, lacks, same_files, files_read}
-use Rattle.jop_cli.proofs.RunningLaw.{begins_linked, is_read, not_more}
+use Rattle.jop_cli.proofs.Wholly.{IsWholly, wholly, executed, lacks}
+use Rattle.jop_cli.proofs.RunningLaw.{not_more}
+use Rattle.jop_cli.proofs.AskingLaw.{Comes, comes}
+use Rattle.jop_cli.proofs.AskingLaw as asked
 use Rattle.jop_cli.proofs.CheckingLaw.{answers}
 
 -- what a method of this name comes to, with these bounds: a certificate was put, which holds; or this forbids a bound; or there was no memory
@@ -92,62 +93,19 @@ module _ (one : GivesOne) (not_refused : ReadIsNotRefused) (c : Call) (s : Setti
 
   -- ---- the files
 
-  module _ (linked_one : OneLinked) (images : LinkedImagesAreRead) (n : NothingFailed c) where
-    refused_settled : (ending : Ending) → IsQuiet c.old c.new → LinkedBoundFault s h.bytes h.bounds_text name ending → Settled c s l lines name ending
-    refused_settled ending quiet fault =
-        ⊎_elim
-        (λ bytes. lacking (is_read images h.bytes l h.is_linked h.is_file ending bytes) quiet)
-        (λ r.
-        let same : r.linked ≡ l = linked_one h.bytes r.linked l r.is_linked h.is_linked r.is_file h.is_file in
-        let e = subst (λ (p : Parts). EndsNotBounded p.classes s h.bounds_text name ending) same r.ends in
-        cause_settled ending quiet e.cause e.is e.says)
-        fault
+  answer_settled : (ending : Ending) → Comes c (bounding s h.method image) l (h.bytes ∷ h.bounds_text ∷ []) ending → Settled c s l lines name ending
+  answer_settled ending (asked.puts text bounds written put) =
+      text_settled ending written text.items (subst (λ (x : List ℕ). Bounds l.classes s h.bounds_text x text.items) h.named bounds) put
+  answer_settled ending (asked.says ends quiet) =
+      let e = subst (λ (x : List ℕ). EndsNotBounded l.classes s h.bounds_text x ending) h.named ends in
+      cause_settled ending quiet e.cause e.is e.says
+  answer_settled ending (asked.lacking is quiet) = lacking is quiet
 
-    fault_settled : (ending : Ending) → IsQuiet c.old c.new → BoundFault s h.bytes h.bounds_text name ending → Settled c s l lines name ending
-    fault_settled ending quiet fault =
-        ⊎_elim
-        (λ linked. refused_settled ending quiet linked.1)
-        (λ bare.
-        let clash : false ≡ true = sym bare.0 ∙ begins_linked h.bytes (image_of l) h.is_file in
-        absurd (cc))
-        fault
-
-    put_settled : (ending : Ending) → ending ≡ endings.Written → PutsText s h.bytes h.bounds_text name c.old.out c.new.out c.old.out_faults c.new.out_faults → Settled c s l lines name ending
-    put_settled ending says p =
-        let r = p.bounds.1 in
-        let same : r.linked ≡ l = linked_one h.bytes r.linked l r.is_linked h.is_linked r.is_file h.is_file in
-        text_settled ending says p.text (subst (λ (x : Parts). Bounds x.classes s h.bounds_text name p.text) same r.bounds) p.put
-
-    puts_settled : (ending : Ending) → IsUntaken c.old c.new → c.new.watch ≡ c.old.watch → PutsBound s h.bytes h.bounds_text name c.old.out c.new.out c.old.out_faults c.new.out_faults ending → Settled c s l lines name ending
-    puts_settled ending untaken watch puts =
-        ⊎_elim
-        (λ whole. put_settled ending whole.0 whole.1)
-        (λ other. ⊎_elim (λ front. absurd (n.out front.1.rose)) (λ none. fault_settled ending (record { input = untaken; out = none.1; out_faults = none.2; watch = watch }) none.0) other)
-        puts
-
-    end_is : image + 2 ≡ c.old.words
-    end_is = h.told.many
-
-    read_settled : (ending : Ending) → BoundsRead s name image c.old c.new ending → Settled c s l lines name ending
-    read_settled ending r =
-        let are : AreFiles c.old.files image c.old.words (r.bytes ∷ r.bounds_text ∷ []) = subst (λ (e : ℕ). AreFiles c.old.files image e (r.bytes ∷ r.bounds_text ∷ [])) end_is r.are in
-        let same = same_files c image (h.bytes ∷ h.bounds_text ∷ []) (r.bytes ∷ r.bounds_text ∷ []) h.told are in
-        let bytes : r.bytes ≡ h.bytes = cc same in
-        let bounds_text : r.bounds_text ≡ h.bounds_text = cc same in
-        let first = subst (λ (x : List ℕ). PutsBound s x r.bounds_text name c.old.out c.new.out c.old.out_faults c.new.out_faults ending) bytes r.puts in
-        puts_settled ending r.input r.watch (subst (λ (x : List ℕ). PutsBound s h.bytes x name c.old.out c.new.out c.old.out_faults c.new.out_faults ending) bounds_text first)
-
-    files_settled : (ending : Ending) → BoundsFiles s name image c.old c.new ending → Settled c s l lines name ending
-    files_settled ending bounds =
-        ⊎_elim
-        (λ fault. lacking (files_read c image (h.bytes ∷ h.bounds_text ∷ []) h.told n ending (subst (λ (e : ℕ). OperandsFault image e (files_of c.old) (files_of c.new) ending) end_is fault.0)) fault.1)
-        (read_settled ending)
-        bounds
-
-    settled : Settled c s l lines name c.answered.ending
-    settled =
-        let did = executed c (Bound s h.method image h.bounds) h.command in
-        files_settled c.answered.ending (subst (λ (x : List ℕ). BoundsFiles s x image c.old c.new c.answered.ending) h.named did)
+  settled : OneLinked → LinkedImagesAreRead → NothingFailed c → Settled c s l lines name c.answered.ending
+  settled linked_one images n =
+      answer_settled c.answered.ending
+      (comes linked_one images c n (bounding s h.method image) l (h.bytes ∷ h.bounds_text ∷ []) h.told.many h.told h.is_linked h.is_file c.answered.ending
+      (executed c (Bound s h.method image h.bounds) h.command))
 
 -- ---- what is answered
 

@@ -1,10 +1,9 @@
 -- A certificate that meets the conditions holds, and one that doesn't is refused by the first that fails.
-use Rattle.std.proofs.Common.{◌≡◌, ℕ, ◌+◌, true, false, List, [], ◌∷◌, Option, refl, sym, ◌∙◌, ap, ap₂, subst, ◌⊎◌, inl, inr, ⊎_elim}
+use Rattle.std.proofs.Common.{◌≡◌, ℕ, List, [], ◌∷◌, Option, refl, sym, ◌∙◌, ap, ap₂, subst, ◌⊎◌, inl, inr, ⊎_elim}
 use Rattle.std.specs.Prelude.{Vec}
 use Rattle.std.specs.declared.alloc.Global.{Global}
 use Rattle.std.specs.List.{concat}
 use Rattle.outside.specs.Outside.{Grew}
-use Rattle.outside.specs.Files.{AreFiles}
 use Rattle.class_pool.specs.declared.class.ClassFile.{ClassFile}
 use Rattle.program_tables.specs.Resolved.{resolved}
 use Rattle.bytecode_model.specs.Program.{body_of}
@@ -29,7 +28,7 @@ use Rattle.analysis_commands.specs.Checking.{FailsBy, IsRefusal, fault_name}
 use Rattle.activations.specs.Warrant.{BoundsActivations}
 use Rattle.command_line.specs.declared.command.Settings.{Settings}
 use Rattle.command_line.specs.declared.command.Command.TheVariants.{Check}
-use Rattle.jopizer.specs.Linked.{Parts, image_of}
+use Rattle.jopizer.specs.Linked.{Parts}
 use Rattle.jopizer.specs.Laws.{OneLinked, LinkedImagesAreRead}
 use Rattle.jop_cli.specs.declared.outcome.Refusal.TheVariants.{Check as NotChecked}
 use Rattle.jop_cli.specs.declared.outcome.Ending.{Ending}
@@ -38,13 +37,15 @@ use Rattle.jop_cli.specs.declared.outcome.Outcome.{Outcome}
 use Rattle.jop_cli.specs.declared.outcome.Outcome.TheVariants as outcomes
 use Rattle.jop_cli.specs.Line.{line_of}
 use Rattle.jop_cli.specs.World.{IsQuiet}
-use Rattle.jop_cli.specs.Linking.{files_of, OperandsFault}
-use Rattle.jop_cli.specs.Checking.{fault_ending, refusal_ending, Checks, EndsHeld, EndsRefused, ChecksLinkedBytes, ChecksBytes, ChecksRead, ChecksFiles}
+use Rattle.jop_cli.specs.Checking.{fault_ending, refusal_ending, Checks, EndsHeld, EndsRefused}
+use Rattle.jop_cli.specs.Asking.{checking}
 use Rattle.jop_cli.specs.Answer.{outcome_of}
 use Rattle.jop_cli.specs.Calls.{Call, NothingFailed, LacksMemory}
 use Rattle.jop_cli.specs.Correct.{ChecksTexts, AnswersLine, CheckedBoundsAreKept, CheckingIsComplete, FaultsAreAnswered}
-use Rattle.jop_cli.proofs.Wholly.{IsWholly, wholly, executed, lacks, same_files, files_read}
-use Rattle.jop_cli.proofs.RunningLaw.{begins_linked, is_read, not_more}
+use Rattle.jop_cli.proofs.Wholly.{IsWholly, wholly, executed, lacks}
+use Rattle.jop_cli.proofs.RunningLaw.{not_more}
+use Rattle.jop_cli.proofs.AskingLaw.{Comes, comes}
+use Rattle.jop_cli.proofs.AskingLaw as asked
 
 -- what this certificate comes to, with these bounds: it meets the conditions, or is refused by the first that fails; or there was no memory
 data Settled (cs : List ClassFile) (s : Settings) (lines : List LoopBound) (c : Certificate) (ending : Ending) : Type 0 where
@@ -99,45 +100,16 @@ module _ (one : GivesOne) (not_refused : ReadIsNotRefused) (certified : HasOneCe
 
   -- ---- the files
 
-  module _ (linked_one : OneLinked) (images : LinkedImagesAreRead) (n : NothingFailed c) where
-    linked_settled : (ending : Ending) → ChecksLinkedBytes s h.bytes h.bounds_text h.cert_text ending → Settled l.classes s lines certificate ending
-    linked_settled ending checks =
-        ⊎_elim
-        (λ fault. lacking (is_read images h.bytes l h.is_linked h.is_file ending fault))
-        (λ r.
-        let same : r.linked ≡ l = linked_one h.bytes r.linked l r.is_linked h.is_linked r.is_file h.is_file in
-        program_settled ending (subst (λ (p : Parts). Checks p.classes s h.bounds_text h.cert_text ending) same r.checks))
-        checks
+  answer_settled : (ending : Ending) → Comes c (checking s image) l (h.bytes ∷ h.bounds_text ∷ h.cert_text ∷ []) ending → Settled l.classes s lines certificate ending × IsQuiet c.old c.new
+  answer_settled ending (asked.puts text is written put) = absurd is
+  answer_settled ending (asked.says checks quiet) = (program_settled ending checks, quiet)
+  answer_settled ending (asked.lacking is quiet) = (lacking is, quiet)
 
-    bytes_settled : (ending : Ending) → ChecksBytes s h.bytes h.bounds_text h.cert_text ending → Settled l.classes s lines certificate ending
-    bytes_settled ending checks =
-        ⊎_elim
-        (λ linked. linked_settled ending linked.1)
-        (λ bare.
-        let clash : false ≡ true = sym bare.0 ∙ begins_linked h.bytes (image_of l) h.is_file in
-        absurd (cc))
-        checks
-
-    end_is : image + 3 ≡ c.old.words
-    end_is = h.told.many
-
-    read_settled : (ending : Ending) → ChecksRead s image (files_of c.old) (files_of c.new) ending → Settled l.classes s lines certificate ending
-    read_settled ending r =
-        let are : AreFiles c.old.files image c.old.words (r.bytes ∷ r.bounds_text ∷ r.cert_text ∷ []) = subst (λ (e : ℕ). AreFiles c.old.files image e (r.bytes ∷ r.bounds_text ∷ r.cert_text ∷ [])) end_is r.are in
-        let same = same_files c image (h.bytes ∷ h.bounds_text ∷ h.cert_text ∷ []) (r.bytes ∷ r.bounds_text ∷ r.cert_text ∷ []) h.told are in
-        let bytes : r.bytes ≡ h.bytes = cc same in
-        let bounds_text : r.bounds_text ≡ h.bounds_text = cc same in
-        let cert_text : r.cert_text ≡ h.cert_text = cc same in
-        let first = subst (λ (x : List ℕ). ChecksBytes s x r.bounds_text r.cert_text ending) bytes r.checks in
-        let second = subst (λ (x : List ℕ). ChecksBytes s h.bytes x r.cert_text ending) bounds_text first in
-        bytes_settled ending (subst (λ (x : List ℕ). ChecksBytes s h.bytes h.bounds_text x ending) cert_text second)
-
-    files_settled : (ending : Ending) → ChecksFiles s image (files_of c.old) (files_of c.new) ending → Settled l.classes s lines certificate ending
-    files_settled ending checks =
-        ⊎_elim
-        (λ fault. lacking (files_read c image (h.bytes ∷ h.bounds_text ∷ h.cert_text ∷ []) h.told n ending (subst (λ (e : ℕ). OperandsFault image e (files_of c.old) (files_of c.new) ending) end_is fault)))
-        (read_settled ending)
-        checks
+  settled : OneLinked → LinkedImagesAreRead → NothingFailed c → Settled l.classes s lines certificate c.answered.ending × IsQuiet c.old c.new
+  settled linked_one images n =
+      answer_settled c.answered.ending
+      (comes linked_one images c n (checking s image) l (h.bytes ∷ h.bounds_text ∷ h.cert_text ∷ []) h.told.many h.told h.is_linked h.is_file c.answered.ending
+      (executed c (Check s image h.bounds h.last) h.command))
 
 -- ---- what is answered
 
@@ -179,18 +151,15 @@ module _ (c : Call) (ending : Ending) (w : IsWholly c ending) (quiet : IsQuiet c
 
 pub checking_is_complete : GivesOne → ReadIsNotRefused → HasOneCertificate → OneLinked → LinkedImagesAreRead → RefusedIsNotMet → CheckingIsComplete
 checking_is_complete one not_refused certified linked_one images law c s image l lines d h n meets =
-    let did = executed c (Check s image h.bounds h.last) h.command in
-    holds_answered c c.answered.ending (wholly c n) did.1 l.classes s lines d law meets
-    (files_settled one not_refused certified c s image l lines d h linked_one images n c.answered.ending did.0)
+    let did = settled one not_refused certified c s image l lines d h linked_one images n in
+    holds_answered c c.answered.ending (wholly c n) did.1 l.classes s lines d law meets did.0
 
 pub checked_bounds_are_kept : GivesOne → ReadIsNotRefused → HasOneCertificate → OneLinked → LinkedImagesAreRead → CheckedBoundsAreKept
 checked_bounds_are_kept one not_refused certified linked_one images c s image l lines d h n answer =
-    let did = executed c (Check s image h.bounds h.last) h.command in
-    kept_answered c c.answered.ending (wholly c n) did.1 l.classes s lines d answer
-    (files_settled one not_refused certified c s image l lines d h linked_one images n c.answered.ending did.0)
+    let did = settled one not_refused certified c s image l lines d h linked_one images n in
+    kept_answered c c.answered.ending (wholly c n) did.1 l.classes s lines d answer did.0
 
 pub faults_are_answered : GivesOne → ReadIsNotRefused → HasOneCertificate → OneLinked → LinkedImagesAreRead → RefusedIsNotMet → FaultsAreOne → FaultsAreAnswered
 faults_are_answered one not_refused certified linked_one images law faults c s image l lines d fault h n refused =
-    let did = executed c (Check s image h.bounds h.last) h.command in
-    fault_answered c c.answered.ending (wholly c n) did.1 l.classes s lines d fault law faults refused
-    (files_settled one not_refused certified c s image l lines d h linked_one images n c.answered.ending did.0)
+    let did = settled one not_refused certified c s image l lines d h linked_one images n in
+    fault_answered c c.answered.ending (wholly c n) did.1 l.classes s lines d fault law faults refused did.0

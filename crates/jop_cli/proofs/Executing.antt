@@ -19,10 +19,17 @@ use Rattle.analysis_commands.specs.declared.check.CheckRefusal.{CheckRefusal}
 use Rattle.analysis_commands.specs.declared.check.CheckRefusal.TheVariants as check
 use Rattle.analysis_commands.specs.declared.bound.NotBounded.{NotBounded}
 use Rattle.analysis_commands.specs.declared.bound.NotBounded.TheVariants as bound
-use Rattle.outside.specs.Files.{FilesTold}
 use Rattle.class_pool.specs.declared.class.ClassFile.{ClassFile}
-use Rattle.jop_cli.specs.Checking.{fault_ending, refusal_ending, Checks, ChecksLinked, ChecksBare, ChecksFiles}
-use Rattle.jop_cli.specs.Bounding.{cause_ending, NotBoundedBare, BoundFault, PutsBound, BoundsFiles}
+use Rattle.jopizer.specs.Linked.{Parts}
+use Rattle.jop_cli.specs.declared.asking.Question.{Question}
+use Rattle.jop_cli.specs.declared.asking.Question.TheVariants as questions
+use Rattle.jop_cli.specs.declared.asking.Asked.{Asked}
+use Rattle.jop_cli.specs.declared.outcome.Answer.{Answer}
+use Rattle.jop_cli.specs.declared.outcome.Answer.TheVariants.{Text, Ends}
+use Rattle.jop_cli.specs.Line.{text_at}
+use Rattle.jop_cli.specs.Checking.{fault_ending, refusal_ending, Checks}
+use Rattle.jop_cli.specs.Bounding.{cause_ending}
+use Rattle.jop_cli.specs.Asking.{IsAnswer, IsBareEnding, Answers, PutsAnswer, AsksFiles}
 use Rattle.jop_core.specs.Reset.{bare_reset}
 use Rattle.boundary.specs.Setting.{bare_setting}
 use Rattle.run_devices.specs.Lent.{Lent}
@@ -98,50 +105,39 @@ no_refusal_input s check.NoMemory e = absurd (cc)
 checked_no_input : (cs : List ClassFile) (s : Settings) (bounds_text cert_text : List ℕ) → Checks cs s bounds_text cert_text endings.InputFault → ⊥
 checked_no_input cs s bounds_text cert_text checks = ⊎_elim (λ h. let says = h.says in absurd (cc)) (λ r. no_refusal_input s r.refusal r.says) checks
 
-linked_no_input : (s : Settings) (bytes bounds_text cert_text : List ℕ) → ChecksLinked s bytes bounds_text cert_text endings.InputFault → ⊥
-linked_no_input s bytes bounds_text cert_text checks = checked_no_input checks.linked.classes s bounds_text cert_text checks.checks
-
-bare_no_input : (s : Settings) (bytes bounds_text cert_text : List ℕ) → ChecksBare s bytes bounds_text cert_text endings.InputFault → ⊥
-bare_no_input s bytes bounds_text cert_text checks = ⊎_elim (λ h. let says = h.says in absurd (cc)) (λ r. no_refusal_input s r.refusal r.says) checks.ends
-
-no_check_input : (s : Settings) (image : ℕ) (old new : FilesTold) → ChecksFiles s image old new endings.InputFault → ⊥
-no_check_input s image old new checks =
-    ⊎_elim
-    (λ fault. fault)
-    (λ r. ⊎_elim
-    (λ linked. ⊎_elim (λ fault. fault) (linked_no_input s r.bytes r.bounds_text r.cert_text) linked.1)
-    (λ bare. ⊎_elim (λ fault. fault) (bare_no_input s r.bytes r.bounds_text r.cert_text) bare.1)
-    r.checks)
-    checks
-
-pub checks_risen : (s : Settings) (image : ℕ) (old new : FilesTold) (e : Ending) (before now : ℕ) → ChecksFiles s image old new e → FailsRisen e before now
-checks_risen s image old new e before now checks = risen_but e before now (λ is. no_check_input s image old new (subst (ChecksFiles s image old new) is checks))
-
 no_cause_input : (s : Settings) (cause : NotBounded) → endings.InputFault ≡ cause_ending s cause → ⊥
 no_cause_input s (bound.NoAnalysis fault) e = no_fault_input s fault e
 no_cause_input s (bound.Forbidden cause subject) e = absurd (cc)
 no_cause_input s bound.NoMemory e = absurd (cc)
 
-not_bounded_no_input : (s : Settings) (bytes bounds_text : List ℕ) → NotBoundedBare s bytes bounds_text endings.InputFault → ⊥
-not_bounded_no_input s bytes bounds_text bare = ⊎_elim (λ h. let says = h.says in absurd (cc)) (λ u. no_cause_input s u.cause u.says) bare.ends
+-- no answer says that the input failed
+answer_no_input : (words : List (List ℕ)) (s : Settings) (question : Question) (l : Parts) (operands : List (List ℕ)) → IsAnswer words s question l operands (Ends endings.InputFault) → ⊥
+answer_no_input words s questions.Check l operands checks = checked_no_input l.classes s (text_at operands 1) (text_at operands 2) checks
+answer_no_input words s (questions.Bound method) l operands ends = no_cause_input s ends.cause ends.says
 
-bound_fault_no_input : (s : Settings) (bytes bounds_text name : List ℕ) → BoundFault s bytes bounds_text name endings.InputFault → ⊥
-bound_fault_no_input s bytes bounds_text name fault =
+bare_no_input : (s : Settings) (question : Question) (image : Image) (operands : List (List ℕ)) → IsBareEnding s question image operands endings.InputFault → ⊥
+bare_no_input s questions.Check image operands ends = no_refusal_input s ends.refusal ends.says
+bare_no_input s (questions.Bound method) image operands ends = no_cause_input s ends.cause ends.says
+
+answers_no_input : (words : List (List ℕ)) (asked : Asked) (operands : List (List ℕ)) → Answers words asked operands (Ends endings.InputFault) → ⊥
+answers_no_input words asked operands answers =
     ⊎_elim
-    (λ linked. ⊎_elim (λ none. none) (λ r. no_cause_input s r.ends.cause r.ends.says) linked.1)
-    (λ bare. ⊎_elim (λ none. none) (not_bounded_no_input s bytes bounds_text) bare.1)
-    fault
+    (λ linked. ⊎_elim (λ fault. fault) (λ r. answer_no_input words asked.settings asked.question r.linked operands r.answers) linked.1)
+    (λ bare. ⊎_elim
+    (λ fault. fault)
+    (λ b. ⊎_elim (λ long. let says = long.says in absurd (cc)) (bare_no_input asked.settings asked.question b.image operands) b.ends)
+    bare.1)
+    answers
 
-puts_no_input : (s : Settings) (bytes bounds_text name : List ℕ) (old new : Option (List ℕ)) (before now : ℕ) → PutsBound s bytes bounds_text name old new before now endings.InputFault → ⊥
-puts_no_input s bytes bounds_text name old new before now puts =
-    ⊎_elim
-    (λ whole. let says = whole.0 in absurd (cc))
-    (λ other. ⊎_elim (λ front. let says = front.0 in absurd (cc)) (λ none. bound_fault_no_input s bytes bounds_text name none.0) other)
-    puts
+puts_no_input : (words : List (List ℕ)) (asked : Asked) (operands : List (List ℕ)) (answer : Answer) (old new : Option (List ℕ)) (before now : ℕ) → Answers words asked operands answer → PutsAnswer answer old new before now endings.InputFault → ⊥
+puts_no_input words asked operands (Text text) old new before now answers puts =
+    ⊎_elim (λ whole. let says = whole.0 in absurd (cc)) (λ part. let says = part.0 in absurd (cc)) puts
+puts_no_input words asked operands (Ends says) old new before now answers puts =
+    answers_no_input words asked operands (subst (λ (e : Ending). Answers words asked operands (Ends e)) (sym puts.0) answers)
 
-no_bound_input : (s : Settings) (name : List ℕ) (image : ℕ) (old new : World) → BoundsFiles s name image old new endings.InputFault → ⊥
-no_bound_input s name image old new bounds =
-    ⊎_elim (λ fault. fault.0) (λ r. puts_no_input s r.bytes r.bounds_text name old.out new.out old.out_faults new.out_faults r.puts) bounds
+asks_no_input : (words : List (List ℕ)) (asked : Asked) (old new : World) → AsksFiles words asked old new endings.InputFault → ⊥
+asks_no_input words asked old new asks =
+    ⊎_elim (λ fault. fault.0) (λ r. puts_no_input words asked r.operands r.answer old.out new.out old.out_faults new.out_faults r.answers r.puts) asks
 
-pub bounds_risen : (s : Settings) (name : List ℕ) (image : ℕ) (old new : World) (e : Ending) (before now : ℕ) → BoundsFiles s name image old new e → FailsRisen e before now
-bounds_risen s name image old new e before now bounds = risen_but e before now (λ is. no_bound_input s name image old new (subst (BoundsFiles s name image old new) is bounds))
+pub asks_risen : (words : List (List ℕ)) (asked : Asked) (old new : World) (e : Ending) (before now : ℕ) → AsksFiles words asked old new e → FailsRisen e before now
+asks_risen words asked old new e before now asks = risen_but e before now (λ is. asks_no_input words asked old new (subst (AsksFiles words asked old new) is asks))

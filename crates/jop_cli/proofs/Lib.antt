@@ -14,9 +14,9 @@ mod Coming
 mod LinkingLaw
 mod AssemblingLaw
 mod RunningLaw
+mod AskingLaw
 mod CheckingLaw
 mod BoundingLaw
-mod ShownBounds
 mod Shown
 mod Leaving
 mod Texts

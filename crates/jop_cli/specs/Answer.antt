@@ -24,8 +24,7 @@ use Rattle.jop_cli.specs.LinkedFile.{RunsLinkedBytes}
 use Rattle.jop_cli.specs.World.{World, IsQuiet, IsUntaken, FilesStayBut, IsUnchanged, Reads, IsTooBig}
 use Rattle.jop_cli.specs.Assembling.{Assembles}
 use Rattle.jop_cli.specs.Linking.{files_of, LinksFiles}
-use Rattle.jop_cli.specs.Checking.{ChecksFiles}
-use Rattle.jop_cli.specs.Bounding.{BoundsFiles}
+use Rattle.jop_cli.specs.Asking.{AsksFiles, checking, bounding}
 use Rattle.jop_cli.specs.Working.{Works}
 
 -- what a run is lent
@@ -78,8 +77,8 @@ Does words (Ok (Run settings image)) old new ending = RunsFile settings shows.Ou
 Does words (Ok (Trace settings micro image)) old new ending = RunsFile settings (shows.Trace micro) image old new ending
 Does words (Ok (Assemble text)) old new ending = Assembles text old new ending
 Does words (Ok (LinkTo main first)) old new ending = LinksFiles (text_at words main) first old new ending
-Does words (Ok (Check settings image bounds certificate)) old new ending = ChecksFiles settings image (files_of old) (files_of new) ending × IsQuiet old new
-Does words (Ok (Bound settings method image bounds)) old new ending = BoundsFiles settings (text_at words method) image old new ending
+Does words (Ok (Check settings image bounds certificate)) old new ending = AsksFiles words (checking settings image) old new ending
+Does words (Ok (Bound settings method image bounds)) old new ending = AsksFiles words (bounding settings method image) old new ending
 Does words (Ok (Work n)) old new ending = Works n old new ending
 
 abbrev pub Executed : List (List ℕ) → World → World → Ending → Type 0

@@ -12,6 +12,8 @@ pub mod LinkedSettings
 pub mod LinkedFile
 pub mod Checking
 pub mod Bounding
+pub mod Opening
+pub mod Asking
 pub mod Working
 pub mod Answer
 pub mod Status

@@ -9,7 +9,7 @@ ghost use Rattle.command_line.specs.Range.{AreSettings};
 ghost use Rattle.jop_cli.specs.Leaving.{Leaves};
 ghost use Rattle.jop_cli.specs.Show.{AreNamed, IsNamed, IsTrace, IsTraced, bare_shown, shown_by};
 ghost use Rattle.jop_cli.specs.Run.{Started};
-ghost use Rattle.jop_cli.specs.BareFile.{ImageFault, blocks_of_code, IsCodeTooLong, RanBare, RanWith, RunsBareBytes};
+ghost use Rattle.jop_cli.specs.BareFile.{ImageFault, blocks_of_code, IsCodeTooLong, RanBare, RanWith};
 
 use crate::outcome::{Ending, Refusal};
 use crate::program_end::ProgramEnd;
@@ -165,7 +165,7 @@ fn run_with<O: Sink, V: Watch>(
 }
 
 /// Runs an image with settings.
-fn run_fitting<O: Sink, V: Watch>(
+pub(crate) fn run_fitting<O: Sink, V: Watch>(
     alloc: Global,
     bare: &Bare,
     settings: &Settings,
@@ -189,26 +189,4 @@ fn run_fitting<O: Sink, V: Watch>(
         return Ending::Refused(Refusal::MethodTooLong(0, blocks, settings.blocks));
     }
     run_with(alloc, bare, settings, show, out, watch)
-}
-
-/// Runs the bare image of whose file these are the bytes.
-pub(crate) fn run_bare_bytes<O: Sink, V: Watch>(
-    alloc: Global,
-    bytes: &[u8],
-    settings: &Settings,
-    show: Show,
-    out: &mut O,
-    watch: &mut V,
-) -> Ending
-    requires settings { AreSettings settings.now }
-    ensures runs { RunsBareBytes settings.now show bytes.now
-        (lent (Some []) 0 (O.held out.old) (O.faults out.old) (V.held watch.old))
-        (lent (Some []) 0 (O.held out.new) (O.faults out.new) (V.held watch.new)) result }
-    ensures leaves { Leaves result → (out.new ≡ out.old) × (watch.new ≡ watch.old) }
-    ensures watch { IsTrace show → watch.new ≡ watch.old }
-{
-    match image_of(alloc, bytes) {
-        Ok(bare) => run_fitting(alloc, &bare, settings, show, out, watch),
-        Err(ending) => ending,
-    }
 }

@@ -1,11 +1,13 @@
 //! The program: what it does with the words of its command line.
 #![tactic(auto)]
 
+mod asking;
 mod assembling;
 mod bare_file;
 mod bounding;
 mod checking;
 pub mod host;
+mod image;
 pub mod laws;
 mod lines;
 mod linked_file;

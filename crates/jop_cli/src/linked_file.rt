@@ -14,7 +14,7 @@ ghost use Rattle.run_devices.specs.Lent.{lent};
 ghost use Rattle.jop_cli.specs.Show.{IsTrace};
 ghost use Rattle.jop_cli.specs.Leaving.{Leaves, FailsRisen};
 ghost use Rattle.jop_cli.specs.LinkedRun.{HasClass};
-ghost use Rattle.jop_cli.specs.LinkedFile.{BytesFault, IsTooLongAs, SaysEnd, EndsAs, RunsLinkedBytes};
+ghost use Rattle.jop_cli.specs.LinkedFile.{BytesFault, IsTooLongAs, SaysEnd, EndsAs};
 
 use crate::linked_settings::run_with_settings;
 use crate::linking::not_linked;
@@ -136,33 +136,5 @@ pub(crate) fn run_program<S: Source, O: Sink, V: Watch>(
             Ending::Refused(Refusal::MemoryTooSmall(words, settings.memory))
         }
         ImageEnd::Ran(end) => said(program, room, end),
-    }
-}
-
-/// Runs the linked image of whose file these are the bytes.
-pub(crate) fn run_linked_bytes<S: Source, O: Sink, V: Watch>(
-    alloc: Global,
-    bytes: &[u8],
-    settings: &Settings,
-    show: Show,
-    input: &mut S,
-    out: &mut O,
-    watch: &mut V,
-) -> Ending
-    requires { AreSettings settings.now }
-    ensures runs { RunsLinkedBytes settings.now show bytes.now
-        (lent (S.left input.old) (S.faults input.old) (O.held out.old) (O.faults out.old) (V.held watch.old))
-        (lent (S.left input.new) (S.faults input.new) (O.held out.new) (O.faults out.new) (V.held watch.new)) result }
-    ensures leaves { Leaves result → (input.new ≡ input.old) × (out.new ≡ out.old) × (watch.new ≡ watch.old) }
-    ensures watch { IsTrace show → watch.new ≡ watch.old }
-{
-    match linked_of(alloc, bytes) {
-        Ok(linked) => {
-            let ending = run_program(alloc, &linked, settings, show, input, out, watch);
-            // By a call: what its parts' destructors do is proved there.
-            drop(linked);
-            ending
-        }
-        Err(ending) => ending,
     }
 }

@@ -119,3 +119,12 @@ pub(crate) enum Ending {
     WriteFault,
     NoMemory,
 }
+
+/// What answers a question about an image.
+#[derive(Drop)]
+pub(crate) enum Answer {
+    /// A text for the output.
+    Text(Vec<u8>),
+    /// An ending, whose line says the answer, or why there is none.
+    Ends(Ending),
+}

@@ -11,12 +11,12 @@ ghost use Rattle.jop_cli.specs.Show.{IsTrace};
 ghost use Rattle.jop_cli.specs.Leaving.{Leaves, LeavesAll, FailsRisen};
 ghost use Rattle.jop_cli.specs.Answer.{ReadsLinked, RunsFile, RunsLinkedFile, RunsProgram, Executed, Answered, Said, outcome_of, outcome_unsaid};
 
+use crate::asking::{Asked, ask_files};
 use crate::assembling::assemble_file;
-use crate::bare_file::run_bare_bytes;
-use crate::bounding::bound_files;
-use crate::checking::check_files;
+use crate::bare_file::run_fitting;
+use crate::image::{Image, open_image};
 use crate::lines::say_ending;
-use crate::linked_file::run_linked_bytes;
+use crate::linked_file::run_program;
 use crate::linking::link_files;
 use crate::load::load;
 use crate::outcome::{Ending, Outcome, Refusal};
@@ -49,10 +49,15 @@ fn run_bytes<S: Source, O: Sink, V: Watch>(
     ensures input { is_linked bytes.now ≡ false → input.new ≡ input.old }
     ensures rose { FailsRisen result (S.faults input.old) (S.faults input.new) }
 {
-    if bytes.starts_with(b"JOPI") {
-        run_linked_bytes(alloc, bytes, settings, show, input, out, watch)
-    } else {
-        run_bare_bytes(alloc, bytes, settings, show, out, watch)
+    match open_image(alloc, bytes) {
+        Ok(Image::Linked(linked)) => {
+            let ending = run_program(alloc, &linked, settings, show, input, out, watch);
+            // By a call: what its parts' destructors do is proved there.
+            drop(linked);
+            ending
+        }
+        Ok(Image::Bare(bare)) => run_fitting(alloc, &bare, settings, show, out, watch),
+        Err(ending) => ending,
     }
 }
 
@@ -145,13 +150,19 @@ fn execute<F: Files, S: Source, O: Sink, V: Watch>(
             settings,
             image,
             ..
-        } => check_files(alloc, &settings, image, files),
+        } => ask_files(alloc, words, &Asked::checking(settings, image), files, out),
         Command::Bound {
             settings,
             method,
             image,
             ..
-        } => bound_files(alloc, words, &settings, method, image, files, out),
+        } => ask_files(
+            alloc,
+            words,
+            &Asked::bounding(settings, method, image),
+            files,
+            out,
+        ),
         Command::Work { count } => work(alloc, count, out),
     }
 }

@@ -4,7 +4,7 @@ use Rattle.command_line.specs.declared.command.Command.{Command}
 use Rattle.command_line.specs.declared.command.Command.TheVariants.{Run, Trace, Asm, Link, Work}
 use Rattle.command_line.specs.Command.{texts, command_of}
 use Rattle.jop_cli.specs.World.{world}
-use Rattle.jop_cli.proofs.Executing.{does_by, assembles_risen, links_risen, bounds_risen}
+use Rattle.jop_cli.proofs.Executing.{does_by, assembles_risen, links_risen, asks_risen}
 use Rattle.jop_cli.proofs.Worked.{works_risen}
 use Rattle.jop_cli.proofs.top.execute.Goals as goal
 
@@ -47,10 +47,15 @@ returns-in-Link-clause-rose g c =
     links_risen _ c.in-Link.first _ _ c.link_files.result (g.S.Source.faults c.args.input.now) (g.S.Source.faults c.args.input.now)
     (c.link_files.ensures.links (g.S.Source.left c.args.input.now) (g.S.Source.faults c.args.input.now) (g.V.Watch.held c.args.watch.now))
 
+pub returns-in-Check-clause-rose : goal.returns-in-Check-clause-rose
+returns-in-Check-clause-rose g c =
+    asks_risen _ _ _ _ c.ask_files.result (g.S.Source.faults c.args.input.now) (g.S.Source.faults c.args.input.now)
+    (c.ask_files.ensures.asks (g.S.Source.left c.args.input.now) (g.S.Source.faults c.args.input.now) (g.V.Watch.held c.args.watch.now))
+
 pub returns-in-Bound-clause-rose : goal.returns-in-Bound-clause-rose
 returns-in-Bound-clause-rose g c =
-    bounds_risen c.in-Bound.settings _ c.in-Bound.image _ _ c.bound_files.result (g.S.Source.faults c.args.input.now) (g.S.Source.faults c.args.input.now)
-    (c.bound_files.ensures.bounds (g.S.Source.left c.args.input.now) (g.S.Source.faults c.args.input.now) (g.V.Watch.held c.args.watch.now))
+    asks_risen _ _ _ _ c.ask_files-in-Bound.result (g.S.Source.faults c.args.input.now) (g.S.Source.faults c.args.input.now)
+    (c.ask_files-in-Bound.ensures.asks (g.S.Source.left c.args.input.now) (g.S.Source.faults c.args.input.now) (g.V.Watch.held c.args.watch.now))
 
 pub returns-in-Trace-clause-input : goal.returns-in-Trace-clause-input
 returns-in-Trace-clause-input g c none =

@@ -1,0 +1,108 @@
+-- What is asked of an image, and how it is answered: by a text that is put out, or by the line of an ending.
+use Rattle.std.specs.Prelude.{◌≡◌, ℕ, ◌+◌, ◌<◌, ◌≤◌, true, false, ◌⊎◌, List, length, take}
+use Rattle.std.specs.declared.option.Option.{Option}
+use Rattle.outside.specs.Outside.{Grew, Rose}
+use Rattle.outside.specs.Files.{OnlyWords, AreFiles}
+use Rattle.image_file.specs.Bare.{Image, IsBare}
+use Rattle.image_file.specs.Linked as file
+use Rattle.command_line.specs.declared.command.Settings.{Settings}
+use Rattle.jopizer.specs.Linked.{Parts, IsLinked, image_of}
+use Rattle.jop_cli.specs.declared.asking.Question.{Question}
+use Rattle.jop_cli.specs.declared.asking.Question.TheVariants.{Check, Bound}
+use Rattle.jop_cli.specs.declared.asking.Asked.{Asked}
+use Rattle.jop_cli.specs.declared.outcome.Answer.{Answer}
+use Rattle.jop_cli.specs.declared.outcome.Answer.TheVariants.{Text, Ends}
+use Rattle.jop_cli.specs.declared.outcome.Ending.{Ending}
+use Rattle.jop_cli.specs.declared.outcome.Ending.TheVariants.{Written, WriteFault}
+use Rattle.jop_cli.specs.Line.{text_at}
+use Rattle.jop_cli.specs.Phase.{is_linked}
+use Rattle.jop_cli.specs.BareFile.{ImageFault}
+use Rattle.jop_cli.specs.LinkedFile.{BytesFault}
+use Rattle.jop_cli.specs.World.{World, IsQuiet, IsUntaken}
+use Rattle.jop_cli.specs.Linking.{files_of, OperandsFault}
+use Rattle.jop_cli.specs.Checking.{Checks, EndsTooLong, EndsMissing}
+use Rattle.jop_cli.specs.Bounding.{AnswersBound, EndsUnnamed}
+
+-- ---- the answers, question by question; the operands' texts stand in their order, the image's bytes first
+
+-- an ending with this cause, and no text
+abbrev pub EndsBy : (Ending → Type 0) → Answer → Type 0
+EndsBy cause (Text text) = ⊥
+EndsBy cause (Ends ending) = cause ending
+
+-- what was linked answers so; the words name what is asked for
+abbrev pub IsAnswer : (words : List (List ℕ)) → Settings → Question → Parts → (operands : List (List ℕ)) → Answer → Type 0
+IsAnswer words s Check l operands answer = EndsBy (Checks l.classes s (text_at operands 1) (text_at operands 2)) answer
+IsAnswer words s (Bound method) l operands answer = AnswersBound l.classes s (text_at operands 1) (text_at words method) answer
+
+-- a bare image has no classes, and ends so where its code fits the method cache
+abbrev pub IsBareEnding : Settings → Question → Image → (operands : List (List ℕ)) → Ending → Type 0
+IsBareEnding s Check image operands ending = EndsMissing s image (text_at operands 1) (text_at operands 2) ending
+IsBareEnding s (Bound method) image operands ending = EndsUnnamed s image (text_at operands 1) ending
+
+-- ---- the image
+
+-- the bytes are the file of what was linked, and it answers so
+pub record AnswersLinked (words : List (List ℕ)) (asked : Asked) (operands : List (List ℕ)) (answer : Answer) : Type 0 where
+  pub linked : Parts
+  pub is_linked : IsLinked linked
+  pub is_file : file.IsLinked (text_at operands 0) (image_of linked)
+  pub answers : IsAnswer words asked.settings asked.question linked operands answer
+
+-- the bytes are a bare image: its code takes more blocks than the method cache has, or it ends so
+pub record EndsBare (asked : Asked) (operands : List (List ℕ)) (ending : Ending) : Type 0 where
+  pub image : Image
+  pub bare : IsBare (text_at operands 0) image
+  pub ends : EndsTooLong asked.settings image ending ⊎ IsBareEnding asked.settings asked.question image operands ending
+
+-- how an image answers whose bytes begin as those of a linked one, or don't
+abbrev pub Answers : (words : List (List ℕ)) → Asked → (operands : List (List ℕ)) → Answer → Type 0
+Answers words asked operands answer =
+    ((is_linked (text_at operands 0) ≡ true) × (EndsBy (BytesFault (text_at operands 0)) answer ⊎ AnswersLinked words asked operands answer))
+    ⊎ ((is_linked (text_at operands 0) ≡ false) × (EndsBy (ImageFault (text_at operands 0)) answer ⊎ EndsBy (EndsBare asked operands) answer))
+
+-- ---- what is put
+
+-- a part of a text from its beginning was put, where out failed
+pub record PutsPart (text : List ℕ) (old new : Option (List ℕ)) (before now : ℕ) : Type 0 where
+  pub count : ℕ
+  pub part : count < length text
+  pub put : Grew old new (take count text)
+  pub rose : Rose before now
+
+-- how a text was put, by what out told before and then, and its counts of faults
+abbrev pub PutsText : (text : List ℕ) → (old new : Option (List ℕ)) → (before now : ℕ) → Ending → Type 0
+PutsText text old new before now ending =
+    ((ending ≡ Written) × Grew old new text × (before ≤ now)) ⊎ ((ending ≡ WriteFault) × PutsPart text old new before now)
+
+-- and how an answer was
+abbrev pub PutsAnswer : Answer → (old new : Option (List ℕ)) → (before now : ℕ) → Ending → Type 0
+PutsAnswer (Text text) old new before now ending = PutsText text.items old new before now ending
+PutsAnswer (Ends says) old new before now ending = (ending ≡ says) × (new ≡ old) × (now ≡ before)
+
+-- ---- the files
+
+-- the files of the operands were read, and what answers was put
+pub record AsksRead (words : List (List ℕ)) (asked : Asked) (old new : World) (ending : Ending) : Type 0 where
+  pub operands : List (List ℕ)
+  pub only : OnlyWords (files_of old) (files_of new) asked.image (asked.image + asked.operands)
+  pub are : AreFiles old.files asked.image (asked.image + asked.operands) operands
+  pub answer : Answer
+  pub answers : Answers words asked operands answer
+  pub puts : PutsAnswer answer old.out new.out old.out_faults new.out_faults ending
+  pub watch : new.watch ≡ old.watch
+  pub input : IsUntaken old new
+
+-- How a question ends that is asked of the image of a word, each ending with its cause.
+abbrev pub AsksFiles : (words : List (List ℕ)) → Asked → World → World → Ending → Type 0
+AsksFiles words asked old new ending =
+    (OperandsFault asked.image (asked.image + asked.operands) (files_of old) (files_of new) ending × IsQuiet old new)
+    ⊎ AsksRead words asked old new ending
+
+-- ---- the questions of commands
+
+abbrev pub checking : Settings → (image : ℕ) → Asked
+checking s image = record { settings = s; question = Check; image = image; operands = 3 }
+
+abbrev pub bounding : Settings → (method image : ℕ) → Asked
+bounding s method image = record { settings = s; question = Bound method; image = image; operands = 2 }

@@ -1,0 +1,213 @@
+//! What is asked of an image, and answered by a text or by a line.
+ghost use Rattle.std.specs.Prelude.{◌≡◌, ◌+◌, ◌^◌, ◌<◌, ◌≤◌, ◌⊎◌, ℕ, List, Option, All, length};
+ghost use Rattle.base.specs.Sizes.{longest_file};
+ghost use Rattle.device_traits.specs.declared.seen.Seen.{Seen};
+ghost use Rattle.image_file.specs.Linked.{contents};
+ghost use Rattle.command_line.specs.Command.{texts};
+ghost use Rattle.command_line.specs.Range.{AreSettings};
+ghost use Rattle.jop_cli.specs.Line.{text_at};
+ghost use Rattle.jop_cli.specs.World.{world};
+ghost use Rattle.jop_cli.specs.Leaving.{Leaves};
+ghost use Rattle.jop_cli.specs.Checking.{EndsTooLong};
+ghost use Rattle.jop_cli.specs.Opening.{Opens};
+ghost use Rattle.jop_cli.specs.Asking.{IsAnswer, IsBareEnding, Answers, PutsText, PutsAnswer, AsksFiles, checking, bounding};
+
+use crate::bounding::{bound_linked, cause_ending};
+use crate::checking::{check_linked, refusal_ending};
+use crate::image::{Image, open_image};
+use crate::lines::text_of;
+use crate::linking::read_operands;
+use crate::outcome::{Answer, Ending, Refusal};
+use crate::settings::blocks_of;
+use analysis_commands::{bound_bare, check_bare};
+use command_line::Settings;
+use jop_core::Bare;
+use jopizer::Linked;
+use outside::{Files, Sink, put_all};
+use std::alloc::Global;
+
+/// What is asked of an image, with the words that it names.
+#[derive(Clone, Copy)]
+pub(crate) enum Question {
+    /// Whether a certificate meets its conditions. Its operands are an image, bounds of loops and the certificate.
+    Check,
+    /// A certificate of the method that the word names. Its operands are an image and bounds of loops.
+    Bound { method: u32 },
+}
+
+/// A question about the image of a word, with the settings of the machine.
+#[derive(Clone, Copy)]
+pub(crate) struct Asked {
+    pub settings: Settings,
+    pub question: Question,
+    /// The word of the image, the first operand.
+    pub image: u32,
+    /// How many operands there are.
+    pub operands: u32,
+}
+
+impl Asked {
+    /// Whether a certificate holds.
+    pub(crate) fn checking(settings: Settings, image: u32) -> Self
+        ensures { result ≡ checking settings image }
+    {
+        Asked {
+            settings,
+            question: Question::Check,
+            image,
+            operands: 3,
+        }
+    }
+
+    /// A certificate of a method.
+    pub(crate) fn bounding(settings: Settings, method: u32, image: u32) -> Self
+        ensures { result ≡ bounding settings method image }
+    {
+        Asked {
+            settings,
+            question: Question::Bound { method },
+            image,
+            operands: 2,
+        }
+    }
+}
+
+/// The text of the operand of this number; that of the image is number 0.
+fn operand(operands: &[Vec<u8>], number: usize) -> &[u8]
+    requires { All (λ text. length text.items ≤ longest_file) operands.now }
+    ensures text { result.now ≡ text_at (contents operands.now) number }
+    ensures short { length result.now ≤ longest_file }
+{
+    match operands.get(number) {
+        Some(text) => text.as_slice(),
+        None => b"",
+    }
+}
+
+/// The answer of what was linked.
+fn answer_linked(
+    alloc: Global,
+    words: &[&str],
+    asked: &Asked,
+    linked: &Linked,
+    operands: &[Vec<u8>],
+) -> Answer
+    requires settings { AreSettings asked.now.settings }
+    requires short { All (λ text. length text.items ≤ longest_file) operands.now }
+    ensures { IsAnswer (texts words.now) asked.now.settings asked.now.question linked.now (contents operands.now) result }
+{
+    let settings = &asked.settings;
+    let bounds = operand(operands, 1);
+    match asked.question {
+        Question::Check => {
+            let certificate = operand(operands, 2);
+            Answer::Ends(check_linked(alloc, linked, settings, bounds, certificate))
+        }
+        Question::Bound { method } => {
+            let name = text_of(words, method);
+            bound_linked(alloc, linked, settings, name, bounds)
+        }
+    }
+}
+
+/// How it ends with a bare image, which has no classes.
+fn end_bare(alloc: Global, asked: &Asked, image: &Bare, operands: &[Vec<u8>]) -> Ending
+    requires settings { AreSettings asked.now.settings }
+    requires short { All (λ text. length text.items ≤ longest_file) operands.now }
+    ensures { EndsTooLong asked.now.settings image.now result
+        ⊎ IsBareEnding asked.now.settings asked.now.question image.now (contents operands.now) result }
+{
+    let settings = &asked.settings;
+    let blocks = blocks_of(image, settings.block_words);
+    if blocks > settings.blocks {
+        return Ending::Refused(Refusal::MethodTooLong(0, blocks, settings.blocks));
+    }
+    let bounds = operand(operands, 1);
+    match asked.question {
+        Question::Check => {
+            let certificate = operand(operands, 2);
+            refusal_ending(settings, check_bare(alloc, bounds, certificate))
+        }
+        Question::Bound { .. } => cause_ending(settings, bound_bare(alloc, bounds)),
+    }
+}
+
+/// The answer of an image.
+fn answer_image(
+    alloc: Global,
+    words: &[&str],
+    asked: &Asked,
+    image: &Image,
+    operands: &[Vec<u8>],
+) -> Answer
+    requires settings { AreSettings asked.now.settings }
+    requires short { All (λ text. length text.items ≤ longest_file) operands.now }
+    requires opens { Opens (text_at (contents operands.now) 0) image.now }
+    ensures { Answers (texts words.now) asked.now (contents operands.now) result }
+{
+    match image {
+        Image::Linked(linked) => answer_linked(alloc, words, asked, linked, operands),
+        Image::Bare(bare) => Answer::Ends(end_bare(alloc, asked, bare, operands)),
+    }
+}
+
+/// The answer of the image that the first operand is.
+fn answer_operands(alloc: Global, words: &[&str], asked: &Asked, operands: &[Vec<u8>]) -> Answer
+    requires settings { AreSettings asked.now.settings }
+    requires short { All (λ text. length text.items ≤ longest_file) operands.now }
+    ensures { Answers (texts words.now) asked.now (contents operands.now) result }
+{
+    match open_image(alloc, operand(operands, 0)) {
+        Ok(image) => {
+            let answer = answer_image(alloc, words, asked, &image, operands);
+            // By a call: what its parts' destructors do is proved there.
+            drop(image);
+            answer
+        }
+        Err(ending) => Answer::Ends(ending),
+    }
+}
+
+/// Puts an answer. Nothing is put before the whole text stands.
+fn put_answer<O: Sink>(answer: Answer, out: &mut O) -> Ending
+    ensures puts { PutsAnswer answer (O.held out.old) (O.held out.new) (O.faults out.old) (O.faults out.new) result }
+    ensures leaves { Leaves result → out.new ≡ out.old }
+{
+    match answer {
+        Answer::Text(text) => put_text(&text, out),
+        Answer::Ends(ending) => ending,
+    }
+}
+
+/// Puts a text.
+fn put_text<O: Sink>(text: &[u8], out: &mut O) -> Ending
+    ensures puts { PutsText text.now (O.held out.old) (O.held out.new) (O.faults out.old) (O.faults out.new) result }
+    ensures leaves { Leaves result → out.new ≡ out.old }
+{
+    match put_all(out, text) {
+        Ok(()) => Ending::Written,
+        Err(_) => Ending::WriteFault,
+    }
+}
+
+/// Asks the image of a word, with the operands behind it, and puts what answers.
+pub(crate) fn ask_files<F: Files, O: Sink>(
+    alloc: Global,
+    words: &[&str],
+    asked: &Asked,
+    files: &mut F,
+    out: &mut O,
+) -> Ending
+    requires settings { AreSettings asked.now.settings }
+    requires there { asked.now.image + asked.now.operands ≤ F.words files.old }
+    requires few { F.words files.old < 2 ^ 32 }
+    ensures asks { (left : Option (List ℕ)) (read_faults : ℕ) (watch : Option (List Seen)) → AsksFiles (texts words.now) asked.now
+        (world (F.words files.old) (F.told files.old) (F.faults files.old) left read_faults (O.held out.old) (O.faults out.old) watch)
+        (world (F.words files.new) (F.told files.new) (F.faults files.new) left read_faults (O.held out.new) (O.faults out.new) watch) result }
+    ensures leaves { Leaves result → out.new ≡ out.old }
+{
+    match read_operands(alloc, files, asked.image, asked.image + asked.operands) {
+        Ok(operands) => put_answer(answer_operands(alloc, words, asked, &operands), out),
+        Err(ending) => ending,
+    }
+}
