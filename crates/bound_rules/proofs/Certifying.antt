@@ -1,5 +1,5 @@
 -- Worked examples of a certificate, and of refusals of bounds.
-use Rattle.std.proofs.Common.{◌≡◌, ◌≢◌, ℕ, ◌+◌, ◌*◌, ◌<◌, ◌≤◌, ◌^◌, true, false, List, [], ◌∷◌, Contains, Option, Some, None, pos, refl, sym, ap, ap₂, ◌∙◌, subst, inl, inr, IsSome, arith}
+use Rattle.std.proofs.Common.{◌≡◌, ◌≢◌, ℕ, zero, suc, ◌+◌, ◌*◌, ◌<◌, ◌≤◌, ◌^◌, true, false, List, [], ◌∷◌, Contains, Option, Some, None, pos, refl, sym, ap, ap₂, ◌∙◌, subst, inl, inr, IsSome, arith}
 use Rattle.std.proofs.lemmas.List.Elements.{All-cons, All-nil, All-contains}
 use Rattle.std.specs.Int.{int_wrap}
 use Rattle.opcodes.specs.Instruction.{decoded}
@@ -8,6 +8,7 @@ use Rattle.opcodes.specs.Start.{starts_of}
 use Rattle.bytecode_model.specs.Table.{row_of}
 use Rattle.lists.specs.Members.{at_head, cons_cases, nil_contains}
 use Rattle.micro_flow.specs.Costs.{IsGreatestInvoke}
+use Rattle.cache_regions.specs.Region.{AreDistinct}
 use Rattle.loop_nest.specs.Digraph.{Digraph, Edge, IsBefore}
 use Rattle.loop_nest.specs.Walks.{Walk, IsReachable, IsHeader}
 use Rattle.loop_nest.specs.Walks.Walk.{stay, along}
@@ -183,10 +184,19 @@ ring = (
   record { place = 0; start = at_head 0 (3 ∷ []); call = refl; is_target = at_head 4 [] },
 )
 
+two_differ : AreDistinct (4 ∷ 5 ∷ [])
+two_differ zero zero d less below same = absurd (omega arith)
+two_differ zero (suc zero) d less below same = let four_is_five : ◌≡◌ {A = ℕ} 4 5 = same in absurd (omega arith)
+two_differ zero (suc (suc j)) d less below same = absurd (omega arith)
+two_differ (suc i) zero d less below same = absurd (omega arith)
+two_differ (suc i) (suc zero) d less below same = absurd (omega arith)
+two_differ (suc i) (suc (suc j)) d less below same = absurd (omega arith)
+
 recursion : IsRecursion sample 4 (4 ∷ 5 ∷ [])
 recursion = record {
   calls = ring;
   within = All-cons (IsWithin sample 4) 4 (5 ∷ []) itself (All-cons (IsWithin sample 4) 5 [] (calls ring.0.place ring.0.start ring.0.call ring.0.is_target itself) (All-nil (IsWithin sample 4)));
+  distinct = two_differ;
 }
 
 module _ (t : Timing) (bound_of : BoundOf) where

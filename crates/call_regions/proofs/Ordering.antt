@@ -112,6 +112,7 @@ module _ (P : Program) (f : Flow) (flow : IsFlowOf P f) (calls : RunsAreCalls) w
   call_cause root (Recursion ms) is = record {
     calls = cycle_of root ms is;
     within = All-weaker (IsReached f (λ y. y ≡ root)) (IsWithin P root) (λ x r. reached_within P f flow calls (first_is root) r) ms is.reached;
+    distinct = is.distinct;
   }
 
 -- ---- an order and a cycle exclude each other

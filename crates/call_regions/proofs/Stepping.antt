@@ -279,6 +279,7 @@ module _ (f : Flow) (root : ℕ) where
             let x = get_or path (k + i) 0 in
             let come : state_of states x ≡ Open = (was.open_are x).1 (Contains-get_or path (k + i) 0 (omega arith)) in
             subst P (sym (item i)) (was.reached x (open≢new (state_of states x) come)));
+        distinct = λ i j d less below same. was.open_once (k + i) (k + j) d (omega arith) (omega arith) (sym (get_or-drop k path i d) ∙ same ∙ get_or-drop k path j d);
       }
 
   -- nothing is open any more

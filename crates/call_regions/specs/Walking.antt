@@ -101,6 +101,7 @@ pub record IsRing (f : Flow) (root : ℕ) (ms : List ℕ) : Type 0 where
   pub runs : EachRunsNext f ms
   pub around : Runs f (slice_index ms (length ms - 1)) (slice_index ms 0)
   pub reached : All (IsReached f (λ y. y ≡ root)) ms
+  pub distinct : AreDistinct ms
 
 abbrev pub IsRingCause : Flow → (root : ℕ) → CallFault → Type 0
 IsRingCause f root NoMemory = Unit {0}

@@ -1,5 +1,5 @@
 pub mod Renumbering
-mod Walks
+pub mod Walks
 pub mod Loops
 pub mod Kept
 mod Greatest

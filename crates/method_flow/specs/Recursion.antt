@@ -1,6 +1,7 @@
 -- Cycles of calls among the methods that may run while one does.
 use Rattle.std.specs.Prelude.{ℕ, List, [], ◌∷◌, All}
 use Rattle.bytecode_model.specs.Program.{Program}
+use Rattle.cache_regions.specs.Region.{AreDistinct}
 use Rattle.method_flow.specs.Calls.{IsCall, IsStartOf, IsTarget}
 use Rattle.method_flow.specs.Regions.{IsWithin}
 
@@ -22,7 +23,8 @@ abbrev pub IsCallCycle : Program → List ℕ → Type 0
 IsCallCycle P [] = ⊥
 IsCallCycle P (m ∷ ms) = IsCallChain P m (m ∷ ms)
 
--- a cycle of calls among all that may run while the method does
+-- a cycle of calls among all that may run while the method does, each method once
 pub record IsRecursion (P : Program) (root : ℕ) (cycle : List ℕ) : Type 0 where
   pub calls : IsCallCycle P cycle
   pub within : All (IsWithin P root) cycle
+  pub distinct : AreDistinct cycle

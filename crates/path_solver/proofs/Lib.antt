@@ -1,43 +1,43 @@
 mod Sources
 mod Backward
-mod Loops
+pub mod Loops
 mod Taken
-mod Apart
+pub mod Apart
 mod CountingDown
-mod Order
-mod Growing
+pub mod Order
+pub mod Growing
 mod Most
 mod Spreading
 mod Picking
-mod Onward
+pub mod Onward
 mod Leading
-mod Orderly
+pub mod Orderly
 mod Certified
 mod Adding
-mod Fewer
-mod Headers
-mod Structure
-mod Correspond
+pub mod Fewer
+pub mod Headers
+pub mod Structure
+pub mod Correspond
 mod CostsAround
 mod AlongEdges
-mod Ranges
+pub mod Ranges
 mod Accepting
 mod Certificates
 mod Placed
-mod Keeping
+pub mod Keeping
 mod Entering
-mod Prolonging
-mod Nesting
-mod Attained
-mod IterationBound
+pub mod Prolonging
+pub mod Nesting
+pub mod Attained
+pub mod IterationBound
 mod Solving
-mod Solutions
+pub mod Solutions
 mod Listing
 mod AddingUp
 mod Costing
 mod SimpleParts
 mod BoundedReach
 mod Marking
-mod Headed
-mod Exact
-mod Limiting
+pub mod Headed
+pub mod Exact
+pub mod Limiting

@@ -19,8 +19,9 @@ pub struct LoopCosts {
     pub fees: Vec<u128>,
 }
 
-/// What an iteration of a loop costs at most, where the fees of the loops inside are known.
-fn greatest_iteration(
+/// What an iteration of a loop costs at most, where the fees of the loops inside are known. The distances of its members
+/// from its header are written.
+pub fn greatest_iteration(
     alloc: Global,
     topology: &TopologicalOrder,
     members: &[u32],
@@ -57,8 +58,7 @@ pub fn costs_of_loops(
     requires led { AreLed topology.now.order.items loops.now }
     requires bounds { length bounds.now ≡ length loops.now }
     requires loads { length loads.now ≡ length loops.now }
-    ensures { IfOk result (λ loop_costs. AreLoopCosts topology.now loops.now costs.now bounds.now loads.now loop_costs.iteration_costs.items
-        loop_costs.fees.items) }
+    ensures { IfOk result (λ loop_costs. AreLoopCosts topology.now loops.now costs.now bounds.now loads.now loop_costs.iteration_costs.items loop_costs.fees.items) }
 {
     let nodes = costs.len();
     let mut dist = vec![in alloc; 0; nodes]?;

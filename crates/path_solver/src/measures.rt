@@ -3,7 +3,7 @@ ghost use Rattle.std.specs.Prelude.{◌≡◌, length, IfOk};
 ghost use Rattle.loop_nest.specs.Reduction.{IsReducible};
 ghost use Rattle.loop_nest.specs.Nest.{IsNest};
 ghost use Rattle.path_solver.specs.Reaching.{AreReaching};
-ghost use Rattle.path_solver.specs.Problem.{AreMeasures};
+ghost use Rattle.path_solver.specs.Problem.{IsMeasured};
 
 use super::distances::spread;
 use super::loop_costs::{LoopCosts, costs_of_loops};
@@ -14,11 +14,13 @@ use loop_nest::loops::Nest;
 use std::alloc::{AllocError, Global};
 
 /// What an iteration of each loop costs at most, and what walks to each listed node cost at most, that
-/// node excluded but for its fee.
+/// node excluded but for its fee; with the order and the fees that give these.
 #[derive(Drop)]
 pub struct Measures {
     pub iteration_costs: Vec<u128>,
     pub dist: Vec<u128>,
+    pub topology: TopologicalOrder,
+    pub fees: Vec<u128>,
 }
 
 /// The measures of a graph of which the listed nodes reach an exit.
@@ -37,7 +39,7 @@ pub fn measure(
     requires costs { length costs.now ≡ g.now.nodes }
     requires bounds { length bounds.now ≡ length nest.now }
     requires loads { length loads.now ≡ length nest.now }
-    ensures { IfOk result (λ m. AreMeasures g.now nest.now listed.now costs.now bounds.now loads.now m.iteration_costs.items m.dist.items) }
+    ensures { IfOk result (λ m. IsMeasured g.now nest.now listed.now m.topology costs.now bounds.now loads.now m.iteration_costs.items m.fees.items m.dist.items) }
 {
     // The laws are for the proof.
     nest_laws();
@@ -53,5 +55,7 @@ pub fn measure(
     Ok(Measures {
         iteration_costs,
         dist,
+        topology,
+        fees,
     })
 }

@@ -6,10 +6,12 @@ ghost use Rattle.loop_nest.specs.Nest.{IsNest};
 ghost use Rattle.path_solver.specs.Reaching.{ReachesExit};
 ghost use Rattle.path_solver.specs.Longest.{bounded_loops, IsTooLarge};
 ghost use Rattle.path_solver.specs.Pass.{IsPass};
+ghost use Rattle.path_solver.specs.Problem.{IsMeasured};
 
 use super::distances::greatest_end;
 use super::measures::{Measures, measure};
 use super::reaching::reaching;
+use super::topology::TopologicalOrder;
 use super::totals::iterations_exceed;
 use loop_nest::Graph;
 use loop_nest::laws::reducible_is_reached;
@@ -18,7 +20,8 @@ use std::alloc::{AllocError, Global};
 
 /// What is found of a graph of which an exit is reached from node 0: from which nodes one is reached;
 /// what iterations of its loops cost at most, and how far its nodes are; the greatest cost at an exit;
-/// and whether iterations exceed 64 bits, one of each loop that holds a node, together.
+/// whether iterations exceed 64 bits, one of each loop that holds a node, together; and the topological order of the
+/// listed nodes, and what it costs to enter the loop that each node heads.
 #[derive(Drop)]
 pub struct Pass {
     pub listed: Vec<bool>,
@@ -26,6 +29,8 @@ pub struct Pass {
     pub dist: Vec<u128>,
     pub value: u128,
     pub turns_exceed: bool,
+    pub topology: TopologicalOrder,
+    pub fees: Vec<u128>,
 }
 
 /// The pass over a graph, or `None` where no exit is reached from node 0.
@@ -46,8 +51,8 @@ pub fn one_pass(
     ensures valid { IsDigraph g.now }
     ensures unreached { IfOk result (λ o. IfNone o (¬ ReachesExit g.now 0)) }
     ensures fits { IfOk result (λ o. IfNone o (¬ IsTooLarge g.now costs.now (bounded_loops nest.now bounds.now loads.now))) }
-    ensures pass { IfOk result (λ o. IfSome o (λ s. IsPass g.now nest.now costs.now bounds.now loads.now s.listed.items s.iteration_costs.items s.dist.items
-        s.value s.turns_exceed)) }
+    ensures pass { IfOk result (λ o. IfSome o (λ s. IsPass g.now nest.now costs.now bounds.now loads.now s.listed.items s.iteration_costs.items s.dist.items s.value s.turns_exceed)) }
+    ensures measured { IfOk result (λ o. IfSome o (λ s. IsMeasured g.now nest.now s.listed.items s.topology costs.now bounds.now loads.now s.iteration_costs.items s.fees.items s.dist.items)) }
 {
     // The law is for the proof.
     reducible_is_reached();
@@ -59,6 +64,8 @@ pub fn one_pass(
     let Measures {
         iteration_costs,
         dist,
+        topology,
+        fees,
     } = measure(alloc, g, nest, &listed, costs, bounds, loads)?;
     let value = greatest_end(g.exits(), costs, &dist);
     let turns_exceed = iterations_exceed(alloc, nodes, nest.loops(), &iteration_costs)?;
@@ -68,5 +75,7 @@ pub fn one_pass(
         dist,
         value,
         turns_exceed,
+        topology,
+        fees,
     }))
 }

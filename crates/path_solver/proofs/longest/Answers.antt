@@ -41,7 +41,7 @@ section_of-requires-clause-small c =
     let s = pass_of g loops c.args.costs.now c.args.bounds.now c.args.loads.now c.in_ok-found.field-0 f c.in-Some.is c.in_ok-found.ensures.pass in
     iteration_costs_fit g loops c.args.costs.now c.args.bounds.now c.args.loads.now f.listed.items f.iteration_costs.items f.dist.items f.value f.turns_exceed s c.if-found.false
 
-solution : (c : goal.After-drop-found-4) → IsFound c.args.g.now c.args.nest.now c.args.costs.now c.args.bounds.now c.args.loads.now c.new.result.value c.new.result.section
+solution : (c : goal.After-drop-found-11) → IsFound c.args.g.now c.args.nest.now c.args.costs.now c.args.bounds.now c.args.loads.now c.new.result.value c.new.result.section
 solution c =
     let g = c.args.g.now in
     let loops = c.args.nest.now in
@@ -66,3 +66,9 @@ returns-clause-shown c = (solution c).shown
 
 pub returns-clause-fits : goal.returns-clause-fits
 returns-clause-fits c = (solution c).fits
+
+pub returns-clause-reached : goal.returns-clause-reached
+returns-clause-reached c =
+    let f = c.in-Some.found in
+    let s = pass_of c.args.g.now c.args.nest.now c.args.costs.now c.args.bounds.now c.args.loads.now c.in_ok-found.field-0 f c.in-Some.is c.in_ok-found.ensures.pass in
+    (s.reaching.each 0).0 s.entry

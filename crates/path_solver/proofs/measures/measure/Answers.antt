@@ -94,17 +94,13 @@ returns c =
     let e = c.requires.costs in
     let is = written c.in_ok-dist.dist.len dist (drop (length dist) c.in_ok-dist.dist.items) (omega arith) in
     record {
-      topology = p;
-      fees = fees;
-      measured = record {
-        setting = setting;
-        costs_long = c.requires.costs;
-        bounds_long = c.requires.bounds;
-        loads_long = c.requires.loads;
-        loop_costs = subst T c.loops-loops.ensures c.in_ok-iteration_costs.ensures;
-        dist_long = ap length is ∙ (let k : length dist ≡ length c.args.costs.now = omega arith in k);
-        dist_limited = let P : List ℕ → Type 0 = λ ds. All (λ x. x ≤ 2 ^ 66) ds in subst P (sym is) c.spread.ensures.limited;
-        each = let P : List ℕ → Type 0 = λ ds. (u : ℕ) → IsFlagged flags u → IsReachedBy (sources_at p.forward) c.args.costs.now fees ds u in
-            subst P (sym is) (λ u flag. each u (in_order g loops flags p setting u flag));
-      };
+      setting = setting;
+      costs_long = c.requires.costs;
+      bounds_long = c.requires.bounds;
+      loads_long = c.requires.loads;
+      loop_costs = subst T c.loops-loops.ensures c.in_ok-iteration_costs.ensures;
+      dist_long = ap length is ∙ (let k : length dist ≡ length c.args.costs.now = omega arith in k);
+      dist_limited = let P : List ℕ → Type 0 = λ ds. All (λ x. x ≤ 2 ^ 66) ds in subst P (sym is) c.spread.ensures.limited;
+      each = let P : List ℕ → Type 0 = λ ds. (u : ℕ) → IsFlagged flags u → IsReachedBy (sources_at p.forward) c.args.costs.now fees ds u in
+          subst P (sym is) (λ u flag. each u (in_order g loops flags p setting u flag));
     }

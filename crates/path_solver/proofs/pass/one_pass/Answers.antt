@@ -8,7 +8,8 @@ use Rattle.loop_nest.specs.Nest.{NaturalLoop}
 use Rattle.path_solver.specs.Distances.{IsMost, cost_through}
 use Rattle.path_solver.specs.Reaching.{AreReaching}
 use Rattle.path_solver.specs.Totals.{SomeIterationsExceed}
-use Rattle.path_solver.specs.Problem.{AreMeasures}
+use Rattle.path_solver.specs.declared.topology.TopologicalOrder.{TopologicalOrder}
+use Rattle.path_solver.specs.Problem.{IsMeasured}
 use Rattle.path_solver.proofs.Solutions.{nothing_too_large, all_within}
 use Rattle.path_solver.proofs.pass.one_pass.Goals as goal
 
@@ -19,8 +20,9 @@ entry_flag flags b lt is = get_or_default flags 0 false b lt ∙ sym is
 some_nodes : (g : Digraph) (flags : List Bool) → AreReaching g flags → IsDigraph g → 0 < length flags
 some_nodes g flags reach wf = let long = reach.long in let entry = wf.entry in omega arith
 
-measures_of : (g : Digraph) (loops : List NaturalLoop) (flags seen : List Bool) (costs bounds loads iteration_costs dist : List ℕ) → seen ≡ flags → AreMeasures g loops seen costs bounds loads iteration_costs dist → AreMeasures g loops flags costs bounds loads iteration_costs dist
-measures_of g loops flags seen costs bounds loads iteration_costs dist is h = let P : List Bool → Type 0 = λ fs. AreMeasures g loops fs costs bounds loads iteration_costs dist in subst P is h
+measured_of : (g : Digraph) (loops : List NaturalLoop) (flags seen : List Bool) (p : TopologicalOrder) (costs bounds loads iteration_costs fees dist : List ℕ) → seen ≡ flags
+    → IsMeasured g loops seen p costs bounds loads iteration_costs fees dist → IsMeasured g loops flags p costs bounds loads iteration_costs fees dist
+measured_of g loops flags seen p costs bounds loads iteration_costs fees dist is h = let P : List Bool → Type 0 = λ fs. IsMeasured g loops fs p costs bounds loads iteration_costs fees dist in subst P is h
 
 most_of : (costs dist seen us exits : List ℕ) (value : ℕ) → seen ≡ dist → us ≡ exits → IsMost (cost_through costs seen) us value → IsMost (cost_through costs dist) exits value
 most_of costs dist seen us exits value a b h =
@@ -65,7 +67,17 @@ iterations_exceed-requires-clause-within c =
     let Q : List NaturalLoop → Type 0 = λ ls. P ls c.nodes-nodes.result in
     let R : ℕ → Type 0 = λ n. P c.args.nest.now n in
     let a = c.in_ok-iteration_costs.ensures in
-    subst Q (sym c.loops.ensures) (subst R (sym c.nodes-nodes.ensures.nodes) (all_within c.args.g.now c.args.nest.now c.deref.result.now a.topology a.measured.setting))
+    subst Q (sym c.loops.ensures) (subst R (sym c.nodes-nodes.ensures.nodes) (all_within c.args.g.now c.args.nest.now c.deref.result.now c.in_ok-iteration_costs.field-0.topology a.setting))
+
+measured_here : (c : goal.In_ok-turns_exceed) → IsMeasured c.args.g.now c.args.nest.now c.in_ok-listed.listed.items c.in_ok-iteration_costs.field-0.topology c.args.costs.now c.args.bounds.now c.args.loads.now
+    c.in_ok-iteration_costs.field-0.iteration_costs.items c.in_ok-iteration_costs.field-0.fees.items c.in_ok-iteration_costs.field-0.dist.items
+measured_here c =
+    let found = c.in_ok-iteration_costs.field-0 in
+    measured_of c.args.g.now c.args.nest.now c.in_ok-listed.listed.items c.deref.result.now found.topology c.args.costs.now c.args.bounds.now c.args.loads.now found.iteration_costs.items found.fees.items found.dist.items
+    c.deref.ensures.value c.in_ok-iteration_costs.ensures
+
+pub returns-clause-measured : goal.returns-clause-measured
+returns-clause-measured c = measured_here c
 
 pub returns-clause-pass : goal.returns-clause-pass
 returns-clause-pass c =
@@ -78,7 +90,7 @@ returns-clause-pass c =
     record {
       reaching = c.in_ok-listed.ensures;
       entry = entry_flag flags c.index.result.now lt c.index.ensures ∙ c.if-not-index.false;
-      measures = measures_of g loops flags c.deref.result.now c.args.costs.now c.args.bounds.now c.args.loads.now iteration_costs dist c.deref.ensures.value c.in_ok-iteration_costs.ensures;
+      measures = record { topology = c.in_ok-iteration_costs.field-0.topology; fees = c.in_ok-iteration_costs.field-0.fees.items; measured = measured_here c };
       most = most_of c.args.costs.now dist c.deref-2.result.now c.exits.result.now g.exits c.greatest_end-value.result c.deref-2.ensures.value c.exits.ensures.exits c.greatest_end-value.ensures.most;
       turns = exceed_of loops c.loops.result.now iteration_costs c.deref-3.result.now c.nodes-nodes.result g.nodes c.in_ok-turns_exceed.turns_exceed c.loops.ensures c.deref-3.ensures.value c.nodes-nodes.ensures.nodes c.in_ok-turns_exceed.ensures;
     }
