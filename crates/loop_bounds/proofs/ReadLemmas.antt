@@ -8,8 +8,9 @@ use Rattle.std.proofs.lemmas.List.Splits.{length-slice_split}
 use Rattle.std.proofs.lemmas.List.Sums.{count_by-le-length}
 use Rattle.ascii_text.specs.Line.{lines_of, without_empty_last}
 use lib.Pointwise.{pointwise, bytes_decides}
+use Rattle.loop_bounds.specs.declared.quantity.Quantity.{Quantity}
 use Rattle.loop_bounds.specs.Bounds.{LoopBound, bound_in, AreOfDifferentLoops}
-use Rattle.loop_bounds.specs.Grammar.{Give, Says, IsRead, IsReadTo, IsTwice, IsMalformed}
+use Rattle.loop_bounds.specs.Lines.{GiveBounds, SaysBound, GivesBounds, ReachesLine, BoundsTwice, IsNoLine}
 
 -- ---- one bound more
 
@@ -44,28 +45,28 @@ still_different (x ∷ bs) b n d =
 
 -- ---- one line more
 
-give_more : (done : List (List ℕ)) (line : List ℕ) (bs first : List LoopBound) → Give done bs → Says line first → Give (done ++ line ∷ []) (bs ++ first)
-give_more [] line bs first g s = (first, [], ap (λ b. b ++ first) g ∙ sym (append-nil first), s, refl)
-give_more (x ∷ done) line bs first g s =
-    (g.0, g.1 ++ first, ap (λ b. b ++ first) g.2 ∙ append_assoc g.0 g.1 first, g.3, give_more done line g.1 first g.4 s)
+give_more : (q : Quantity) (done : List (List ℕ)) (line : List ℕ) (bs first : List LoopBound) → GiveBounds q done bs → SaysBound q line first → GiveBounds q (done ++ line ∷ []) (bs ++ first)
+give_more q [] line bs first g s = (first, [], ap (λ b. b ++ first) g ∙ sym (append-nil first), s, refl)
+give_more q (x ∷ done) line bs first g s =
+    (g.0, g.1 ++ first, ap (λ b. b ++ first) g.2 ∙ append_assoc g.0 g.1 first, g.3, give_more q done line g.1 first g.4 s)
 
 -- the lines of a text that are read, so many, and those that are left
-pub record IsReadSoFar (text : List ℕ) (number : ℕ) (left : List (List ℕ)) (bounds : List LoopBound) : Type 0 where
+pub record IsReadSoFar (q : Quantity) (text : List ℕ) (number : ℕ) (left : List (List ℕ)) (bounds : List LoopBound) : Type 0 where
   pub done : List (List ℕ)
   pub lines : lines_of text ≡ done ++ left
   pub count : number ≡ length done
-  pub given : Give done bounds
+  pub given : GiveBounds q done bounds
   pub different : AreOfDifferentLoops bounds
 
-pub at_first : (text : List ℕ) (left : List (List ℕ)) → left ≡ lines_of text → IsReadSoFar text 0 left []
-at_first text left e = record { done = []; lines = sym e; count = refl; given = refl; different = tt }
+pub at_first : (q : Quantity) (text : List ℕ) (left : List (List ℕ)) → left ≡ lines_of text → IsReadSoFar q text 0 left []
+at_first q text left e = record { done = []; lines = sym e; count = refl; given = refl; different = tt }
 
-pub at_last : (text : List ℕ) (number : ℕ) (left : List (List ℕ)) (bounds : List LoopBound) → IsReadSoFar text number left bounds → left ≡ [] → IsRead text bounds
-at_last text number left bounds r e =
-    record { given = subst (λ ls. Give ls bounds) (sym (r.lines ∙ ap (λ l. r.done ++ l) e ∙ append-nil r.done)) r.given; different = r.different }
+pub at_last : (q : Quantity) (text : List ℕ) (number : ℕ) (left : List (List ℕ)) (bounds : List LoopBound) → IsReadSoFar q text number left bounds → left ≡ [] → GivesBounds q text bounds
+at_last q text number left bounds r e =
+    record { given = subst (λ ls. GiveBounds q ls bounds) (sym (r.lines ∙ ap (λ l. r.done ++ l) e ∙ append-nil r.done)) r.given; different = r.different }
 
-pub reached : (text : List ℕ) (number : ℕ) (left rest : List (List ℕ)) (line : List ℕ) (bounds : List LoopBound) → IsReadSoFar text number left bounds → left ≡ line ∷ rest → IsReadTo text (number + 1)
-reached text number left rest line bounds r e = record {
+pub reached : (q : Quantity) (text : List ℕ) (number : ℕ) (left rest : List (List ℕ)) (line : List ℕ) (bounds : List LoopBound) → IsReadSoFar q text number left bounds → left ≡ line ∷ rest → ReachesLine q text (number + 1)
+reached q text number left rest line bounds r e = record {
   before = r.done;
   line = line;
   after = rest;
@@ -76,13 +77,13 @@ reached text number left rest line bounds r e = record {
   different = r.different;
 }
 
-pub next_line : (text : List ℕ) (number : ℕ) (left rest : List (List ℕ)) (line : List ℕ) (bounds first : List LoopBound) → IsReadSoFar text number left bounds → left ≡ line ∷ rest
-    → Says line first → AreOfDifferentLoops (bounds ++ first) → IsReadSoFar text (number + 1) rest (bounds ++ first)
-next_line text number left rest line bounds first r e s d = record {
+pub next_line : (q : Quantity) (text : List ℕ) (number : ℕ) (left rest : List (List ℕ)) (line : List ℕ) (bounds first : List LoopBound) → IsReadSoFar q text number left bounds → left ≡ line ∷ rest
+    → SaysBound q line first → AreOfDifferentLoops (bounds ++ first) → IsReadSoFar q text (number + 1) rest (bounds ++ first)
+next_line q text number left rest line bounds first r e s d = record {
   done = r.done ++ line ∷ [];
   lines = r.lines ∙ ap (λ l. r.done ++ l) e ∙ sym (append_assoc r.done (line ∷ []) rest);
   count = omega (arith, r.count, length-append r.done (line ∷ []));
-  given = give_more r.done line bounds first r.given s;
+  given = give_more q r.done line bounds first r.given s;
   different = d;
 }
 
@@ -94,42 +95,42 @@ shorter ([] ∷ []) = omega arith
 shorter ((x ∷ xs) ∷ []) = omega arith
 shorter (piece ∷ next ∷ pieces) = omega (arith, shorter (next ∷ pieces))
 
-pub count_fits : (text : List ℕ) (number : ℕ) (left rest : List (List ℕ)) (line : List ℕ) (bounds : List LoopBound) → IsReadSoFar text number left bounds → left ≡ line ∷ rest → number ≤ length text
-count_fits text number left rest line bounds r e =
+pub count_fits : (q : Quantity) (text : List ℕ) (number : ℕ) (left rest : List (List ℕ)) (line : List ℕ) (bounds : List LoopBound) → IsReadSoFar q text number left bounds → left ≡ line ∷ rest → number ≤ length text
+count_fits q text number left rest line bounds r e =
     omega (arith, shorter (slice_split (λ byte. byte == 10) text), length-slice_split (λ byte. byte == 10) text, count_by-le-length (λ byte. byte == 10) text, r.count, ap length r.lines, length-append r.done left, ap length e)
 
 -- ---- what is refused
 
-pub malformed : (text : List ℕ) (number : ℕ) (left rest : List (List ℕ)) (line : List ℕ) (bounds : List LoopBound) → IsReadSoFar text number left bounds → left ≡ line ∷ rest
-    → IsMalformed line → (r : IsReadTo text (number + 1)) × IsMalformed r.line
+pub malformed : (q : Quantity) (text : List ℕ) (number : ℕ) (left rest : List (List ℕ)) (line : List ℕ) (bounds : List LoopBound) → IsReadSoFar q text number left bounds → left ≡ line ∷ rest
+    → IsNoLine q line → (r : ReachesLine q text (number + 1)) × IsNoLine q r.line
 unfolding reached
-malformed text number left rest line bounds r e m = (reached text number left rest line bounds r e, m)
+malformed q text number left rest line bounds r e m = (reached q text number left rest line bounds r e, m)
 
 some_by_test : (o : Option ℕ) → is_some o ≡ true → IsSome o
 some_by_test None h = absurd (false≢true h)
 some_by_test (Some x) h = refl
 
-pub twice : (text : List ℕ) (number : ℕ) (left rest : List (List ℕ)) (line : List ℕ) (bounds : List LoopBound) (again : LoopBound) → IsReadSoFar text number left bounds → left ≡ line ∷ rest
-    → Says line (again ∷ []) → is_some (bound_in again.name again.pc bounds) ≡ true → IsTwice text (number + 1)
+pub twice : (q : Quantity) (text : List ℕ) (number : ℕ) (left rest : List (List ℕ)) (line : List ℕ) (bounds : List LoopBound) (again : LoopBound) → IsReadSoFar q text number left bounds → left ≡ line ∷ rest
+    → SaysBound q line (again ∷ []) → is_some (bound_in again.name again.pc bounds) ≡ true → BoundsTwice q text (number + 1)
 unfolding reached
-twice text number left rest line bounds again r e s there =
-    record { reached = reached text number left rest line bounds r e; again = again; says = s; there = some_by_test (bound_in again.name again.pc bounds) there }
+twice q text number left rest line bounds again r e s there =
+    record { reached = reached q text number left rest line bounds r e; again = again; says = s; there = some_by_test (bound_in again.name again.pc bounds) there }
 
-pub silent_line : (text : List ℕ) (number : ℕ) (left rest : List (List ℕ)) (line : List ℕ) (bounds : List LoopBound) → IsReadSoFar text number left bounds → left ≡ line ∷ rest
-    → Says line [] → IsReadSoFar text (number + 1) rest bounds
-silent_line text number left rest line bounds r e s =
-    subst (IsReadSoFar text (number + 1) rest) (append-nil bounds)
-    (next_line text number left rest line bounds [] r e s (subst AreOfDifferentLoops (sym (append-nil bounds)) r.different))
+pub silent_line : (q : Quantity) (text : List ℕ) (number : ℕ) (left rest : List (List ℕ)) (line : List ℕ) (bounds : List LoopBound) → IsReadSoFar q text number left bounds → left ≡ line ∷ rest
+    → SaysBound q line [] → IsReadSoFar q text (number + 1) rest bounds
+silent_line q text number left rest line bounds r e s =
+    subst (IsReadSoFar q text (number + 1) rest) (append-nil bounds)
+    (next_line q text number left rest line bounds [] r e s (subst AreOfDifferentLoops (sym (append-nil bounds)) r.different))
 
 none_by_test : (o : Option ℕ) → is_some o ≡ false → o ≡ None
 none_by_test None h = refl
 none_by_test (Some x) h = absurd (true≢false h)
 
-pub loop_line : (text : List ℕ) (number : ℕ) (left rest : List (List ℕ)) (line : List ℕ) (bounds : List LoopBound) (first : LoopBound) → IsReadSoFar text number left bounds → left ≡ line ∷ rest
-    → Says line (first ∷ []) → is_some (bound_in first.name first.pc bounds) ≡ false → (more : List LoopBound) → more ≡ bounds ++ first ∷ [] → IsReadSoFar text (number + 1) rest more
-loop_line text number left rest line bounds first r e s absent more is =
-    subst (IsReadSoFar text (number + 1) rest) (sym is)
-    (next_line text number left rest line bounds (first ∷ []) r e s
+pub loop_line : (q : Quantity) (text : List ℕ) (number : ℕ) (left rest : List (List ℕ)) (line : List ℕ) (bounds : List LoopBound) (first : LoopBound) → IsReadSoFar q text number left bounds → left ≡ line ∷ rest
+    → SaysBound q line (first ∷ []) → is_some (bound_in first.name first.pc bounds) ≡ false → (more : List LoopBound) → more ≡ bounds ++ first ∷ [] → IsReadSoFar q text (number + 1) rest more
+loop_line q text number left rest line bounds first r e s absent more is =
+    subst (IsReadSoFar q text (number + 1) rest) (sym is)
+    (next_line q text number left rest line bounds (first ∷ []) r e s
     (still_different bounds first (none_by_test (bound_in first.name first.pc bounds) absent) r.different))
 
 pub on_ok : {T E : Type 0} (P : Type 0) (r : Result T E) → is_ok r ≡ true → OnOk r P → P

@@ -1,4 +1,5 @@
 pub mod Bounds
+pub mod Lines
 pub mod Grammar
 pub mod Meaning
 pub mod Laws

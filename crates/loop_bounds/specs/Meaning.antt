@@ -1,11 +1,12 @@
 -- What the fields of bounds mean.
 use Rattle.std.specs.Prelude.{ℕ, List, [], ◌∷◌, slice_index_or}
 use Rattle.loop_bounds.specs.declared.site.Site.{Site}
-use Rattle.loop_bounds.specs.declared.line.Loop.{Loop as Found}
+use Rattle.loop_bounds.specs.declared.quantity.Quantity.{Quantity}
+use Rattle.loop_bounds.specs.declared.line.Found.{Found}
 use Rattle.loop_bounds.specs.declared.line.Said.{Said}
-use Rattle.loop_bounds.specs.declared.line.Said.TheVariants.{Nothing, Loop, Malformed}
+use Rattle.loop_bounds.specs.declared.line.Said.TheVariants.{Nothing, Bound, Malformed}
 use Rattle.loop_bounds.specs.Bounds.{LoopBound}
-use Rattle.loop_bounds.specs.Grammar.{Says, IsMalformed}
+use Rattle.loop_bounds.specs.Lines.{SaysBound, IsNoLine}
 
 -- a bound as it is kept, where these are the names
 abbrev pub bound_of : (names : List (List ℕ)) → Site × ℕ → LoopBound
@@ -16,7 +17,7 @@ abbrev pub bound_at : Found → LoopBound
 bound_at found = record { name = found.name.now; pc = found.pc; bound = found.bound }
 
 -- what a line was found to say
-abbrev pub FindsBound : (line : List ℕ) → Said → Type 0
-FindsBound line Nothing = Says line []
-FindsBound line (Loop found) = Says line (bound_at found ∷ [])
-FindsBound line Malformed = IsMalformed line
+abbrev pub FindsBound : (quantity : Quantity) (line : List ℕ) → Said → Type 0
+FindsBound quantity line Nothing = SaysBound quantity line []
+FindsBound quantity line (Bound found) = SaysBound quantity line (bound_at found ∷ [])
+FindsBound quantity line Malformed = IsNoLine quantity line

@@ -1,5 +1,5 @@
 //! What follows of texts of bounds. Each function does nothing: its contract is the law.
-ghost use Rattle.loop_bounds.specs.Laws.{GivesOne, ReadIsNotRefused};
+ghost use Rattle.loop_bounds.specs.Laws.{GivesOne, ReadIsNotRefused, LengthsGiveOne, ReadLengthsAreNotRefused};
 
 /// A text gives one list of bounds.
 pub fn gives_one()
@@ -9,4 +9,14 @@ pub fn gives_one()
 /// No line of a text that gives bounds is refused.
 pub fn read_is_not_refused()
     ensures { ReadIsNotRefused }
+{}
+
+/// A text gives one list of lengths.
+pub fn lengths_give_one()
+    ensures { LengthsGiveOne }
+{}
+
+/// No line of a text that gives lengths is refused.
+pub fn read_lengths_are_not_refused()
+    ensures { ReadLengthsAreNotRefused }
 {}

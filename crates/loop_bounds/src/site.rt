@@ -1,10 +1,10 @@
-//! A loop, by the number of its method's name and the place of its header.
+//! A place of a method, by the number of the method's name.
 
 /// The key of a bound.
 #[derive(Drop, PartialEq, Eq, Hash)]
 pub struct Site {
     /// The place of the method's name among the names.
     pub name: usize,
-    /// The place of the loop's header.
+    /// The place in its code.
     pub pc: u32,
 }
