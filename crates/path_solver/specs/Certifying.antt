@@ -7,4 +7,5 @@ use Rattle.section_check.specs.Section.{CertifiedLoop}
 abbrev pub certified : List NaturalLoop → List ℕ → List CertifiedLoop
 certified [] iteration_costs = []
 certified (l ∷ ls) [] = []
-certified (l ∷ ls) (iteration_cost ∷ iteration_costs) = record { header = l.header; iteration_cost = iteration_cost; members = l.members; region = false } ∷ certified ls iteration_costs
+certified (l ∷ ls) (iteration_cost ∷ iteration_costs) = record { header = l.header; iteration_cost = iteration_cost; members = l.members; region = false }
+    ∷ certified ls iteration_costs

@@ -17,7 +17,8 @@ pub record LeadsOut (g : Digraph) (loops : List BoundedLoop) (u : ℕ) : Type 0 
 -- a node that is reached is reached by a walk that keeps all bounds
 abbrev pub ReachedWithinBounds : Type 0
 ReachedWithinBounds =
-    (g : Digraph) (nest : List NaturalLoop) (bounds loads : List ℕ) → IsNest g nest → (u : ℕ) → IsReachable g u → (ns : List ℕ) × Walk g 0 u ns × All (IsKept ns) (bounded_loops nest bounds loads)
+    (g : Digraph) (nest : List NaturalLoop) (bounds loads : List ℕ) → IsNest g nest → (u : ℕ) → IsReachable g u
+    → (ns : List ℕ) × Walk g 0 u ns × All (IsKept ns) (bounded_loops nest bounds loads)
 
 -- one from which a walk leads out lies on a bounded walk
 abbrev pub LiesOnBoundedWalk : Type 0

@@ -13,7 +13,8 @@ abbrev pub bounded_loops : List NaturalLoop → List ℕ → List ℕ → List B
 bounded_loops [] bounds loads = []
 bounded_loops (l ∷ ls) [] loads = []
 bounded_loops (l ∷ ls) (bound ∷ bounds) [] = []
-bounded_loops (l ∷ ls) (bound ∷ bounds) (load ∷ loads) = record { header = l.header; members = l.members; bound = bound; load = load } ∷ bounded_loops ls bounds loads
+bounded_loops (l ∷ ls) (bound ∷ bounds) (load ∷ loads) = record { header = l.header; members = l.members; bound = bound; load = load }
+    ∷ bounded_loops ls bounds loads
 
 -- the loops of a section are those of a nest, in its order, and none is marked as a region
 pub record AreLoopsOf (nest : List NaturalLoop) (loops : List CertifiedLoop) : Type 0 where

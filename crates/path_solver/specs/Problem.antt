@@ -3,7 +3,8 @@ use Rattle.std.specs.Prelude.{◌≡◌, ℕ, List, Bool, length}
 use Rattle.loop_nest.specs.Digraph.{Digraph, IsDigraph}
 use Rattle.loop_nest.specs.Reduction.{IsReducible}
 use Rattle.loop_nest.specs.Nest.{NaturalLoop, IsNest}
-use Rattle.loop_nest.specs.Laws.{ReducibleIsReached, HeaderDominatesMembers, LoopIsEnteredAtHeader, EdgesToHeaderAreBackEdges, LoopsAreNested, EntryDominatesAll, DominanceIsAntisymmetric, WalksLeadOn, WalksComeByEdges}
+use Rattle.loop_nest.specs.Laws.{ReducibleIsReached, HeaderDominatesMembers, LoopIsEnteredAtHeader, EdgesToHeaderAreBackEdges, LoopsAreNested}
+use Rattle.loop_nest.specs.Laws.{EntryDominatesAll, DominanceIsAntisymmetric, WalksLeadOn, WalksComeByEdges}
 use Rattle.section_check.specs.Laws.{AcceptedBoundWalks, AcceptedBoundIterations}
 use Rattle.path_solver.specs.declared.topology.TopologicalOrder.{TopologicalOrder}
 use Rattle.path_solver.specs.Reaching.{AreReaching, IsFlagged}
@@ -35,7 +36,8 @@ pub record IsSetting (g : Digraph) (loops : List NaturalLoop) (flags : List Bool
   pub topology : IsTopologicalOrder g loops flags p
 
 -- the same with what iterations cost at most, fees, and the distance of each listed node
-pub record IsMeasured (g : Digraph) (loops : List NaturalLoop) (flags : List Bool) (p : TopologicalOrder) (costs bounds loads iteration_costs fees dist : List ℕ) : Type 0 where
+pub record IsMeasured (g : Digraph) (loops : List NaturalLoop) (flags : List Bool) (p : TopologicalOrder)
+    (costs bounds loads iteration_costs fees dist : List ℕ) : Type 0 where
   pub setting : IsSetting g loops flags p
   pub costs_long : length costs ≡ g.nodes
   pub bounds_long : length bounds ≡ length loops

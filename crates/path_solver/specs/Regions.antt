@@ -14,7 +14,8 @@ charged (load ∷ loads) (region ∷ regions) = (if region then load else 0) ∷
 -- no region lies in another
 abbrev pub AreRegionsApart : List NaturalLoop → List Bool → Type 0
 AreRegionsApart nest regions =
-    (i k : ℕ) (l m : NaturalLoop) → IsAt nest i l → IsAt nest k m → k ≢ i → IsRegion regions i → IsRegion regions k → ¬ ((x : ℕ) → Contains l.members x → Contains m.members x)
+    (i k : ℕ) (l m : NaturalLoop) → IsAt nest i l → IsAt nest k m → k ≢ i → IsRegion regions i → IsRegion regions k
+    → ¬ ((x : ℕ) → Contains l.members x → Contains m.members x)
 
 -- the loops of a section are those of a nest, in its order, marked as these say
 pub record AreMarkedLoopsOf (nest : List NaturalLoop) (regions : List Bool) (loops : List CertifiedLoop) : Type 0 where

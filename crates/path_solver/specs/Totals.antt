@@ -15,7 +15,8 @@ pub record AreAdded (members : List ℕ) (iteration_cost : ℕ) (old new : List 
 abbrev pub iteration_costs_around : List NaturalLoop → List ℕ → ℕ → ℕ
 iteration_costs_around [] iteration_costs u = 0
 iteration_costs_around (l ∷ ls) [] u = 0
-iteration_costs_around (l ∷ ls) (iteration_cost ∷ iteration_costs) u = (if holds l.members u then iteration_cost else 0) + iteration_costs_around ls iteration_costs u
+iteration_costs_around (l ∷ ls) (iteration_cost ∷ iteration_costs) u =
+    (if holds l.members u then iteration_cost else 0) + iteration_costs_around ls iteration_costs u
 
 -- one iteration of each loop that holds some node of n exceeds 64 bits
 pub record SomeIterationsExceed (loops : List NaturalLoop) (iteration_costs : List ℕ) (n : ℕ) : Type 0 where

@@ -3,7 +3,8 @@
 ghost use Rattle.std.specs.Prelude.{◌≡◌, ◌+◌, ◌*◌, ◌<◌, ◌≤◌, ℕ, List, length, map, All, Contains, slice_index, IfOk};
 ghost use Rattle.std.specs.List.Sorted.{IsPermutation, IsNonDecreasing, IsStrictlyIncreasing};
 ghost use Rattle.path_solver.specs.Ordering.{AreApart};
-ghost use Rattle.path_solver.specs.Distances.{limit, limited, AreLimited, IsMost, cost_through, sources_at, AreSpread, LeadForward, ArePlaces, others_of, ArePicked};
+ghost use Rattle.path_solver.specs.Distances.{limit, limited, AreLimited, IsMost, cost_through, sources_at, AreSpread, LeadForward, ArePlaces, others_of};
+ghost use Rattle.path_solver.specs.Distances.{ArePicked};
 
 use loop_nest::digraph::Sources;
 use std::alloc::{AllocError, Global};

@@ -58,7 +58,8 @@ pub fn costs_of_loops(
     requires led { AreLed topology.now.order.items loops.now }
     requires bounds { length bounds.now ≡ length loops.now }
     requires loads { length loads.now ≡ length loops.now }
-    ensures { IfOk result (λ loop_costs. AreLoopCosts topology.now loops.now costs.now bounds.now loads.now loop_costs.iteration_costs.items loop_costs.fees.items) }
+    ensures { IfOk result (λ loop_costs. AreLoopCosts topology.now loops.now costs.now bounds.now loads.now loop_costs.iteration_costs.items
+        loop_costs.fees.items) }
 {
     let nodes = costs.len();
     let mut dist = vec![in alloc; 0; nodes]?;

@@ -39,7 +39,8 @@ pub fn measure(
     requires costs { length costs.now ≡ g.now.nodes }
     requires bounds { length bounds.now ≡ length nest.now }
     requires loads { length loads.now ≡ length nest.now }
-    ensures { IfOk result (λ m. IsMeasured g.now nest.now listed.now m.topology costs.now bounds.now loads.now m.iteration_costs.items m.fees.items m.dist.items) }
+    ensures { IfOk result (λ m. IsMeasured g.now nest.now listed.now m.topology costs.now bounds.now loads.now m.iteration_costs.items m.fees.items
+        m.dist.items) }
 {
     // The laws are for the proof.
     nest_laws();

@@ -1,10 +1,12 @@
 //! An order of the nodes in which every edge but the back edges leads from a node to a later one.
-ghost use Rattle.std.specs.Prelude.{◌≡◌, ℕ, ◌+◌, ◌^◌, ◌<◌, ◌≤◌, ◌↔◌, ◌==◌, List, [], ◌∷◌, length, map, All, Contains, count_by, slice_index, IfOk, OnOk, IsTrue, MatchOption, true, false};
+ghost use Rattle.std.specs.Prelude.{◌≡◌, ℕ, ◌+◌, ◌^◌, ◌<◌, ◌≤◌, ◌↔◌, ◌==◌, List, [], ◌∷◌, length, map, All, Contains, count_by, slice_index, IfOk, OnOk};
+ghost use Rattle.std.specs.Prelude.{IsTrue, MatchOption, true, false};
 ghost use Rattle.std.specs.List.Sorted.{IsStrictlyIncreasing};
 ghost use Rattle.loop_nest.specs.Nest.{headers_of};
 ghost use Rattle.loop_nest.specs.Walks.{Walk};
 ghost use Rattle.path_solver.specs.Reaching.{IsFlagged};
-ghost use Rattle.path_solver.specs.Ordering.{AreLoops, IsHeadedAt, NoLoopHas, ClosesLoop, AreTaken, AreApart, AreStarts, AreCountedDown, graph_of, IsForwardOrder};
+ghost use Rattle.path_solver.specs.Ordering.{AreLoops, IsHeadedAt, NoLoopHas, ClosesLoop, AreTaken, AreApart, AreStarts, AreCountedDown, graph_of};
+ghost use Rattle.path_solver.specs.Ordering.{IsForwardOrder};
 
 use loop_nest::digraph::{Sources, arrivals, turned};
 use loop_nest::loops::Loop;

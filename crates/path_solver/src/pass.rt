@@ -51,8 +51,10 @@ pub fn one_pass(
     ensures valid { IsDigraph g.now }
     ensures unreached { IfOk result (λ o. IfNone o (¬ ReachesExit g.now 0)) }
     ensures fits { IfOk result (λ o. IfNone o (¬ IsTooLarge g.now costs.now (bounded_loops nest.now bounds.now loads.now))) }
-    ensures pass { IfOk result (λ o. IfSome o (λ s. IsPass g.now nest.now costs.now bounds.now loads.now s.listed.items s.iteration_costs.items s.dist.items s.value s.turns_exceed)) }
-    ensures measured { IfOk result (λ o. IfSome o (λ s. IsMeasured g.now nest.now s.listed.items s.topology costs.now bounds.now loads.now s.iteration_costs.items s.fees.items s.dist.items)) }
+    ensures pass { IfOk result (λ o. IfSome o (λ s. IsPass g.now nest.now costs.now bounds.now loads.now s.listed.items s.iteration_costs.items s.dist.items
+        s.value s.turns_exceed)) }
+    ensures measured { IfOk result (λ o. IfSome o (λ s. IsMeasured g.now nest.now s.listed.items s.topology costs.now bounds.now loads.now
+        s.iteration_costs.items s.fees.items s.dist.items)) }
 {
     // The law is for the proof.
     reducible_is_reached();
