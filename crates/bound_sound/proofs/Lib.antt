@@ -12,7 +12,4 @@ mod Moving
 mod Calling
 mod Accounting
 mod Sound
-pub mod Choosing
-pub mod Staying
-pub mod Existing
 mod Paying

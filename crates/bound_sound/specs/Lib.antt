@@ -1,4 +1,3 @@
 pub mod Laws
-pub mod GraphLaws
 pub mod Charges
 pub mod Stays

@@ -1,6 +1,5 @@
 //! Certificates of methods bound what activations of the methods take on the machine: a law, which `specs/Laws` has, and the bound
-//! of a certificate that was checked. Below it, the graphs of methods of typed programs (`graphs`), and what a frame's stay in its
-//! method costs (`stays`).
+//! of a certificate that was checked. Below it, what a frame's stay in its method costs (`stays`).
 #![tactic(auto)]
 
 ghost use Rattle.std.specs.Prelude.{◌≡◌};
@@ -10,7 +9,6 @@ ghost use Rattle.bytecode_model.specs.Program.{Program};
 ghost use Rattle.node_costs.specs.Costs.{bounds_of};
 ghost use Rattle.method_flow.specs.Flow.{IsFlowOf};
 
-pub mod graphs;
 pub mod stays;
 
 use cert_checker::Checked;
@@ -29,7 +27,7 @@ pub fn certificates_are_sound()
     activations::laws::stays_are_walks();
     activations::laws::stays_keep();
     // of graphs of methods:
-    crate::graphs::live_graphs_exist();
+    method_graphs::laws::live_graphs_exist();
     method_flow::laws::ending_is_a_walk();
     method_flow::laws::invokes_keep_the_greatest();
     // of sections:

@@ -24,7 +24,7 @@ use Rattle.bytecode_typing.specs.Typed.{Typing, IsChecked, GoesOn, IsTypedAt, Is
 use Rattle.bytecode_typing.proofs.Relations.{both_left, both_right}
 use Rattle.method_flow.specs.Nodes.{Node, At, RaiseAt, LeadsTo, IsHandled, IsEdge, IsReached}
 use Rattle.method_flow.specs.Nodes.IsReached.{first, later}
-use Rattle.bound_sound.specs.GraphLaws.{TypedMethodsReachStarts}
+use Rattle.method_graphs.specs.Laws.{TypedMethodsReachStarts}
 
 -- ---- what follows of a check whose rules hold, by what it goes on with
 

@@ -1,6 +1,6 @@
 //! Laws of graphs of methods. The functions do nothing; a caller whose proof needs a law calls its function.
 
-ghost use Rattle.bound_sound.specs.GraphLaws.{LiveGraphsExist, MethodGraphsExist, TypedMethodsReachStarts};
+ghost use Rattle.method_graphs.specs.Laws.{LiveGraphsExist, MethodGraphsExist, TypedMethodsReachStarts};
 
 /// In a typed program control comes to instructions of a method's code alone.
 pub fn typed_methods_reach_starts()

@@ -10,9 +10,9 @@ use Rattle.method_flow.specs.Nodes.{Node, At, RaiseAt, number_of, IsEdge, IsReac
 use Rattle.method_flow.specs.Nodes.IsReached.{first, later}
 use Rattle.method_flow.specs.Live.{IsLiveEdge}
 use Rattle.method_flow.specs.Graphs.{IsGraphBy, IsReachedEdge, IsReachedExit}
-use Rattle.bound_sound.specs.GraphLaws.{MethodGraphsExist, LiveGraphsExist}
-use Rattle.bound_sound.proofs.Choosing.{IsKept, kept, to_adjacent, to_increasing, numbers_below, numbers_are, numbers_are_below, numbers_rise, pairs_of, pairs_are, pairs_are_of, pairs_rise}
-use Rattle.bound_sound.proofs.Staying.{places_are_starts}
+use Rattle.method_graphs.specs.Laws.{MethodGraphsExist, LiveGraphsExist}
+use Rattle.method_graphs.proofs.Choosing.{IsKept, kept, to_adjacent, to_increasing, numbers_below, numbers_are, numbers_are_below, numbers_rise, pairs_of, pairs_are, pairs_are_of, pairs_rise}
+use Rattle.method_graphs.proofs.Staying.{places_are_starts}
 
 -- ---- by any edges
 

@@ -1,0 +1,9 @@
+pub mod Booting
+pub mod Raising
+pub mod Calling
+pub mod Overflowing
+pub mod Growing
+pub mod Making
+pub mod Asking
+pub mod Accounting
+pub mod Smaller
