@@ -203,7 +203,8 @@ def data_streams():
         (f"DataOutputStream.{name}", [kind], f"{target}it.{name}($0); Seen.put(it.size()); it.flush(); to.toByteArray()") for name, kind in writes] + [
         ("DataOutputStream.write(bytes)", ["bytes", "near", "near"], target + "try { it.write($0, $1, $2); it.write($0); } finally { "
             "Seen.put(it.size()); Seen.put(to.toByteArray()); } 0"),
-        ("ByteOrder", [], "Seen.put(java.nio.ByteOrder.BIG_ENDIAN.TOTEXT()); java.nio.ByteOrder.LITTLE_ENDIAN.TOTEXT()")]
+        ("ByteOrder", [], "Seen.put(java.nio.ByteOrder.BIG_ENDIAN.TOTEXT()); java.nio.ByteOrder.LITTLE_ENDIAN.TOTEXT()"),
+        ("ByteOrder.nativeOrder", [], "java.nio.ByteOrder.nativeOrder() == NATIVE")]
 
 
 def lists():
@@ -315,7 +316,8 @@ def printed():
     return objects + [(f"PrintStream.{name}({kind})", [kind], f"System.out.{name}({put[kind]}); 0") for kind in put for name in ("print", "println")] + [
         ("PrintStream.write", ["bytes", "near", "near"], "try { System.out.write($0, $1, $2); } finally { System.out.println(); "
             "} System.out.write($1); System.out.flush(); System.out.append('a'); System.out.checkError()"),
-        ("PrintStream.print(null)", [], "System.out.print((String) null); System.out.print((Object) null); 0")]
+        ("PrintStream.print(null)", [], "System.out.print((String) null); System.out.print((Object) null); 0"),
+        ("PrintStream.close", [], "CLOSE; System.out.println('a'); System.out.checkError()")]
 
 
 TEXT_METHODS = of(

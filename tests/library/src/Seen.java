@@ -19,6 +19,11 @@ public final class Seen {
     static int count;
     /** Which of the seeds. */
     private static int round;
+    /** The case whose sum is put behind each of its tries, or WHOLE; and the case that is tried. */
+    private static int told, current;
+    /** In place of a case: one line is put for the program, or one for each case. */
+    private static final int WHOLE = 254, CASES = 255;
+    private static int whole;
     private static int seed;
     private static int sum;
     private static int number;
@@ -29,17 +34,45 @@ public final class Seen {
     static void read() {
         count = jop.Io.read() << 8 | jop.Io.read();
         round = jop.Io.read();
+        told = jop.Io.read();
     }
 
     static void begin(int case_) {
+        current = case_;
         seed = 0x9e3779b9 * (case_ + 1 + (round << 12)) | 1;
         sum = 0;
         number = 0;
     }
 
+    /** Behind try i of the case that is told a line: which try, how many values came, and their sum. */
+    static void tried(int i) {
+        if (told == current) {
+            digits(i);
+            sums();
+        }
+    }
+
     /** Puts a line: the case, how many values came, and their sum. */
     static void end(String name) {
-        line(name);
+        if (told == WHOLE) {
+            whole = (whole * 31 + number) * 31 + sum;
+        } else if (told == CASES) {
+            line(name);
+            sums();
+        }
+    }
+
+    /** Puts a line for the program: its name, and the sum of those of its cases. */
+    static void endAll(String title) {
+        if (told == WHOLE) {
+            line(title);
+            jop.Io.write(' ');
+            digits(whole);
+            jop.Io.write('\n');
+        }
+    }
+
+    private static void sums() {
         jop.Io.write(' ');
         digits(number);
         jop.Io.write(' ');
@@ -97,10 +130,12 @@ MORE
 
     /** The next number of a generator by shifts (Marsaglia, Xorshift RNGs). */
     static int next() {
-        seed ^= seed << 13;
-        seed ^= seed >>> 17;
-        seed ^= seed << 5;
-        return seed;
+        int mine = seed;
+        mine ^= mine << 13;
+        mine ^= mine >>> 17;
+        mine ^= mine << 5;
+        seed = mine;
+        return mine;
     }
 
     /** A number from 0 up to a power of two. */
@@ -113,18 +148,31 @@ MORE
         if (i < 256) {
             return INTS[(place == 0 ? i : place == 1 ? i >> 4 : i + (i >> 4)) & 15];
         }
-        int way = below(4);
-        int value = way < 2 ? INTS[below(16)] + (way == 0 ? below(8) - 4 : 0) : next();
-        return way == 2 ? value >> below(32) : value;
+        return seededInt();
+    }
+
+    static int seededInt() {
+        int bits = next();
+        int way = bits >>> 30;
+        return way == 0 ? INTS[bits >>> 7 & 15] + (bits >>> 11 & 7) - 4 : way == 1 ? INTS[bits >>> 7 & 15]
+            : way == 2 ? next() >> (bits >>> 7 & 31) : next();
     }
 
     static long anyLong(int i, int place) {
         if (i < 256) {
             return LONGS[(place == 0 ? i : place == 1 ? i >> 4 : i + (i >> 4)) & 15];
         }
-        int way = below(4);
-        long value = way < 2 ? LONGS[below(16)] + (way == 0 ? below(8) - 4 : 0) : (long) next() << 32 ^ next();
-        return way == 2 ? value >> below(64) : value;
+        return seededLong();
+    }
+
+    static long seededLong() {
+        int bits = next();
+        int way = bits >>> 30;
+        if (way < 2) {
+            return way == 0 ? LONGS[bits >>> 7 & 15] + (bits >>> 11 & 7) - 4 : LONGS[bits >>> 7 & 15];
+        }
+        long value = (long) next() << 32 ^ next();
+        return way == 2 ? value >> (bits >>> 7 & 63) : value;
     }
 
     static short anyShort(int i, int place) {
@@ -168,7 +216,7 @@ MORE
     /** Each string at first; as a second argument often the same one. */
     static String string(int i, int place) {
         if (place == 0 || below(4) != 0) {
-            chosen = place == 0 && i < 40 ? i : (next() >>> 7) % 40;
+            chosen = place == 0 && i < 40 ? i : (next() >>> 16) * 40 >>> 16;
         }
         return STRINGS[chosen];
     }
@@ -176,10 +224,13 @@ MORE
     private static int chosen;
 
     static char[] anyChars(int i, int place) {
-        char[] chars = new char[below(2) == 0 ? below(8) : below(32)];
-        int few = below(2) == 0 ? 2 : 16;
-        for (int k = 0; k < chars.length; k++) {
-            chars[k] = CHARS[next() >>> 7 & few - 1];
+        int bits = next();
+        int length = bits >>> 7 & (bits < 0 ? 7 : 31);
+        int few = (bits & 4096) == 0 ? 1 : 15;
+        char[] chars = new char[length], from = CHARS;
+        for (int k = 0; k < length; k++) {
+            bits = (k & 7) == 0 ? next() : bits >>> 4;
+            chars[k] = from[bits & few];
         }
         return chars;
     }
@@ -216,19 +267,21 @@ MORE
 
     static TEXT digits(int i, int place) {
         if (below(4) == 0) {
-            return TEXT_OF_STRING(STRINGS[(next() >>> 7) % 40]);
+            return TEXT_OF_STRING(STRINGS[(next() >>> 16) * 40 >>> 16]);
         }
         char[] chars = new char[below(4) == 0 ? below(32) : below(8)];
         int few = below(2) == 0 ? 10 : 36;
         for (int k = 0; k < chars.length; k++) {
-            int digit = (next() >>> 7) % few;
-            chars[k] = (char) (digit < 10 ? '0' + digit : (below(2) == 0 ? 'a' : 'A') - 10 + digit);
+            int bits = next();
+            int digit = (bits >>> 16) * few >>> 16;
+            chars[k] = (char) (digit < 10 ? '0' + digit : ((bits & 1) == 0 ? 'a' : 'A') - 10 + digit);
         }
         if (chars.length > 0 && below(2) == 0) {
             chars[0] = below(2) == 0 ? '-' : '+';
         }
-        if (chars.length > 0 && below(8) == 0) {
-            chars[below(4) % chars.length] = CHARS[below(16)];
+        int changed = below(32);
+        if (changed < 4 && changed < chars.length) {
+            chars[changed] = CHARS[below(16)];
         }
         return TEXT_OF_CHARS(chars);
     }
