@@ -82,6 +82,28 @@ def held(answer):
     return line if answer.status == 0 and line.startswith('holds ') and not answer.out else told(answer)
 
 
+class Counted(Asked):
+    """what `loops` says: a row is `program`"""
+
+    def answer(self, caller, rows):
+        title, main, files = program_of(rows[0])
+        linked = caller.link(main, files)
+        caller.put('image', linked.out)
+        answer = caller.call(['loops', 'image'])
+        yield '%s: %s' % (title, 'linked' if linked.status == 0 else told(linked))
+        yield from ('  ' + line for line in (answer.out.decode('utf-8', 'replace').splitlines() if answer.status == 0 and not answer.err else [told(answer)]))
+
+
+class Needed(Asked):
+    """what `memory` says: rows are `program`; then `memory`, a title, bounds and lengths"""
+
+    def asked(self, caller, word, bounds, lengths):
+        caller.put('bounds', text_of(bounds))
+        caller.put('lengths', text_of(lengths))
+        answer = caller.call(['memory', 'image', 'bounds', 'lengths'])
+        return told(answer) if answer.status != 0 or answer.err else answer.out.decode('utf-8', 'replace').rstrip('\n')
+
+
 def lowered(lines):
     """some lines of a certificate with a number that has no slack lowered by one: the last line, the first node of the last section, and the first and the last loop"""
     loops = [place for place, line in enumerate(lines) if line.split(' ')[0] in ('loop', 'region') and line.split(' ')[2] != '0']

@@ -23,4 +23,6 @@ KINDS = {
     'bounded_files': bounded_files.BoundedFiles(),
     'checked': analysis.Checked(),
     'bounded': analysis.Bounded(),
+    'counted': analysis.Counted(),
+    'needed': analysis.Needed(),
 }

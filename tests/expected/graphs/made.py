@@ -44,6 +44,11 @@ class ClassFile:
     def field(self, flags, name, descriptor):
         self.fields.append(struct.pack('>HHHH', flags, self.utf8(name), self.utf8(descriptor), 0))
 
+    def constant(self, flags, name, value):
+        """a field of an int, with a constant or without one"""
+        found = b'' if value is None else self.attribute('ConstantValue', struct.pack('>H', self.int(value)))
+        self.fields.append(struct.pack('>HHHH', flags, self.utf8(name), self.utf8('I'), value is not None) + found)
+
     def method(self, flags, name, descriptor, body=None):
         """a method; its body is max_stack, max_locals, code, the exception table and the frames"""
         data = struct.pack('>HHHH', flags, self.utf8(name), self.utf8(descriptor), 0)
