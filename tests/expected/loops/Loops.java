@@ -2,6 +2,7 @@
 public class Loops {
     static final int LIMIT = 12;
     static final int READ = Integer.parse();
+    static final int LOW = -5;
     static int free = 9;
 
     interface Fixed {
@@ -37,6 +38,7 @@ public class Loops {
     static void whileUp() { int i = 0; while (++i < 7) jop.Io.write(i); } // 6
     static void field() { for (int i = 0; i < LIMIT; i++) jop.Io.write(i); } // 12
     static void fixed() { for (int i = 0; i < Fixed.SIZE; i++) jop.Io.write(i); } // 7
+    static void negativeField() { for (int i = 0; i > LOW; i--) jop.Io.write(i); } // 5
     static void readField() { for (int i = 0; i < READ; i++) jop.Io.write(i); } // none
     static void freeField() { for (int i = 0; i < free; i++) jop.Io.write(i); } // none
     static void parameter(int n) { for (int i = 0; i < n; i++) jop.Io.write(i); } // none

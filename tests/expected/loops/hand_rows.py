@@ -58,6 +58,7 @@ LOOPS = [
     ('a step before', 'iconst_0; istore_0; iinc 0 1; h: iload_0; bipush 10; if_icmpge e; iinc 0 1; goto h; e: return', [], [None]),
     ('a longer store before', 'iconst_0; istore_1; lconst_0; lstore_0; iconst_0; istore_0; iconst_3; istore_1; h: iload_1; bipush 10; if_icmpge e; iinc 1 1; goto h; e: return',
      [], [7]),
+    ('behind the first instruction, where another loop ends', 'o: nop; h: iload_0; bipush 10; if_icmpge e; iinc 0 1; goto h; e: iconst_0; istore_0; goto o', [], [None, None]),
     ('in a loop without a number', 'o: iconst_0; istore_0; h: iload_0; bipush 10; if_icmpge e; iinc 0 1; goto h; e: iload_1; ifne o; return', [], [None, 10]),
     ('the step in an inner loop', 'iconst_0; istore_0; h: iload_0; bipush 10; if_icmpge e; i: iinc 0 1; iload_1; ifne i; goto h; e: return', [], [None, None]),
     ('the test in an inner loop', 'iconst_0; istore_0; h: iinc 0 1; i: iload_0; bipush 10; if_icmpge e; iload_1; ifne i; goto h; e: return', [], [None, None]),
