@@ -18,9 +18,9 @@ BRANCHES = {*range(153, 165), 167, 200}
 POOLED = {178, 179, 184, 187, 189}
 SWITCH = 'switch'
 ENDS = ('goto', 'goto_w', 'return', 'ireturn', 'athrow', SWITCH)
-# How many words an instruction puts on the stack, beside those that put one; behind an invokestatic without arguments and a result there are as many.
+# How many words an instruction puts on the stack, but for those that put one, and invokestatic, which takes ints and gives nothing.
 EFFECTS = {
-    **dict.fromkeys(('nop', 'iinc', 'goto', 'goto_w', 'return', 'ineg', 'invokestatic', 'newarray', 'anewarray', 'arraylength'), 0),
+    **dict.fromkeys(('nop', 'iinc', 'goto', 'goto_w', 'return', 'ineg', 'newarray', 'anewarray', 'arraylength'), 0),
     **dict.fromkeys(('istore', 'istore_0', 'istore_1', 'istore_2', 'istore_3', 'pop', 'iadd', 'isub', 'imul', 'idiv', 'ireturn', 'athrow', 'putstatic', SWITCH), -1),
     **dict.fromkeys(('ifeq', 'ifne', 'iflt', 'ifge', 'ifgt', 'ifle'), -1), **dict.fromkeys(('lstore', 'lstore_0', 'lstore_1', 'lstore_2'), -2),
     **dict.fromkeys(('if_icmpeq', 'if_icmpne', 'if_icmplt', 'if_icmpge', 'if_icmpgt', 'if_icmple'), -2), **dict.fromkeys(('lconst_0', 'lconst_1', 'lload'), 2),
@@ -102,7 +102,7 @@ class Method:
             framed.add(self.places[handler])
         for place, (at, words) in enumerate(self.found):
             depth.setdefault(at, 0)
-            behind = depth[at] + EFFECTS.get(words[0].lstrip('!'), 1)
+            behind = depth[at] + (-words[-1].count('I') if words[0] == 'invokestatic' else EFFECTS.get(words[0].lstrip('!'), 1))
             for target in self.branched(words):
                 depth.setdefault(target, behind)
                 framed.add(target)
@@ -117,6 +117,8 @@ class Method:
     def frames(self, handlers, descriptor):
         """the frames: locals are those of the method's start, operands ints, but for what a handler catches"""
         depth, framed = self.stacks(handlers)
+        if not framed:
+            return []
         local = b''.join(TYPES[each] for each in descriptor[1:descriptor.index(')')])
         caught, found, before = {self.places[handler] for _, _, handler in handlers}, [], -1
         for place in sorted(framed):

@@ -1,7 +1,7 @@
 #!/usr/bin/env python3
 """rows.py: writes tests/tables/loops: the counted loops of small methods by hand and of javac, and of the programs of javac in other tables.
 
-counted.py works them out; those of hand_rows.py and Loops.java are also said there, and have to be the same. Where javac isn't here, the class files of
+counted.py works them out; those of hand_loops.py and Loops.java are also said there, and have to be the same. Where javac isn't here, the class files of
 Loops.java are those that stand in the table. `rows.py --tell` says how many of the loops of javac's programs count, and writes nothing.
 """
 import os
@@ -17,7 +17,7 @@ sys.path[:0] = [HERE, os.path.join(HERE, '../bounds'), os.path.join(HERE, '../..
 import analysis  # noqa: E402
 import counted  # noqa: E402
 import flow  # noqa: E402
-import hand_rows  # noqa: E402
+import hand_loops  # noqa: E402
 import tables  # noqa: E402
 from table import rows_of  # noqa: E402
 
@@ -59,10 +59,10 @@ def of_method(program, found, name):
 
 
 def by_hand(program):
-    """compares what is found in hand_rows.py's class with what is said there"""
+    """compares what is found in hand_loops.py's class with what is said there"""
     found = bounds_of(program)
-    for number, (what, _, _, wanted) in enumerate(hand_rows.LOOPS):
-        came = of_method(program, found, 'H.l%d%s' % (number, hand_rows.LOCALS))
+    for number, (what, _, _, wanted) in enumerate(hand_loops.LOOPS):
+        came = of_method(program, found, 'H.l%d%s' % (number, hand_loops.LOCALS))
         assert came == wanted, (what, wanted, came)
 
 
@@ -98,7 +98,7 @@ class Rows:
 
 def main():
     rows = Rows()
-    by_hand(rows.program('hand', 'H', hand_rows.hand()))
+    by_hand(rows.program('hand', 'H', hand_loops.hand()))
     by_javac(rows.program('javac', 'Loops', compiled()))
     rows.count = [0, 0]
     for title, main_class, reference in tables.javac_programs():
