@@ -1,0 +1,5 @@
+mod Parting
+mod Staying
+mod Holding
+mod Starting
+mod Beginning

@@ -1,0 +1,4 @@
+pub mod Others
+pub mod Laws
+pub mod Runs
+pub mod Found

@@ -1,0 +1,6 @@
+mod Telling
+mod Reading
+mod Filling
+mod Lining
+mod Coding
+mod Leaving

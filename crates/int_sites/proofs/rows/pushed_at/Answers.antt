@@ -1,0 +1,13 @@
+use Rattle.std.proofs.Common.{Option, ℤ, ap, ◌∙◌}
+use Rattle.program_tables.specs.Meanings.{operand_seen}
+use Rattle.program_tables.specs.Resolved.{resolved}
+use Rattle.int_sites.specs.Rows.{pushed_as}
+use Rattle.int_sites.proofs.Reading.{push_at}
+use Rattle.int_sites.proofs.rows.pushed_at.Goals as goal
+
+pub returns : goal.returns
+returns c =
+    let P = resolved c.args.program.now in
+    let i = c.in_ok-x.x.instr in
+    let o = operand_seen c.in_ok-x.x.operand in
+    c.pushed_as.ensures ∙ ap (λ (named : Option ℤ). pushed_as i.op i.first named) c.int_named.ensures ∙ push_at P c.args.method c.args.place i o c.in_ok-x.ensures.instr c.in_ok-x.ensures.operand

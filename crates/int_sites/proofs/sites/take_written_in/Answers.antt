@@ -1,0 +1,10 @@
+use Rattle.std.proofs.Common.{ℕ, List, ◌∙◌, subst}
+use Rattle.program_tables.specs.Resolved.{resolved}
+use Rattle.int_sites.specs.Places.{AreLeft}
+use Rattle.int_sites.specs.Rows.{put_at}
+use Rattle.int_sites.proofs.sites.take_written_in.Goals as goal
+
+pub returns : goal.returns
+returns c =
+    let f = put_at (resolved c.args.program.now) c.args.method in
+    subst (λ (ps : List ℕ). AreLeft f ps c.args.constants.now.items c.take_written.new.constants.items) (c.deref.ensures.value ∙ c.in_ok-starts.ensures) c.take_written.ensures

@@ -1,0 +1,27 @@
+-- The constant that a local variable is set to before a loop, by the last write on the one way in.
+use Rattle.std.proofs.Common.{◌≡◌, ℕ, ℤ, List, Option, Some, None, sym, ap, ◌∙◌}
+use Rattle.lists.specs.Lemmas.{none≢some, some_same}
+use Rattle.loop_nest.specs.Digraph.{Digraph}
+use Rattle.loop_finder.specs.declared.acts.Act.{Act}
+use Rattle.loop_finder.specs.declared.acts.Act.TheVariants as does
+use Rattle.loop_finder.specs.Acts.{act_at}
+use Rattle.loop_finder.specs.Setting.{IsOnly, IsOnlyEntry, IsSetTo, LastWriteFrom, stored_by}
+use Rattle.loop_finder.proofs.LastWrites.{last_one}
+
+stored_cases : (a : Act) (c : ℤ) → stored_by a ≡ Some c → (j : ℕ) × (a ≡ does.Set j (Some c))
+stored_cases (does.Set j None) c e = absurd (none≢some c e)
+stored_cases (does.Set j (Some d)) c e = (j, ap (λ (z : ℤ). does.Set j (Some z)) (some_same d c e))
+stored_cases _ c e = absurd (none≢some c e)
+
+module _ (acts : List Act) (g : Digraph) (h k entry place : ℕ) (only : IsOnlyEntry g h entry) (last : LastWriteFrom acts g k entry place) where
+  stored : (c : ℤ) → IsSetTo acts g h k c → stored_by (act_at acts place) ≡ Some c
+  stored c s =
+      let source : s.source ≡ entry = only.alone s.source s.entry.enters in
+      let same : s.place ≡ place = last_one acts g k source s.last last in
+      sym (ap (λ (p : ℕ). stored_by (act_at acts p)) same) ∙ ap stored_by s.store
+
+  pub set_of : (o : Option ℤ) → o ≡ stored_by (act_at acts place) → IsOnly (IsSetTo acts g h k) o
+  set_of None e = λ c s. none≢some c (e ∙ stored c s)
+  set_of (Some c) e =
+      let act = stored_cases (act_at acts place) c (sym e) in
+      (record { source = entry; entry = only; place = place; last = last; stored = act.0; store = act.1 }, λ d s. some_same d c (sym (stored d s) ∙ sym e))

@@ -1,0 +1,9 @@
+pub mod Values
+pub mod Reach
+pub mod Acts
+pub mod Reading
+pub mod Marking
+pub mod Setting
+pub mod Counting
+pub mod Methods
+pub mod Laws

@@ -1,0 +1,14 @@
+//! The loops of a program that count: how often each goes round at most, found in its code and in the graphs of its methods.
+#![tactic(auto)]
+
+mod acts;
+mod counting;
+mod finding;
+pub mod laws;
+mod reach;
+mod reading;
+mod setting;
+mod turns;
+mod values;
+
+pub use finding::find;

@@ -1,0 +1,80 @@
+use Rattle.std.proofs.Common.{◌≡◌, ℕ, ◌^◌, ◌<◌, ◌≤◌, List, [], length, All, Contains, IfErr, sym, subst, rules, arith}
+use Rattle.std.proofs.lemmas.Result.{IfOk-weaker}
+use Rattle.std.proofs.lemmas.List.Sorted.{All-permutation, Contains-permutation}
+use Rattle.method_flow.specs.Flow.{Flow, IsFlowOf}
+use Rattle.method_flow.specs.Regions.{IsWithin}
+use Rattle.node_costs.proofs.Loading.{few_members}
+use Rattle.call_regions.proofs.Sorting.{if_err}
+use Rattle.bound_rules.specs.Bounding.{IsLeftWith}
+use Rattle.memory_rules.specs.declared.causes.NeedFault.{NeedFault}
+use Rattle.memory_rules.specs.declared.causes.NeedFault.TheVariants.{NoMemory}
+use Rattle.memory_bound.specs.Setting.{bounds_in, lengths_in}
+use Rattle.memory_bound.specs.Causes.{IsNeedFault}
+use Rattle.memory_bound.specs.Needs.{IsShapesFault}
+use Rattle.memory_bound.proofs.Answering.{methods_are, no_recursion, of_shapes, of_found}
+use Rattle.memory_bound.proofs.causes.need_in.Goals as goal
+
+pub returns-in_err-methods-clause-cause : goal.returns-in_err-methods-clause-cause
+returns-in_err-methods-clause-cause c =
+    let task = c.args.task.now in
+    let same : IfErr c.from_residual.result (λ e. e ≡ NoMemory) = search rules in
+    if_err c.from_residual.result (λ e. e ≡ NoMemory) _
+    (λ e is P flow sites first. subst (λ (x : NeedFault). IsNeedFault P (bounds_in task) (lengths_in task) x) (sym is) tt)
+    same
+
+pub check_shapes-requires-clause-known : goal.check_shapes-requires-clause-known
+check_shapes-requires-clause-known c =
+    let f = c.args.task.now.flow in
+    let sorted = c.in_ok-methods.methods.items in
+    let all = All-permutation (λ (m : ℕ). m < length f.methods) c.args.order.now sorted c.in_ok-methods.ensures.0 c.requires.0 in
+    let told = subst (λ (ms : List ℕ). All (λ (m : ℕ). m < length f.methods) ms) (sym c.deref.ensures.value) all in
+    subst (λ (g : Flow). All (λ (m : ℕ). m < length g.methods) c.deref.result.now) (sym c.flow-2.ensures.flow) told
+
+pub returns-in_err-check_shapes-clause-cause : goal.returns-in_err-check_shapes-clause-cause
+returns-in_err-check_shapes-clause-cause c =
+    let task = c.args.task.now in
+    let order = c.args.order.now in
+    let sorted = c.in_ok-methods.methods.items in
+    let result = c.from_residual-in_err-check_shapes.result in
+    let fault = c.in_err-check_shapes.field-0.0 in
+    let same : IfErr result (λ e. e ≡ fault) = search rules in
+    if_err result (λ e. e ≡ fault) _
+    (λ e is P flow sites first.
+    let told = subst (λ (f : Flow). IsFlowOf P f) (sym c.flow-2.ensures.flow) flow in
+    let cause = subst (λ (ms : List ℕ). IsShapesFault P ms fault) c.deref.ensures.value (c.in_err-check_shapes.ensures.cause P told) in
+    let none = no_recursion c.order_excludes_cycles.ensures P P.boot order first in
+    let are = methods_are (IsWithin P P.boot) order sorted first.methods c.in_ok-methods.ensures.0 in
+    subst (λ (x : NeedFault). IsNeedFault P (bounds_in task) (lengths_in task) x) (sym is) (of_shapes P (bounds_in task) (lengths_in task) none sorted are fault cause))
+    same
+
+pub need_found-requires-clause-few : goal.need_found-requires-clause-few
+need_found-requires-clause-few c =
+    let f = c.args.task.now.flow in
+    let few : length f.methods < 2 ^ 32 = subst (λ (g : Flow). length g.methods < 2 ^ 32) c.flow.ensures.flow c.method_count.ensures.form.few in
+    let all : length c.args.order.now ≤ length f.methods = few_members c.args.order.now (length f.methods) c.requires.0 c.requires.1 in
+    omega arith
+
+pub returns-clause-need : goal.returns-clause-need
+returns-clause-need c =
+    IfOk-weaker c.need_found.result _ _
+    (λ n is P flow sites first.
+    let told = subst (λ (f : Flow). IsFlowOf P f) (sym c.flow-2.ensures.flow) flow in
+    let left : (m : ℕ) → Contains c.args.order.now m → IsLeftWith P m [] =
+    λ m has. c.in_ok-check_shapes.ensures.ok P told m
+    (subst (λ (ms : List ℕ). Contains ms m) (sym c.deref.ensures.value) (Contains-permutation c.args.order.now c.in_ok-methods.methods.items m c.in_ok-methods.ensures.0 has)) in
+    is P flow sites first left)
+    c.need_found.ensures.need
+
+pub returns-clause-cause : goal.returns-clause-cause
+returns-clause-cause c =
+    let task = c.args.task.now in
+    let order = c.args.order.now in
+    if_err c.need_found.result _ _
+    (λ e is P flow sites first.
+    let told = subst (λ (f : Flow). IsFlowOf P f) (sym c.flow-2.ensures.flow) flow in
+    let left : (m : ℕ) → Contains c.args.order.now m → IsLeftWith P m [] =
+    λ m has. c.in_ok-check_shapes.ensures.ok P told m
+    (subst (λ (ms : List ℕ). Contains ms m) (sym c.deref.ensures.value) (Contains-permutation c.args.order.now c.in_ok-methods.methods.items m c.in_ok-methods.ensures.0 has)) in
+    let none = no_recursion c.order_excludes_cycles.ensures P P.boot order first in
+    of_found P (bounds_in task) (lengths_in task) none (λ m within. left m ((first.methods.each m).1 within)) e (is P flow sites first left))
+    c.need_found.ensures.cause

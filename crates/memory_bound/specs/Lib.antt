@@ -1,0 +1,11 @@
+pub mod Setting
+pub mod Shapes
+pub mod Found
+pub mod Loops
+pub mod Lengths
+pub mod Words
+pub mod Stacks
+pub mod HeapLaws
+pub mod Causes
+pub mod Needs
+pub mod Laws

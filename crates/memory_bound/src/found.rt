@@ -1,0 +1,22 @@
+//! What is found of methods.
+
+/// What is found of a method each cycle of which is a loop with one entry.
+#[derive(Clone, Copy)]
+pub struct Found {
+    /// Whether it makes objects.
+    pub makes: bool,
+    /// The place of the first header of a loop that makes objects and has no bound.
+    pub unbounded: Option<u32>,
+    /// The place of the first instruction that makes arrays and has no length.
+    pub unlimited: Option<u32>,
+    /// The words of objects that it may make, or `None` where they exceed 64 bits.
+    pub heap: Option<u64>,
+}
+
+/// Of a method of which nothing is found.
+pub const UNKNOWN: Found = Found {
+    makes: false,
+    unbounded: None,
+    unlimited: None,
+    heap: None,
+};
