@@ -1,2 +1,4 @@
 mod Lifting
 mod Bounding
+mod LoopLines
+mod Needs

@@ -3,3 +3,5 @@ pub mod Checking
 pub mod Answers
 pub mod Bounding
 pub mod BoundAnswers
+pub mod Loops
+pub mod Memory

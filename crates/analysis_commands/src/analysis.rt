@@ -67,7 +67,7 @@ pub(crate) fn bounds_in(alloc: Global, text: &[u8]) -> Result<Bounds, AnalysisFa
 }
 
 /// The table of a program.
-fn table_of(alloc: Global, program: &Verified) -> Result<FlowProgram, NoMemory>
+pub fn table_of(alloc: Global, program: &Verified) -> Result<FlowProgram, NoMemory>
     ensures flow { IfOk result (IsFlowOf (resolved program.now)) }
     ensures names { IfOk result (λ f. (m : ℕ) (k : Coded) → slice_get f.methods m ≡ Some k → k.name ≡ name_of program.now m) }
 {

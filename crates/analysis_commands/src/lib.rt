@@ -1,5 +1,5 @@
 //! What the commands that analyse a program do with what was read: the table of the program, the bounds of its loops and the timing of the
-//! machine, a certificate that is checked with them, and one that is made.
+//! machine, a certificate that is checked with them, and one that is made; its loops that count; and what a run of it needs of memory.
 #![tactic(auto)]
 
 mod analysis;
@@ -7,9 +7,13 @@ mod bound;
 mod certificates;
 mod check;
 mod conditions;
+mod loops;
+mod memory;
 mod names;
 mod subjects;
 
-pub use analysis::{Analysis, AnalysisFault, analysis_of};
+pub use analysis::{Analysis, AnalysisFault, analysis_of, table_of};
 pub use bound::{NotBounded, bound_bare, bound_number, bound_program};
 pub use check::{CheckRefusal, Held, check_bare, check_program};
+pub use loops::loop_lines;
+pub use memory::{Given, MemoryRefusal, given_by, memory_need};

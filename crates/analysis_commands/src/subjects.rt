@@ -38,7 +38,11 @@ fn put_name(alloc: Global, out: &mut Vec<u8>, flow: &FlowProgram, m: u32) -> Res
 }
 
 /// The names of methods, each behind a space.
-fn names_text(alloc: Global, flow: &FlowProgram, methods: &[u32]) -> Result<Vec<u8>, NoMemory>
+pub(crate) fn names_text(
+    alloc: Global,
+    flow: &FlowProgram,
+    methods: &[u32],
+) -> Result<Vec<u8>, NoMemory>
     ensures { IfOk result (λ text. text.items ≡ names_text (map (table_name flow.now) methods.now)) }
 {
     let mut out = Vec::new(alloc);
@@ -71,7 +75,7 @@ fn put_nodes(out: &mut Vec<u8>, nodes: &[u32]) -> Result<(), NoMemory>
 }
 
 /// The name of a method, and nodes behind it.
-fn name_and_nodes(
+pub(crate) fn name_and_nodes(
     alloc: Global,
     flow: &FlowProgram,
     m: u32,

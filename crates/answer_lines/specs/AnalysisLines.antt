@@ -18,6 +18,14 @@ bad_bounds_parts line = codes "bad bounds line=" ∷ decimal line ∷ codes "\n"
 abbrev pub twice_bound_parts : (line : ℕ) → List (List ℕ)
 twice_bound_parts line = codes "twice bound line=" ∷ decimal line ∷ codes "\n" ∷ []
 
+-- a line of lengths is none of their grammar
+abbrev pub bad_sizes_parts : (line : ℕ) → List (List ℕ)
+bad_sizes_parts line = codes "bad sizes line=" ∷ decimal line ∷ codes "\n" ∷ []
+
+-- a line gives a length that is given
+abbrev pub twice_size_parts : (line : ℕ) → List (List ℕ)
+twice_size_parts line = codes "twice size line=" ∷ decimal line ∷ codes "\n" ∷ []
+
 -- with this line no certificate begins
 abbrev pub bad_cert_parts : (line : ℕ) → List (List ℕ)
 bad_cert_parts line = codes "bad cert line=" ∷ decimal line ∷ codes "\n" ∷ []

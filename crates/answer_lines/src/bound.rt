@@ -24,7 +24,11 @@ pub enum BoundCause {
 }
 
 /// Puts a label and what the line names.
-fn say_subject<'a, O: Sink>(sink: &mut O, label: &'a [u8], subject: &'a [u8]) -> Result<(), Failed>
+pub(crate) fn say_subject<'a, O: Sink>(
+    sink: &mut O,
+    label: &'a [u8],
+    subject: &'a [u8],
+) -> Result<(), Failed>
     ensures said { Said false (concat (label.now ∷ subject.now ∷ codes "\n" ∷ [])) (O.held sink.old) (O.held sink.new) (O.faults sink.old)
         (O.faults sink.new) result }
     ensures cause { HasCause (O.faults sink.old) (O.faults sink.new) result }
@@ -35,16 +39,21 @@ fn say_subject<'a, O: Sink>(sink: &mut O, label: &'a [u8], subject: &'a [u8]) ->
     )
 }
 
-/// Puts the line of a loop without a bound.
-fn say_missing_bound<O: Sink>(sink: &mut O, name: &[u8], place: u32) -> Result<(), Failed>
-    ensures said { Said false (concat (codes "bound: missing bound " ∷ name.now ∷ codes " " ∷ decimal place ∷ codes "\n" ∷ [])) (O.held sink.old)
-        (O.held sink.new) (O.faults sink.old) (O.faults sink.new) result }
+/// Puts a label, the name of a method, and a place of its code.
+pub(crate) fn say_place<'a, O: Sink>(
+    sink: &mut O,
+    label: &'a [u8],
+    name: &'a [u8],
+    place: u32,
+) -> Result<(), Failed>
+    ensures said { Said false (concat (label.now ∷ name.now ∷ codes " " ∷ decimal place ∷ codes "\n" ∷ [])) (O.held sink.old) (O.held sink.new)
+        (O.faults sink.old) (O.faults sink.new) result }
     ensures cause { HasCause (O.faults sink.old) (O.faults sink.new) result }
 {
     say_pieces(
         sink,
         &[
-            Piece::Text(b"bound: missing bound "),
+            Piece::Text(label),
             Piece::Text(name),
             Piece::Text(b" "),
             Piece::Number(place as u128),
@@ -55,7 +64,11 @@ fn say_missing_bound<O: Sink>(sink: &mut O, name: &[u8], place: u32) -> Result<(
 
 /// Puts the line of the cause for which no bound is given. The subject is what the line names: each method of the cycle, behind a
 /// space, or else the method, and where it is irreducible its nodes, each behind a space.
-pub fn say_cause<O: Sink>(sink: &mut O, cause: BoundCause, subject: &[u8]) -> Result<(), Failed>
+pub(crate) fn say_cause<O: Sink>(
+    sink: &mut O,
+    cause: BoundCause,
+    subject: &[u8],
+) -> Result<(), Failed>
     ensures said { Said false (concat (cause_parts cause subject.now)) (O.held sink.old) (O.held sink.new) (O.faults sink.old) (O.faults sink.new) result }
     ensures cause { HasCause (O.faults sink.old) (O.faults sink.new) result }
 {
@@ -63,7 +76,9 @@ pub fn say_cause<O: Sink>(sink: &mut O, cause: BoundCause, subject: &[u8]) -> Re
         BoundCause::NoMethod => say_pieces(sink, &[Piece::Text(b"bound: no method\n")]),
         BoundCause::Recursion => say_subject(sink, b"bound: recursion", subject),
         BoundCause::Irreducible(_) => say_subject(sink, b"bound: irreducible ", subject),
-        BoundCause::MissingBound(_, place) => say_missing_bound(sink, subject, place),
+        BoundCause::MissingBound(_, place) => {
+            say_place(sink, b"bound: missing bound ", subject, place)
+        }
         BoundCause::TooLarge(_) => say_subject(sink, b"bound: too large ", subject),
     }
 }

@@ -1,6 +1,7 @@
 //! The lines that say how a command ended: what was written, counted or made; that a certificate holds, or why it, or the texts
-//! with which it comes, is refused; why no bound is given; and what came of a program that was made to be run and bounded:
-//! `work n=N output=B cycles=C hits=H misses=M bound=P`. No memory is taken.
+//! with which it comes, is refused; why no bound is given, or no need of memory; what a run needs of memory:
+//! `memory stack=X image=I heap=Y`; and what came of a program that was made to be run and bounded:
+//! `work n=N output=B cycles=C hits=H misses=M bound=P`. The lines that are put take no memory.
 #![tactic(auto)]
 
 mod bound;
@@ -8,15 +9,19 @@ mod check;
 pub mod laws;
 mod line;
 mod link;
+mod memory;
 mod pieces;
 mod put;
 mod summary;
 mod texts;
+mod unanswered;
 
-pub use bound::{BoundCause, say_cause};
+pub use bound::BoundCause;
 pub use check::{say_fault, say_held};
 pub use line::{AsmLine, Counts, Line, LinkLine, Named, Place, Sizes};
+pub use memory::memory_line;
 pub use pieces::Piece;
 pub use put::{put_line, say, say_pieces};
 pub use summary::work_line;
-pub use texts::{say_bad_bounds, say_bad_cert, say_twice_bound};
+pub use texts::{say_bad_bounds, say_bad_cert, say_bad_sizes, say_twice_bound, say_twice_size};
+pub use unanswered::{Cause, say_unanswered};

@@ -10,7 +10,7 @@ use base::NoMemory;
 use std::alloc::Global;
 
 /// Appends a label and a number.
-fn put_number(text: &mut Vec<u8>, label: &[u8], number: u64) -> Result<(), NoMemory>
+pub(crate) fn put_number(text: &mut Vec<u8>, label: &[u8], number: u64) -> Result<(), NoMemory>
     ensures { OnOk result (text.new.items ≡ text.old.items ++ (label.now ++ decimal number)) }
 {
     text.extend_from_slice(label)?;

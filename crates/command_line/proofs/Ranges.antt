@@ -7,7 +7,7 @@ use Rattle.std.specs.List.{flat_map}
 use Rattle.std.specs.Option.{option_to_list}
 use Rattle.std.specs.Borrow.{Bor}
 use Rattle.command_line.specs.declared.table.Verb.{Verb}
-use Rattle.command_line.specs.declared.table.Verb.TheVariants.{Link, Run, Trace, Bound, Check, Asm, Work}
+use Rattle.command_line.specs.declared.table.Verb.TheVariants.{Link, Run, Trace, Bound, Check, Loops, Need, Asm, Work}
 use Rattle.command_line.specs.declared.table.Name.{Name}
 use Rattle.command_line.specs.declared.table.Name.TheVariants.{Main, Method, Cycles, Stack, Memory, Blocks, BlockWords, Read, Write, Micro}
 use Rattle.command_line.specs.declared.command.Command.{Command}
@@ -113,6 +113,8 @@ made_in_range Run values k m n operands kept are = settings_are values n kept
 made_in_range Trace values k m n operands kept are = settings_are values n kept
 made_in_range Bound values k m n operands kept are = settings_are values n kept
 made_in_range Check values k m n operands kept are = settings_are values n kept
+made_in_range Loops values k m n operands kept are = tt
+made_in_range Need values k m n operands kept are = tt
 made_in_range Asm values k m n operands kept are = tt
 made_in_range Work values k m n operands kept are = (are.2.2, are.2.3)
 
@@ -130,6 +132,10 @@ made_there Bound values k m n operands all kept are =
 made_there Check values k m n operands all kept are =
     let many = are.0 in
     (omega (arith, all, many), omega (arith, all, many), omega (arith, all, many))
+made_there Loops values k m n operands all kept are = let many = are.0 in omega (arith, all, many)
+made_there Need values k m n operands all kept are =
+    let many = are.0 in
+    (omega (arith, all, many), omega (arith, all, many), omega (arith, all, many))
 made_there Asm values k m n operands all kept are = let many = are.0 in omega (arith, all, many)
 made_there Work values k m n operands all kept are = tt
 
@@ -139,6 +145,8 @@ made_follow Run values k m = tt
 made_follow Trace values k m = tt
 made_follow Bound values k m = refl
 made_follow Check values k m = (refl, refl)
+made_follow Loops values k m = tt
+made_follow Need values k m = (refl, refl)
 made_follow Asm values k m = tt
 made_follow Work values k m = tt
 

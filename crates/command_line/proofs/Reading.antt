@@ -7,7 +7,7 @@ use Rattle.std.specs.List.{flat_map}
 use Rattle.std.specs.Option.{option_to_list}
 use Rattle.std.proofs.lemmas.Bool.Decides.{nat_tests}
 use Rattle.command_line.specs.declared.table.Verb.{Verb}
-use Rattle.command_line.specs.declared.table.Verb.TheVariants.{Link, Run, Trace, Bound, Check, Asm, Work}
+use Rattle.command_line.specs.declared.table.Verb.TheVariants.{Link, Run, Trace, Bound, Check, Loops, Need, Asm, Work}
 use Rattle.command_line.specs.declared.table.Name.{Name}
 use Rattle.command_line.specs.declared.table.Name.TheVariants.{Main, Method, Cycles, Stack, Memory, Blocks, BlockWords, Read, Write, Micro}
 use Rattle.command_line.specs.declared.command.Command.{Command}
@@ -99,6 +99,8 @@ required_given Bound cs h = let a = h 0 Method (omega arith) in one_required (is
 required_given Run cs h = refl
 required_given Trace cs h = refl
 required_given Check cs h = refl
+required_given Loops cs h = refl
+required_given Need cs h = refl
 required_given Asm cs h = refl
 required_given Work cs h = refl
 

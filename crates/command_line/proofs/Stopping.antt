@@ -7,7 +7,7 @@ use Rattle.std.specs.declared.result.Result.{Result}
 use Rattle.std.proofs.lemmas.Bool.{cases_Bool}
 use Rattle.std.proofs.lemmas.Bool.Decides.{nat_tests}
 use Rattle.command_line.specs.declared.table.Verb.{Verb}
-use Rattle.command_line.specs.declared.table.Verb.TheVariants.{Link, Run, Trace, Bound, Check, Asm, Work}
+use Rattle.command_line.specs.declared.table.Verb.TheVariants.{Link, Run, Trace, Bound, Check, Loops, Need, Asm, Work}
 use Rattle.command_line.specs.declared.table.Name.{Name}
 use Rattle.command_line.specs.declared.table.Name.TheVariants.{Main, Method, Cycles, Stack, Memory, Blocks, BlockWords, Read, Write, Micro}
 use Rattle.command_line.specs.declared.command.Command.{Command}
@@ -182,6 +182,8 @@ finish Bound k values full = elim (cases_Bool (is_some (given values Method))) [
 finish Run k values full = (codes "b" ∷ [], refl)
 finish Trace k values full = (codes "b" ∷ [], refl)
 finish Check k values full = (codes "b" ∷ codes "b" ∷ codes "b" ∷ [], refl)
+finish Loops k values full = (codes "b" ∷ [], refl)
+finish Need k values full = (codes "b" ∷ codes "b" ∷ codes "b" ∷ [], refl)
 finish Asm k values full = (codes "b" ∷ [], refl)
 finish Work k values full = (codes "1" ∷ [], refl)
 

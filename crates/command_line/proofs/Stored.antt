@@ -8,7 +8,7 @@ use Rattle.std.proofs.lemmas.List.Folds.{Any-from_list_any, list_any_at}
 use Rattle.std.proofs.lemmas.Bool.{cases_Bool}
 use Rattle.std.proofs.lemmas.Slice.Eq.{bytes_eq-Decides}
 use Rattle.command_line.specs.declared.table.Verb.{Verb}
-use Rattle.command_line.specs.declared.table.Verb.TheVariants.{Link, Run, Trace, Bound, Check, Asm, Work}
+use Rattle.command_line.specs.declared.table.Verb.TheVariants.{Link, Run, Trace, Bound, Check, Loops, Need, Asm, Work}
 use Rattle.command_line.specs.declared.table.Name.{Name}
 use Rattle.command_line.specs.declared.table.Name.TheVariants.{Main, Method, Cycles, Stack, Memory, Blocks, BlockWords, Read, Write, Micro}
 use Rattle.command_line.specs.Table.{name_word, all_names, place_of, same_name, names_of, verb_word, all_verbs, verb_named, name_named, has_name, kept_by, name_of}
@@ -141,6 +141,8 @@ verb_of_word Run = refl
 verb_of_word Trace = refl
 verb_of_word Bound = refl
 verb_of_word Check = refl
+verb_of_word Loops = refl
+verb_of_word Need = refl
 verb_of_word Asm = refl
 verb_of_word Work = refl
 

@@ -8,7 +8,7 @@ use Rattle.std.proofs.lemmas.Bool.{cases_Bool}
 use Rattle.std.proofs.lemmas.Bool.Decides.{nat_tests}
 use Rattle.std.proofs.lemmas.List.Elements.{All-cons, All-nil}
 use Rattle.command_line.specs.declared.table.Verb.{Verb}
-use Rattle.command_line.specs.declared.table.Verb.TheVariants.{Link, Run, Trace, Bound, Check, Asm, Work}
+use Rattle.command_line.specs.declared.table.Verb.TheVariants.{Link, Run, Trace, Bound, Check, Loops, Need, Asm, Work}
 use Rattle.command_line.specs.declared.table.Name.{Name}
 use Rattle.command_line.specs.declared.table.Name.TheVariants.{Main, Method}
 use Rattle.command_line.specs.declared.command.Command.{Command}
@@ -212,6 +212,8 @@ required_are Bound cs h = All-cons (λ name. Any (λ (c : Chosen). c.name ≡ na
 required_are Run cs h = All-nil (λ name. Any (λ (c : Chosen). c.name ≡ name) cs)
 required_are Trace cs h = All-nil (λ name. Any (λ (c : Chosen). c.name ≡ name) cs)
 required_are Check cs h = All-nil (λ name. Any (λ (c : Chosen). c.name ≡ name) cs)
+required_are Loops cs h = All-nil (λ name. Any (λ (c : Chosen). c.name ≡ name) cs)
+required_are Need cs h = All-nil (λ name. Any (λ (c : Chosen). c.name ≡ name) cs)
 required_are Asm cs h = All-nil (λ name. Any (λ (c : Chosen). c.name ≡ name) cs)
 required_are Work cs h = All-nil (λ name. Any (λ (c : Chosen). c.name ≡ name) cs)
 

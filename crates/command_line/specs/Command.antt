@@ -8,7 +8,7 @@ use Rattle.std.specs.Borrow.{Bor}
 use Rattle.std.specs.List.{list_any, list_all}
 use Rattle.ascii_text.specs.Number.{value_of}
 use Rattle.command_line.specs.declared.table.Verb.{Verb}
-use Rattle.command_line.specs.declared.table.Verb.TheVariants.{Link, Run, Trace, Bound, Check, Asm, Work}
+use Rattle.command_line.specs.declared.table.Verb.TheVariants.{Link, Run, Trace, Bound, Check, Loops, Need, Asm, Work}
 use Rattle.command_line.specs.declared.table.Name.{Name}
 use Rattle.command_line.specs.declared.table.Name.TheVariants.{Main, Method, Cycles, Stack, Memory, Blocks, BlockWords, Read, Write, Micro}
 use Rattle.command_line.specs.declared.command.Settings.{Settings}
@@ -80,6 +80,8 @@ made Run values k n = commands.Run (settings_of values) k
 made Trace values k n = commands.Trace (settings_of values) (is_some (given values Micro)) k
 made Bound values k n = commands.Bound (settings_of values) (value values Method) k (k + 1)
 made Check values k n = commands.Check (settings_of values) k (k + 1) (k + 2)
+made Loops values k n = commands.Loops k
+made Need values k n = commands.Memory k (k + 1) (k + 2)
 made Asm values k n = commands.Asm k
 made Work values k n = commands.Work n
 

@@ -1,7 +1,7 @@
 -- Words and what is read of them, worked out by hand.
 use Rattle.std.specs.Prelude.{◌≡◌, true, false, [], ◌∷◌, Ok, Err, codes}
 use Rattle.command_line.specs.declared.command.Settings.{Settings}
-use Rattle.command_line.specs.declared.command.Command.TheVariants.{Link, Run, Trace, Bound, Check, Asm, Work}
+use Rattle.command_line.specs.declared.command.Command.TheVariants.{Link, Run, Trace, Bound, Check, Loops, Memory, Asm, Work}
 use Rattle.command_line.specs.Command.{command_of}
 
 abbrev usual : Settings
@@ -31,6 +31,10 @@ CommandRows =
     × (command_of (codes "bound" ∷ codes "--cycles" ∷ codes "1" ∷ []) ≡ Err 1)
     × (command_of (codes "check" ∷ codes "i" ∷ codes "b" ∷ codes "c" ∷ []) ≡ Ok (Check usual 1 2 3))
     × (command_of (codes "check" ∷ codes "i" ∷ codes "b" ∷ []) ≡ Err 3)
+    × (command_of (codes "loops" ∷ codes "i" ∷ []) ≡ Ok (Loops 1))
+    × (command_of (codes "loops" ∷ codes "--read" ∷ codes "1" ∷ codes "i" ∷ []) ≡ Err 1)
+    × (command_of (codes "memory" ∷ codes "i" ∷ codes "b" ∷ codes "s" ∷ []) ≡ Ok (Memory 1 2 3))
+    × (command_of (codes "memory" ∷ codes "i" ∷ codes "b" ∷ []) ≡ Err 3)
     × (command_of (codes "asm" ∷ codes "t" ∷ []) ≡ Ok (Asm 1))
     × (command_of (codes "asm" ∷ codes "--" ∷ []) ≡ Err 1)
     × (command_of (codes "work" ∷ codes "1000" ∷ []) ≡ Ok (Work 1000))

@@ -3,7 +3,7 @@ use Rattle.std.specs.Prelude.{ℕ, ◌-◌, ◌^◌, Bool, ◌==◌, if◌then�
 use Rattle.std.specs.declared.option.Option.{Option}
 use Rattle.std.specs.List.{find, list_any}
 use Rattle.command_line.specs.declared.table.Verb.{Verb}
-use Rattle.command_line.specs.declared.table.Verb.TheVariants.{Link, Run, Trace, Bound, Check, Asm, Work}
+use Rattle.command_line.specs.declared.table.Verb.TheVariants.{Link, Run, Trace, Bound, Check, Loops, Need, Asm, Work}
 use Rattle.command_line.specs.declared.table.Name.{Name}
 use Rattle.command_line.specs.declared.table.Name.TheVariants.{Main, Method, Cycles, Stack, Memory, Blocks, BlockWords, Read, Write, Micro}
 
@@ -78,11 +78,13 @@ verb_word Run = codes "run"
 verb_word Trace = codes "trace"
 verb_word Bound = codes "bound"
 verb_word Check = codes "check"
+verb_word Loops = codes "loops"
+verb_word Need = codes "memory"
 verb_word Asm = codes "asm"
 verb_word Work = codes "work"
 
 abbrev pub all_verbs : List Verb
-all_verbs = Link ∷ Run ∷ Trace ∷ Bound ∷ Check ∷ Asm ∷ Work ∷ []
+all_verbs = Link ∷ Run ∷ Trace ∷ Bound ∷ Check ∷ Loops ∷ Need ∷ Asm ∷ Work ∷ []
 
 -- the four that a bound depends on
 abbrev pub bound_names : List Name
@@ -97,6 +99,8 @@ names_of Run = run_names
 names_of Trace = Micro ∷ run_names
 names_of Bound = Method ∷ bound_names
 names_of Check = bound_names
+names_of Loops = []
+names_of Need = []
 names_of Asm = []
 names_of Work = []
 
@@ -118,6 +122,8 @@ operands_of Run = Exactly 1
 operands_of Trace = Exactly 1
 operands_of Bound = Exactly 2
 operands_of Check = Exactly 3
+operands_of Loops = Exactly 1
+operands_of Need = Exactly 3
 operands_of Asm = Exactly 1
 operands_of Work = Number 1 1000
 

@@ -48,6 +48,16 @@ pub enum Command {
         bounds: u32,
         certificate: u32,
     },
+    /// The image's loops that count.
+    Loops {
+        image: u32,
+    },
+    /// What a run of the image needs of memory.
+    Memory {
+        image: u32,
+        bounds: u32,
+        sizes: u32,
+    },
     Asm {
         text: u32,
     },

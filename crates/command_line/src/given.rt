@@ -132,7 +132,13 @@ impl Given {
         match verb {
             Verb::Link => self.main.is_some(),
             Verb::Bound => self.method.is_some(),
-            Verb::Run | Verb::Trace | Verb::Check | Verb::Asm | Verb::Work => true,
+            Verb::Run
+            | Verb::Trace
+            | Verb::Check
+            | Verb::Loops
+            | Verb::Need
+            | Verb::Asm
+            | Verb::Work => true,
         }
     }
 

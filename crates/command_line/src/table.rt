@@ -10,6 +10,9 @@ pub(crate) enum Verb {
     Trace,
     Bound,
     Check,
+    Loops,
+    /// What a run needs of memory.
+    Need,
     Asm,
     Work,
 }
@@ -43,6 +46,10 @@ pub(crate) fn verb_named(word: &str) -> Option<Verb>
         Some(Verb::Bound)
     } else if word == "check" {
         Some(Verb::Check)
+    } else if word == "loops" {
+        Some(Verb::Loops)
+    } else if word == "memory" {
+        Some(Verb::Need)
     } else if word == "asm" {
         Some(Verb::Asm)
     } else if word == "work" {
@@ -91,7 +98,7 @@ fn has_name(verb: Verb, name: Name) -> bool
         Verb::Trace => matches!(name, Name::Micro) || is_of_run(name),
         Verb::Bound => matches!(name, Name::Method) || is_of_bound(name),
         Verb::Check => is_of_bound(name),
-        Verb::Asm | Verb::Work => false,
+        Verb::Loops | Verb::Need | Verb::Asm | Verb::Work => false,
     }
 }
 

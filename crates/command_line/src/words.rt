@@ -111,9 +111,9 @@ fn operands_stop(verb: Verb, k: u32, operand: &str, rest: &[&str]) -> Option<u32
                 first_empty(k + 1, rest)
             }
         }
-        Verb::Run | Verb::Trace | Verb::Asm => exactly(k, 1, operand, rest),
+        Verb::Run | Verb::Trace | Verb::Loops | Verb::Asm => exactly(k, 1, operand, rest),
         Verb::Bound => exactly(k, 2, operand, rest),
-        Verb::Check => exactly(k, 3, operand, rest),
+        Verb::Check | Verb::Need => exactly(k, 3, operand, rest),
     }
 }
 
@@ -126,7 +126,14 @@ fn operand_number(verb: Verb, operand: &str) -> u32
             Some(count) => count as u32,
             None => 0,
         },
-        Verb::Link | Verb::Run | Verb::Trace | Verb::Bound | Verb::Check | Verb::Asm => 0,
+        Verb::Link
+        | Verb::Run
+        | Verb::Trace
+        | Verb::Bound
+        | Verb::Check
+        | Verb::Loops
+        | Verb::Need
+        | Verb::Asm => 0,
     }
 }
 
@@ -207,6 +214,12 @@ fn made(verb: Verb, given: &Given, k: u32, count: u32) -> Command
             image: k,
             bounds: k + 1,
             certificate: k + 2,
+        },
+        Verb::Loops => Command::Loops { image: k },
+        Verb::Need => Command::Memory {
+            image: k,
+            bounds: k + 1,
+            sizes: k + 2,
         },
         Verb::Asm => Command::Asm { text: k },
         Verb::Work => Command::Work { count },

@@ -1,74 +1,338 @@
-//! What the program says of itself: the texts of `--help` and `--version`.
+//! What the program says of itself: which version it is, how it is used, and how each command is.
+ghost use Rattle.std.specs.Prelude.{◌≡◌};
+ghost use Rattle.command_line.specs.Command.{texts};
+ghost use Rattle.jop.specs.Help.{is_help, alone, command_named, question_of};
 
-use std::{env, io};
+use std::io;
 
 /// The version of this repository.
-pub const VERSION: &str = "0.9.0";
+const VERSION: &str = "jop 0.10.0\n";
 
-/// The commands with their options.
-const HELP: &str = "\
-jop links Java class files to images for JOP, the Java Optimized Processor, and runs them cycle by cycle.
+const COMMANDS: &str = "\
+jop links Java class files to images for JOP, the Java Optimized Processor, runs them cycle by cycle, and tells how many
+cycles a method takes at most.
 
 usage:
-  jop link --main NAME CLASSFILE..         puts the file of the image on standard output
-  jop run [OPTION VALUE].. IMAGE           runs an image; its input and output are the standard ones
-  jop trace [--micro] [OPTION VALUE].. IMAGE
-                                           runs it, and puts a line for each step; --micro: for each cycle, too
+  jop link --main NAME CLASSFILE..           links class files to an image
+  jop run [OPTION VALUE].. IMAGE             runs an image
+  jop trace [--micro] [OPTION VALUE].. IMAGE runs it, and puts a line for each step
   jop bound --method NAME [OPTION VALUE].. IMAGE BOUNDS
-                                           puts a certificate of what a method takes at most on standard output
+                                             puts a certificate of what a method takes at most
   jop check [OPTION VALUE].. IMAGE BOUNDS CERTIFICATE
-                                           says whether a certificate shows what a method takes at most
-  jop work N                               makes a program of N methods, links, runs and bounds it, and puts a line
-  jop asm TEXT                             puts the words of a text of microcode
-  jop --help
-  jop --version
+                                             says whether a certificate shows what a method takes at most
+  jop loops IMAGE                            puts the bounds of the loops that count
+  jop memory IMAGE BOUNDS SIZES              says how many words a run needs at most
+  jop work N                                 makes a program of N methods, links, runs and bounds it
+  jop asm TEXT                               assembles microcode
+  jop COMMAND --help                         how a command is used; so do `jop COMMAND -h` and `jop help COMMAND`
+  jop --help, jop -h, jop --version
 
-options of run and trace; bound and check take the last four:
-  --cycles N        stops at the first boundary whose clock is at least N (1000000000)
-  --stack N         words on chip: 256, 512 or 1024 (1024)
-  --memory N        words of memory, 16 to 16777216 (262144)
-  --blocks N        blocks of the method cache, 1 to 256 (16)
-  --block-words N   words of a block, 1 to 1024 (64)
-  --read N          cycles that a read waits, 0 to 63 (1)
-  --write N         cycles that a write waits, 0 to 63 (2)
-
-The line on standard error says how it ended. The status is 0 where it did what was asked, 1 where an exception
-wasn't caught, 2 where something is refused, 3 where the cycles were spent, 4 where a file or a stream failed, 5 where
-there was no memory, and 6 where the words can't be read. `usage: word K` names the first word at which no command can
-go on, counted from 0. docs/commands.md has all of this with examples.
+Every answer is one line on standard error, but of what is put on standard output. The status is 0 where it did what was
+asked, 1 where an exception wasn't caught, 2 where something is refused, 3 where the cycles were spent, 4 where a file
+or a stream failed, 5 where there was no memory, and 6 where the words can't be read. `usage: word K` names the first
+word at which no command can go on, counted from 0. docs/commands.md has all of this with examples.
 ";
 
-/// A word that asks for a text, where it is the only one.
+const LINK: &str = "\
+jop link --main NAME CLASSFILE..
+
+Links class files of Java 6 to 8 with the class NAME, whose `main` is run, and puts the file of the image on standard
+output.
+
+  --main NAME    the class; each `.` of it reads as `/`. It must be given
+  CLASSFILE      a class file; the classes are initialised in the order of the words
+
+answers:
+  linked classes=C methods=M words=I bytes=B   status 0: the file was written
+  link: ..                                     status 2: what refuses the files; docs/refusals.md has what to do
+  usage: word K, too big NAME sum=S            status 2
+  read fault, write fault                      status 4
+  no memory                                    status 5
+
+example:
+  $ jop link --main Main examples/controller/classes/*.class > controller.jopi
+";
+
+const RUN: &str = "\
+jop run [OPTION VALUE].. IMAGE
+
+Runs an image that `link` wrote, or a bare one, from reset until its program returns. Its output goes to standard
+output, and its input comes from standard input.
+
+  --cycles N         stops at the first boundary whose clock is at least N, 0 to 2^63 - 1 (1000000000)
+  --stack N          words on chip: 256, 512 or 1024 (1024)
+  --memory N         words of memory, 16 to 16777216 (262144)
+  --blocks N         blocks of the method cache, 1 to 256 (16)
+  --block-words N    words of a block, 1 to 1024 (64)
+  --read N           cycles that a read waits, 0 to 63 (1)
+  --write N          cycles that a write waits, 0 to 63 (2)
+
+answers:
+  ended cycles=C hits=H misses=M           status 0
+  uncaught NAME cycles=C hits=H misses=M   status 1: nothing caught an object of the class NAME
+  spent cycles=C hits=H misses=M           status 3: the run was stopped
+  bad image, differs word=K .., link: .., method too long NAME .., memory too small ..   status 2
+  usage: word K, too big NAME sum=S        status 2
+  read fault, write fault                  status 4
+  no memory                                status 5
+
+example:
+  $ jop run controller.jopi < examples/controller/samples
+";
+
+const TRACE: &str = "\
+jop trace [--micro] [OPTION VALUE].. IMAGE
+
+Runs an image as `run` does. On standard output stands a line for each step in place of the bytes that the program puts
+out, and a line `write XX` for each byte: the clock, the method, the place, the instruction, frames and operands.
+
+  --micro            a line for each cycle, too: clock, microaddress, A, B, SP and VP
+  the options of run: jop run --help
+
+answers: those of run
+
+example:
+  $ jop trace controller.jopi < examples/controller/samples > controller.trace
+";
+
+const BOUND: &str = "\
+jop bound --method NAME [OPTION VALUE].. IMAGE BOUNDS
+
+Bounds what a method takes, in cycles, whatever the method cache holds, and puts a certificate of it on standard output.
+Its last line is the number.
+
+  --method NAME      the method: its class, a dot, its name and its descriptor, as `app/Main.step(I)I`. It must be given
+  --blocks N         blocks of the method cache, 1 to 256 (16)
+  --block-words N    words of a block, 1 to 1024 (64)
+  --read N           cycles that a read waits, 0 to 63 (1)
+  --write N          cycles that a write waits, 0 to 63 (2)
+  BOUNDS             a text of lines `NAME PC loop<=N`, a line for each loop
+
+answers:
+  none, and the certificate                status 0
+  bound: no method                         status 2: no method with code has the name
+  bound: recursion NAME..                  status 2: these methods call one another in a ring
+  bound: irreducible NAME NODE..           status 2: a loop has several entries
+  bound: missing bound NAME PC             status 2: the loop whose header stands at PC has no line
+  bound: too large NAME                    status 2: a number passes 64 bits
+  bad bounds line=N, twice bound line=N    status 2
+  bad image, differs word=K .., link: .., method too long NAME ..   status 2
+  usage: word K, too big NAME sum=S        status 2
+  read fault, write fault                  status 4
+  no memory                                status 5
+
+example:
+  $ jop bound --method 'Mean.step(I)I' controller.jopi examples/controller/controller.bounds > mean.cert
+";
+
+const CHECK: &str = "\
+jop check [OPTION VALUE].. IMAGE BOUNDS CERTIFICATE
+
+Checks a certificate of what a method takes at most. The options are those with which it was made.
+
+  --blocks N         blocks of the method cache, 1 to 256 (16)
+  --block-words N    words of a block, 1 to 1024 (64)
+  --read N           cycles that a read waits, 0 to 63 (1)
+  --write N          cycles that a write waits, 0 to 63 (2)
+  BOUNDS             a text of lines `NAME PC loop<=N`
+
+answers:
+  holds NAME N, holds NAME never           status 0: no call that keeps the bounds and returns takes longer; or
+                                           none returns
+  check: missing NAME, check: member NAME NODE, check: edge NAME NODE NODE, check: exit NAME NODE, check: region NAME
+                                           status 2: the first condition that fails
+  bad bounds line=N, twice bound line=N, bad cert line=N   status 2
+  bad image, differs word=K .., link: .., method too long NAME ..   status 2
+  usage: word K, too big NAME sum=S        status 2
+  read fault, write fault                  status 4
+  no memory                                status 5
+
+example:
+  $ jop check controller.jopi examples/controller/controller.bounds mean.cert
+";
+
+const LOOPS: &str = "\
+jop loops IMAGE
+
+Puts a line `NAME PC loop<=N` on standard output for each loop of the image that counts: one that is left by a test of
+an int local variable which one instruction steps. No run goes round it more often, so the lines may stand in a text
+of bounds.
+
+answers:
+  none, and the lines                      status 0
+  bad image, differs word=K .., link: ..   status 2
+  usage: word K, too big NAME sum=S        status 2
+  read fault, write fault                  status 4
+  no memory                                status 5
+
+example:
+  $ jop loops controller.jopi > found.bounds
+";
+
+const MEMORY: &str = "\
+jop memory IMAGE BOUNDS SIZES
+
+Puts `memory stack=X image=I heap=Y` on standard output: the words that the frames of a run take at most, those of the
+image, and those of the objects that a run makes at most. `--memory` of at least I + Y is enough for `run`.
+
+  BOUNDS         a text of lines `NAME PC loop<=N`, a line for each loop that makes objects
+  SIZES          a text of lines `NAME PC length<=N`, a line for each array whose length is no constant
+
+answers:
+  none, and the line                       status 0
+  memory: recursion NAME..                 status 2: these methods call one another in a ring
+  memory: irreducible NAME NODE..          status 2: a loop has several entries
+  memory: missing bound NAME PC            status 2: the loop makes objects, and has no line
+  memory: missing size NAME PC             status 2: the array has no line
+  memory: too large NAME                   status 2: the words pass 64 bits
+  bad bounds line=N, twice bound line=N, bad sizes line=N, twice size line=N   status 2
+  bad image, differs word=K .., link: ..   status 2
+  usage: word K, too big NAME sum=S        status 2
+  read fault, write fault                  status 4
+  no memory                                status 5
+
+example:
+  $ : > no.lengths
+  $ jop memory controller.jopi examples/controller/controller.bounds no.lengths
+";
+
+const WORK: &str = "\
+jop work N
+
+Makes a class of N methods, 1 to 1000, links it, runs it and bounds its `main`, and puts one line of what came of it on
+standard output. It takes no file.
+
+answers:
+  none, and the line                       status 0
+  usage: word K                            status 2
+  write fault                              status 4
+  no memory                                status 5
+
+example:
+  $ jop work 10
+";
+
+const ASM: &str = "\
+jop asm TEXT
+
+Assembles a text of microcode, and puts a line for each of its words on standard output: the address and the word.
+
+answers:
+  none, and the lines                      status 0
+  asm: line=N KIND                         status 2: line N is the first that breaks a rule
+  asm: too long words=N                    status 2: there are more than 2048 words
+  usage: word K, too big NAME sum=S        status 2
+  read fault, write fault                  status 4
+  no memory                                status 5
+
+example:
+  $ jop asm examples/machine/microcode.asm > microcode.words
+";
+
+/// What is asked of the program itself.
 #[derive(Clone, Copy)]
 pub enum Question {
-    /// `--help`
-    Help,
-    /// `--version`
+    /// Which version it is.
     Version,
+    /// How it is used.
+    Commands,
+    /// How a command is used.
+    Link,
+    Run,
+    Trace,
+    Bound,
+    Check,
+    Loops,
+    Memory,
+    Work,
+    Asm,
 }
 
-/// What the words of this process ask for, where they are one such word.
-///
-/// # Errors
-///
-/// Where the words can't be read, or there is no memory for them.
-pub fn asked(rt: &HostRuntime) -> io::Result<Option<Question>> {
-    let mut words = env::args(rt)?.skip(1);
-    let first = words.next();
-    if words.next().is_some() {
-        return Ok(None);
+/// Whether a word asks for help.
+fn is_help(word: &str) -> bool
+    ensures { result ≡ is_help word.now }
+{
+    word == "--help" || word == "-h"
+}
+
+/// What a word asks that stands alone.
+fn alone(word: &str) -> Option<Question>
+    ensures { result ≡ alone word.now }
+{
+    if is_help(word) {
+        Some(Question::Commands)
+    } else if word == "--version" {
+        Some(Question::Version)
+    } else {
+        None
     }
-    Ok(match first.as_deref() {
-        Some("--help") => Some(Question::Help),
-        Some("--version") => Some(Question::Version),
+}
+
+/// The question about the command that a word names.
+fn command_named(word: &str) -> Option<Question>
+    ensures { result ≡ command_named word.now }
+{
+    if word == "link" {
+        Some(Question::Link)
+    } else if word == "run" {
+        Some(Question::Run)
+    } else if word == "trace" {
+        Some(Question::Trace)
+    } else if word == "bound" {
+        Some(Question::Bound)
+    } else if word == "check" {
+        Some(Question::Check)
+    } else if word == "loops" {
+        Some(Question::Loops)
+    } else if word == "memory" {
+        Some(Question::Memory)
+    } else if word == "work" {
+        Some(Question::Work)
+    } else if word == "asm" {
+        Some(Question::Asm)
+    } else {
+        None
+    }
+}
+
+/// What the words ask of the program itself, if they do: `--help`, `-h` or `--version` alone, a command before `--help`
+/// or `-h`, or a command behind `help`.
+pub fn question_of(words: &[&str]) -> Option<Question>
+    ensures { result ≡ question_of (texts words.now) }
+{
+    match words {
+        [word] => alone(word),
+        [first, second] => {
+            if is_help(second) {
+                command_named(first)
+            } else if *first == "help" {
+                command_named(second)
+            } else {
+                None
+            }
+        }
         _ => None,
-    })
+    }
 }
 
-/// Puts the text on standard output.
-pub fn answer(rt: &HostRuntime, question: Question) -> io::Result<()> {
+/// The text that answers.
+fn text_of(question: Question) -> &'static str {
     match question {
-        Question::Help => print!(*rt; "{HELP}"),
-        Question::Version => println!(*rt; "jop {VERSION}"),
+        Question::Version => VERSION,
+        Question::Commands => COMMANDS,
+        Question::Link => LINK,
+        Question::Run => RUN,
+        Question::Trace => TRACE,
+        Question::Bound => BOUND,
+        Question::Check => CHECK,
+        Question::Loops => LOOPS,
+        Question::Memory => MEMORY,
+        Question::Work => WORK,
+        Question::Asm => ASM,
     }
+}
+
+/// Puts the text that answers on standard output.
+pub fn answer(rt: &HostRuntime, question: Question) -> io::Result<()> {
+    print!(*rt; "{}", text_of(question))
 }

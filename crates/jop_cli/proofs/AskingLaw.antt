@@ -13,6 +13,7 @@ use Rattle.jop_cli.specs.declared.outcome.Answer.TheVariants.{Text, Ends}
 use Rattle.jop_cli.specs.declared.outcome.Ending.{Ending}
 use Rattle.jop_cli.specs.declared.outcome.Ending.TheVariants as endings
 use Rattle.jop_cli.specs.Line.{text_at}
+use Rattle.jop_cli.specs.Phase.{is_linked as is_linked_file}
 use Rattle.jop_cli.specs.World.{IsQuiet, IsUntaken}
 use Rattle.jop_cli.specs.Linking.{files_of, OperandsFault}
 use Rattle.jop_cli.specs.Asking.{IsAnswer, AnswersLinked, Answers, PutsAnswer, AsksRead, AsksFiles}
@@ -22,43 +23,47 @@ use Rattle.jop_cli.proofs.RunningLaw.{begins_linked, is_read}
 
 -- what comes of a question where nothing fails: the whole of a text was put; or a line says the answer; or there was no memory
 pub data Comes (c : Call) (asked : Asked) (l : Parts) (operands : List (List ℕ)) (ending : Ending) : Type 0 where
-  puts : (text : Vec ℕ Global) → IsAnswer c.words asked.settings asked.question l operands (Text text) → ending ≡ endings.Written → Grew c.old.out c.new.out text.items → Comes c asked l operands ending
-  says : IsAnswer c.words asked.settings asked.question l operands (Ends ending) → IsQuiet c.old c.new → Comes c asked l operands ending
+  puts : (text : Vec ℕ Global) → IsAnswer c.words asked.question l operands (Text text) → ending ≡ endings.Written → Grew c.old.out c.new.out text.items → Comes c asked l operands ending
+  says : IsAnswer c.words asked.question l operands (Ends ending) → IsQuiet c.old c.new → Comes c asked l operands ending
   lacking : ending ≡ endings.NoMemory → IsQuiet c.old c.new → Comes c asked l operands ending
 
 module _ (linked_one : OneLinked) (images : LinkedImagesAreRead) (c : Call) (n : NothingFailed c) (asked : Asked) (l : Parts) (operands : List (List ℕ)) (many : asked.image + asked.operands ≡ c.old.words) (told : AreTold c asked.image operands) (is_linked : IsLinked l) (is_file : file.IsLinked (text_at operands 0) (image_of l)) where
-  of_linked : (answer : Answer) → AnswersLinked c.words asked operands answer → IsAnswer c.words asked.settings asked.question l operands answer
+  of_linked : (answer : Answer) → AnswersLinked c.words asked.question operands answer → IsAnswer c.words asked.question l operands answer
   of_linked answer r =
       let same : r.linked ≡ l = linked_one (text_at operands 0) r.linked l r.is_linked is_linked r.is_file is_file in
-      subst (λ (p : Parts). IsAnswer c.words asked.settings asked.question p operands answer) same r.answers
+      subst (λ (p : Parts). IsAnswer c.words asked.question p operands answer) same r.answers
 
-  text_comes : (text : Vec ℕ Global) → Answers c.words asked operands (Text text) → IsAnswer c.words asked.settings asked.question l operands (Text text)
+  -- its bytes begin as those of a linked image
+  not_bare : is_linked_file (text_at operands 0) ≡ false → ⊥
+  not_bare bare =
+      let clash : false ≡ true = sym bare ∙ begins_linked (text_at operands 0) (image_of l) is_file in
+      absurd (cc)
+
+  text_comes : (text : Vec ℕ Global) → Answers c.words asked.question operands (Text text) → IsAnswer c.words asked.question l operands (Text text)
   text_comes text answers =
       ⊎_elim
       (λ linked. ⊎_elim (λ fault. absurd fault) (of_linked (Text text)) linked.1)
-      (λ bare. absurd (⊎_elim (λ fault. fault) (λ ends. ends) bare.1))
+      (λ bare. absurd (not_bare bare.0))
       answers
 
-  line_comes : (ending : Ending) → IsQuiet c.old c.new → Answers c.words asked operands (Ends ending) → Comes c asked l operands ending
+  line_comes : (ending : Ending) → IsQuiet c.old c.new → Answers c.words asked.question operands (Ends ending) → Comes c asked l operands ending
   line_comes ending quiet answers =
       ⊎_elim
       (λ linked. ⊎_elim (λ fault. lacking (is_read images (text_at operands 0) l is_linked is_file ending fault) quiet) (λ r. says (of_linked (Ends ending) r) quiet) linked.1)
-      (λ bare.
-      let clash : false ≡ true = sym bare.0 ∙ begins_linked (text_at operands 0) (image_of l) is_file in
-      absurd (cc))
+      (λ bare. absurd (not_bare bare.0))
       answers
 
-  answer_comes : (ending : Ending) (answer : Answer) → IsUntaken c.old c.new → c.new.watch ≡ c.old.watch → Answers c.words asked operands answer → PutsAnswer answer c.old.out c.new.out c.old.out_faults c.new.out_faults ending
+  answer_comes : (ending : Ending) (answer : Answer) → IsUntaken c.old c.new → c.new.watch ≡ c.old.watch → Answers c.words asked.question operands answer → PutsAnswer answer c.old.out c.new.out c.old.out_faults c.new.out_faults ending
       → Comes c asked l operands ending
   answer_comes ending (Text text) untaken watch answers put = ⊎_elim (λ whole. puts text (text_comes text answers) whole.0 whole.1) (λ part. absurd (n.out part.1.rose)) put
   answer_comes ending (Ends other) untaken watch answers put =
-      line_comes ending (record { input = untaken; out = put.1; out_faults = put.2; watch = watch }) (subst (λ (e : Ending). Answers c.words asked operands (Ends e)) (sym put.0) answers)
+      line_comes ending (record { input = untaken; out = put.1; out_faults = put.2; watch = watch }) (subst (λ (e : Ending). Answers c.words asked.question operands (Ends e)) (sym put.0) answers)
 
   read_comes : (ending : Ending) → AsksRead c.words asked c.old c.new ending → Comes c asked l operands ending
   read_comes ending r =
       let are = subst (λ (e : ℕ). AreFiles c.old.files asked.image e r.operands) many r.are in
       let same : r.operands ≡ operands = same_files c asked.image operands r.operands told are in
-      answer_comes ending r.answer r.input r.watch (subst (λ (x : List (List ℕ)). Answers c.words asked x r.answer) same r.answers) r.puts
+      answer_comes ending r.answer r.input r.watch (subst (λ (x : List (List ℕ)). Answers c.words asked.question x r.answer) same r.answers) r.puts
 
   pub comes : (ending : Ending) → AsksFiles c.words asked c.old c.new ending → Comes c asked l operands ending
   comes ending asks =

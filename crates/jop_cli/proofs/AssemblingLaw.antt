@@ -84,7 +84,7 @@ module _ (c : Call) (word : ℕ) (text : List ℕ) (rom : Rom) (told : IsTold c 
       let same : h.0.0 ≡ text = same_bytes c word text h.0.0 told h.0.1 in
       absurd (not_refused text rom refusal is (subst (λ (t : List ℕ). IsNoProgram t refusal) same h.0.2))
   lists (endings.Refused refusal) w h = absurd h.0
-  lists endings.ReadFault w h = absurd (n.files word h.1)
+  lists endings.ReadFault w h = absurd (n.files word text told.told h.1)
   lists endings.WriteFault w h = absurd (n.out h.rose)
   lists endings.NoMemory w h = inr (record { outcome = w.outcome; quiet = h.1 })
   lists ending w h = absurd h

@@ -1,6 +1,6 @@
 -- A certificate is written where nothing forbids a bound, it holds, and what is answered else forbids one.
-use Rattle.std.proofs.Common.{◌≡◌, ℕ, List, [], ◌∷◌, Option, Some, refl, sym, ◌∙◌, ap, subst, ◌⊎◌, inl, inr, ⊎_elim}
-use Rattle.std.specs.Prelude.{Ok, Vec}
+use Rattle.std.proofs.Common.{◌≡◌, ℕ, List, [], ◌∷◌, Some, sym, ◌∙◌, ap, subst, ◌⊎◌, inl, inr}
+use Rattle.std.specs.Prelude.{Vec}
 use Rattle.std.specs.declared.alloc.Global.{Global}
 use Rattle.std.specs.List.{concat}
 use Rattle.lists.specs.Lemmas.{none≢some}
@@ -16,6 +16,7 @@ use Rattle.bound_rules.specs.declared.faults.BoundRefusal.{BoundRefusal}
 use Rattle.bound_rules.specs.declared.faults.BoundRefusal.TheVariants as forbids
 use Rattle.bound_rules.specs.Bounding.{IsCause}
 use Rattle.answer_lines.specs.declared.bound.BoundCause.{BoundCause}
+use Rattle.answer_lines.specs.declared.unanswered.Cause.TheVariants as unanswered
 use Rattle.answer_lines.specs.AnalysisLines.{cause_parts}
 use Rattle.analysis_commands.specs.declared.analysis.AnalysisFault.{AnalysisFault}
 use Rattle.analysis_commands.specs.declared.analysis.AnalysisFault.TheVariants as analysis
@@ -31,16 +32,15 @@ use Rattle.jopizer.specs.Laws.{OneLinked, LinkedImagesAreRead}
 use Rattle.jop_cli.specs.declared.outcome.Refusal.TheVariants.{Bound as Forbidden}
 use Rattle.jop_cli.specs.declared.outcome.Ending.{Ending}
 use Rattle.jop_cli.specs.declared.outcome.Ending.TheVariants as endings
-use Rattle.jop_cli.specs.declared.outcome.Outcome.{Outcome}
 use Rattle.jop_cli.specs.declared.outcome.Outcome.TheVariants as outcomes
-use Rattle.jop_cli.specs.Line.{text_at, line_of}
+use Rattle.jop_cli.specs.Line.{line_of}
 use Rattle.jop_cli.specs.World.{IsQuiet}
 use Rattle.jop_cli.specs.Checking.{fault_ending}
 use Rattle.jop_cli.specs.Bounding.{cause_ending, Bounds, EndsNotBounded}
 use Rattle.jop_cli.specs.Asking.{bounding}
 use Rattle.jop_cli.specs.Answer.{outcome_of}
 use Rattle.jop_cli.specs.Calls.{Call, NothingFailed, LacksMemory}
-use Rattle.jop_cli.specs.Correct.{BoundsTexts, IsBounded, Forbids, AnswersForbidden, BoundingIsComplete, BoundRefusalsAreCaused, CheckedBoundsAreKept, WrittenBoundsAreKept, BoundsAreKept}
+use Rattle.jop_cli.specs.Correct.{BoundsTexts, IsBounded, Forbids, AnswersForbidden, BoundingIsComplete, BoundRefusalsAreCaused, WrittenBoundsAreKept}
 use Rattle.jop_cli.proofs.Wholly.{IsWholly, wholly, executed, lacks}
 use Rattle.jop_cli.proofs.RunningLaw.{not_more}
 use Rattle.jop_cli.proofs.AskingLaw.{Comes, comes}
@@ -51,7 +51,7 @@ use Rattle.jop_cli.proofs.CheckingLaw.{answers}
 data Settled (c : Call) (s : Settings) (l : Parts) (lines : List LoopBound) (name : List ℕ) (ending : Ending) : Type 0 where
   bounded : ending ≡ endings.Written → (d : Certificate) → IsBoundBy (resolved l.classes) (timing_of s) (bounds_of l.classes lines) (IsNamed l.classes name) d → IsInGrammar d → Grew c.old.out c.new.out (text_of d)
       → BoundsActivations (resolved l.classes) (timing_of s) (bounds_of l.classes lines) d.root d.bound → Settled c s l lines name ending
-  forbidden : (cause : BoundCause) (subject : Vec ℕ Global) → ending ≡ endings.NotBounded cause subject → (refusal : BoundRefusal)
+  forbidden : (cause : BoundCause) (subject : Vec ℕ Global) → ending ≡ endings.NotAnswered (unanswered.Bound cause) subject → (refusal : BoundRefusal)
       → IsCause (resolved l.classes) (timing_of s) (bounds_of l.classes lines) (IsNamed l.classes name) refusal → cause_of refusal ≡ Some cause → subject.items ≡ subject_of (named_or_number l.classes) refusal
       → IsQuiet c.old c.new → Settled c s l lines name ending
   lacking : ending ≡ endings.NoMemory → IsQuiet c.old c.new → Settled c s l lines name ending
@@ -78,7 +78,7 @@ module _ (one : GivesOne) (not_refused : ReadIsNotRefused) (c : Call) (s : Setti
       absurd (cc)
   analysed ending quiet analysis.NoMemory cause says = lacking says quiet
 
-  forbidden_settled : (ending : Ending) → IsQuiet c.old c.new → (cause : BoundCause) (subject : Vec ℕ Global) → ending ≡ endings.NotBounded cause subject → IsForbidden l.classes s h.bounds_text name cause subject.items
+  forbidden_settled : (ending : Ending) → IsQuiet c.old c.new → (cause : BoundCause) (subject : Vec ℕ Global) → ending ≡ endings.NotAnswered (unanswered.Bound cause) subject → IsForbidden l.classes s h.bounds_text name cause subject.items
       → Settled c s l lines name ending
   forbidden_settled ending quiet cause subject says k =
       let same : k.bounds ≡ lines = one h.bounds_text k.bounds lines k.bounds_read h.read in
@@ -146,22 +146,11 @@ module _ (c : Call) (s : Settings) (l : Parts) (lines : List LoopBound) (name : 
         refusal = refusal;
         forbids = forbids_so s l lines name refusal other cause_is is;
         cause_is = cause_is ∙ ap (λ (x : BoundCause). Some x) same;
-        answers = answers c ending w quiet (endings.NotBounded other subject) (outcomes.Refused (Forbidden cause)) (cause_parts cause (subject_of (named_or_number l.classes) refusal)) says e
+        answers = answers c ending w quiet (endings.NotAnswered (unanswered.Bound other) subject) (outcomes.Refused (Forbidden cause)) (cause_parts cause (subject_of (named_or_number l.classes) refusal)) says e
             (ap (λ (n : List ℕ). concat (cause_parts other n)) subject_is ∙ ap (λ (x : BoundCause). concat (cause_parts x (subject_of (named_or_number l.classes) refusal))) same);
       }
   caused cause answer (lacking says quiet) =
       let clash : outcomes.Refused (Forbidden cause) ≡ outcomes.NoMemory = sym answer ∙ (w.outcome ∙ ap outcome_of says) in
-      absurd (cc)
-
-  kept : c.outcome ≡ outcomes.Written → Settled c s l lines name ending
-      → (b : IsBounded c s l lines name) × BoundsActivations (resolved l.classes) (timing_of s) (bounds_of l.classes lines) b.certificate.root b.certificate.bound
-  unfolding is_bounded
-  kept answer (bounded says d is grammar put holds) = (is_bounded says d is grammar put, holds)
-  kept answer (forbidden cause subject says refusal is cause_is subject_is quiet) =
-      let clash : outcomes.Written ≡ outcomes.Refused (Forbidden cause) = sym answer ∙ (w.outcome ∙ ap outcome_of says) in
-      absurd (cc)
-  kept answer (lacking says quiet) =
-      let clash : outcomes.Written ≡ outcomes.NoMemory = sym answer ∙ (w.outcome ∙ ap outcome_of says) in
       absurd (cc)
 
 pub bounding_is_complete : GivesOne → ReadIsNotRefused → OneLinked → LinkedImagesAreRead → BoundingIsComplete
@@ -171,7 +160,3 @@ bounding_is_complete one not_refused linked_one images c s image l lines name h 
 pub bound_refusals_are_caused : GivesOne → ReadIsNotRefused → OneLinked → LinkedImagesAreRead → BoundRefusalsAreCaused
 bound_refusals_are_caused one not_refused linked_one images c s image l lines name cause h n answer =
     caused c s l lines name c.answered.ending (wholly c n) cause answer (settled one not_refused c s image l lines name h linked_one images n)
-
-pub written_bounds_are_kept : GivesOne → ReadIsNotRefused → OneLinked → LinkedImagesAreRead → WrittenBoundsAreKept
-written_bounds_are_kept one not_refused linked_one images c s image l lines name h n answer =
-    kept c s l lines name c.answered.ending (wholly c n) answer (settled one not_refused c s image l lines name h linked_one images n)

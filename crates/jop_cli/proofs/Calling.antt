@@ -1,5 +1,5 @@
 -- What new objects tell before a call over them.
-use Rattle.std.proofs.Common.{◌≡◌, ℕ, List, [], ◌∷◌, length, map, None, refl, ap, subst, arith, inl, inr, ◌⊎◌, ⊎_elim}
+use Rattle.std.proofs.Common.{◌≡◌, ◌<◌, ◌≤◌, ◌^◌, ℕ, List, [], ◌∷◌, length, map, None, refl, ap, subst, arith, inl, inr, ◌⊎◌, ⊎_elim}
 use Rattle.std.specs.Prelude.{All, slice_index}
 use Rattle.std.specs.Borrow.{Bor}
 use Rattle.std.specs.declared.option.Option.{Option}
@@ -53,9 +53,12 @@ new_status words files told counts left out err input output errors new err' fau
 }
 
 -- where they tell nothing
-pub silent_status : (words : List (Bor (List ℕ))) (status : ℕ) → IsNewStatus (texts words) (map untold words) None None None status → IsProcessStatus status
-silent_status words status called = inr (inr (texts words, subst (λ (files : List (Option (List ℕ))). IsNewStatus (texts words) files None None None status) (silent_texts words) called))
+silent_status : (words : List (Bor (List ℕ))) (status : ℕ) → (status ≡ 5) ⊎ IsNewStatus (texts words) (map untold words) None None None status → IsProcessStatus (texts words) status
+silent_status words status (inl five) = inl five
+silent_status words status (inr called) = inr (inr (subst (λ (files : List (Option (List ℕ))). IsNewStatus (texts words) files None None None status) (silent_texts words) called))
 
-pub process_status : (words : List (Bor (List ℕ))) (status : ℕ) → (status ≡ 5) ⊎ IsNewStatus (texts words) (map untold words) None None None status → IsProcessStatus status
-process_status words status (inl five) = inl five
-process_status words status (inr called) = silent_status words status called
+-- however many the words are
+pub process_status : (words : List (Bor (List ℕ))) (status : ℕ) → (length words < 2 ^ 32 → (status ≡ 5) ⊎ IsNewStatus (texts words) (map untold words) None None None status)
+    → (2 ^ 32 ≤ length words → status ≡ 6) → IsProcessStatus (texts words) status
+process_status words status called many =
+    ⊎_elim (λ few. silent_status words status (called few)) (λ past. inr (inl (omega (arith, past, length_texts words), many past))) (cases_lt (length words) (2 ^ 32))

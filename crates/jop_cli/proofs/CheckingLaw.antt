@@ -41,7 +41,7 @@ use Rattle.jop_cli.specs.Checking.{fault_ending, refusal_ending, Checks, EndsHel
 use Rattle.jop_cli.specs.Asking.{checking}
 use Rattle.jop_cli.specs.Answer.{outcome_of}
 use Rattle.jop_cli.specs.Calls.{Call, NothingFailed, LacksMemory}
-use Rattle.jop_cli.specs.Correct.{ChecksTexts, AnswersLine, CheckedBoundsAreKept, CheckingIsComplete, FaultsAreAnswered}
+use Rattle.jop_cli.specs.Correct.{ChecksTexts, AnswersLine, CheckingIsComplete, FaultsAreAnswered}
 use Rattle.jop_cli.proofs.Wholly.{IsWholly, wholly, executed, lacks}
 use Rattle.jop_cli.proofs.RunningLaw.{not_more}
 use Rattle.jop_cli.proofs.AskingLaw.{Comes, comes}
@@ -128,17 +128,6 @@ module _ (c : Call) (ending : Ending) (w : IsWholly c ending) (quiet : IsQuiet c
   holds_answered cs s lines d law meets (fails fault name is refused name_is) = absurd (law (resolved cs) (timing_of s) (bounds_of cs lines) d fault refused meets)
   holds_answered cs s lines d law meets (lacking is) = inr (lacks c ending w is quiet)
 
-  kept_answered : (cs : List ClassFile) (s : Settings) (lines : List LoopBound) (d : Certificate) → c.outcome ≡ outcomes.Holds → Settled cs s lines d ending
-      → AnswersLine c outcomes.Holds (held_parts (name_of cs d.root) d.bound) × BoundsActivations (resolved cs) (timing_of s) (bounds_of cs lines) d.root d.bound
-  kept_answered cs s lines d answer (holds held is meets kept name bound) =
-      (answers (endings.Holds held) outcomes.Holds (held_parts (name_of cs d.root) d.bound) is refl (ap₂ (λ (n : List ℕ) (b : Option ℕ). concat (held_parts n b)) name bound), kept)
-  kept_answered cs s lines d answer (fails fault name is refused name_is) =
-      let clash : outcomes.Holds ≡ outcomes.Refused (NotChecked fault) = sym answer ∙ (w.outcome ∙ ap outcome_of is) in
-      absurd (cc)
-  kept_answered cs s lines d answer (lacking is) =
-      let clash : outcomes.Holds ≡ outcomes.NoMemory = sym answer ∙ (w.outcome ∙ ap outcome_of is) in
-      absurd (cc)
-
   fault_answered : (cs : List ClassFile) (s : Settings) (lines : List LoopBound) (d : Certificate) (fault : CheckFault) → RefusedIsNotMet → FaultsAreOne → IsRefused (resolved cs) (timing_of s) (bounds_of cs lines) d fault → Settled cs s lines d ending
       → AnswersLine c (outcomes.Refused (NotChecked fault)) (fault_parts fault (fault_name cs fault)) ⊎ LacksMemory c
   fault_answered cs s lines d fault law faults refused (holds held is meets kept name bound) = absurd (law (resolved cs) (timing_of s) (bounds_of cs lines) d fault refused meets)
@@ -153,11 +142,6 @@ pub checking_is_complete : GivesOne → ReadIsNotRefused → HasOneCertificate �
 checking_is_complete one not_refused certified linked_one images law c s image l lines d h n meets =
     let did = settled one not_refused certified c s image l lines d h linked_one images n in
     holds_answered c c.answered.ending (wholly c n) did.1 l.classes s lines d law meets did.0
-
-pub checked_bounds_are_kept : GivesOne → ReadIsNotRefused → HasOneCertificate → OneLinked → LinkedImagesAreRead → CheckedBoundsAreKept
-checked_bounds_are_kept one not_refused certified linked_one images c s image l lines d h n answer =
-    let did = settled one not_refused certified c s image l lines d h linked_one images n in
-    kept_answered c c.answered.ending (wholly c n) did.1 l.classes s lines d answer did.0
 
 pub faults_are_answered : GivesOne → ReadIsNotRefused → HasOneCertificate → OneLinked → LinkedImagesAreRead → RefusedIsNotMet → FaultsAreOne → FaultsAreAnswered
 faults_are_answered one not_refused certified linked_one images law faults c s image l lines d fault h n refused =

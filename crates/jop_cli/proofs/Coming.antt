@@ -17,7 +17,7 @@ use Rattle.bytecode_model.specs.State.{State}
 use Rattle.bytecode_model.specs.Steps.{boot_state, first_frame}
 use Rattle.bytecode_typing.specs.Fits.{IsGoing}
 use Rattle.boundary.specs.declared.runs.RunEnd.TheVariants as ends
-use Rattle.boundary.specs.Setting.{Setting}
+use Rattle.boundary.specs.Setting.{Setting, IsSetting}
 use Rattle.boundary.specs.Activations.{Stage}
 use Rattle.boundary.specs.Runs.{IsRun, RunsOn}
 use Rattle.boundary.specs.Traces.{TracesOn, unnoted, run_text}
@@ -84,11 +84,12 @@ module _ (c : Call) (cs : List ClassFile) (g : Setting) (reset : machine.State) 
   abbrev Answering : (now : machine.State) → (State → Type 0) → Type 0
   Answering now K = (last : Stage) → last.machine ≡ now → K last.state → AnswersMode c cs limit last.machine last.state.mode
 
-  ran : (boot : State) → boot_state g.program ≡ Some boot → (now : machine.State) (K : State → Type 0) → RunsOn g limit (record { machine = reset; state = boot }) now (wired old) (wired new) K → Answering now K
+  ran : IsSetting g → (boot : State) → boot_state g.program ≡ Some boot → (now : machine.State) (K : State → Type 0) → RunsOn g limit (record { machine = reset; state = boot }) now (wired old) (wired new) K → Answering now K
       → RanProgram c cs g reset limit old new
-  ran boot is_boot now K r answer =
+  ran is_setting boot is_boot now K r answer =
       let fresh : IsFresh boot = boot_is_fresh g.program boot is_boot in
       record {
+        is_setting = is_setting;
         boot = boot;
         is_boot = is_boot;
         last = r.last;
@@ -101,12 +102,13 @@ module _ (c : Call) (cs : List ClassFile) (g : Setting) (reset : machine.State) 
   abbrev begins : (cycles : Bool) → Told
   begins cycles = traced cycles old.left old.read_faults old.held old.write_faults old.write_faults
 
-  noted : (cycles : Bool) (names : List (List ℕ)) (boot : State) → boot_state g.program ≡ Some boot → (now : machine.State) (K : State → Type 0) (after : Told)
+  noted : IsSetting g → (cycles : Bool) (names : List (List ℕ)) (boot : State) → boot_state g.program ≡ Some boot → (now : machine.State) (K : State → Type 0) (after : Told)
       → TracesOn cycles names g limit (record { machine = reset; state = boot }) now (begins cycles) after K → after.left ≡ new.left → after.noted ≡ new.held → new.handed ≡ old.handed → Answering now K
       → TracedProgram c cs cycles names g reset limit old new
-  noted cycles names boot is_boot now K after r left same watch answer =
+  noted is_setting cycles names boot is_boot now K after r left same watch answer =
       let fresh : IsFresh boot = boot_is_fresh g.program boot is_boot in
       record {
+        is_setting = is_setting;
         boot = boot;
         is_boot = is_boot;
         last = r.last;
@@ -126,25 +128,25 @@ module _ (c : Call) (cs : List ClassFile) (g : Setting) (reset : machine.State) 
 
   pub ended : (shown : Shown) (counts : Counts) → RunsCounted shown g reset limit ends.Ended old new counts → IsWholly c (endings.Ended counts) → RanShown shown c cs g reset limit old new
   ended Output counts (r, are) w =
-      ran r.boot r.is_boot r.now (λ s. s.mode ≡ modes.Ended) r.runs (λ last is holds. at_end c cs limit last.machine last.state.mode counts (moved counts last.machine r.now is are) holds w)
+      ran r.is_setting r.boot r.is_boot r.now (λ s. s.mode ≡ modes.Ended) r.runs (λ last is holds. at_end c cs limit last.machine last.state.mode counts (moved counts last.machine r.now is are) holds w)
   ended (Trace cycles names) counts (r, are) w =
       let t = r.runs in
-      noted cycles names r.boot r.is_boot r.now (λ s. s.mode ≡ modes.Ended) t.after t.traces t.left t.noted t.watch (λ last is holds. at_end c cs limit last.machine last.state.mode counts (moved counts last.machine r.now is are) holds w)
+      noted r.is_setting cycles names r.boot r.is_boot r.now (λ s. s.mode ≡ modes.Ended) t.after t.traces t.left t.noted t.watch (λ last is holds. at_end c cs limit last.machine last.state.mode counts (moved counts last.machine r.now is are) holds w)
 
   pub uncaught : (shown : Shown) (class : ℕ) (name : Vec ℕ Global) (counts : Counts) → NamesClass cs class name.items → RunsCounted shown g reset limit (ends.Uncaught class) old new counts → IsWholly c (endings.Uncaught class name counts)
       → RanShown shown c cs g reset limit old new
   uncaught Output class name counts names (r, are) w =
-      ran r.boot r.is_boot r.now (λ s. s.mode ≡ modes.Uncaught class) r.runs (λ last is holds. at_uncaught c cs limit last.machine last.state.mode counts (moved counts last.machine r.now is are) class name holds names w)
+      ran r.is_setting r.boot r.is_boot r.now (λ s. s.mode ≡ modes.Uncaught class) r.runs (λ last is holds. at_uncaught c cs limit last.machine last.state.mode counts (moved counts last.machine r.now is are) class name holds names w)
   uncaught (Trace cycles texts) class name counts names (r, are) w =
       let t = r.runs in
-      noted cycles texts r.boot r.is_boot r.now (λ s. s.mode ≡ modes.Uncaught class) t.after t.traces t.left t.noted t.watch
+      noted r.is_setting cycles texts r.boot r.is_boot r.now (λ s. s.mode ≡ modes.Uncaught class) t.after t.traces t.left t.noted t.watch
       (λ last is holds. at_uncaught c cs limit last.machine last.state.mode counts (moved counts last.machine r.now is are) class name holds names w)
 
   pub spent : (shown : Shown) (counts : Counts) → RunsCounted shown g reset limit ends.Spent old new counts → IsWholly c (endings.Spent counts) → RanShown shown c cs g reset limit old new
   spent Output counts (r, are) w =
-      ran r.boot r.is_boot r.now (λ s. IsGoing s.mode) r.runs.0
+      ran r.is_setting r.boot r.is_boot r.now (λ s. IsGoing s.mode) r.runs.0
       (λ last is holds. at_spent c cs limit last.machine last.state.mode counts (moved counts last.machine r.now is are) holds (later last.machine r.now is r.runs.1) w)
   spent (Trace cycles names) counts (r, are) w =
       let t = r.runs in
-      noted cycles names r.boot r.is_boot r.now (λ s. IsGoing s.mode) t.after t.traces.0 t.left t.noted t.watch
+      noted r.is_setting cycles names r.boot r.is_boot r.now (λ s. IsGoing s.mode) t.after t.traces.0 t.left t.noted t.watch
       (λ last is holds. at_spent c cs limit last.machine last.state.mode counts (moved counts last.machine r.now is are) holds (later last.machine r.now is t.traces.1) w)

@@ -56,7 +56,7 @@ as_trace names limit r now cycles k left l reads rd held h faults w s watch afte
 -- the run is one from where it began
 pub runs_to : (shown : Shown) (g : Setting) (r : Session) (now : machine.State) (limit : ℕ) (old new : Lent) (end : RunEnd) → Started g r.machine r → RunsAsAll shown limit r now old new end → RunsTo shown g r.machine limit end old new
 runs_to shown g r now limit old new end s all =
-    record { boot = s.begins.boot; is_boot = s.begins.is_boot; now = now; runs = all g s.begins.boot (record { is_setting = s.is_setting; methods_are = s.methods; stands = s.begins.stands }) }
+    record { is_setting = s.is_setting; boot = s.begins.boot; is_boot = s.begins.is_boot; now = now; runs = all g s.begins.boot (record { is_setting = s.is_setting; methods_are = s.methods; stands = s.begins.stands }) }
 
 pub counted : (shown : Shown) (g : Setting) (r : Session) (now read : machine.State) (limit : ℕ) (old new : Lent) (end : RunEnd) (counts : Counts) → Started g r.machine r → RunsAsAll shown limit r now old new end
     → read ≡ now → AreCounts counts read → RunsCounted shown g r.machine limit end old new counts

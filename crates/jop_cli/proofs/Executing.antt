@@ -13,23 +13,12 @@ use Rattle.jop_cli.specs.declared.outcome.Ending.TheVariants as endings
 use Rattle.jop_cli.specs.Leaving.{FailsRisen}
 use Rattle.jop_cli.specs.Assembling.{Assembles}
 use Rattle.jop_cli.specs.Linking.{LinksFiles}
-use Rattle.analysis_commands.specs.declared.analysis.AnalysisFault.{AnalysisFault}
-use Rattle.analysis_commands.specs.declared.analysis.AnalysisFault.TheVariants as analysis
-use Rattle.analysis_commands.specs.declared.check.CheckRefusal.{CheckRefusal}
-use Rattle.analysis_commands.specs.declared.check.CheckRefusal.TheVariants as check
-use Rattle.analysis_commands.specs.declared.bound.NotBounded.{NotBounded}
-use Rattle.analysis_commands.specs.declared.bound.NotBounded.TheVariants as bound
-use Rattle.class_pool.specs.declared.class.ClassFile.{ClassFile}
-use Rattle.jopizer.specs.Linked.{Parts}
 use Rattle.jop_cli.specs.declared.asking.Question.{Question}
-use Rattle.jop_cli.specs.declared.asking.Question.TheVariants as questions
 use Rattle.jop_cli.specs.declared.asking.Asked.{Asked}
 use Rattle.jop_cli.specs.declared.outcome.Answer.{Answer}
 use Rattle.jop_cli.specs.declared.outcome.Answer.TheVariants.{Text, Ends}
 use Rattle.jop_cli.specs.Line.{text_at}
-use Rattle.jop_cli.specs.Checking.{fault_ending, refusal_ending, Checks}
-use Rattle.jop_cli.specs.Bounding.{cause_ending}
-use Rattle.jop_cli.specs.Asking.{IsAnswer, IsBareEnding, Answers, PutsAnswer, AsksFiles}
+use Rattle.jop_cli.specs.Asking.{Answers, PutsAnswer, AsksFiles}
 use Rattle.jop_core.specs.Reset.{bare_reset}
 use Rattle.boundary.specs.Setting.{bare_setting}
 use Rattle.run_devices.specs.Lent.{Lent}
@@ -38,6 +27,7 @@ use Rattle.jop_cli.specs.BareFile.{blocks_of_code, RanBare, RanWith, RunsBareByt
 use Rattle.jop_cli.specs.LinkedFile.{RunsLinkedBytes}
 use Rattle.jop_cli.specs.World.{World, IsUntaken, Reads}
 use Rattle.jop_cli.specs.Answer.{Does, RunsFile, lent_of, lent_without_input}
+use Rattle.jop_cli.proofs.Refusing.{IsRefusing, Says, refuses, holds, bytes_refuse, image_refuses, linked_says, bare_refuses}
 
 pub with_settings : (settings : Settings) (show : Show) (n : ℕ) (image : Image) (plan : Plan) (old new : Lent) (ending : Ending) → settings.stack ≡ n → blocks_of_code settings image ≤ settings.blocks → HasSettings settings plan.config
     → plan.limit ≡ settings.cycles → plan.show ≡ show → RanBare (bare_shown plan.show) (bare_setting image n plan.config.memory) (bare_reset n image plan.config) plan.limit old new ending → RanWith settings show image old new ending
@@ -74,7 +64,7 @@ risen_but (endings.Refused refusal) before now other = tt
 risen_but (endings.TooLong method name blocks limit) before now other = tt
 risen_but (endings.NotLinked refusal name) before now other = tt
 risen_but (endings.NotHeld fault name) before now other = tt
-risen_but (endings.NotBounded cause subject) before now other = tt
+risen_but (endings.NotAnswered cause subject) before now other = tt
 risen_but (endings.Spent counts) before now other = tt
 risen_but endings.ReadFault before now other = tt
 risen_but endings.InputFault before now other = absurd (other refl)
@@ -90,54 +80,25 @@ no_input main first old new links = ⊎_elim (λ f. f.0) (λ r. r.put.0) links
 pub links_risen : (main : List ℕ) (first : ℕ) (old new : World) (e : Ending) (before now : ℕ) → LinksFiles main first old new e → FailsRisen e before now
 links_risen main first old new e before now links = risen_but e before now (λ is. no_input main first old new (subst (LinksFiles main first old new) is links))
 
-no_fault_input : (s : Settings) (fault : AnalysisFault) → endings.InputFault ≡ fault_ending s fault → ⊥
-no_fault_input s (analysis.MethodTooLong m name blocks) e = absurd (cc)
-no_fault_input s (analysis.BadBounds line) e = absurd (cc)
-no_fault_input s (analysis.TwiceBound line) e = absurd (cc)
-no_fault_input s analysis.NoMemory e = absurd (cc)
+says_no_input : (e : Ending) → Says e → e ≡ endings.InputFault → ⊥
+says_no_input e (refuses r) is = subst IsRefusing is r
+says_no_input e (holds held says) is = absurd (cc)
 
-no_refusal_input : (s : Settings) (refusal : CheckRefusal) → endings.InputFault ≡ refusal_ending s refusal → ⊥
-no_refusal_input s (check.NoAnalysis fault) e = no_fault_input s fault e
-no_refusal_input s (check.BadCert line) e = absurd (cc)
-no_refusal_input s (check.Fails fault name) e = absurd (cc)
-no_refusal_input s check.NoMemory e = absurd (cc)
-
-checked_no_input : (cs : List ClassFile) (s : Settings) (bounds_text cert_text : List ℕ) → Checks cs s bounds_text cert_text endings.InputFault → ⊥
-checked_no_input cs s bounds_text cert_text checks = ⊎_elim (λ h. let says = h.says in absurd (cc)) (λ r. no_refusal_input s r.refusal r.says) checks
-
-no_cause_input : (s : Settings) (cause : NotBounded) → endings.InputFault ≡ cause_ending s cause → ⊥
-no_cause_input s (bound.NoAnalysis fault) e = no_fault_input s fault e
-no_cause_input s (bound.Forbidden cause subject) e = absurd (cc)
-no_cause_input s bound.NoMemory e = absurd (cc)
-
--- no answer says that the input failed
-answer_no_input : (words : List (List ℕ)) (s : Settings) (question : Question) (l : Parts) (operands : List (List ℕ)) → IsAnswer words s question l operands (Ends endings.InputFault) → ⊥
-answer_no_input words s questions.Check l operands checks = checked_no_input l.classes s (text_at operands 1) (text_at operands 2) checks
-answer_no_input words s (questions.Bound method) l operands ends = no_cause_input s ends.cause ends.says
-
-bare_no_input : (s : Settings) (question : Question) (image : Image) (operands : List (List ℕ)) → IsBareEnding s question image operands endings.InputFault → ⊥
-bare_no_input s questions.Check image operands ends = no_refusal_input s ends.refusal ends.says
-bare_no_input s (questions.Bound method) image operands ends = no_cause_input s ends.cause ends.says
-
-answers_no_input : (words : List (List ℕ)) (asked : Asked) (operands : List (List ℕ)) → Answers words asked operands (Ends endings.InputFault) → ⊥
-answers_no_input words asked operands answers =
+pub answers_say : (words : List (List ℕ)) (question : Question) (operands : List (List ℕ)) (e : Ending) → Answers words question operands (Ends e) → Says e
+answers_say words question operands e answers =
     ⊎_elim
-    (λ linked. ⊎_elim (λ fault. fault) (λ r. answer_no_input words asked.settings asked.question r.linked operands r.answers) linked.1)
-    (λ bare. ⊎_elim
-    (λ fault. fault)
-    (λ b. ⊎_elim (λ long. let says = long.says in absurd (cc)) (bare_no_input asked.settings asked.question b.image operands) b.ends)
-    bare.1)
+    (λ linked. ⊎_elim (λ fault. refuses (bytes_refuse (text_at operands 0) e fault)) (λ r. linked_says words question r.linked operands e r.answers) linked.1)
+    (λ bare. ⊎_elim (λ fault. refuses (image_refuses (text_at operands 0) e fault)) (λ b. refuses (bare_refuses question b.image operands e b.answers)) bare.1)
     answers
 
-puts_no_input : (words : List (List ℕ)) (asked : Asked) (operands : List (List ℕ)) (answer : Answer) (old new : Option (List ℕ)) (before now : ℕ) → Answers words asked operands answer → PutsAnswer answer old new before now endings.InputFault → ⊥
-puts_no_input words asked operands (Text text) old new before now answers puts =
+puts_no_input : (words : List (List ℕ)) (question : Question) (operands : List (List ℕ)) (answer : Answer) (old new : Option (List ℕ)) (before now : ℕ) → Answers words question operands answer → PutsAnswer answer old new before now endings.InputFault → ⊥
+puts_no_input words question operands (Text text) old new before now answers puts =
     ⊎_elim (λ whole. let says = whole.0 in absurd (cc)) (λ part. let says = part.0 in absurd (cc)) puts
-puts_no_input words asked operands (Ends says) old new before now answers puts =
-    answers_no_input words asked operands (subst (λ (e : Ending). Answers words asked operands (Ends e)) (sym puts.0) answers)
+puts_no_input words question operands (Ends says) old new before now answers puts = says_no_input says (answers_say words question operands says answers) (sym puts.0)
 
 asks_no_input : (words : List (List ℕ)) (asked : Asked) (old new : World) → AsksFiles words asked old new endings.InputFault → ⊥
 asks_no_input words asked old new asks =
-    ⊎_elim (λ fault. fault.0) (λ r. puts_no_input words asked r.operands r.answer old.out new.out old.out_faults new.out_faults r.answers r.puts) asks
+    ⊎_elim (λ fault. fault.0) (λ r. puts_no_input words asked.question r.operands r.answer old.out new.out old.out_faults new.out_faults r.answers r.puts) asks
 
 pub asks_risen : (words : List (List ℕ)) (asked : Asked) (old new : World) (e : Ending) (before now : ℕ) → AsksFiles words asked old new e → FailsRisen e before now
 asks_risen words asked old new e before now asks = risen_but e before now (λ is. asks_no_input words asked old new (subst (AsksFiles words asked old new) is asks))

@@ -1,7 +1,7 @@
 -- The outside is as it was after an outcome, where it is so after its ending.
 use Rattle.std.proofs.Common.{ℕ}
 use Rattle.jop_cli.specs.declared.outcome.Ending.{Ending}
-use Rattle.jop_cli.specs.declared.outcome.Ending.TheVariants.{Ended, Written, Linked, Holds, Uncaught, Refused, TooLong, NotLinked, NotHeld, NotBounded, Spent, ReadFault, InputFault, WriteFault, NoMemory}
+use Rattle.jop_cli.specs.declared.outcome.Ending.TheVariants.{Ended, Written, Linked, Holds, Uncaught, Refused, TooLong, NotLinked, NotHeld, NotAnswered, Spent, ReadFault, InputFault, WriteFault, NoMemory}
 use Rattle.jop_cli.specs.Answer.{outcome_of, outcome_unsaid}
 use Rattle.jop_cli.specs.Leaving.{Leaves, FailsRisen, LeavesAll}
 
@@ -15,7 +15,7 @@ leaves_said (Refused refusal) before now risen all = tt
 leaves_said (TooLong method name blocks limit) before now risen all = tt
 leaves_said (NotLinked refusal name) before now risen all = tt
 leaves_said (NotHeld fault name) before now risen all = tt
-leaves_said (NotBounded cause subject) before now risen all = tt
+leaves_said (NotAnswered cause subject) before now risen all = tt
 leaves_said (Spent counts) before now risen all = all
 leaves_said ReadFault before now risen all = tt
 leaves_said InputFault before now risen all = all risen
@@ -32,7 +32,7 @@ leaves_unsaid (Refused refusal) before now risen all = tt
 leaves_unsaid (TooLong method name blocks limit) before now risen all = tt
 leaves_unsaid (NotLinked refusal name) before now risen all = tt
 leaves_unsaid (NotHeld fault name) before now risen all = tt
-leaves_unsaid (NotBounded cause subject) before now risen all = tt
+leaves_unsaid (NotAnswered cause subject) before now risen all = tt
 leaves_unsaid (Spent counts) before now risen all = all
 leaves_unsaid ReadFault before now risen all = tt
 leaves_unsaid InputFault before now risen all = all risen

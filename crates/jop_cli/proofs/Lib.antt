@@ -1,4 +1,5 @@
 pub mod Reset
+pub mod Refusing
 pub mod Executing
 pub mod Words
 pub mod Fitting
@@ -17,6 +18,11 @@ mod RunningLaw
 mod AskingLaw
 mod CheckingLaw
 mod BoundingLaw
+mod KeptLaw
+mod AnsweringLaw
+mod HoldingLaw
+mod NeedAnswers
+mod NeedsLaw
 mod Shown
 mod Leaving
 mod Texts

@@ -12,11 +12,13 @@ use Rattle.command_line.specs.Command.{command_of}
 use Rattle.jop_cli.specs.declared.outcome.Refusal.TheVariants as refusals
 use Rattle.jop_cli.specs.declared.outcome.Ending.{Ending}
 use Rattle.jop_cli.specs.declared.outcome.Ending.TheVariants as endings
+use Rattle.jop_cli.specs.declared.outcome.Outcome.TheVariants as outcomes
 use Rattle.jop_cli.specs.Line.{line_of}
 use Rattle.jop_cli.specs.World.{World, IsQuiet, IsUntaken, Reads}
 use Rattle.jop_cli.specs.Linking.{files_of, OperandsFault}
 use Rattle.jop_cli.specs.Answer.{Does, FileFault, outcome_of, lent_of, lent_without_input}
 use Rattle.jop_cli.specs.Calls.{Call, NothingFailed, LacksMemory, IsTold, AreTold}
+use Rattle.jop_cli.proofs.Refusing.{unsaid_written, unsaid_holds}
 use Rattle.jop_cli.proofs.Executing.{does_by}
 
 -- ---- what is said
@@ -35,6 +37,21 @@ wholly c n =
     ⊎_elim
     (λ whole. record { line = whole.0; outcome = whole.1 })
     (λ less. absurd (n.err (less_rose _ _ _ _ _ _ less.0)))
+    c.answered.said.said
+
+-- so it is where the outcome is that all was written, or that a certificate holds
+pub wholly_written : (c : Call) → c.outcome ≡ outcomes.Written → IsWholly c c.answered.ending
+wholly_written c is =
+    ⊎_elim
+    (λ whole. record { line = whole.0; outcome = whole.1 })
+    (λ less. absurd (unsaid_written c.answered.ending (sym less.1 ∙ is)))
+    c.answered.said.said
+
+pub wholly_held : (c : Call) → c.outcome ≡ outcomes.Holds → IsWholly c c.answered.ending
+wholly_held c is =
+    ⊎_elim
+    (λ whole. record { line = whole.0; outcome = whole.1 })
+    (λ less. absurd (unsaid_holds c.answered.ending (sym less.1 ∙ is)))
     c.answered.said.said
 
 -- the command of the words was executed
@@ -76,7 +93,7 @@ pub file_read : (c : Call) (word : ℕ) (bytes : List ℕ) → IsTold c word byt
 file_read c word bytes told n (endings.Refused (refusals.TooBig operand sum)) h =
     let same : sum ≡ length bytes = length_told (c.old.files word) bytes sum told.told h.length_is in
     absurd (omega (arith, same, told.short, h.long))
-file_read c word bytes told n endings.ReadFault h = absurd (n.files word h.1)
+file_read c word bytes told n endings.ReadFault h = absurd (n.files word bytes told.told h.1)
 file_read c word bytes told n endings.NoMemory h = refl
 file_read c word bytes told n ending h = absurd h
 
@@ -108,6 +125,11 @@ fits c first files operand sum told big =
 
 pub files_read : (c : Call) (first : ℕ) (files : List (List ℕ)) → AreTold c first files → NothingFailed c → (ending : Ending) → OperandsFault first c.old.words (files_of c.old) (files_of c.new) ending → ending ≡ endings.NoMemory
 files_read c first files told n (endings.Refused (refusals.TooBig operand sum)) h = absurd (fits c first files operand sum told h.0)
-files_read c first files told n endings.ReadFault h = absurd (n.files h.0 h.1.rose)
+files_read c first files told n endings.ReadFault h =
+    let fails = h.1 in
+    let k : ℕ = length fails.before in
+    let short : k < length files = omega (arith, told.many, fails.read.many, fails.below) in
+    let at : c.old.files h.0 ≡ Some (get_or files k []) = subst (λ (x : ℕ). c.old.files x ≡ Some (get_or files k [])) fails.read.many (told.told k short) in
+    absurd (n.files h.0 (get_or files k []) at fails.rose)
 files_read c first files told n endings.NoMemory h = refl
 files_read c first files told n ending h = absurd h

@@ -1,12 +1,10 @@
 -- What came of the class is told of its number of methods.
 use Rattle.std.proofs.Common.{◌≡◌, ℕ, ◌<◌, ◌≤◌, List, length, take, Option, refl, sym, subst, arith, inr, ⊎_elim, lit≤}
-use Rattle.std.specs.Prelude.{IsSomeAnd, IfSome, Vec}
-use Rattle.std.specs.declared.alloc.Global.{Global}
 use Rattle.class_pool.specs.declared.class.ClassFile.{ClassFile}
 use Rattle.program_tables.specs.Resolved.{resolved}
-use Rattle.bytecode_model.specs.Program.{Body, body_of}
+use Rattle.bytecode_model.specs.Program.{body_of}
 use Rattle.lists.specs.Lemmas.{some_is, if_at}
-use Rattle.linked_methods.specs.Fitting.{MethodFits, IsFirst, code_blocks}
+use Rattle.linked_methods.specs.Fitting.{code_blocks}
 use Rattle.loop_bounds.specs.declared.BoundsFault.TheVariants as faults
 use Rattle.loop_bounds.specs.Bounds.{LoopBound}
 use Rattle.bound_sound.specs.Laws.{CertificatesAreSound}
@@ -28,7 +26,7 @@ use Rattle.jop_cli.specs.declared.outcome.Ending.{Ending}
 use Rattle.jop_cli.specs.declared.outcome.Ending.TheVariants as endings
 use Rattle.jop_cli.specs.World.{World}
 use Rattle.jop_cli.specs.Leaving.{FailsRisen}
-use Rattle.jop_cli.specs.Working.{IsWork, usual_settings, Returned, IsMainBound, IsForbidden, ForbidsAs, IsWorkLine, PutsLineFront, NotWorked, Works}
+use Rattle.jop_cli.specs.Working.{IsWork, usual_settings, Returned, IsMainBound, IsForbidden, ForbidsAs, IsWorkLine, PutsLine, PutsLineFront, NotWorked, Works}
 
 -- what holds of a program with settings and a text holds of these that they are
 pub as_usual : (R : List ClassFile → Settings → List ℕ → Type 0) (n : ℕ) (had cs : List ClassFile) (s : Settings) (text : List ℕ) → had ≡ cs → s ≡ usual_settings → text ≡ bounds_text n → R had s text → R cs usual_settings (bounds_text n)
@@ -71,6 +69,9 @@ module _ (n : ℕ) (few : n ≤ 1000) (only : OnlyTheseAreRead) (cs : List Class
 
 pub forbidden_work : (n : ℕ) (l : Parts) (output : List ℕ) (counts : Counts) (ending : Ending) → IsWork n l → Returned l output counts → ForbidsAs n l.classes ending → NotWorked n ending
 forbidden_work n l output counts ending is returned forbids = inr (inr (record { linked = l; is = is; output = output; counts = counts; returned = returned; forbids = forbids }))
+
+pub puts_whole : (n : ℕ) (line bytes : List ℕ) (old new : Option (List ℕ)) (before now : ℕ) → bytes ≡ line → IsWorkLine n line → Grew old new bytes → before ≤ now → PutsLine n old new before now
+puts_whole n line bytes old new before now same is put later = record { line = bytes; is = subst (IsWorkLine n) (sym same) is; put = put; later = later }
 
 pub puts_front : (n : ℕ) (line bytes : List ℕ) (old new : Option (List ℕ)) (before now : ℕ) → bytes ≡ line → IsWorkLine n line → (k : ℕ) × (k < length bytes) × Grew old new (take k bytes) → Rose before now → PutsLineFront n old new before now
 puts_front n line bytes old new before now same is front rose =

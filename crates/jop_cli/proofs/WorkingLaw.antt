@@ -1,19 +1,17 @@
 -- The line of `work`, on a call on which nothing fails.
-use Rattle.std.proofs.Common.{◌≡◌, ℕ, List, [], Option, refl, sym, ◌∙◌, ap, subst, ◌⊎◌, inl, inr, ⊎_elim}
+use Rattle.std.proofs.Common.{◌≡◌, ℕ, refl, sym, ◌∙◌, ap, subst, ◌⊎◌, inl, inr, ⊎_elim}
 use Rattle.outside.specs.Outside.{Grew}
 use Rattle.command_line.specs.declared.command.Command.TheVariants.{Work}
-use Rattle.command_line.specs.Command.{command_of}
 use Rattle.jop_cli.specs.declared.outcome.Ending.{Ending}
 use Rattle.jop_cli.specs.declared.outcome.Ending.TheVariants as endings
-use Rattle.jop_cli.specs.declared.outcome.Outcome.{Outcome}
 use Rattle.jop_cli.specs.declared.outcome.Outcome.TheVariants as outcomes
 use Rattle.jop_cli.specs.Line.{line_of}
 use Rattle.jop_cli.specs.World.{IsQuiet}
 use Rattle.jop_cli.specs.Working.{PutsLine, NotWorked, OnlyOut}
 use Rattle.jop_cli.specs.Answer.{outcome_of}
-use Rattle.jop_cli.specs.Calls.{Call, NothingFailed, LacksMemory}
+use Rattle.jop_cli.specs.Calls.{Call}
 use Rattle.jop_cli.specs.Correct.{IsWorkedBy, Hinders, WorkingIsComplete, WorkLinesAreTrue}
-use Rattle.jop_cli.proofs.Wholly.{IsWholly, wholly, executed, lacks}
+use Rattle.jop_cli.proofs.Wholly.{IsWholly, wholly, wholly_written, executed, lacks}
 
 in_the_way : (n : ℕ) (ending : Ending) → NotWorked n ending → (ending ≡ endings.NoMemory) ⊎ Hinders n ending
 in_the_way n endings.NoMemory h = inl refl
@@ -45,10 +43,14 @@ complete c n command none open_way =
     works.0
 
 pub are_true : WorkLinesAreTrue
-are_true c n command none is =
-    let w = wholly c none in
+are_true c n command is =
+    let w = wholly_written c is in
+    let outcome : outcome_of c.answered.ending ≡ outcomes.Written = sym w.outcome ∙ is in
     let works = executed c (Work n) command in
     ⊎_elim
     (λ h. written c n c.answered.ending w h.0 h.1)
-    (λ rest. ⊎_elim (λ h. absurd (none.out h.1.rose)) (λ h. absurd (not_written n c.answered.ending h.0 (sym w.outcome ∙ is))) rest)
+    (λ rest. ⊎_elim
+    (λ h. let clash : outcomes.WriteFault ≡ outcomes.Written = ap outcome_of (sym h.0) ∙ outcome in absurd (cc))
+    (λ h. absurd (not_written n c.answered.ending h.0 outcome))
+    rest)
     works.0

@@ -5,12 +5,15 @@ use Rattle.std.specs.declared.result.Result.{Result}
 use Rattle.outside.specs.Outside.{Grew, Rose}
 use Rattle.command_line.specs.declared.command.Settings.{Settings}
 use Rattle.command_line.specs.declared.command.Command.{Command}
-use Rattle.command_line.specs.declared.command.Command.TheVariants.{Run, Trace, Bound, Check, Asm as Assemble, Link as LinkTo, Work}
+use Rattle.command_line.specs.declared.command.Command.TheVariants.{Run, Trace, Bound, Check, Loops, Memory, Asm as Assemble, Link as LinkTo, Work}
 use Rattle.command_line.specs.Command.{command_of}
 use Rattle.answer_lines.specs.Said.{SaidLess}
-use Rattle.jop_cli.specs.declared.outcome.Refusal.TheVariants.{Usage, TooBig, MethodTooLong, Link, Check as NotChecked, Bound as Forbidden}
+use Rattle.answer_lines.specs.declared.unanswered.Cause.{Cause}
+use Rattle.answer_lines.specs.declared.unanswered.Cause.TheVariants as causes
+use Rattle.jop_cli.specs.declared.outcome.Refusal.{Refusal}
+use Rattle.jop_cli.specs.declared.outcome.Refusal.TheVariants.{Usage, TooBig, MethodTooLong, Link, Check as NotChecked, Bound as Forbidden, Memory as NotMet}
 use Rattle.jop_cli.specs.declared.outcome.Ending.{Ending}
-use Rattle.jop_cli.specs.declared.outcome.Ending.TheVariants.{Ended, Written, Linked, Holds, Uncaught, Refused, TooLong, NotLinked, NotHeld, NotBounded, Spent}
+use Rattle.jop_cli.specs.declared.outcome.Ending.TheVariants.{Ended, Written, Linked, Holds, Uncaught, Refused, TooLong, NotLinked, NotHeld, NotAnswered, Spent}
 use Rattle.jop_cli.specs.declared.outcome.Ending.TheVariants.{ReadFault, InputFault, WriteFault, NoMemory}
 use Rattle.jop_cli.specs.declared.outcome.Outcome.{Outcome}
 use Rattle.jop_cli.specs.declared.outcome.Outcome.TheVariants as outcomes
@@ -23,8 +26,8 @@ use Rattle.run_devices.specs.Lent.{Lent, lent}
 use Rattle.jop_cli.specs.LinkedFile.{RunsLinkedBytes}
 use Rattle.jop_cli.specs.World.{World, IsQuiet, IsUntaken, FilesStayBut, IsUnchanged, Reads, IsTooBig}
 use Rattle.jop_cli.specs.Assembling.{Assembles}
-use Rattle.jop_cli.specs.Linking.{files_of, LinksFiles}
-use Rattle.jop_cli.specs.Asking.{AsksFiles, checking, bounding}
+use Rattle.jop_cli.specs.Linking.{LinksFiles}
+use Rattle.jop_cli.specs.Asking.{AsksFiles, checking, bounding, finding_loops, needing}
 use Rattle.jop_cli.specs.Working.{Works}
 
 -- what a run is lent
@@ -79,10 +82,17 @@ Does words (Ok (Assemble text)) old new ending = Assembles text old new ending
 Does words (Ok (LinkTo main first)) old new ending = LinksFiles (text_at words main) first old new ending
 Does words (Ok (Check settings image bounds certificate)) old new ending = AsksFiles words (checking settings image) old new ending
 Does words (Ok (Bound settings method image bounds)) old new ending = AsksFiles words (bounding settings method image) old new ending
+Does words (Ok (Loops image)) old new ending = AsksFiles words (finding_loops image) old new ending
+Does words (Ok (Memory image bounds sizes)) old new ending = AsksFiles words (needing image) old new ending
 Does words (Ok (Work n)) old new ending = Works n old new ending
 
 abbrev pub Executed : List (List ℕ) → World → World → Ending → Type 0
 Executed words old new ending = Does words (command_of words) old new ending
+
+-- the refusal of what isn't answered
+abbrev pub refusal_of : Cause → Refusal
+refusal_of (causes.Bound cause) = Forbidden cause
+refusal_of (causes.Memory cause) = NotMet cause
 
 abbrev pub outcome_of : Ending → Outcome
 outcome_of (Ended counts) = outcomes.Ended
@@ -94,7 +104,7 @@ outcome_of (Refused refusal) = outcomes.Refused refusal
 outcome_of (TooLong method name blocks limit) = outcomes.Refused (MethodTooLong method blocks limit)
 outcome_of (NotLinked refusal name) = outcomes.Refused (Link refusal)
 outcome_of (NotHeld fault name) = outcomes.Refused (NotChecked fault)
-outcome_of (NotBounded cause subject) = outcomes.Refused (Forbidden cause)
+outcome_of (NotAnswered cause subject) = outcomes.Refused (refusal_of cause)
 outcome_of (Spent counts) = outcomes.Spent
 outcome_of ReadFault = outcomes.ReadFault
 outcome_of InputFault = outcomes.ReadFault
@@ -112,7 +122,7 @@ outcome_unsaid (Refused refusal) = outcomes.WriteFault
 outcome_unsaid (TooLong method name blocks limit) = outcomes.WriteFault
 outcome_unsaid (NotLinked refusal name) = outcomes.WriteFault
 outcome_unsaid (NotHeld fault name) = outcomes.WriteFault
-outcome_unsaid (NotBounded cause subject) = outcomes.WriteFault
+outcome_unsaid (NotAnswered cause subject) = outcomes.WriteFault
 outcome_unsaid (Spent counts) = outcomes.WriteFault
 outcome_unsaid ReadFault = outcomes.ReadFault
 outcome_unsaid InputFault = outcomes.ReadFault

@@ -1,27 +1,33 @@
 -- What is asked of an image, and how it is answered: by a text that is put out, or by the line of an ending.
-use Rattle.std.specs.Prelude.{◌≡◌, ℕ, ◌+◌, ◌<◌, ◌≤◌, true, false, ◌⊎◌, List, length, take}
+use Rattle.std.specs.Prelude.{◌≡◌, ℕ, ◌+◌, ◌<◌, ◌≤◌, true, false, ◌⊎◌, List, length, take, Some, None}
 use Rattle.std.specs.declared.option.Option.{Option}
 use Rattle.outside.specs.Outside.{Grew, Rose}
 use Rattle.outside.specs.Files.{OnlyWords, AreFiles}
 use Rattle.image_file.specs.Bare.{Image, IsBare}
 use Rattle.image_file.specs.Linked as file
 use Rattle.command_line.specs.declared.command.Settings.{Settings}
+use Rattle.command_line.specs.declared.command.Command.{Command}
+use Rattle.command_line.specs.declared.command.Command.TheVariants as commands
+use Rattle.command_line.specs.Range.{AreSettings}
 use Rattle.jopizer.specs.Linked.{Parts, IsLinked, image_of}
 use Rattle.jop_cli.specs.declared.asking.Question.{Question}
-use Rattle.jop_cli.specs.declared.asking.Question.TheVariants.{Check, Bound}
+use Rattle.jop_cli.specs.declared.asking.Question.TheVariants.{Check, Bound, Loops, Memory}
 use Rattle.jop_cli.specs.declared.asking.Asked.{Asked}
 use Rattle.jop_cli.specs.declared.outcome.Answer.{Answer}
 use Rattle.jop_cli.specs.declared.outcome.Answer.TheVariants.{Text, Ends}
 use Rattle.jop_cli.specs.declared.outcome.Ending.{Ending}
 use Rattle.jop_cli.specs.declared.outcome.Ending.TheVariants.{Written, WriteFault}
+use Rattle.boundary.specs.Setting.{IsSetting}
+use Rattle.jop_cli.specs.LinkedRun.{linked_setting}
 use Rattle.jop_cli.specs.Line.{text_at}
 use Rattle.jop_cli.specs.Phase.{is_linked}
 use Rattle.jop_cli.specs.BareFile.{ImageFault}
 use Rattle.jop_cli.specs.LinkedFile.{BytesFault}
 use Rattle.jop_cli.specs.World.{World, IsQuiet, IsUntaken}
 use Rattle.jop_cli.specs.Linking.{files_of, OperandsFault}
-use Rattle.jop_cli.specs.Checking.{Checks, EndsTooLong, EndsMissing}
-use Rattle.jop_cli.specs.Bounding.{AnswersBound, EndsUnnamed}
+use Rattle.jop_cli.specs.Checking.{Checks, ChecksBare}
+use Rattle.jop_cli.specs.Bounding.{AnswersBound, BoundsBare}
+use Rattle.jop_cli.specs.Needs.{AnswersLoops, AnswersNothing, AnswersNeed, AnswersBareNeed}
 
 -- ---- the answers, question by question; the operands' texts stand in their order, the image's bytes first
 
@@ -30,36 +36,48 @@ abbrev pub EndsBy : (Ending → Type 0) → Answer → Type 0
 EndsBy cause (Text text) = ⊥
 EndsBy cause (Ends ending) = cause ending
 
--- what was linked answers so; the words name what is asked for
-abbrev pub IsAnswer : (words : List (List ℕ)) → Settings → Question → Parts → (operands : List (List ℕ)) → Answer → Type 0
-IsAnswer words s Check l operands answer = EndsBy (Checks l.classes s (text_at operands 1) (text_at operands 2)) answer
-IsAnswer words s (Bound method) l operands answer = AnswersBound l.classes s (text_at operands 1) (text_at words method) answer
+-- settings of a machine, where the question has them, are in their ranges
+abbrev pub HasSettings : Question → Type 0
+HasSettings (Check s) = AreSettings s
+HasSettings (Bound s method) = AreSettings s
+HasSettings Loops = Unit {0}
+HasSettings Memory = Unit {0}
 
--- a bare image has no classes, and ends so where its code fits the method cache
-abbrev pub IsBareEnding : Settings → Question → Image → (operands : List (List ℕ)) → Ending → Type 0
-IsBareEnding s Check image operands ending = EndsMissing s image (text_at operands 1) (text_at operands 2) ending
-IsBareEnding s (Bound method) image operands ending = EndsUnnamed s image (text_at operands 1) ending
+-- what was linked answers so; the words name what is asked for
+abbrev pub IsAnswer : (words : List (List ℕ)) → Question → Parts → (operands : List (List ℕ)) → Answer → Type 0
+IsAnswer words (Check s) l operands answer = EndsBy (Checks l.classes s (text_at operands 1) (text_at operands 2)) answer
+IsAnswer words (Bound s method) l operands answer = AnswersBound l.classes s (text_at operands 1) (text_at words method) answer
+IsAnswer words Loops l operands answer = AnswersLoops l.classes answer
+IsAnswer words Memory l operands answer = AnswersNeed l (text_at operands 1) (text_at operands 2) answer
+
+-- so does a bare image, which has no classes
+abbrev pub IsBareAnswer : Question → Image → (operands : List (List ℕ)) → Answer → Type 0
+IsBareAnswer (Check s) image operands answer = EndsBy (ChecksBare s image (text_at operands 1) (text_at operands 2)) answer
+IsBareAnswer (Bound s method) image operands answer = EndsBy (BoundsBare s image (text_at operands 1)) answer
+IsBareAnswer Loops image operands answer = AnswersNothing answer
+IsBareAnswer Memory image operands answer = AnswersBareNeed image (text_at operands 1) (text_at operands 2) answer
 
 -- ---- the image
 
--- the bytes are the file of what was linked, and it answers so
-pub record AnswersLinked (words : List (List ℕ)) (asked : Asked) (operands : List (List ℕ)) (answer : Answer) : Type 0 where
+-- the bytes are the file of what was linked, of which machines of any size run the program, and it answers so
+pub record AnswersLinked (words : List (List ℕ)) (question : Question) (operands : List (List ℕ)) (answer : Answer) : Type 0 where
   pub linked : Parts
   pub is_linked : IsLinked linked
   pub is_file : file.IsLinked (text_at operands 0) (image_of linked)
-  pub answers : IsAnswer words asked.settings asked.question linked operands answer
+  pub setting : (chip memory : ℕ) → IsSetting (linked_setting linked.classes chip memory)
+  pub answers : IsAnswer words question linked operands answer
 
--- the bytes are a bare image: its code takes more blocks than the method cache has, or it ends so
-pub record EndsBare (asked : Asked) (operands : List (List ℕ)) (ending : Ending) : Type 0 where
+-- the bytes are a bare image, and it answers so
+pub record AnswersBare (question : Question) (operands : List (List ℕ)) (answer : Answer) : Type 0 where
   pub image : Image
   pub bare : IsBare (text_at operands 0) image
-  pub ends : EndsTooLong asked.settings image ending ⊎ IsBareEnding asked.settings asked.question image operands ending
+  pub answers : IsBareAnswer question image operands answer
 
 -- how an image answers whose bytes begin as those of a linked one, or don't
-abbrev pub Answers : (words : List (List ℕ)) → Asked → (operands : List (List ℕ)) → Answer → Type 0
-Answers words asked operands answer =
-    ((is_linked (text_at operands 0) ≡ true) × (EndsBy (BytesFault (text_at operands 0)) answer ⊎ AnswersLinked words asked operands answer))
-    ⊎ ((is_linked (text_at operands 0) ≡ false) × (EndsBy (ImageFault (text_at operands 0)) answer ⊎ EndsBy (EndsBare asked operands) answer))
+abbrev pub Answers : (words : List (List ℕ)) → Question → (operands : List (List ℕ)) → Answer → Type 0
+Answers words question operands answer =
+    ((is_linked (text_at operands 0) ≡ true) × (EndsBy (BytesFault (text_at operands 0)) answer ⊎ AnswersLinked words question operands answer))
+    ⊎ ((is_linked (text_at operands 0) ≡ false) × (EndsBy (ImageFault (text_at operands 0)) answer ⊎ AnswersBare question operands answer))
 
 -- ---- what is put
 
@@ -88,7 +106,7 @@ pub record AsksRead (words : List (List ℕ)) (asked : Asked) (old new : World) 
   pub only : OnlyWords (files_of old) (files_of new) asked.image (asked.image + asked.operands)
   pub are : AreFiles old.files asked.image (asked.image + asked.operands) operands
   pub answer : Answer
-  pub answers : Answers words asked operands answer
+  pub answers : Answers words asked.question operands answer
   pub puts : PutsAnswer answer old.out new.out old.out_faults new.out_faults ending
   pub watch : new.watch ≡ old.watch
   pub input : IsUntaken old new
@@ -102,7 +120,21 @@ AsksFiles words asked old new ending =
 -- ---- the questions of commands
 
 abbrev pub checking : Settings → (image : ℕ) → Asked
-checking s image = record { settings = s; question = Check; image = image; operands = 3 }
+checking s image = record { question = Check s; image = image; operands = 3 }
 
 abbrev pub bounding : Settings → (method image : ℕ) → Asked
-bounding s method image = record { settings = s; question = Bound method; image = image; operands = 2 }
+bounding s method image = record { question = Bound s method; image = image; operands = 2 }
+
+abbrev pub finding_loops : (image : ℕ) → Asked
+finding_loops image = record { question = Loops; image = image; operands = 1 }
+
+abbrev pub needing : (image : ℕ) → Asked
+needing image = record { question = Memory; image = image; operands = 3 }
+
+-- what a command asks of an image, where it does
+abbrev pub asked_of : Command → Option Asked
+asked_of (commands.Check s image bounds certificate) = Some (checking s image)
+asked_of (commands.Bound s method image bounds) = Some (bounding s method image)
+asked_of (commands.Loops image) = Some (finding_loops image)
+asked_of (commands.Memory image bounds sizes) = Some (needing image)
+asked_of command = None

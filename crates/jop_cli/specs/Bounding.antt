@@ -1,5 +1,5 @@
 -- What `bound` does: a certificate of a method's bound is put, by an image and the bounds of its loops, which is the operand behind it.
-use Rattle.std.specs.Prelude.{◌≡◌, ℕ, ◌≤◌, List}
+use Rattle.std.specs.Prelude.{◌≡◌, ℕ, ◌≤◌, ◌⊎◌, List}
 use Rattle.class_pool.specs.declared.class.ClassFile.{ClassFile}
 use Rattle.image_file.specs.Bare.{Image}
 use Rattle.program_tables.specs.Resolved.{resolved}
@@ -9,19 +9,20 @@ use Rattle.analysis_commands.specs.declared.bound.NotBounded.{NotBounded as Caus
 use Rattle.analysis_commands.specs.declared.bound.NotBounded.TheVariants as causes
 use Rattle.analysis_commands.specs.Analysis.{timing_of, bounds_of}
 use Rattle.analysis_commands.specs.Bounding.{IsBound, IsNotBounded, IsBareNotBounded}
+use Rattle.answer_lines.specs.declared.unanswered.Cause.TheVariants.{Bound}
 use Rattle.jop_cli.specs.declared.outcome.Ending.{Ending}
-use Rattle.jop_cli.specs.declared.outcome.Ending.TheVariants.{NotBounded, NoMemory}
+use Rattle.jop_cli.specs.declared.outcome.Ending.TheVariants.{NotAnswered, NoMemory}
 use Rattle.jop_cli.specs.declared.outcome.Answer.{Answer}
 use Rattle.jop_cli.specs.declared.outcome.Answer.TheVariants.{Text, Ends}
 use Rattle.jop_cli.specs.BareFile.{blocks_of_code}
-use Rattle.jop_cli.specs.Checking.{fault_ending}
+use Rattle.jop_cli.specs.Checking.{fault_ending, EndsTooLong}
 
 -- ---- a program
 
 -- the ending that says why no bound is given
 abbrev pub cause_ending : Settings → Cause → Ending
 cause_ending s (causes.NoAnalysis fault) = fault_ending s fault
-cause_ending s (causes.Forbidden cause subject) = NotBounded cause subject
+cause_ending s (causes.Forbidden cause subject) = NotAnswered (Bound cause) subject
 cause_ending s causes.NoMemory = NoMemory
 
 -- What the text says holds of the program and of the machine: it is that of a certificate that meets its conditions, so each ended activation of its
@@ -49,3 +50,7 @@ pub record EndsUnnamed (s : Settings) (image : Image) (bounds_text : List ℕ) (
   pub cause : Cause
   pub is : IsBareNotBounded bounds_text cause
   pub says : ending ≡ cause_ending s cause
+
+-- how the bounding of a method of a bare image ends
+abbrev pub BoundsBare : Settings → Image → (bounds_text : List ℕ) → Ending → Type 0
+BoundsBare s image bounds_text ending = EndsTooLong s image ending ⊎ EndsUnnamed s image bounds_text ending

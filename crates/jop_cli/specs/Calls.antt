@@ -20,9 +20,9 @@ pub record Call : Type 0 where
   pub outcome : Outcome
   pub answered : Answered words old new err_old err_new err_faults_old err_faults_new outcome
 
--- no call on a file, on the input, on out or on err failed
+-- no call on a file of which the bytes are told, on the input, on out or on err failed
 pub record NothingFailed (c : Call) : Type 0 where
-  pub files : (k : ℕ) → ¬ Rose (c.old.file_faults k) (c.new.file_faults k)
+  pub files : (k : ℕ) (bytes : List ℕ) → c.old.files k ≡ Some bytes → ¬ Rose (c.old.file_faults k) (c.new.file_faults k)
   pub input : ¬ Rose c.old.read_faults c.new.read_faults
   pub out : ¬ Rose c.old.out_faults c.new.out_faults
   pub err : ¬ Rose c.err_faults_old c.err_faults_new

@@ -67,3 +67,7 @@ pub record EndsMissing (s : Settings) (image : Image) (bounds_text cert_text : L
   pub refusal : CheckRefusal
   pub cause : IsBareRefusal bounds_text cert_text refusal
   pub says : ending ≡ refusal_ending s refusal
+
+-- how the check of a bare image ends
+abbrev pub ChecksBare : Settings → Image → (bounds_text cert_text : List ℕ) → Ending → Type 0
+ChecksBare s image bounds_text cert_text ending = EndsTooLong s image ending ⊎ EndsMissing s image bounds_text cert_text ending

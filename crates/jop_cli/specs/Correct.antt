@@ -1,11 +1,14 @@
 -- What the program promises, on one page: each statement is the contract of a function of `laws`, and follows from the contract of `jop`, which makes a call of
 -- each use of it (`call_of` in Calls). The definitions below it, in the order in which to read them:
---   class_rules Grammar (what a class file is), jop_program Resolving (what resolved is), bytecode_verifier Failure (what verified is),
+--   class_rules Grammar (what a class file is), program_tables Resolving (what resolved is), bytecode_verifier Failure (what verified is),
 --   program_tables Resolved (the program of resolved classes), bytecode_model State and Steps (what a step of the bytecode is),
 --   jop_core State, Cycle and Reset (what a cycle of the machine is), machine_stands StandsFor (which state the machine stands for),
---   boundary Runs (the run of both), image_words Regions and linked_image Linked (what an image and its file are), bare_image Bare and microcode_asm Roms
---   (the same of a bare image and of a microprogram), jop_words Command (what words say), and of this crate World, Linking, LinkedSettings, Calls and Courses.
-use Rattle.std.specs.Prelude.{◌≡◌, ℕ, ◌≤◌, ◌⊎◌, Bool, List, [], ◌∷◌, length, Some, Ok}
+--   boundary Runs (the run of both), image_words Regions and image_file Linked (what an image and its file are), image_file Bare and microcode_asm Roms
+--   (the same of a bare image and of a microprogram), command_line Command (what words say), and of this crate World, Linking, LinkedSettings,
+--   Calls and Courses.
+use Rattle.std.specs.Prelude.{◌≡◌, ℕ, suc, ◌+◌, ◌≤◌, ◌⊎◌, Bool, List, [], ◌∷◌, length, Option, Some, Ok, MatchOption}
+use Rattle.std.specs.Prelude.{Vec}
+use Rattle.std.specs.declared.alloc.Global.{Global}
 use Rattle.std.specs.List.{concat}
 use Rattle.image_file.specs.Bare.{Image, IsBare}
 use Rattle.image_file.specs.Linked as file
@@ -13,12 +16,29 @@ use Rattle.microcode_asm.specs.declared.Rom.{Rom}
 use Rattle.microcode_asm.specs.Roms.{IsAssembled}
 use Rattle.microcode_asm.specs.Listing.{listing_of}
 use Rattle.command_line.specs.declared.command.Settings.{Settings}
+use Rattle.command_line.specs.declared.command.Command.{Command}
 use Rattle.command_line.specs.declared.command.Command.TheVariants.{Run, Trace, Bound, Check, Asm as Assemble, Link as LinkTo, Work}
 use Rattle.command_line.specs.Command.{command_of}
 use Rattle.jopizer.specs.declared.refusal.LinkRefusal.{LinkRefusal}
 use Rattle.jopizer.specs.Linked.{Parts, IsLinked, image_of}
 use Rattle.answer_lines.specs.declared.line.Sizes.{Sizes}
+use Rattle.memory_timing.specs.declared.Config.{Config}
+use Rattle.jop_core.specs.Reset.{linked_reset}
+use Rattle.class_pool.specs.declared.class.ClassFile.{ClassFile}
+use Rattle.bytecode_model.specs.declared.Ending.TheVariants.{Raising}
+use Rattle.bytecode_model.specs.State.{State}
+use Rattle.bytecode_model.specs.Program.{Limits}
+use Rattle.bytecode_model.specs.Effects.{fault_object, OutOfMemoryError, StackOverflowError}
+use Rattle.bytecode_model.specs.Steps.{boot_state, run_from}
+use Rattle.bytecode_typing.specs.Typed.{Typing}
+use Rattle.memory_rules.specs.declared.needs.Need.{Need}
+use Rattle.memory_laws.specs.Promises.{RunsFromBoot, StandsAtCall, StandsAtMaking, KeptSoFar}
+use Rattle.method_flow.specs.Keeping.{BoundOf}
+use Rattle.activations.specs.Setting.{IsSetting}
+use Rattle.activations.specs.Activations.{Stage, IsActivation, cycles_of}
+use Rattle.activations.specs.Keeping.{Keeps}
 use Rattle.activations.specs.Warrant.{BoundsActivations}
+use Rattle.boundary.specs.Runs.{Goes}
 use Rattle.jop_cli.specs.declared.outcome.Ending.{Ending}
 use Rattle.jop_cli.specs.declared.outcome.Ending.TheVariants as endings
 use Rattle.program_tables.specs.Resolved.{resolved}
@@ -31,26 +51,35 @@ use Rattle.bound_rules.specs.declared.faults.CheckFault.{CheckFault}
 use Rattle.bound_rules.specs.Conditions.{MeetsConditions}
 use Rattle.bound_rules.specs.Refused.{IsRefused}
 use Rattle.bound_rules.specs.declared.faults.BoundRefusal.{BoundRefusal}
-use Rattle.bound_rules.specs.declared.faults.BoundRefusal.TheVariants.{NoMemory as Spent}
+use Rattle.bound_rules.specs.declared.faults.BoundRefusal.TheVariants.{NoMemory as Lacking}
 use Rattle.bound_rules.specs.Bounding.{IsCause}
 use Rattle.answer_lines.specs.declared.bound.BoundCause.{BoundCause}
 use Rattle.answer_lines.specs.AnalysisLines.{held_parts, fault_parts, cause_parts}
 use Rattle.analysis_commands.specs.Analysis.{timing_of, bounds_of, name_of, named_or_number}
 use Rattle.analysis_commands.specs.Checking.{fault_name}
+use Rattle.analysis_commands.specs.Memory.{IsNeed}
 use Rattle.analysis_commands.specs.Bounding.{IsNamed, IsBoundBy, cause_of, subject_of}
 use Rattle.jop_cli.specs.declared.outcome.Refusal.TheVariants.{Check as NotChecked, Bound as Forbidden}
+use Rattle.jop_cli.specs.declared.outcome.Answer.TheVariants.{Text, Ends}
+use Rattle.jop_cli.specs.declared.asking.Question.{Question}
+use Rattle.jop_cli.specs.declared.asking.Asked.{Asked}
 use Rattle.jop_cli.specs.declared.outcome.Outcome.{Outcome}
 use Rattle.jop_cli.specs.declared.outcome.Outcome.TheVariants.{Written, Holds, Refused}
+use Rattle.jop_cli.specs.declared.show.Show.{Show}
 use Rattle.jop_cli.specs.declared.show.Show.TheVariants as shows
+use Rattle.jop_cli.specs.LinkedRun.{linked_setting}
 use Rattle.jop_cli.specs.Line.{text_at, line_of}
 use Rattle.jop_cli.specs.Linking.{class_name, Refuses, AreLinkedTo}
 use Rattle.jop_cli.specs.LinkedSettings.{CodesFit}
 use Rattle.jop_cli.specs.BareFile.{blocks_of_code}
 use Rattle.outside.specs.Outside.{Grew}
+use Rattle.outside.specs.Files.{AreFiles}
 use Rattle.jop_cli.specs.World.{IsQuiet}
 use Rattle.jop_cli.specs.Calls.{Call, NothingFailed, LacksMemory, Puts, IsTold, AreTold}
 use Rattle.jop_cli.specs.Working.{IsWorkLine, NotWorked}
 use Rattle.jop_cli.specs.Courses.{RanLinked, RanBare}
+use Rattle.jop_cli.specs.Asking.{IsAnswer, asked_of}
+use Rattle.jop_cli.specs.Answer.{outcome_of}
 
 -- ---- `link`
 
@@ -161,15 +190,30 @@ CheckingIsComplete =
     → MeetsConditions (resolved l.classes) (timing_of settings) (bounds_of l.classes lines) certificate
     → AnswersLine c Holds (held_parts (name_of l.classes certificate.root) certificate.bound) ⊎ LacksMemory c
 
--- Where the answer is that it holds, the line says its method and its bound, and each ended activation of the method takes at most so many cycles,
--- where its loops keep the bounds: in every run of the program, on each machine with these waits and a method cache of these sizes, whatever the
--- cache holds and whatever is read. Where the bound is never, no such activation ends.
+-- What a call shows that answers that a certificate holds: these are the bytes of its files, of the image of what is linked, of bounds and of the
+-- certificate; it meets the conditions, and the line says its method and its bound. There is a machine of each size for the program. Each ended
+-- activation of the method takes at most so many cycles, where its loops keep the bounds: in every run of the program, on each machine with these
+-- waits and a method cache of these sizes, whatever the cache holds and whatever is read. Where the bound is never, no such activation ends.
+pub record ShowsHeld (c : Call) (settings : Settings) (image : ℕ) : Type 0 where
+  pub files : List (List ℕ)
+  pub are : AreFiles c.old.files image (image + 3) files
+  pub linked : Parts
+  pub is_linked : IsLinked linked
+  pub is_file : file.IsLinked (text_at files 0) (image_of linked)
+  pub setting : (chip memory : ℕ) → IsSetting (linked_setting linked.classes chip memory)
+  pub codes : CodesFit settings linked
+  pub lines : List LoopBound
+  pub read : IsRead (text_at files 1) lines
+  pub certificate : Certificate
+  pub text : AreLinesOf (text_lines (text_at files 2)) certificate
+  pub meets : MeetsConditions (resolved linked.classes) (timing_of settings) (bounds_of linked.classes lines) certificate
+  pub says : Grew c.err_old c.err_new (concat (held_parts (name_of linked.classes certificate.root) certificate.bound))
+  pub kept : BoundsActivations (resolved linked.classes) (timing_of settings) (bounds_of linked.classes lines) certificate.root certificate.bound
+
 abbrev pub CheckedBoundsAreKept : Type 0
 CheckedBoundsAreKept =
-    (c : Call) (settings : Settings) (image : ℕ) (l : Parts) (lines : List LoopBound) (certificate : Certificate)
-    → ChecksTexts c settings image l lines certificate → NothingFailed c → c.outcome ≡ Holds
-    → AnswersLine c Holds (held_parts (name_of l.classes certificate.root) certificate.bound)
-    × BoundsActivations (resolved l.classes) (timing_of settings) (bounds_of l.classes lines) certificate.root certificate.bound
+    (c : Call) (settings : Settings) (image bounds last : ℕ) → command_of c.words ≡ Ok (Check settings image bounds last) → c.outcome ≡ Holds
+    → ShowsHeld c settings image
 
 -- One that doesn't is refused by the first condition that fails; or there is no memory.
 abbrev pub FaultsAreAnswered : Type 0
@@ -205,7 +249,7 @@ pub record IsBounded (c : Call) (settings : Settings) (l : Parts) (lines : List 
 
 -- this forbids a bound of the method
 abbrev pub Forbids : Settings → Parts → List LoopBound → (name : List ℕ) → BoundRefusal → Type 0
-Forbids settings l lines name Spent = ⊥
+Forbids settings l lines name Lacking = ⊥
 Forbids settings l lines name refusal = IsCause (resolved l.classes) (timing_of settings) (bounds_of l.classes lines) (IsNamed l.classes name) refusal
 
 -- Where nothing forbids it, a certificate of the method is put; or there is no memory.
@@ -230,17 +274,82 @@ BoundRefusalsAreCaused =
     → BoundsTexts c settings image l lines name → NothingFailed c
     → c.outcome ≡ Refused (Forbidden cause) → AnswersForbidden c settings l lines name cause
 
--- Where the answer is that a certificate is written, its bound is kept in the same way.
+-- What a call shows in the same way that answers that a certificate of a method is written: its text was put, and its bound is kept.
+pub record ShowsWritten (c : Call) (settings : Settings) (method image : ℕ) : Type 0 where
+  pub files : List (List ℕ)
+  pub are : AreFiles c.old.files image (image + 2) files
+  pub linked : Parts
+  pub is_linked : IsLinked linked
+  pub is_file : file.IsLinked (text_at files 0) (image_of linked)
+  pub setting : (chip memory : ℕ) → IsSetting (linked_setting linked.classes chip memory)
+  pub codes : CodesFit settings linked
+  pub lines : List LoopBound
+  pub read : IsRead (text_at files 1) lines
+  pub certificate : Certificate
+  pub is : IsBoundBy (resolved linked.classes) (timing_of settings) (bounds_of linked.classes lines)
+      (IsNamed linked.classes (text_at c.words method)) certificate
+  pub put : Grew c.old.out c.new.out (text_of certificate)
+  pub kept : BoundsActivations (resolved linked.classes) (timing_of settings) (bounds_of linked.classes lines) certificate.root certificate.bound
+
 abbrev pub WrittenBoundsAreKept : Type 0
 WrittenBoundsAreKept =
-    (c : Call) (settings : Settings) (image : ℕ) (l : Parts) (lines : List LoopBound) (name : List ℕ) → BoundsTexts c settings image l lines name
-    → NothingFailed c → c.outcome ≡ Written
-    → (b : IsBounded c settings l lines name) × BoundsActivations (resolved l.classes) (timing_of settings)
-    (bounds_of l.classes lines) b.certificate.root b.certificate.bound
+    (c : Call) (settings : Settings) (method image bounds : ℕ) → command_of c.words ≡ Ok (Bound settings method image bounds) → c.outcome ≡ Written
+    → ShowsWritten c settings method image
 
 -- So it is of `check` and of `bound`.
 abbrev pub BoundsAreKept : Type 0
 BoundsAreKept = CheckedBoundsAreKept × WrittenBoundsAreKept
+
+-- ---- the bounds in the runs
+
+-- a boundary of the run of what was linked, from reset: some steps lead to it
+pub record IsBoundary (settings : Settings) (l : Parts) (config : Config) (a : Stage) : Type 0 where
+  pub boot : State
+  pub is_boot : boot_state (resolved l.classes) ≡ Some boot
+  pub steps : ℕ
+  pub goes : Goes (linked_setting l.classes settings.stack config.memory) settings.cycles
+      (record { machine = linked_reset settings.stack l.laid.words config; state = boot }) steps a
+
+-- Where `run` or `trace` ran what is linked, a bound of a method with the same waits and method cache holds of the run: each ended activation of the
+-- method that begins at a boundary of it takes at most so many cycles, where its loops keep the bounds; where the bound is never, no such activation ends.
+abbrev pub BoundsHoldInRuns : Type 0
+BoundsHoldInRuns =
+    (c : Call) (settings : Settings) (show : Show) (l : Parts) (r : RanLinked c settings show l) (bound_of : BoundOf) (m : ℕ) (bound : Option ℕ) (a b : Stage)
+    → BoundsActivations (resolved l.classes) (timing_of settings) bound_of m bound → IsBoundary settings l r.config a
+    → (h : IsActivation (linked_setting l.classes settings.stack r.config.memory) m a b) → Keeps bound_of h
+    → MatchOption bound ⊥ (λ most. cycles_of a b ≤ most)
+
+-- ---- what is asked of an image: `check`, `bound`, `loops`, `memory`
+
+-- What comes of a question about what is linked: the whole of a text was put that answers it, and no line; or a line was said, and nothing was put,
+-- where an ending answers; or there was no memory.
+pub data IsAnswered (c : Call) (question : Question) (l : Parts) (files : List (List ℕ)) : Type 0 where
+  puts : (text : Vec ℕ Global) → IsAnswer c.words question l files (Text text) → c.outcome ≡ Written → Puts c text.items [] → IsAnswered c question l files
+  says : (ending : Ending) → IsAnswer c.words question l files (Ends ending) → c.outcome ≡ outcome_of ending
+      → Grew c.err_old c.err_new (line_of c.words ending)
+      → IsQuiet c.old c.new → IsAnswered c question l files
+  lacks : LacksMemory c → IsAnswered c question l files
+
+-- Of each question just that comes: `IsAnswer` says of each text and of each ending when it answers.
+abbrev pub QuestionsAreAnswered : Type 0
+QuestionsAreAnswered =
+    (c : Call) (command : Command) (asked : Asked) (l : Parts) (files : List (List ℕ)) → command_of c.words ≡ Ok command → asked_of command ≡ Some asked
+    → length files ≡ asked.operands → AreTold c asked.image files → IsLinked l → file.IsLinked (text_at files 0) (image_of l) → NothingFailed c
+    → IsAnswered c asked.question l files
+
+-- ---- what `memory` promises
+
+-- With the words that `memory` tells each run of the program has room, ended or not: no invoke overflows where frames may take so many words; and where
+-- objects may take so many, no instruction that makes one lacks memory, as long as the loops in which objects are made kept the bounds, and no array was
+-- asked for that is longer than its line says.
+abbrev pub NeedsSuffice : Type 0
+NeedsSuffice =
+    (cs : List ClassFile) (bounds_text sizes_text : List ℕ) (need : Need) (is : IsNeed cs bounds_text sizes_text need) (types : Typing) (limits : Limits)
+    (input : ℕ → Option ℕ) (boot : State) (n : ℕ) → RunsFromBoot (resolved cs) types input boot
+    → let now = run_from (resolved cs) limits input boot n in let next = run_from (resolved cs) limits input boot (suc n) in
+    (need.stack ≤ limits.frames → StandsAtCall (resolved cs) now → ¬ (next.mode ≡ Raising (fault_object StackOverflowError)))
+    × (need.heap ≤ limits.heap → KeptSoFar (resolved cs) limits (bounds_of cs is.given.bounds) (bounds_of cs is.given.lengths) input boot n
+    → StandsAtMaking (resolved cs) now → ¬ (next.mode ≡ Raising (fault_object OutOfMemoryError)))
 
 -- ---- `work`
 
@@ -263,4 +372,4 @@ WorkingIsComplete = (c : Call) (n : ℕ) → command_of c.words ≡ Ok (Work n) 
 
 -- Where the answer is that it is written, it is true: of the run, and of the bound of main, which is kept.
 abbrev pub WorkLinesAreTrue : Type 0
-WorkLinesAreTrue = (c : Call) (n : ℕ) → command_of c.words ≡ Ok (Work n) → NothingFailed c → c.outcome ≡ Written → IsWorkedBy c n
+WorkLinesAreTrue = (c : Call) (n : ℕ) → command_of c.words ≡ Ok (Work n) → c.outcome ≡ Written → IsWorkedBy c n

@@ -13,7 +13,7 @@ use Rattle.bytecode_model.specs.declared.Ending.{Ending as Mode}
 use Rattle.bytecode_model.specs.declared.Ending.TheVariants as modes
 use Rattle.bytecode_model.specs.State.{State}
 use Rattle.bytecode_model.specs.Steps.{boot_state}
-use Rattle.boundary.specs.Setting.{Setting, bare_setting}
+use Rattle.boundary.specs.Setting.{Setting, IsSetting, bare_setting}
 use Rattle.boundary.specs.Activations.{Stage}
 use Rattle.boundary.specs.Runs.{IsRun}
 use Rattle.boundary.specs.Traces.{run_text, unnoted}
@@ -70,9 +70,10 @@ AnswersMode c cs limit now (modes.Uncaught class) = AnswersUncaught c cs class n
 
 -- ---- the run
 
--- From the boot state the program's run came to the last state, and from reset the machine, which stands for each state on the way. Just the output of that
--- state was put out, and just its answers were taken from the input.
+-- The image says the program, which is lawful and typed. From the boot state the program's run came to the last state, and from reset the machine, which
+-- stands for each state on the way. Just the output of that state was put out, and just its answers were taken from the input.
 pub record RanProgram (c : Call) (cs : List ClassFile) (g : Setting) (reset : machine.State) (limit : ℕ) (old new : Lent) : Type 0 where
+  pub is_setting : IsSetting g
   pub boot : State
   pub is_boot : boot_state g.program ≡ Some boot
   pub last : Stage
@@ -84,6 +85,7 @@ pub record RanProgram (c : Call) (cs : List ClassFile) (g : Setting) (reset : ma
 -- The same run, of which the lines were put out and not the output. The watch is as it was.
 pub record TracedProgram (c : Call) (cs : List ClassFile) (cycles : Bool) (names : List (List ℕ)) (g : Setting) (reset : machine.State) (limit : ℕ)
     (old new : Lent) : Type 0 where
+  pub is_setting : IsSetting g
   pub boot : State
   pub is_boot : boot_state g.program ≡ Some boot
   pub last : Stage

@@ -2,7 +2,7 @@
 use Rattle.std.specs.Prelude.{ℕ}
 use Rattle.outside.specs.Outside.{Rose}
 use Rattle.jop_cli.specs.declared.outcome.Ending.{Ending}
-use Rattle.jop_cli.specs.declared.outcome.Ending.TheVariants.{Ended, Written, Linked, Holds, Uncaught, Refused, TooLong, NotLinked, NotHeld, NotBounded, Spent}
+use Rattle.jop_cli.specs.declared.outcome.Ending.TheVariants.{Ended, Written, Linked, Holds, Uncaught, Refused, TooLong, NotLinked, NotHeld, NotAnswered, Spent}
 use Rattle.jop_cli.specs.declared.outcome.Ending.TheVariants.{ReadFault, InputFault, WriteFault, NoMemory}
 use Rattle.jop_cli.specs.declared.outcome.Outcome.{Outcome}
 use Rattle.jop_cli.specs.declared.outcome.Outcome.TheVariants as outcomes
@@ -18,7 +18,7 @@ Leaves (Refused refusal) = Unit {0}
 Leaves (TooLong method name blocks limit) = Unit {0}
 Leaves (NotLinked refusal name) = Unit {0}
 Leaves (NotHeld fault name) = Unit {0}
-Leaves (NotBounded cause subject) = Unit {0}
+Leaves (NotAnswered cause subject) = Unit {0}
 Leaves (Spent counts) = ⊥
 Leaves ReadFault = Unit {0}
 Leaves InputFault = ⊥

@@ -12,6 +12,7 @@ pub mod LinkedSettings
 pub mod LinkedFile
 pub mod Checking
 pub mod Bounding
+pub mod Needs
 pub mod Opening
 pub mod Asking
 pub mod Working

@@ -2,11 +2,11 @@
 use Rattle.std.specs.Prelude.{ℕ, Bool, true, false, List, [], ◌∷◌, get_or, codes, decimal}
 use Rattle.std.specs.List.{concat}
 use Rattle.jop_cli.specs.declared.outcome.Refusal.{Refusal}
-use Rattle.jop_cli.specs.declared.outcome.Refusal.TheVariants.{Usage, TooBig, BadImage, Differs, MethodTooLong, MemoryTooSmall, BadBounds, TwiceBound, BadCert}
-use Rattle.jop_cli.specs.declared.outcome.Refusal.TheVariants.{Check, Bound, Asm, Link}
+use Rattle.jop_cli.specs.declared.outcome.Refusal.TheVariants.{Usage, TooBig, BadImage, Differs, MethodTooLong, MemoryTooSmall, BadBounds, TwiceBound, BadSizes}
+use Rattle.jop_cli.specs.declared.outcome.Refusal.TheVariants.{TwiceSize, BadCert, Check, Bound, Memory, Asm, Link}
 use Rattle.jop_cli.specs.declared.outcome.AsmRefusal.TheVariants as asm
 use Rattle.jop_cli.specs.declared.outcome.Ending.{Ending}
-use Rattle.jop_cli.specs.declared.outcome.Ending.TheVariants.{Ended, Written, Linked, Holds, Uncaught, Refused, TooLong, NotLinked, NotHeld, NotBounded, Spent}
+use Rattle.jop_cli.specs.declared.outcome.Ending.TheVariants.{Ended, Written, Linked, Holds, Uncaught, Refused, TooLong, NotLinked, NotHeld, NotAnswered, Spent}
 use Rattle.jop_cli.specs.declared.outcome.Ending.TheVariants.{ReadFault, InputFault, WriteFault, NoMemory}
 use Rattle.microcode_asm.specs.declared.AsmKind.{AsmKind}
 use Rattle.microcode_asm.specs.declared.AsmKind.TheVariants.{Form, NoLabel, LabelTwice, EntryTwice, ConstTwice, NoTurns}
@@ -14,6 +14,7 @@ use Rattle.answer_lines.specs.Line.{counts_parts, word_text}
 use Rattle.jopizer.specs.declared.refusal.LinkRefusal.{LinkRefusal}
 use Rattle.jopizer.specs.declared.refusal.LinkRefusal.TheVariants as links
 use Rattle.answer_lines.specs.AnalysisLines as analysis
+use Rattle.answer_lines.specs.Unanswered.{unanswered_parts}
 use Rattle.refusal_lines.specs.Lines as named
 use Rattle.refusal_lines.specs.Lines.{failure_parts, limit_parts}
 
@@ -59,9 +60,12 @@ refusal_parts words (MethodTooLong method blocks limit) = too_long_parts (codes 
 refusal_parts words (MemoryTooSmall count given) = codes "memory too small words=" ∷ decimal count ∷ codes " given=" ∷ decimal given ∷ codes "\n" ∷ []
 refusal_parts words (BadBounds line) = analysis.bad_bounds_parts line
 refusal_parts words (TwiceBound line) = analysis.twice_bound_parts line
+refusal_parts words (BadSizes line) = analysis.bad_sizes_parts line
+refusal_parts words (TwiceSize line) = analysis.twice_size_parts line
 refusal_parts words (BadCert line) = analysis.bad_cert_parts line
 refusal_parts words (Check fault) = []
 refusal_parts words (Bound cause) = []
+refusal_parts words (Memory cause) = []
 refusal_parts words (Asm (asm.Line number kind)) = codes "asm: line=" ∷ decimal number ∷ codes " " ∷ kind_name kind ∷ codes "\n" ∷ []
 refusal_parts words (Asm (asm.TooLong count)) = codes "asm: too long words=" ∷ decimal count ∷ codes "\n" ∷ []
 refusal_parts words (Link refusal) = []
@@ -78,7 +82,7 @@ parts_of words (TooLong method name blocks limit) = too_long_parts name.items bl
 parts_of words (Refused refusal) = refusal_parts words refusal
 parts_of words (NotLinked refusal name) = link_parts refusal name.items
 parts_of words (NotHeld fault name) = analysis.fault_parts fault name.items
-parts_of words (NotBounded cause subject) = analysis.cause_parts cause subject.items
+parts_of words (NotAnswered cause subject) = unanswered_parts cause subject.items
 parts_of words (Spent counts) = codes "spent" ∷ counts_parts counts
 parts_of words ReadFault = codes "read fault\n" ∷ []
 parts_of words InputFault = codes "read fault\n" ∷ []
@@ -100,7 +104,7 @@ is_fault (Refused refusal) = false
 is_fault (TooLong method name blocks limit) = false
 is_fault (NotLinked refusal name) = is_memory refusal
 is_fault (NotHeld fault name) = false
-is_fault (NotBounded cause subject) = false
+is_fault (NotAnswered cause subject) = false
 is_fault (Spent counts) = false
 is_fault ReadFault = true
 is_fault InputFault = true

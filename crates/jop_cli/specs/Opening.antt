@@ -1,5 +1,5 @@
 -- An image is opened: what the bytes of its file are.
-use Rattle.std.specs.Prelude.{◌≡◌, Bool, true, false, ◌⊎◌, List, ℕ, nat_eq, codes}
+use Rattle.std.specs.Prelude.{◌≡◌, true, false, ◌⊎◌, List, ℕ}
 use Rattle.image_file.specs.Bare.{IsBare}
 use Rattle.image_file.specs.Linked as file
 use Rattle.jopizer.specs.Linked.{IsLinked, image_of}

@@ -1,5 +1,5 @@
 -- The status that a process ends with.
-use Rattle.std.specs.Prelude.{◌≡◌, ◌⊎◌, ℕ, List, length, map, None}
+use Rattle.std.specs.Prelude.{◌≡◌, ◌⊎◌, ℕ, ◌^◌, ◌≤◌, List, length, map, None}
 use Rattle.std.specs.declared.option.Option.{Option}
 use Rattle.outside.specs.Host.{told_at}
 use Rattle.jop_cli.specs.declared.outcome.Outcome.{Outcome}
@@ -37,6 +37,6 @@ pub record IsNewStatus (words : List (List ℕ)) (files : List (Option (List ℕ
 abbrev pub IsSilentStatus : (words : List (List ℕ)) → (status : ℕ) → Type 0
 IsSilentStatus words status = IsNewStatus words (map (λ word. None) words) None None None status
 
--- There was no memory for the words or the objects, or the words can't be read or are too many, or the program was called with words.
-abbrev pub IsProcessStatus : ℕ → Type 0
-IsProcessStatus status = (status ≡ 5) ⊎ ((status ≡ 6) ⊎ ((words : List (List ℕ)) × IsSilentStatus words status))
+-- There was no memory for the objects, or the words are too many, or the program was called with them.
+abbrev pub IsProcessStatus : (words : List (List ℕ)) → ℕ → Type 0
+IsProcessStatus words status = (status ≡ 5) ⊎ (((2 ^ 32 ≤ length words) × (status ≡ 6)) ⊎ IsSilentStatus words status)

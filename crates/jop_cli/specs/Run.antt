@@ -69,6 +69,7 @@ pub record AreCounts (counts : Counts) (s : machine.State) : Type 0 where
 
 -- From reset, and from the boot state, the machine and the program ran to this end, and the machine is at `now`.
 pub record RunsTo (shown : Shown) (g : Setting) (reset : machine.State) (limit : ℕ) (end : RunEnd) (old new : Lent) : Type 0 where
+  pub is_setting : IsSetting g
   pub boot : State
   pub is_boot : boot_state g.program ≡ Some boot
   pub now : machine.State

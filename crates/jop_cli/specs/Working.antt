@@ -1,5 +1,5 @@
 -- What `work` does: the class W of so many methods is linked, its program is run, its main method is bounded, and one line says what came of it.
-use Rattle.std.specs.Prelude.{◌≡◌, ℕ, ◌<◌, ◌≤◌, ◌⊎◌, List, [], ◌∷◌, length, take, codes, Some, None}
+use Rattle.std.specs.Prelude.{◌≡◌, ℕ, ◌<◌, ◌≤◌, ◌⊎◌, List, [], ◌∷◌, length, take, Some, None}
 use Rattle.std.specs.declared.option.Option.{Option}
 use Rattle.outside.specs.Outside.{Grew, Rose}
 use Rattle.class_pool.specs.ClassSpelling.{class_bytes}
@@ -24,8 +24,9 @@ use Rattle.jop_cli.specs.declared.program_end.ProgramEnd.TheVariants as runs
 use Rattle.jop_cli.specs.declared.program_end.ImageEnd.TheVariants as ends
 use Rattle.jop_cli.specs.declared.show.Show.TheVariants as shows
 use Rattle.jop_cli.specs.declared.outcome.Refusal.TheVariants.{MemoryTooSmall}
+use Rattle.answer_lines.specs.declared.unanswered.Cause.TheVariants.{Bound}
 use Rattle.jop_cli.specs.declared.outcome.Ending.{Ending}
-use Rattle.jop_cli.specs.declared.outcome.Ending.TheVariants.{Written, Uncaught, Refused, TooLong, NotLinked, NotBounded, Spent, WriteFault, NoMemory}
+use Rattle.jop_cli.specs.declared.outcome.Ending.TheVariants.{Written, Uncaught, Refused, TooLong, NotAnswered, Spent, WriteFault, NoMemory}
 use Rattle.jop_cli.specs.World.{World, IsUntaken}
 use Rattle.jop_cli.specs.Linking.{LinkFault}
 use Rattle.jop_cli.specs.LinkedSettings.{RunsLinked}
@@ -91,7 +92,7 @@ pub record IsForbidden (n : ℕ) (cs : List ClassFile) (cause : BoundCause) (sub
 
 -- so no bound of main is given; or there was no memory
 abbrev pub ForbidsAs : (n : ℕ) → List ClassFile → Ending → Type 0
-ForbidsAs n cs (NotBounded cause subject) = IsForbidden n cs cause subject.items
+ForbidsAs n cs (NotAnswered (Bound cause) subject) = IsForbidden n cs cause subject.items
 ForbidsAs n cs NoMemory = Unit {0}
 ForbidsAs n cs ending = ⊥
 

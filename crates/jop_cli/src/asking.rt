@@ -1,44 +1,45 @@
 //! What is asked of an image, and answered by a text or by a line.
-ghost use Rattle.std.specs.Prelude.{◌≡◌, ◌+◌, ◌^◌, ◌<◌, ◌≤◌, ◌⊎◌, ℕ, List, Option, All, length};
+ghost use Rattle.std.specs.Prelude.{◌≡◌, ◌+◌, ◌^◌, ◌<◌, ◌≤◌, ℕ, List, Option, All, length};
 ghost use Rattle.base.specs.Sizes.{longest_file};
 ghost use Rattle.device_traits.specs.declared.seen.Seen.{Seen};
 ghost use Rattle.image_file.specs.Linked.{contents};
 ghost use Rattle.command_line.specs.Command.{texts};
-ghost use Rattle.command_line.specs.Range.{AreSettings};
 ghost use Rattle.jop_cli.specs.Line.{text_at};
 ghost use Rattle.jop_cli.specs.World.{world};
 ghost use Rattle.jop_cli.specs.Leaving.{Leaves};
-ghost use Rattle.jop_cli.specs.Checking.{EndsTooLong};
 ghost use Rattle.jop_cli.specs.Opening.{Opens};
-ghost use Rattle.jop_cli.specs.Asking.{IsAnswer, IsBareEnding, Answers, PutsText, PutsAnswer, AsksFiles, checking, bounding};
+ghost use Rattle.jop_cli.specs.Asking.{HasSettings, IsAnswer, IsBareAnswer, Answers, PutsText, PutsAnswer, AsksFiles};
+ghost use Rattle.jop_cli.specs.Asking.{checking, bounding, finding_loops, needing};
 
-use crate::bounding::{bound_linked, cause_ending};
-use crate::checking::{check_linked, refusal_ending};
+use crate::bounding::{bound_bare_image, bound_linked};
+use crate::checking::{check_bare_image, check_linked};
 use crate::image::{Image, open_image};
 use crate::lines::text_of;
 use crate::linking::read_operands;
-use crate::outcome::{Answer, Ending, Refusal};
-use crate::settings::blocks_of;
-use analysis_commands::{bound_bare, check_bare};
+use crate::needs::{loops_linked, memory_bare, memory_linked};
+use crate::outcome::{Answer, Ending};
 use command_line::Settings;
 use jop_core::Bare;
 use jopizer::Linked;
 use outside::{Files, Sink, put_all};
 use std::alloc::Global;
 
-/// What is asked of an image, with the words that it names.
+/// What is asked of an image, with the settings of the machine where the answer hangs on them, and the words that it names.
 #[derive(Clone, Copy)]
 pub(crate) enum Question {
     /// Whether a certificate meets its conditions. Its operands are an image, bounds of loops and the certificate.
-    Check,
+    Check { settings: Settings },
     /// A certificate of the method that the word names. Its operands are an image and bounds of loops.
-    Bound { method: u32 },
+    Bound { settings: Settings, method: u32 },
+    /// The loops that count. Its operand is an image.
+    Loops,
+    /// What a run needs of memory. Its operands are an image, bounds of loops and lengths of arrays.
+    Memory,
 }
 
-/// A question about the image of a word, with the settings of the machine.
+/// A question about the image of a word.
 #[derive(Clone, Copy)]
 pub(crate) struct Asked {
-    pub settings: Settings,
     pub question: Question,
     /// The word of the image, the first operand.
     pub image: u32,
@@ -52,8 +53,7 @@ impl Asked {
         ensures { result ≡ checking settings image }
     {
         Asked {
-            settings,
-            question: Question::Check,
+            question: Question::Check { settings },
             image,
             operands: 3,
         }
@@ -64,10 +64,31 @@ impl Asked {
         ensures { result ≡ bounding settings method image }
     {
         Asked {
-            settings,
-            question: Question::Bound { method },
+            question: Question::Bound { settings, method },
             image,
             operands: 2,
+        }
+    }
+
+    /// The loops that count.
+    pub(crate) fn finding_loops(image: u32) -> Self
+        ensures { result ≡ finding_loops image }
+    {
+        Asked {
+            question: Question::Loops,
+            image,
+            operands: 1,
+        }
+    }
+
+    /// What a run needs of memory.
+    pub(crate) fn needing(image: u32) -> Self
+        ensures { result ≡ needing image }
+    {
+        Asked {
+            question: Question::Memory,
+            image,
+            operands: 3,
         }
     }
 }
@@ -88,47 +109,45 @@ fn operand(operands: &[Vec<u8>], number: usize) -> &[u8]
 fn answer_linked(
     alloc: Global,
     words: &[&str],
-    asked: &Asked,
+    question: Question,
     linked: &Linked,
     operands: &[Vec<u8>],
 ) -> Answer
-    requires settings { AreSettings asked.now.settings }
+    requires settings { HasSettings question }
     requires short { All (λ text. length text.items ≤ longest_file) operands.now }
-    ensures { IsAnswer (texts words.now) asked.now.settings asked.now.question linked.now (contents operands.now) result }
+    ensures { IsAnswer (texts words.now) question linked.now (contents operands.now) result }
 {
-    let settings = &asked.settings;
     let bounds = operand(operands, 1);
-    match asked.question {
-        Question::Check => {
+    match question {
+        Question::Check { settings } => {
             let certificate = operand(operands, 2);
-            Answer::Ends(check_linked(alloc, linked, settings, bounds, certificate))
+            Answer::Ends(check_linked(alloc, linked, &settings, bounds, certificate))
         }
-        Question::Bound { method } => {
-            let name = text_of(words, method);
-            bound_linked(alloc, linked, settings, name, bounds)
+        Question::Bound { settings, method } => {
+            bound_linked(alloc, linked, &settings, text_of(words, method), bounds)
         }
+        Question::Loops => loops_linked(alloc, linked),
+        Question::Memory => memory_linked(alloc, linked, bounds, operand(operands, 2)),
     }
 }
 
-/// How it ends with a bare image, which has no classes.
-fn end_bare(alloc: Global, asked: &Asked, image: &Bare, operands: &[Vec<u8>]) -> Ending
-    requires settings { AreSettings asked.now.settings }
+/// The answer of a bare image, which has no classes.
+fn answer_bare(alloc: Global, question: Question, image: &Bare, operands: &[Vec<u8>]) -> Answer
+    requires settings { HasSettings question }
     requires short { All (λ text. length text.items ≤ longest_file) operands.now }
-    ensures { EndsTooLong asked.now.settings image.now result
-        ⊎ IsBareEnding asked.now.settings asked.now.question image.now (contents operands.now) result }
+    ensures { IsBareAnswer question image.now (contents operands.now) result }
 {
-    let settings = &asked.settings;
-    let blocks = blocks_of(image, settings.block_words);
-    if blocks > settings.blocks {
-        return Ending::Refused(Refusal::MethodTooLong(0, blocks, settings.blocks));
-    }
     let bounds = operand(operands, 1);
-    match asked.question {
-        Question::Check => {
+    match question {
+        Question::Check { settings } => {
             let certificate = operand(operands, 2);
-            refusal_ending(settings, check_bare(alloc, bounds, certificate))
+            Answer::Ends(check_bare_image(alloc, image, &settings, bounds, certificate))
         }
-        Question::Bound { .. } => cause_ending(settings, bound_bare(alloc, bounds)),
+        Question::Bound { settings, .. } => {
+            Answer::Ends(bound_bare_image(alloc, image, &settings, bounds))
+        }
+        Question::Loops => Answer::Text(Vec::new(alloc)),
+        Question::Memory => memory_bare(alloc, image, bounds, operand(operands, 2)),
     }
 }
 
@@ -136,30 +155,40 @@ fn end_bare(alloc: Global, asked: &Asked, image: &Bare, operands: &[Vec<u8>]) ->
 fn answer_image(
     alloc: Global,
     words: &[&str],
-    asked: &Asked,
+    question: Question,
     image: &Image,
     operands: &[Vec<u8>],
 ) -> Answer
-    requires settings { AreSettings asked.now.settings }
+    requires settings { HasSettings question }
     requires short { All (λ text. length text.items ≤ longest_file) operands.now }
     requires opens { Opens (text_at (contents operands.now) 0) image.now }
-    ensures { Answers (texts words.now) asked.now (contents operands.now) result }
+    ensures { Answers (texts words.now) question (contents operands.now) result }
 {
     match image {
-        Image::Linked(linked) => answer_linked(alloc, words, asked, linked, operands),
-        Image::Bare(bare) => Answer::Ends(end_bare(alloc, asked, bare, operands)),
+        Image::Linked(linked) => {
+            // The laws are for the proof.
+            linked.is_typed();
+            linked.is_said();
+            answer_linked(alloc, words, question, linked, operands)
+        }
+        Image::Bare(bare) => answer_bare(alloc, question, bare, operands),
     }
 }
 
 /// The answer of the image that the first operand is.
-fn answer_operands(alloc: Global, words: &[&str], asked: &Asked, operands: &[Vec<u8>]) -> Answer
-    requires settings { AreSettings asked.now.settings }
+fn answer_operands(
+    alloc: Global,
+    words: &[&str],
+    question: Question,
+    operands: &[Vec<u8>],
+) -> Answer
+    requires settings { HasSettings question }
     requires short { All (λ text. length text.items ≤ longest_file) operands.now }
-    ensures { Answers (texts words.now) asked.now (contents operands.now) result }
+    ensures { Answers (texts words.now) question (contents operands.now) result }
 {
     match open_image(alloc, operand(operands, 0)) {
         Ok(image) => {
-            let answer = answer_image(alloc, words, asked, &image, operands);
+            let answer = answer_image(alloc, words, question, &image, operands);
             // By a call: what its parts' destructors do is proved there.
             drop(image);
             answer
@@ -198,7 +227,7 @@ pub(crate) fn ask_files<F: Files, O: Sink>(
     files: &mut F,
     out: &mut O,
 ) -> Ending
-    requires settings { AreSettings asked.now.settings }
+    requires settings { HasSettings asked.now.question }
     requires there { asked.now.image + asked.now.operands ≤ F.words files.old }
     requires few { F.words files.old < 2 ^ 32 }
     ensures asks { (left : Option (List ℕ)) (read_faults : ℕ) (watch : Option (List Seen)) → AsksFiles (texts words.now) asked.now
@@ -207,7 +236,10 @@ pub(crate) fn ask_files<F: Files, O: Sink>(
     ensures leaves { Leaves result → out.new ≡ out.old }
 {
     match read_operands(alloc, files, asked.image, asked.image + asked.operands) {
-        Ok(operands) => put_answer(answer_operands(alloc, words, asked, &operands), out),
+        Ok(operands) => put_answer(
+            answer_operands(alloc, words, asked.question, &operands),
+            out,
+        ),
         Err(ending) => ending,
     }
 }

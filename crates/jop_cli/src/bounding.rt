@@ -2,22 +2,26 @@
 ghost use Rattle.std.specs.Prelude.{◌≡◌, ◌≤◌, length};
 ghost use Rattle.base.specs.Sizes.{longest_file};
 ghost use Rattle.command_line.specs.Range.{AreSettings};
-ghost use Rattle.jop_cli.specs.Bounding.{cause_ending, AnswersBound};
+ghost use Rattle.jop_cli.specs.Bounding.{cause_ending, AnswersBound, BoundsBare};
 
-use crate::checking::fault_ending;
+use crate::checking::{fault_ending, too_long_ending};
 use crate::outcome::{Answer, Ending};
-use analysis_commands::{NotBounded, bound_program};
+use analysis_commands::{NotBounded, bound_bare, bound_program};
+use answer_lines::Cause;
 use command_line::Settings;
+use jop_core::Bare;
 use jopizer::Linked;
 use std::alloc::Global;
 
 /// The ending that says why no bound is given.
-pub(crate) fn cause_ending(settings: &Settings, cause: NotBounded) -> Ending
+fn cause_ending(settings: &Settings, cause: NotBounded) -> Ending
     ensures { result ≡ cause_ending settings.now cause }
 {
     match cause {
         NotBounded::NoAnalysis(fault) => fault_ending(settings, fault),
-        NotBounded::Forbidden(cause, subject) => Ending::NotBounded(cause, subject),
+        NotBounded::Forbidden(cause, subject) => {
+            Ending::NotAnswered(Cause::Bound(cause), subject)
+        }
         NotBounded::NoMemory => Ending::NoMemory,
     }
 }
@@ -39,5 +43,22 @@ pub(crate) fn bound_linked(
     match bound_program(alloc, linked.program(), settings, name, bounds) {
         Ok(text) => Answer::Text(text),
         Err(cause) => Answer::Ends(cause_ending(settings, cause)),
+    }
+}
+
+/// How the bounding of a method of a bare image ends.
+pub(crate) fn bound_bare_image(
+    alloc: Global,
+    image: &Bare,
+    settings: &Settings,
+    bounds: &[u8],
+) -> Ending
+    requires settings { AreSettings settings.now }
+    requires short { length bounds.now ≤ longest_file }
+    ensures { BoundsBare settings.now image.now bounds.now result }
+{
+    match too_long_ending(image, settings) {
+        Some(ending) => ending,
+        None => cause_ending(settings, bound_bare(alloc, bounds)),
     }
 }

@@ -1,12 +1,15 @@
 //! Checking a certificate against an image and the bounds of its loops.
-ghost use Rattle.std.specs.Prelude.{◌≡◌, ◌≤◌, length};
+ghost use Rattle.std.specs.Prelude.{◌≡◌, ◌≤◌, length, IfSome, IfNone};
 ghost use Rattle.base.specs.Sizes.{longest_file};
 ghost use Rattle.command_line.specs.Range.{AreSettings};
-ghost use Rattle.jop_cli.specs.Checking.{refusal_ending, fault_ending, Checks};
+ghost use Rattle.jop_cli.specs.BareFile.{blocks_of_code};
+ghost use Rattle.jop_cli.specs.Checking.{refusal_ending, fault_ending, Checks, EndsTooLong, ChecksBare};
 
 use crate::outcome::{Ending, Refusal};
-use analysis_commands::{AnalysisFault, CheckRefusal, check_program};
+use crate::settings::blocks_of;
+use analysis_commands::{AnalysisFault, CheckRefusal, check_bare, check_program};
 use command_line::Settings;
+use jop_core::Bare;
 use jopizer::Linked;
 use std::alloc::Global;
 
@@ -25,7 +28,7 @@ pub(crate) fn fault_ending(settings: &Settings, fault: AnalysisFault) -> Ending
 }
 
 /// The ending that says why nothing is held.
-pub(crate) fn refusal_ending(settings: &Settings, refusal: CheckRefusal) -> Ending
+fn refusal_ending(settings: &Settings, refusal: CheckRefusal) -> Ending
     ensures { result ≡ refusal_ending settings.now refusal }
 {
     match refusal {
@@ -52,5 +55,37 @@ pub(crate) fn check_linked(
     match check_program(alloc, linked.program(), settings, bounds, certificate) {
         Ok(held) => Ending::Holds(held),
         Err(refusal) => refusal_ending(settings, refusal),
+    }
+}
+
+/// How it ends where the code of a bare image takes more blocks than the method cache has.
+pub(crate) fn too_long_ending(image: &Bare, settings: &Settings) -> Option<Ending>
+    requires { AreSettings settings.now }
+    ensures long { IfSome result (EndsTooLong settings.now image.now) }
+    ensures fits { IfNone result (blocks_of_code settings.now image.now ≤ settings.now.blocks) }
+{
+    let blocks = blocks_of(image, settings.block_words);
+    if blocks > settings.blocks {
+        Some(Ending::Refused(Refusal::MethodTooLong(0, blocks, settings.blocks)))
+    } else {
+        None
+    }
+}
+
+/// Checks the certificate of a text against a bare image.
+pub(crate) fn check_bare_image(
+    alloc: Global,
+    image: &Bare,
+    settings: &Settings,
+    bounds: &[u8],
+    certificate: &[u8],
+) -> Ending
+    requires settings { AreSettings settings.now }
+    requires short { length bounds.now ≤ longest_file }
+    ensures { ChecksBare settings.now image.now bounds.now certificate.now result }
+{
+    match too_long_ending(image, settings) {
+        Some(ending) => ending,
+        None => refusal_ending(settings, check_bare(alloc, bounds, certificate)),
     }
 }

@@ -1,5 +1,5 @@
 //! The program over the real files and streams.
-ghost use Rattle.std.specs.Prelude.{◌≡◌, ◌<◌, ◌^◌, ◌⊎◌, length, map, None};
+ghost use Rattle.std.specs.Prelude.{◌≡◌, ◌<◌, ◌≤◌, ◌^◌, ◌⊎◌, length, map, None, string_bytes, IfOk};
 ghost use Rattle.command_line.specs.Command.{texts};
 ghost use Rattle.jop_cli.specs.World.{world};
 ghost use Rattle.jop_cli.specs.Process.{IsStatus, IsNewStatus, IsProcessStatus};
@@ -18,16 +18,30 @@ const NO_MEMORY: u8 = 5;
 /// The status where the words can't be read or are too many.
 const NO_WORDS: u8 = 6;
 
-/// The words after the program's name.
-fn words_of(rt: &HostRuntime) -> io::Result<Vec<String>> {
+/// The words of this process after the program's name, as the system hands them out.
+///
+/// # Errors
+///
+/// The status that the process is to end with: 5 where there is no memory for them, and 6 where one is no text.
+pub fn words_of(rt: &HostRuntime) -> Result<Vec<String>, u8> {
     let mut words = Vec::new(rt.alloc());
-    for word in env::args(rt)?.skip(1) {
-        words.push(word)?;
+    let given = match env::args(rt) {
+        Ok(given) => given,
+        Err(fault) if fault.kind() == io::ErrorKind::OutOfMemory => return Err(NO_MEMORY),
+        Err(_) => return Err(NO_WORDS),
+    };
+    for word in given.skip(1) {
+        if words.push(word).is_err() {
+            return Err(NO_MEMORY);
+        }
     }
     Ok(words)
 }
 
-fn texts_of(alloc: Global, words: &[String]) -> Result<Vec<&str>, AllocError> {
+/// The texts of words.
+pub fn texts_of(alloc: Global, words: &[String]) -> Result<Vec<&str>, AllocError>
+    ensures { IfOk result (λ found. map (λ text. text.now) found.items ≡ map string_bytes words.now) }
+{
     let mut texts = Vec::new(alloc);
     for word in words {
         texts.push(word.as_str())?;
@@ -90,23 +104,35 @@ where
     )
 }
 
-/// Calls the program with the words of this process, its files and its streams, and gives the status that the
-/// process is to end with.
-pub fn run_process(rt: HostRuntime) -> u8
-    ensures { IsProcessStatus result }
+/// The same with however many words. Where there are 2^32 or more, no call is made, and the status is 6.
+pub fn run_words<S, R, W, E>(
+    alloc: Global,
+    words: &[&str],
+    system: S,
+    input: R,
+    out: W,
+    err: E,
+) -> u8
+where
+    S: FileSystem + Drop,
+    R: SteadyRead + Drop,
+    W: DirectWrite + Drop,
+    E: DirectWrite + Drop,
+    ensures called { length words.now < 2 ^ 32 → (result ≡ 5) ⊎ IsNewStatus (texts words.now) (map (λ word. S.told system word.now) words.now)
+        (R.remaining input) (W.contents out) (E.contents err) result }
+    ensures many { 2 ^ 32 ≤ length words.now → result ≡ 6 }
 {
-    let alloc = rt.alloc();
-    let words = match words_of(&rt) {
-        Ok(words) => words,
-        Err(e) if e.kind() == io::ErrorKind::OutOfMemory => return NO_MEMORY,
-        Err(_) => return NO_WORDS,
-    };
-    let Ok(texts) = texts_of(alloc, &words) else {
-        return NO_MEMORY;
-    };
-    if texts.len() >= 1 << 32 {
+    if words.len() >= 1 << 32 {
         return NO_WORDS;
     }
-    let (input, out, err) = (rt.stdin(), rt.stdout(), rt.stderr());
-    run_over(alloc, &texts, rt, input, out, err)
+    run_over(alloc, words, system, input, out, err)
+}
+
+/// Calls the program with these words over the files and the streams of this process, and gives the status that it is
+/// to end with.
+pub fn run_process(rt: HostRuntime, words: &[&str]) -> u8
+    ensures { IsProcessStatus (texts words.now) result }
+{
+    let (alloc, input, out, err) = (rt.alloc(), rt.stdin(), rt.stdout(), rt.stderr());
+    run_words(alloc, words, rt, input, out, err)
 }

@@ -3,12 +3,14 @@
 //! The laws speak of calls of `jop`: what its contract says of its arguments and of its outcome makes one (`call_of`).
 ghost use Rattle.jop_cli.specs.Correct.{LinkingIsComplete, RunsAreTheBytecodes, TracesAreTheRuns, OneBareImage, BareRunsAreTheBytecodes, BareTracesAreTheRuns};
 ghost use Rattle.jop_cli.specs.Correct.{AssemblingIsComplete, BoundsAreKept, CheckingIsComplete, FaultsAreAnswered, BoundingIsComplete, BoundRefusalsAreCaused};
-ghost use Rattle.jop_cli.specs.Correct.{WorkingIsComplete, WorkLinesAreTrue};
+ghost use Rattle.jop_cli.specs.Correct.{BoundsHoldInRuns, QuestionsAreAnswered, NeedsSuffice, WorkingIsComplete, WorkLinesAreTrue};
 
+use activations::laws::{places_tell_words, steps_are_told};
 use bound_cert::has_one_certificate;
 use bound_rules::laws::{faults_are_one, refused_is_not_met};
 use jopizer::laws::{linked_images_are_read, one_linked};
 use loop_bounds::laws::{gives_one, read_is_not_refused};
+use memory_laws::laws::{heap_need_suffices, stack_need_suffices};
 
 /// Class files that nothing refuses are linked.
 pub fn linking_is_complete()
@@ -71,13 +73,7 @@ pub fn checking_is_complete()
 /// bound says.
 pub fn bounds_are_kept()
     ensures { BoundsAreKept }
-{
-    one_linked();
-    linked_images_are_read();
-    gives_one();
-    read_is_not_refused();
-    has_one_certificate();
-}
+{}
 
 /// One that doesn't is refused by the first condition that fails.
 pub fn faults_are_answered()
@@ -110,6 +106,30 @@ pub fn bound_refusals_are_caused()
     linked_images_are_read();
     gives_one();
     read_is_not_refused();
+}
+
+/// A bound of a method holds of the runs of what is linked.
+pub fn bounds_hold_in_runs()
+    ensures { BoundsHoldInRuns }
+{
+    places_tell_words();
+    steps_are_told();
+}
+
+/// What is asked of an image that is linked is answered.
+pub fn questions_are_answered()
+    ensures { QuestionsAreAnswered }
+{
+    one_linked();
+    linked_images_are_read();
+}
+
+/// What `memory` tells suffices.
+pub fn needs_suffice()
+    ensures { NeedsSuffice }
+{
+    stack_need_suffices();
+    heap_need_suffices();
 }
 
 /// The line of `work` is put where nothing stands in its way.

@@ -15,6 +15,7 @@ mod linked_machine;
 mod linked_settings;
 mod linking;
 mod load;
+mod needs;
 mod outcome;
 mod program_end;
 mod run;

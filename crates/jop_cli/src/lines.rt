@@ -8,8 +8,8 @@ ghost use Rattle.jop_cli.specs.Line.{text_at, kind_name, link_parts, too_long_pa
 
 use crate::outcome::{AsmRefusal, Ending, Refusal};
 use answer_lines::{
-    AsmLine, Line, LinkLine, say, say_bad_bounds, say_bad_cert, say_cause, say_fault, say_held,
-    say_twice_bound,
+    AsmLine, Line, LinkLine, say, say_bad_bounds, say_bad_cert, say_bad_sizes, say_fault, say_held,
+    say_twice_bound, say_twice_size, say_unanswered,
 };
 use jopizer::LinkRefusal;
 use microcode_asm::AsmKind;
@@ -47,7 +47,7 @@ pub(crate) fn say_ending<O: Sink>(
         Ending::TooLong(_, name, blocks, limit) => say_too_long(sink, name, *blocks, *limit),
         Ending::NotLinked(refusal, name) => say_link_refusal(sink, *refusal, name),
         Ending::NotHeld(fault, name) => say_fault(sink, *fault, name),
-        Ending::NotBounded(cause, subject) => say_cause(sink, *cause, subject),
+        Ending::NotAnswered(cause, subject) => say_unanswered(sink, *cause, subject),
         Ending::ReadFault | Ending::InputFault => say(sink, &Line::ReadFault),
         Ending::WriteFault => say(sink, &Line::WriteFault),
         Ending::NoMemory => say(sink, &Line::NoMemory),
@@ -76,8 +76,10 @@ fn say_refusal<O: Sink>(sink: &mut O, words: &[&str], refusal: Refusal) -> Resul
         }
         Refusal::BadBounds(line) => say_bad_bounds(sink, line),
         Refusal::TwiceBound(line) => say_twice_bound(sink, line),
+        Refusal::BadSizes(line) => say_bad_sizes(sink, line),
+        Refusal::TwiceSize(line) => say_twice_size(sink, line),
         Refusal::BadCert(line) => say_bad_cert(sink, line),
-        Refusal::Check(_) | Refusal::Bound(_) | Refusal::Link(_) => Ok(()),
+        Refusal::Check(_) | Refusal::Bound(_) | Refusal::Memory(_) | Refusal::Link(_) => Ok(()),
     }
 }
 

@@ -21,7 +21,7 @@ use outside::{Sink, Source};
 use std::alloc::Global;
 
 /// How many words the image has.
-fn words_of(linked: &Linked) -> u32
+pub(crate) fn words_of(linked: &Linked) -> u32
     ensures { result ≡ length linked.now.laid.words }
 {
     // The law is for the proof.

@@ -1,9 +1,10 @@
 //! How a call of the program ends.
 
 use analysis_commands::Held;
-use answer_lines::{BoundCause, Counts, Sizes};
+use answer_lines::{BoundCause, Cause, Counts, Sizes};
 use bound_rules::CheckFault;
 use jopizer::LinkRefusal;
+use memory_rules::NeedCause;
 use microcode_asm::AsmKind;
 
 /// Why a command was refused.
@@ -28,12 +29,18 @@ pub enum Refusal {
     BadBounds(u32),
     /// The line of this number is the first of the bounds that bounds a loop once more.
     TwiceBound(u32),
+    /// The line of this number, counted from 1, is the first of the lengths that is none of their grammar.
+    BadSizes(u32),
+    /// The line of this number is the first of the lengths that gives one once more.
+    TwiceSize(u32),
     /// With the line of this number no certificate begins.
     BadCert(u64),
     /// This is the first condition of the certificate that fails.
     Check(CheckFault),
     /// This is why no bound of the method is given.
     Bound(BoundCause),
+    /// This is why no need of memory is given.
+    Memory(NeedCause),
     /// The text isn't assembled.
     Asm(AsmRefusal),
     /// The files aren't linked.
@@ -109,8 +116,8 @@ pub(crate) enum Ending {
     NotLinked(LinkRefusal, Vec<u8>),
     /// The first condition of the certificate that fails, and the name of the method of which it speaks.
     NotHeld(CheckFault, Vec<u8>),
-    /// Why no bound of the method is given, and what the line names.
-    NotBounded(BoundCause, Vec<u8>),
+    /// Why what is asked isn't answered, and what the line names.
+    NotAnswered(Cause, Vec<u8>),
     Spent(Counts),
     /// A file failed.
     ReadFault,

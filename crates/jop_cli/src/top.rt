@@ -9,7 +9,7 @@ ghost use Rattle.jop_cli.specs.LinkedFile.{RunsLinkedBytes};
 ghost use Rattle.jop_cli.specs.World.{world};
 ghost use Rattle.jop_cli.specs.Show.{IsTrace};
 ghost use Rattle.jop_cli.specs.Leaving.{Leaves, LeavesAll, FailsRisen};
-ghost use Rattle.jop_cli.specs.Answer.{ReadsLinked, RunsFile, RunsLinkedFile, RunsProgram, Executed, Answered, Said, outcome_of, outcome_unsaid};
+ghost use Rattle.jop_cli.specs.Answer.{ReadsLinked, RunsFile, RunsLinkedFile, RunsProgram, Executed, Answered, Said, refusal_of, outcome_of, outcome_unsaid};
 
 use crate::asking::{Asked, ask_files};
 use crate::assembling::assemble_file;
@@ -22,6 +22,7 @@ use crate::load::load;
 use crate::outcome::{Ending, Outcome, Refusal};
 use crate::show::Show;
 use crate::working::work;
+use answer_lines::Cause;
 use command_line::{Command, Settings, read_words};
 use jop_core::Watch;
 use outside::{Files, Sink, Source};
@@ -163,6 +164,12 @@ fn execute<F: Files, S: Source, O: Sink, V: Watch>(
             files,
             out,
         ),
+        Command::Loops { image } => {
+            ask_files(alloc, words, &Asked::finding_loops(image), files, out)
+        }
+        Command::Memory { image, .. } => {
+            ask_files(alloc, words, &Asked::needing(image), files, out)
+        }
         Command::Work { count } => work(alloc, count, out),
     }
 }
@@ -193,9 +200,19 @@ fn outcome_unsaid(ending: &Ending) -> Outcome
         | Ending::TooLong(_, _, _, _)
         | Ending::NotLinked(_, _)
         | Ending::NotHeld(_, _)
-        | Ending::NotBounded(_, _)
+        | Ending::NotAnswered(_, _)
         | Ending::Spent(_)
         | Ending::WriteFault => Outcome::WriteFault,
+    }
+}
+
+/// The refusal of what isn't answered.
+fn refusal_of(cause: Cause) -> Refusal
+    ensures { result ≡ refusal_of cause }
+{
+    match cause {
+        Cause::Bound(cause) => Refusal::Bound(cause),
+        Cause::Memory(cause) => Refusal::Memory(cause),
     }
 }
 
@@ -213,7 +230,7 @@ fn outcome_for(ending: &Ending) -> Outcome
         }
         Ending::NotLinked(refusal, _) => Outcome::Refused(Refusal::Link(*refusal)),
         Ending::NotHeld(fault, _) => Outcome::Refused(Refusal::Check(*fault)),
-        Ending::NotBounded(cause, _) => Outcome::Refused(Refusal::Bound(*cause)),
+        Ending::NotAnswered(cause, _) => Outcome::Refused(refusal_of(*cause)),
         Ending::Spent(_) => Outcome::Spent,
         Ending::ReadFault | Ending::InputFault => Outcome::ReadFault,
         Ending::WriteFault => Outcome::WriteFault,
@@ -229,7 +246,8 @@ fn outcome_for(ending: &Ending) -> Outcome
 /// run, and puts its lines into `out`, and hands `watch` nothing: one before each step, one for each byte of the output and, if asked to, one before each
 /// cycle. `asm` puts the words of the text's microprogram into `out`, a line for each, and `link` the file of the image of the
 /// class files. `bound` puts the text of a certificate of the method that is asked for, and `work` the line of the class that it makes,
-/// links, runs and bounds. `check` puts nothing there: it says whether a certificate meets its conditions.
+/// links, runs and bounds. `loops` puts a line of bounds for each loop that counts, and `memory` the line of what a run needs.
+/// `check` puts nothing there: it says whether a certificate meets its conditions.
 pub fn jop<F: Files, S: Source, O: Sink, E: Sink, V: Watch>(
     alloc: Global,
     words: &[&str],

@@ -15,7 +15,7 @@ use crate::outcome::Ending;
 use crate::settings::usual_settings;
 use crate::show::Show;
 use analysis_commands::{AnalysisFault, NotBounded, bound_number};
-use answer_lines::{Counts, work_line};
+use answer_lines::{Cause, Counts, work_line};
 use jop_core::NoWatch;
 use jopizer::{Linked, link};
 use outside::{MemSink, Sink, put_all};
@@ -90,7 +90,9 @@ fn main_bound(alloc: Global, linked: &Linked, n: u32, bounds: &[u8]) -> Result<O
     let name = b"W.main([Ljava/lang/String;)V";
     match bound_number(alloc, linked.program(), &settings, name, bounds) {
         Ok(bound) => Ok(bound),
-        Err(NotBounded::Forbidden(cause, subject)) => Err(Ending::NotBounded(cause, subject)),
+        Err(NotBounded::Forbidden(cause, subject)) => {
+            Err(Ending::NotAnswered(Cause::Bound(cause), subject))
+        }
         Err(NotBounded::NoMemory) => Err(Ending::NoMemory),
         Err(NotBounded::NoAnalysis(fault)) => match fault {
             AnalysisFault::NoMemory => Err(Ending::NoMemory),

@@ -17,7 +17,7 @@ answer_operands-requires-clause-short g c k d below =
 
 pub returns-in-Ok-clause-asks : goal.returns-in-Ok-clause-asks
 returns-in-Ok-clause-asks g c left read_faults watch =
-    let T : List (Vec ℕ Global) → Type 0 = λ read. Answers (texts c.args.words.now) c.args.asked.now (contents read) c.answer_operands.result in
+    let T : List (Vec ℕ Global) → Type 0 = λ read. Answers (texts c.args.words.now) c.args.asked.now.question (contents read) c.answer_operands.result in
     inr (record {
       operands = contents c.in-Ok.operands.items;
       only = c.in-Ok.ensures.rest;

@@ -57,6 +57,16 @@ returns-in-Bound-clause-rose g c =
     asks_risen _ _ _ _ c.ask_files-in-Bound.result (g.S.Source.faults c.args.input.now) (g.S.Source.faults c.args.input.now)
     (c.ask_files-in-Bound.ensures.asks (g.S.Source.left c.args.input.now) (g.S.Source.faults c.args.input.now) (g.V.Watch.held c.args.watch.now))
 
+pub returns-in-Loops-clause-rose : goal.returns-in-Loops-clause-rose
+returns-in-Loops-clause-rose g c =
+    asks_risen _ _ _ _ c.ask_files-in-Loops.result (g.S.Source.faults c.args.input.now) (g.S.Source.faults c.args.input.now)
+    (c.ask_files-in-Loops.ensures.asks (g.S.Source.left c.args.input.now) (g.S.Source.faults c.args.input.now) (g.V.Watch.held c.args.watch.now))
+
+pub returns-in-Memory-clause-rose : goal.returns-in-Memory-clause-rose
+returns-in-Memory-clause-rose g c =
+    asks_risen _ _ _ _ c.ask_files-in-Memory.result (g.S.Source.faults c.args.input.now) (g.S.Source.faults c.args.input.now)
+    (c.ask_files-in-Memory.ensures.asks (g.S.Source.left c.args.input.now) (g.S.Source.faults c.args.input.now) (g.V.Watch.held c.args.watch.now))
+
 pub returns-in-Trace-clause-input : goal.returns-in-Trace-clause-input
 returns-in-Trace-clause-input g c none =
     let is : ◌≡◌ {A = Result Command ℕ} (command_of (texts c.args.words.now)) (Ok (Trace c.in-Trace.settings c.in-Trace.micro c.in-Trace.image)) = cc (c.in-Ok.is, c.in-Trace.is, c.read_words.ensures.exact) in

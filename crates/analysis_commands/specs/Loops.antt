@@ -1,0 +1,49 @@
+-- What `loops` finds of a program: the lines that bound its loops that count.
+use Rattle.std.specs.Prelude.{◌≡◌, ℕ, ◌==◌, ◌&&◌, Bool, false, not, ℤ, List, [], ◌∷◌, ◌++◌, Option, codes, decimal, flat_map, if◌then◌else◌}
+use Rattle.std.specs.List.{list_all}
+use Rattle.class_pool.specs.declared.class.ClassFile.{ClassFile}
+use Rattle.program_tables.specs.Resolved.{resolved}
+use Rattle.method_flow.specs.Flow.{Flow, IsFlowOf}
+use Rattle.loop_rules.specs.declared.found.FoundLoop.{FoundLoop}
+use Rattle.loop_rules.specs.Finding.{AreCountedLoops}
+use Rattle.loop_rules.specs.Sites.{int_at}
+use Rattle.int_sites.specs.Constants.{AreConstants}
+use Rattle.analysis_commands.specs.Analysis.{named_or_number}
+use Rattle.analysis_commands.specs.Answers.{table_name}
+
+-- the name holds no space and no line feed
+abbrev pub is_unbroken : (name : List ℕ) → Bool
+is_unbroken name = list_all (λ byte. not (byte == 32) && not (byte == 10)) name
+
+-- a line of bounds can begin with the name: it begins with no #, and is unbroken
+abbrev pub is_nameable : (name : List ℕ) → Bool
+is_nameable [] = false
+is_nameable (byte ∷ bytes) = not (byte == 35) && is_unbroken (byte ∷ bytes)
+
+-- a line can bound loops of the method of this name, which isn't the one that is run first
+abbrev pub can_be_named : (boot method : ℕ) → (name : List ℕ) → Bool
+can_be_named boot method name = not (method == boot) && is_nameable name
+
+-- the line that bounds a loop of the method of this name
+abbrev pub loop_line : (name : List ℕ) → (place bound : ℕ) → List ℕ
+loop_line name place bound = name ++ (codes " " ++ (decimal place ++ (codes " loop<=" ++ (decimal bound ++ codes "\n"))))
+
+-- the line of a loop that is found, where one can bound it
+abbrev pub found_line : (name : ℕ → List ℕ) → (boot : ℕ) → FoundLoop → List ℕ
+found_line name boot x = if can_be_named boot x.method (name x.method) then loop_line (name x.method) x.place x.bound else []
+
+-- the lines of the program's loops that count, methods and places rising; limits are constants of static final ints that nothing writes, too
+pub record AreLoopLines (cs : List ClassFile) (text : List ℕ) : Type 0 where
+  pub constants : List (Option ℤ)
+  pub are : AreConstants cs constants
+  pub found : List FoundLoop
+  pub counted : AreCountedLoops (resolved cs) (int_at constants) found
+  pub text_is : text ≡ flat_map (found_line (named_or_number cs) (resolved cs).boot) found
+
+-- the same by the table of a program
+pub record AreLoopLinesBy (f : Flow) (cs : List ClassFile) (text : List ℕ) : Type 0 where
+  pub constants : List (Option ℤ)
+  pub are : AreConstants cs constants
+  pub found : List FoundLoop
+  pub counted : IsFlowOf (resolved cs) f → AreCountedLoops (resolved cs) (int_at constants) found
+  pub text_is : text ≡ flat_map (found_line (table_name f) f.boot) found

@@ -1,0 +1,45 @@
+-- What words ask of the program itself.
+use Rattle.std.specs.Prelude.{ℕ, Bool, ◌||◌, if◌then◌else◌, List, [], ◌∷◌, Some, None, codes, bytes_eq}
+use Rattle.std.specs.declared.option.Option.{Option}
+use Rattle.jop.specs.declared.help.Question.{Question}
+use Rattle.jop.specs.declared.help.Question.TheVariants.{Version, Commands, Link, Run, Trace, Bound, Check, Loops, Memory, Work, Asm}
+
+abbrev pub is_help : (word : List ℕ) → Bool
+is_help word = bytes_eq word (codes "--help") || bytes_eq word (codes "-h")
+
+-- a word that stands alone
+abbrev pub alone : (word : List ℕ) → Option Question
+alone word = if is_help word then Some Commands else if bytes_eq word (codes "--version") then Some Version else None
+
+-- the word that names a command, and the question about it
+pub record Named : Type 0 where
+  pub word : List ℕ
+  pub question : Question
+
+abbrev pub commands : List Named
+commands =
+    record { word = codes "link"; question = Link }
+    ∷ record { word = codes "run"; question = Run }
+    ∷ record { word = codes "trace"; question = Trace }
+    ∷ record { word = codes "bound"; question = Bound }
+    ∷ record { word = codes "check"; question = Check }
+    ∷ record { word = codes "loops"; question = Loops }
+    ∷ record { word = codes "memory"; question = Memory }
+    ∷ record { word = codes "work"; question = Work }
+    ∷ record { word = codes "asm"; question = Asm }
+    ∷ []
+
+-- the first of these that the word names
+abbrev pub named_among : (word : List ℕ) → List Named → Option Question
+named_among word [] = None
+named_among word (n ∷ ns) = if bytes_eq word n.word then Some n.question else named_among word ns
+
+abbrev pub command_named : (word : List ℕ) → Option Question
+command_named word = named_among word commands
+
+-- `--help`, `-h` or `--version` alone; a command before `--help` or `-h`; a command behind `help`
+abbrev pub question_of : (words : List (List ℕ)) → Option Question
+question_of (word ∷ []) = alone word
+question_of (first ∷ second ∷ []) =
+    if is_help second then command_named first else if bytes_eq first (codes "help") then command_named second else None
+question_of words = None

@@ -1,0 +1,142 @@
+-- Endings that refuse: they neither answer, nor say that the input or out failed.
+use Rattle.std.proofs.Common.{◌≡◌, ℕ, List, refl, sym, subst, inl, inr, ◌⊎◌, ⊎_elim}
+use Rattle.std.specs.Prelude.{Vec}
+use Rattle.std.specs.declared.option.Option.{Option}
+use Rattle.std.specs.declared.alloc.Global.{Global}
+use Rattle.class_pool.specs.declared.class.ClassFile.{ClassFile}
+use Rattle.image_file.specs.Bare.{Image}
+use Rattle.outside.specs.Files.{FilesTold}
+use Rattle.analysis_commands.specs.declared.analysis.AnalysisFault.{AnalysisFault}
+use Rattle.analysis_commands.specs.declared.analysis.AnalysisFault.TheVariants as analysis
+use Rattle.analysis_commands.specs.declared.check.Held.{Held}
+use Rattle.analysis_commands.specs.declared.check.CheckRefusal.{CheckRefusal}
+use Rattle.analysis_commands.specs.declared.check.CheckRefusal.TheVariants as check
+use Rattle.analysis_commands.specs.declared.bound.NotBounded.{NotBounded}
+use Rattle.analysis_commands.specs.declared.bound.NotBounded.TheVariants as bound
+use Rattle.analysis_commands.specs.declared.memory.MemoryRefusal.{MemoryRefusal}
+use Rattle.analysis_commands.specs.declared.memory.MemoryRefusal.TheVariants as needs
+use Rattle.jopizer.specs.Linked.{Parts}
+use Rattle.command_line.specs.declared.command.Settings.{Settings}
+use Rattle.jop_cli.specs.declared.asking.Question.{Question}
+use Rattle.jop_cli.specs.declared.asking.Question.TheVariants as questions
+use Rattle.jop_cli.specs.declared.outcome.Refusal.TheVariants as refusals
+use Rattle.jop_cli.specs.declared.outcome.Ending.{Ending}
+use Rattle.jop_cli.specs.declared.outcome.Ending.TheVariants as endings
+use Rattle.jop_cli.specs.declared.outcome.Outcome.TheVariants as outcomes
+use Rattle.jop_cli.specs.declared.outcome.Answer.TheVariants.{Ends}
+use Rattle.jop_cli.specs.Line.{text_at}
+use Rattle.jop_cli.specs.BareFile.{ImageFault}
+use Rattle.jop_cli.specs.LinkedFile.{BytesFault}
+use Rattle.jop_cli.specs.Linking.{OperandsFault}
+use Rattle.jop_cli.specs.Checking.{fault_ending, refusal_ending, EndsHeld, Checks, EndsTooLong, ChecksBare}
+use Rattle.jop_cli.specs.Bounding.{cause_ending, BoundsBare}
+use Rattle.jop_cli.specs.Needs.{memory_ending}
+use Rattle.jop_cli.specs.Asking.{IsAnswer, IsBareAnswer}
+use Rattle.jop_cli.specs.Answer.{outcome_of, outcome_unsaid}
+
+abbrev pub IsRefusing : Ending → Type 0
+IsRefusing (endings.Ended counts) = ⊥
+IsRefusing endings.Written = ⊥
+IsRefusing (endings.Linked sizes) = ⊥
+IsRefusing (endings.Holds held) = ⊥
+IsRefusing (endings.Uncaught class name counts) = ⊥
+IsRefusing (endings.Refused refusal) = Unit {0}
+IsRefusing (endings.TooLong method name blocks limit) = Unit {0}
+IsRefusing (endings.NotLinked refusal name) = Unit {0}
+IsRefusing (endings.NotHeld fault name) = Unit {0}
+IsRefusing (endings.NotAnswered cause subject) = Unit {0}
+IsRefusing (endings.Spent counts) = ⊥
+IsRefusing endings.ReadFault = Unit {0}
+IsRefusing endings.InputFault = ⊥
+IsRefusing endings.WriteFault = ⊥
+IsRefusing endings.NoMemory = Unit {0}
+
+pub refusing_by : (a b : Ending) → a ≡ b → IsRefusing b → IsRefusing a
+refusing_by a b is h = subst IsRefusing (sym is) h
+
+-- ---- what it isn't
+
+pub not_written : (e : Ending) → IsRefusing e → outcome_of e ≡ outcomes.Written → ⊥
+not_written endings.Written h is = h
+not_written (endings.Linked sizes) h is = h
+not_written e h is = absurd (cc)
+
+pub not_holds : (e : Ending) → IsRefusing e → outcome_of e ≡ outcomes.Holds → ⊥
+not_holds (endings.Holds held) h is = h
+not_holds e h is = absurd (cc)
+
+pub unsaid_written : (e : Ending) → outcome_unsaid e ≡ outcomes.Written → ⊥
+unsaid_written (endings.Ended counts) is = absurd (cc)
+unsaid_written e is = absurd (cc)
+
+pub unsaid_holds : (e : Ending) → outcome_unsaid e ≡ outcomes.Holds → ⊥
+unsaid_holds (endings.Ended counts) is = absurd (cc)
+unsaid_holds e is = absurd (cc)
+
+-- ---- which refuse
+
+fault_refuses : (s : Settings) (fault : AnalysisFault) → IsRefusing (fault_ending s fault)
+fault_refuses s (analysis.MethodTooLong m name blocks) = tt
+fault_refuses s (analysis.BadBounds line) = tt
+fault_refuses s (analysis.TwiceBound line) = tt
+fault_refuses s analysis.NoMemory = tt
+
+pub refusal_refuses : (s : Settings) (refusal : CheckRefusal) → IsRefusing (refusal_ending s refusal)
+refusal_refuses s (check.NoAnalysis fault) = fault_refuses s fault
+refusal_refuses s (check.BadCert line) = tt
+refusal_refuses s (check.Fails fault name) = tt
+refusal_refuses s check.NoMemory = tt
+
+pub cause_refuses : (s : Settings) (cause : NotBounded) → IsRefusing (cause_ending s cause)
+cause_refuses s (bound.NoAnalysis fault) = fault_refuses s fault
+cause_refuses s (bound.Forbidden cause subject) = tt
+cause_refuses s bound.NoMemory = tt
+
+need_refuses : (refusal : MemoryRefusal) → IsRefusing (memory_ending refusal)
+need_refuses (needs.BadBounds line) = tt
+need_refuses (needs.TwiceBound line) = tt
+need_refuses (needs.BadSizes line) = tt
+need_refuses (needs.TwiceSize line) = tt
+need_refuses (needs.NoNeed cause subject) = tt
+need_refuses needs.NoMemory = tt
+
+pub bytes_refuse : (bytes : List ℕ) (e : Ending) → BytesFault bytes e → IsRefusing e
+bytes_refuse bytes (endings.Refused refusal) h = tt
+bytes_refuse bytes (endings.NotLinked refusal name) h = tt
+bytes_refuse bytes endings.NoMemory h = tt
+bytes_refuse bytes e h = absurd h
+
+pub image_refuses : (bytes : List ℕ) (e : Ending) → ImageFault bytes e → IsRefusing e
+image_refuses bytes (endings.Refused refusal) h = tt
+image_refuses bytes endings.NoMemory h = tt
+image_refuses bytes e h = absurd h
+
+pub operands_refuse : (first end : ℕ) (old new : FilesTold) (e : Ending) → OperandsFault first end old new e → IsRefusing e
+operands_refuse first end old new (endings.Refused refusal) h = tt
+operands_refuse first end old new endings.ReadFault h = tt
+operands_refuse first end old new endings.NoMemory h = tt
+operands_refuse first end old new e h = absurd h
+
+-- ---- an answer without a text refuses, or says that a certificate holds
+
+pub data Says (e : Ending) : Type 0 where
+  refuses : IsRefusing e → Says e
+  holds : (held : Held) → e ≡ endings.Holds held → Says e
+
+checks_say : {cs : List ClassFile} {s : Settings} {bounds_text cert_text : List ℕ} (e : Ending) → Checks cs s bounds_text cert_text e → Says e
+checks_say {s = s} e checks = ⊎_elim (λ h. holds h.held h.says) (λ r. refuses (refusing_by e (refusal_ending s r.refusal) r.says (refusal_refuses s r.refusal))) checks
+
+pub linked_says : (words : List (List ℕ)) (question : Question) (l : Parts) (operands : List (List ℕ)) (e : Ending) → IsAnswer words question l operands (Ends e) → Says e
+linked_says words (questions.Check s) l operands e checks = checks_say e checks
+linked_says words (questions.Bound s method) l operands e ends = refuses (refusing_by e (cause_ending s ends.cause) ends.says (cause_refuses s ends.cause))
+linked_says words questions.Loops l operands e is = refuses (refusing_by e endings.NoMemory is tt)
+linked_says words questions.Memory l operands e ends = refuses (refusing_by e (memory_ending ends.refusal) ends.says (need_refuses ends.refusal))
+
+too_long_refuses : (s : Settings) (image : Image) (e : Ending) → EndsTooLong s image e → IsRefusing e
+too_long_refuses s image e long = refusing_by e _ long.says tt
+
+pub bare_refuses : (question : Question) (image : Image) (operands : List (List ℕ)) (e : Ending) → IsBareAnswer question image operands (Ends e) → IsRefusing e
+bare_refuses (questions.Check s) image operands e ends = ⊎_elim (too_long_refuses s image e) (λ r. refusing_by e (refusal_ending s r.refusal) r.says (refusal_refuses s r.refusal)) ends
+bare_refuses (questions.Bound s method) image operands e ends = ⊎_elim (too_long_refuses s image e) (λ r. refusing_by e (cause_ending s r.cause) r.says (cause_refuses s r.cause)) ends
+bare_refuses questions.Loops image operands e ends = absurd ends
+bare_refuses questions.Memory image operands e ends = refusing_by e (memory_ending ends.refusal) ends.says (need_refuses ends.refusal)

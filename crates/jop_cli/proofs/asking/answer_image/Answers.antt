@@ -1,0 +1,21 @@
+use Rattle.std.proofs.Common.{refl, subst, inl, inr}
+use Rattle.jop_cli.specs.declared.image.Image.{Image}
+use Rattle.jop_cli.specs.Opening.{Opens}
+use Rattle.jop_cli.specs.Line.{text_at}
+use Rattle.outside.specs.Files.{contents}
+use Rattle.jop_cli.proofs.asking.answer_image.Goals as goal
+
+pub returns-in-Linked : goal.returns-in-Linked
+returns-in-Linked c =
+    let O : Image → Type 0 = λ image. Opens (text_at (contents c.args.operands.now) 0) image in
+    let opens = subst O c.in-Linked.is c.requires.opens in
+    inl (
+      opens.0,
+      inr (record {
+        linked = _;
+        is_linked = opens.1;
+        is_file = opens.2;
+        setting = λ chip memory. record { says = c.is_said.ensures; lawful = c.is_typed.ensures.lawful; typed = c.is_typed.ensures.typed; origin = inl refl };
+        answers = c.answer_linked.ensures;
+      }),
+    )
