@@ -11,4 +11,5 @@ mod shapes;
 
 pub use asking::asked;
 pub use causes::{Asked, cause_before_size};
-pub use lines::check_loops;
+pub use lines::{check_loops, unbounded_in};
+pub use shapes::{Shape, shape_of};

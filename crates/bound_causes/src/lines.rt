@@ -29,7 +29,7 @@ fn first_without_line(f: &FlowProgram, b: &Bounds, m: u32, places: &[u32]) -> Op
 
 /// The place of the first header of a loop of the method `m` for which no bound is given. An error is that the reduction of its
 /// graph leaves nodes, or that there is no memory.
-fn unbounded_in(
+pub fn unbounded_in(
     alloc: Global,
     f: &FlowProgram,
     b: &Bounds,

@@ -5,7 +5,7 @@ use Rattle.std.proofs.lemmas.Option.{slice_get_within}
 use Rattle.wcet.specs.declared.ending.MethodBound.{MethodBound}
 use Rattle.wcet.specs.declared.methods.Methods.{Methods}
 use Rattle.wcet.specs.Known.{Setting, bounds_in, ForEach, known_at, IsKnownOf}
-use Rattle.wcet.specs.Methods.{AreBehindCalls}
+use Rattle.wcet.specs.Ready.{AreBehindCalls}
 use Rattle.wcet.specs.Ending.{AreKnownWithin, IsMethodBound}
 use Rattle.wcet.specs.Sharing.{AreLeastWithin, AreMethodBounds, AreFoundFor}
 use Rattle.wcet.proofs.KnownWithin.{agree_within, exceed_within, numbers_within}
@@ -39,8 +39,7 @@ pub each_known : (set : Setting) (order : List ℕ) (a : Methods) (least : List 
     → ForEach set (λ P. AreKnownWithin P set.timing (bounds_in set) a.table.items (get_or least m None) m)
 each_known set order a least h within m has = λ P of.
     let table = a.table.items in
-    let ready = (h.ready P of).1 in
-    let behind : AreBehindCalls P order = ready.order.first in
+    let behind : AreBehindCalls P order = h.behind P of in
     let known : (x : ℕ) → Contains order x → IsKnownOf P set.timing (bounds_in set) table x (known_at table x) = h.found.known P of behind in
     record {
       agree = λ N are x inside. (agree_within P set.timing (bounds_in set) order table behind known m has N are x inside, exceed_within P set.timing (bounds_in set) order table behind known m has N are x inside);

@@ -27,9 +27,9 @@ use Rattle.wcet.specs.declared.known.Known.{Known}
 use Rattle.wcet.specs.declared.methods.Methods.{Methods}
 use Rattle.wcet.specs.Known.{Setting, bounds_in, ForEach, known_at, IsKnownOf}
 use Rattle.wcet.specs.Laws.{numbers_by}
-use Rattle.wcet.specs.Methods.{AreBehindCalls, IsLargeAmong, values_by}
+use Rattle.wcet.specs.Methods.{IsLargeAmong, values_by}
 use Rattle.wcet.specs.Ending.{IsPrintedSmall, IsLargeWithin, AreKnownWithin, AreReadyFound}
-use Rattle.wcet.specs.Ready.{IsWantOfMemory, IsSizeCause}
+use Rattle.wcet.specs.Ready.{AreBehindCalls, IsWantOfMemory, IsSizeCause}
 use Rattle.wcet.proofs.MoreFound.{value_found}
 use Rattle.wcet.proofs.KnownWithin.{agree_within, exceed_within, numbers_within}
 use Rattle.wcet.proofs.Ended.{all_small}

@@ -20,9 +20,9 @@ use Rattle.wcet.specs.declared.methods.Methods.{Methods}
 use Rattle.wcet.specs.declared.shape.Shape.{Shape}
 use Rattle.wcet.specs.Known.{Setting, bounds_in, ForEach, unknown, IsLimited, AreTold}
 use Rattle.wcet.specs.Laws.{ReadyHasShape}
-use Rattle.wcet.specs.Methods.{values_by, AreBehindCalls, IsLargeAmong, AreMethodsFound, IsUnready}
+use Rattle.wcet.specs.Methods.{values_by, IsLargeAmong, AreMethodsFound, IsUnready}
 use Rattle.wcet.specs.Prepared.{IsShapeOf, IsLeftBy, IsUnbounded}
-use Rattle.wcet.specs.Ready.{IsReady, IsWantOfMemory}
+use Rattle.wcet.specs.Ready.{AreBehindCalls, AreReady, IsWantOfMemory}
 
 -- ---- none yet
 
@@ -81,22 +81,22 @@ module _ (order : List ℕ) (i : ℕ) (below : i < length order) where
   -- ---- why the method there isn't found
 
   module _ (law : ReadyHasShape) (st : Setting) (a : Methods) (found : AreMethodsFound st (take i order) a) (m : ℕ) (is : m ≡ get_or order i m) where
-    pub only_memory : (fault : BoundRefusal) → IsUnready st a.table.items m fault → ForEach st (λ P. (root : ℕ) → IsReady P (bounds_in st) root order → IsWantOfMemory fault)
-    only_memory fault unready = λ P of root ready.
-        let behind : AreBehindCalls P order = ready.order.first in
+    pub only_memory : (fault : BoundRefusal) → IsUnready st a.table.items m fault → ForEach st (λ P. AreReady P (bounds_in st) order → IsWantOfMemory fault)
+    only_memory fault unready = λ P of ready.
+        let behind : AreBehindCalls P order = ready.behind in
         let at = at_place m is in
         let told : AreTold P st.timing a.table.items m = λ x call. (found.known P of (taken_behind P behind) x (behind i m x at call)).told in
         let among : Contains order m = (i, below, sym is) in
         let want : fault ≡ NoMemory =
         elim (unready P of told) [
           | inl none ↦ none
-          | inr other ↦ unprepared P root ready among other.0 other.1 other.2
+          | inr other ↦ unprepared P ready among other.0 other.1 other.2
         ]
         in
         let W : BoundRefusal → Type 0 = λ e. IsWantOfMemory e in
         subst W (sym want) tt
       where
-        unprepared : (P : Program) (root : ℕ) → IsReady P (bounds_in st) root order → Contains order m → (g : Digraph) → IsLiveGraph P m g
+        unprepared : (P : Program) → AreReady P (bounds_in st) order → Contains order m → (g : Digraph) → IsLiveGraph P m g
             → IsLeftBy g m fault ⊎ ((s : Shape) × IsShapeOf g s × IsUnbounded (bounds_in st) m s fault) → fault ≡ NoMemory
-        unprepared P root ready among g live (inl left) = (law P st.timing (bounds_in st) root m order g (record { graph = g; nodes = []; nest = []; size = 0 }) fault ready among live).0 left
-        unprepared P root ready among g live (inr shaped) = (law P st.timing (bounds_in st) root m order g shaped.0 fault ready among live).1 shaped.1 shaped.2
+        unprepared P ready among g live (inl left) = (law P st.timing (bounds_in st) m order g (record { graph = g; nodes = []; nest = []; size = 0 }) fault ready among live).0 left
+        unprepared P ready among g live (inr shaped) = (law P st.timing (bounds_in st) m order g shaped.0 fault ready among live).1 shaped.1 shaped.2

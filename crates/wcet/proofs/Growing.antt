@@ -12,7 +12,8 @@ use Rattle.method_flow.specs.declared.timing.Timing.{Timing}
 use Rattle.bound_rules.specs.Told.{Valued}
 use Rattle.wcet.specs.declared.known.Known.{Known}
 use Rattle.wcet.specs.Known.{unknown, known_at, IsKnownOf, Agrees, HasNumbers}
-use Rattle.wcet.specs.Methods.{values_by, AreBehindCalls}
+use Rattle.wcet.specs.Methods.{values_by}
+use Rattle.wcet.specs.Ready.{AreBehindCalls}
 
 -- ---- a table in which one entry is written
 

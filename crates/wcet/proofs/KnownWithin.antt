@@ -13,7 +13,7 @@ use Rattle.bound_rules.specs.Numbers.{Numbers, AreNumbers}
 use Rattle.wcet.specs.declared.known.Known.{Known}
 use Rattle.wcet.specs.Known.{known_at, IsKnownOf, Agrees, HasNumbers, AreNumbersOf, ExceedsBeside}
 use Rattle.wcet.specs.Laws.{numbers_by}
-use Rattle.wcet.specs.Methods.{AreBehindCalls}
+use Rattle.wcet.specs.Ready.{AreBehindCalls}
 
 -- what a method within calls is within
 pub within_call : (P : Program) (m x y : ℕ) → IsWithin P m x → MayCall P x y → IsWithin P m y

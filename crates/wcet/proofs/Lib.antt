@@ -30,7 +30,7 @@ mod ShowNodes
 mod Showing
 mod ShowText
 mod Greater
-mod Pushed
+pub mod Pushed
 mod Added
 mod Told
 mod Coding
@@ -39,11 +39,12 @@ mod Held
 mod Preparing
 mod Readying
 mod Examining
-mod Growing
+pub mod Growing
 mod MoreFound
 mod Finding
 mod KnownWithin
 mod Ended
+pub mod Ordering
 mod Certifying
 mod Besides
 mod Bounded

@@ -22,7 +22,8 @@ use Rattle.wcet.specs.declared.found.Found.{Found}
 use Rattle.wcet.specs.declared.methods.Methods.{Methods}
 use Rattle.wcet.specs.Known.{Setting, bounds_in, ForEach, known_at, IsLimited, AreTold, IsKnownOf}
 use Rattle.wcet.specs.Found.{kind_of, Cover, ShowsNumber, IsSectionOf, IsFoundOf}
-use Rattle.wcet.specs.Methods.{values_by, AreBehindCalls, IsLargeAmong, AreMethodsFound, AddsMethod}
+use Rattle.wcet.specs.Methods.{values_by, IsLargeAmong, AreMethodsFound, AddsMethod}
+use Rattle.wcet.specs.Ready.{AreBehindCalls}
 use Rattle.wcet.proofs.Growing.{known_same, known_new, known_stays, values_same, front_behind, last_behind, called_before}
 
 -- ---- the values of sections

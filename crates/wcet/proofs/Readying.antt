@@ -13,7 +13,7 @@ use Rattle.method_flow.specs.Nodes.IsReached.{first, later}
 use Rattle.method_flow.specs.Live.{IsLiveEdge}
 use Rattle.method_flow.specs.Graphs.{IsGraphOf, IsLiveGraph}
 use Rattle.method_flow.specs.Keeping.{BoundOf}
-use Rattle.method_flow.specs.Regions.{IsWithin}
+use Rattle.method_flow.specs.Regions.IsWithin.{itself}
 use Rattle.bound_rules.specs.declared.faults.BoundRefusal.{BoundRefusal}
 use Rattle.bound_rules.specs.declared.faults.BoundRefusal.TheVariants.{NoMethod, Recursion, Irreducible, MissingBound, TooLarge, NoMemory}
 use Rattle.bound_rules.specs.Bounding.{IsLeftWith}
@@ -23,7 +23,7 @@ use Rattle.compact_walks.specs.Moving.{IsMoved}
 use Rattle.compact_walks.specs.Laws.{GraphsAreMoved, PartsAreSound, EndsAreOne, MovedIsNest, IsSoundPart}
 use Rattle.wcet.specs.declared.shape.Shape.{Shape}
 use Rattle.wcet.specs.Prepared.{node_of, nest_of, IsShapeOf, IsLeftBy, IsUnbounded}
-use Rattle.wcet.specs.Ready.{IsReady}
+use Rattle.wcet.specs.Ready.{AreReady}
 use Rattle.wcet.specs.Laws.{ReadyHasShape}
 
 none_mapped : (f : ℕ → ℕ) (xs : List ℕ) → [] ≡ map f xs → xs ≡ []
@@ -49,13 +49,10 @@ module _ (P : Program) (m : ℕ) where
       let x = (live.edges u v).0 e in
       (graph.edges u v).1 (record { source = x.source; target = x.target; reached = reached_whole x.reached; edge = x.edge.edge; numbered = x.numbered })
 
-module _ (moved : GraphsAreMoved) (parts : PartsAreSound) (one : EndsAreOne) (nests : MovedIsNest) (even : HeadersAreInstructions) (P : Program) (bound_of : BoundOf) (root m : ℕ) (order : List ℕ) (g : Digraph) (ready : IsReady P bound_of root order)
+module _ (moved : GraphsAreMoved) (parts : PartsAreSound) (one : EndsAreOne) (nests : MovedIsNest) (even : HeadersAreInstructions) (P : Program) (bound_of : BoundOf) (m : ℕ) (order : List ℕ) (g : Digraph) (ready : AreReady P bound_of order)
     (has : Contains order m) (live : IsLiveGraph P m g) where
-  within : IsWithin P root m
-  within = (ready.order.methods.each m).0 has
-
   whole : IsLeftWith P m []
-  whole = ready.reducible m within
+  whole = ready.reducible m has m itself
 
   reducible : IsReducible whole.compact
   reducible = subst (λ (left : List ℕ). Leaves whole.compact left) (none_mapped whole.node whole.left whole.nodes_are) whole.leaves
@@ -82,8 +79,8 @@ module _ (moved : GraphsAreMoved) (parts : PartsAreSound) (one : EndsAreOne) (ne
       let loop = All-contains (IsLoopOf g) (nest_of s) r.0 nest.loops r.1 in
       let header = (part s.graph (node_of s) is).headers r.0.header loop.header in
       let at = even P m whole.graph r.0.header (inl whole.is_graph) header in
-      absurd (ready.lines m at.0 (record {
-        within = within;
+      absurd (ready.lines m has m at.0 (record {
+        within = itself;
         graph = whole.graph;
         is_graph = whole.is_graph;
         header = subst (λ (h : ℕ). IsHeader whole.graph h) at.1 header;
@@ -96,5 +93,5 @@ module _ (moved : GraphsAreMoved) (parts : PartsAreSound) (one : EndsAreOne) (ne
   bounded s (TooLarge x) shape h = absurd h
 
 pub ready_has_shape : GraphsAreMoved → PartsAreSound → EndsAreOne → MovedIsNest → HeadersAreInstructions → ReadyHasShape
-ready_has_shape moved parts one nests even P t bound_of root m order g s fault ready has live =
-    (left_none moved parts one nests even P bound_of root m order g ready has live fault, bounded moved parts one nests even P bound_of root m order g ready has live s fault)
+ready_has_shape moved parts one nests even P t bound_of m order g s fault ready has live =
+    (left_none moved parts one nests even P bound_of m order g ready has live fault, bounded moved parts one nests even P bound_of m order g ready has live s fault)

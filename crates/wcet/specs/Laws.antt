@@ -19,7 +19,7 @@ use Rattle.wcet.specs.declared.shape.Shape.{Shape}
 use Rattle.wcet.specs.Known.{known_at, AreTold, IsKnownOf, Agrees, ExceedsBeside}
 use Rattle.wcet.specs.Telling.{AreToldBy, AreAdded}
 use Rattle.wcet.specs.Prepared.{IsShapeOf, IsLeftBy, IsUnbounded, AreLimitedCosts, adds_by}
-use Rattle.wcet.specs.Ready.{IsReady}
+use Rattle.wcet.specs.Ready.{AreReady}
 use Rattle.call_regions.specs.Calling.{IsTargetsFirst}
 
 -- the graph where just those calls go on of which a target can end is the live graph
@@ -38,11 +38,11 @@ CostsAreLimited =
     → IsLiveGraph P m g
     → AreLimitedCosts P t m (λ q. adds_by P t table m (slice_index_or without (2 * q) false) q) g costs
 
--- where the method is one of those for which all is ready, its live graph has a nest, and each loop a bound
+-- where the method is one of an order for which all is ready, its live graph has a nest, and each loop a bound
 abbrev pub ReadyHasShape : Type 0
 ReadyHasShape =
-    (P : Program) (t : Timing) (bound_of : BoundOf) (root m : ℕ) (order : List ℕ) (g : Digraph) (s : Shape) (fault : BoundRefusal)
-    → IsReady P bound_of root order → Contains order m → IsLiveGraph P m g
+    (P : Program) (t : Timing) (bound_of : BoundOf) (m : ℕ) (order : List ℕ) (g : Digraph) (s : Shape) (fault : BoundRefusal)
+    → AreReady P bound_of order → Contains order m → IsLiveGraph P m g
     → (IsLeftBy g m fault → fault ≡ NoMemory)
     × (IsShapeOf g s → IsUnbounded bound_of m s fault → fault ≡ NoMemory)
 

@@ -1,9 +1,8 @@
 -- What is found of all methods that may run, targets first, and what is answered then.
-use Rattle.std.specs.Prelude.{◌≡◌, ℕ, true, List, [], ◌∷◌, length, map, take, All, Contains, Some, IfNone, IfSome, ◌++◌, slice_get, slice_set}
+use Rattle.std.specs.Prelude.{◌≡◌, ℕ, true, List, [], ◌∷◌, length, map, All, Contains, Some, IfNone, IfSome, ◌++◌, slice_set}
 use Rattle.section_check.specs.Least.{IsLeast, lesser_of}
 use Rattle.bytecode_model.specs.Program.{Program}
 use Rattle.bound_cert.specs.Certificate.{IsSectionInText}
-use Rattle.method_flow.specs.Recursion.{MayCall}
 use Rattle.bound_rules.specs.declared.faults.BoundRefusal.{BoundRefusal}
 use Rattle.bound_rules.specs.Told.{Valued}
 use Rattle.bound_rules.specs.Conditions.{MeetAll}
@@ -13,14 +12,11 @@ use Rattle.wcet.specs.declared.methods.Methods.{Methods}
 use Rattle.wcet.specs.Known.{Setting, bounds_in, ForEach, known_at, IsLimited, AreTold, IsKnownOf}
 use Rattle.wcet.specs.Prepared.{IsNotPrepared}
 use Rattle.wcet.specs.Found.{IsFoundOf}
+use Rattle.wcet.specs.Ready.{AreBehindCalls}
 
 -- what sections of these methods say, by what is known of them
 abbrev pub values_by : List Known → List ℕ → List Valued
 values_by table ms = map (λ m. record { method = m; inside = (known_at table m).fits; value = (known_at table m).asked }) ms
-
--- each of these methods stands behind all that it may call
-abbrev pub AreBehindCalls : Program → List ℕ → Type 0
-AreBehindCalls P ms = (i m x : ℕ) → slice_get ms i ≡ Some m → MayCall P m x → Contains (take i ms) x
 
 -- a method among these has a number that is too large
 abbrev pub IsLargeAmong : List Known → List ℕ → ℕ → Type 0

@@ -10,8 +10,8 @@ use Rattle.wcet.specs.declared.known.Known.{Known}
 use Rattle.wcet.specs.declared.methods.Methods.{Methods}
 use Rattle.wcet.specs.Known.{Setting, bounds_in, ForEach}
 use Rattle.wcet.specs.Ending.{IsLargeWithin, IsMethodBound}
-use Rattle.wcet.specs.Methods.{AreBehindCalls, AreMethodsFound}
-use Rattle.wcet.specs.Ready.{IsReady}
+use Rattle.wcet.specs.Methods.{AreMethodsFound}
+use Rattle.wcet.specs.Ready.{AreBehindCalls}
 
 -- ---- the least method with a number that is too large
 
@@ -44,7 +44,7 @@ pub record AreMethodBounds (set : Setting) (methods : List ℕ) (bounds : List M
   pub each : ForEach set (λ P. (i m : ℕ) (x : MethodBound) → slice_get methods i ≡ Some m → slice_get bounds i ≡ Some x
       → IsMethodBound P set.timing (bounds_in set) m x)
 
--- all methods are found of an order for which all is ready, whichever method it is that they run for
+-- all methods are found of an order in which each stands behind all that it may call
 pub record AreFoundFor (set : Setting) (order : List ℕ) (a : Methods) : Type 0 where
   pub found : AreMethodsFound set order a
-  pub ready : ForEach set (λ P. (root : ℕ) × IsReady P (bounds_in set) root order)
+  pub behind : ForEach set (λ P. AreBehindCalls P order)

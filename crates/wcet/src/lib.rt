@@ -13,7 +13,7 @@ ghost use Rattle.bound_rules.specs.Conditions.{MeetsConditions};
 ghost use Rattle.bound_rules.specs.Numbers.{IsPrinted};
 ghost use Rattle.wcet.specs.declared.ending.MethodBound.{MethodBound};
 ghost use Rattle.wcet.specs.Ending.{IsMethodBound};
-ghost use Rattle.wcet.specs.Ready.{IsReady, IsSizeCause};
+ghost use Rattle.wcet.specs.Ready.{AreReady, IsReady, IsSizeCause};
 
 mod charges;
 mod costs;
@@ -77,7 +77,7 @@ pub fn certify(
 }
 
 /// What `certify` answers of each method of the order, the certificates apart. Each stands behind all that it may call, their graphs
-/// are reducible, and each of their loops has a bound.
+/// are reducible, and each of their loops has a bound; no one of them need be the root of all.
 pub fn bounds_of_all(
     alloc: Global,
     f: &FlowProgram,
@@ -90,7 +90,7 @@ pub fn bounds_of_all(
     requires sizes { 0 < t.block_words }
     requires known { All (λ m. m < length f.now.methods) order.now.methods }
     requires distinct { AreDistinct order.now.methods }
-    requires ready { (P : Program) → IsFlowOf P f.now → (root : ℕ) × IsReady P (bounds_of f.now b.now) root order.now.methods }
+    requires ready { (P : Program) → IsFlowOf P f.now → AreReady P (bounds_of f.now b.now) order.now.methods }
     ensures long { IfOk result (λ bounds. length bounds.items ≡ length order.now.methods) }
     ensures bounds { IfOk result (λ bounds. (P : Program) → IsFlowOf P f.now → (i m : ℕ) (x : MethodBound) → slice_get order.now.methods i ≡ Some m
         → slice_get bounds.items i ≡ Some x → IsMethodBound P t (bounds_of f.now b.now) m x) }

@@ -4,7 +4,7 @@ ghost use Rattle.cache_regions.specs.Region.{AreDistinct};
 ghost use Rattle.section_check.specs.Least.{lesser_of};
 ghost use Rattle.wcet.specs.Known.{unknown, bounds_in, ForEach, IsLimited};
 ghost use Rattle.wcet.specs.Methods.{AddsMethod, AddsNext, AreMethodsFound, IsUnready};
-ghost use Rattle.wcet.specs.Ready.{IsReady, IsWantOfMemory};
+ghost use Rattle.wcet.specs.Ready.{AreReady, IsWantOfMemory};
 
 use super::found::{Found, examine};
 use super::known::{Known, UNKNOWN};
@@ -81,7 +81,7 @@ pub fn examine_all(alloc: Global, task: &Task<'_>, order: &[u32]) -> Result<Meth
     requires known { All (λ m. m < length task.now.flow.methods) order.now }
     requires distinct { AreDistinct order.now }
     ensures found { IfOk result (AreMethodsFound task.now order.now) }
-    ensures cause { IfErr result (λ e. ForEach task.now (λ P. (root : ℕ) → IsReady P (bounds_in task.now) root order.now → IsWantOfMemory e)) }
+    ensures cause { IfErr result (λ e. ForEach task.now (λ P. AreReady P (bounds_in task.now) order.now → IsWantOfMemory e)) }
 {
     ready_has_shape();
     bound_rules::laws::one_more_meets();

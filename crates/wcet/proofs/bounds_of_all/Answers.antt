@@ -1,20 +1,20 @@
 use Rattle.std.proofs.Common.{ℕ, List, sym, subst}
 use Rattle.std.specs.Prelude.{IfOk}
 use Rattle.std.proofs.lemmas.Result.{IfOk-weaker}
-use Rattle.wcet.specs.Known.{Setting, bounds_in, ForEach}
+use Rattle.wcet.specs.Known.{Setting, ForEach}
 use Rattle.wcet.specs.Methods.{AreMethodsFound}
-use Rattle.wcet.specs.Ready.{IsReady}
+use Rattle.wcet.specs.Ready.{AreBehindCalls}
 use Rattle.wcet.specs.Sharing.{AreFoundFor, AreMethodBounds}
 use Rattle.wcet.proofs.bounds_of_all.Goals as goal
 
 pub shared-requires-clause-found : goal.shared-requires-clause-found
 shared-requires-clause-found c =
-    let S : Setting → Type 0 = λ s. ForEach s (λ P. (root : ℕ) × IsReady P (bounds_in s) root c.args.order.now.methods) in
+    let S : Setting → Type 0 = λ s. ForEach s (λ P. AreBehindCalls P c.args.order.now.methods) in
     let A : List ℕ → Type 0 = λ ms. AreFoundFor c.new-task.result ms c.in-Ok.found in
     let F : List ℕ → Type 0 = λ ms. AreMethodsFound c.new-task.result ms c.in-Ok.found in
     subst A (sym c.as_slice-in-Ok.ensures) (record {
       found = subst F c.as_slice.ensures c.in-Ok.ensures.found;
-      ready = subst S (sym c.new-task.ensures) c.requires.ready;
+      behind = subst S (sym c.new-task.ensures) (λ P of. (c.requires.ready P of).behind);
     })
 
 pub returns-in-Ok-clause-bounds : goal.returns-in-Ok-clause-bounds

@@ -7,8 +7,9 @@ use Rattle.bound_rules.specs.Conditions.{MeetsConditions}
 use Rattle.bound_rules.specs.Numbers.{IsPrinted}
 use Rattle.wcet.specs.Known.{Setting, bounds_in, ForEach}
 use Rattle.wcet.specs.Methods.{AreMethodsFound}
-use Rattle.wcet.specs.Ready.{IsReady, IsSizeCause, IsWantOfMemory}
+use Rattle.wcet.specs.Ready.{AreReady, IsReady, IsSizeCause, IsWantOfMemory}
 use Rattle.wcet.proofs.Certifying.{want_is_cause}
+use Rattle.wcet.proofs.Ordering.{are_ready}
 use Rattle.wcet.proofs.certify.Goals as goal
 
 pub returns-in_err-found-clause-cause : goal.returns-in_err-found-clause-cause
@@ -16,9 +17,10 @@ returns-in_err-found-clause-cause c =
     let p = err_from_is_err_and c.from_residual.result c.from_residual.ensures.1 in
     rw (p.1, p.2) (λ P of.
     let fault = c.in_err-found.field-0.0 in
-    let S : Setting → Type 0 = λ s. ForEach s (λ P. (root : ℕ) → IsReady P (bounds_in s) root c.as_slice.result.now → IsWantOfMemory fault) in
-    let R : List ℕ → Type 0 = λ ms. IsReady P (bounds_of c.args.f.now c.args.b.now) c.args.root ms in
-    want_is_cause P c.args.t (bounds_of c.args.f.now c.args.b.now) c.args.root fault (subst S c.new-task.ensures c.in_err-found.ensures.cause P of c.args.root (subst R (sym c.as_slice.ensures) (c.requires.ready P of))))
+    let S : Setting → Type 0 = λ s. ForEach s (λ P. AreReady P (bounds_in s) c.as_slice.result.now → IsWantOfMemory fault) in
+    let R : List ℕ → Type 0 = λ ms. AreReady P (bounds_of c.args.f.now c.args.b.now) ms in
+    let ready = are_ready P (bounds_of c.args.f.now c.args.b.now) c.args.root c.args.order.now.methods (c.requires.ready P of) in
+    want_is_cause P c.args.t (bounds_of c.args.f.now c.args.b.now) c.args.root fault (subst S c.new-task.ensures c.in_err-found.ensures.cause P of (subst R (sym c.as_slice.ensures) ready)))
 
 pub certificate-requires-clause-found : goal.certificate-requires-clause-found
 certificate-requires-clause-found c =
