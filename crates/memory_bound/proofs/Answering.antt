@@ -1,11 +1,9 @@
 -- The first cause that is found, and how the causes stand one behind another.
-use Rattle.std.proofs.Common.{◌≡◌, ◌≢◌, ◌↔◌, ℕ, ◌<◌, List, [], length, get_or, take, Contains, Some, None, refl, sym, subst}
+use Rattle.std.proofs.Common.{◌≡◌, ◌↔◌, ℕ, ◌<◌, List, [], length, get_or, take, Contains, Some, None, refl, sym, subst}
 use Rattle.std.specs.Prelude.{unwrap_or}
 use Rattle.std.specs.List.Sorted.{IsStrictlyIncreasing, IsPermutation}
 use Rattle.std.proofs.lemmas.List.Sorted.{Contains-permutation, IsPermutation-sym}
 use Rattle.lists.specs.Members.{contains_at}
-use Rattle.loop_nest.specs.Digraph.{Digraph}
-use Rattle.loop_nest.specs.Reduction.{IsReducible}
 use Rattle.bytecode_model.specs.Program.{Program}
 use Rattle.method_flow.specs.Keeping.{BoundOf}
 use Rattle.method_flow.specs.Regions.{IsWithin, AreMethodsOf}
@@ -19,28 +17,11 @@ use Rattle.memory_rules.specs.declared.needs.Need.{Need}
 use Rattle.memory_rules.specs.Stack.{IsStackNeedOf}
 use Rattle.memory_rules.specs.Heap.{OfMethod, IsMostMade}
 use Rattle.memory_bound.specs.declared.found.Found.{Found}
-use Rattle.memory_bound.specs.declared.shapes.Shape.{Shape}
-use Rattle.memory_bound.specs.Shapes.{node_of, all_exits, IsShapeOf}
 use Rattle.memory_bound.specs.Found.{IsFoundOf, found_at}
 use Rattle.memory_bound.specs.Causes.{IsCallFault, IsNeedFault}
-use Rattle.memory_bound.specs.Needs.{IsShapesFault, NoneLacksBound, NoneLacksLength, NoneTooLarge, HaveNoCause, IsFoundFault, IsNeedOf, IsFaultIn}
+use Rattle.memory_bound.specs.Needs.{IsShapeFaultOf, IsShapesFault, NoneLacksBound, NoneLacksLength, NoneTooLarge, HaveNoCause, IsFoundFault, IsNeedOf, IsFaultIn}
 use Rattle.memory_bound.proofs.Ordered.{stands_before}
 use Rattle.memory_bound.proofs.Refusing.{lines_are, lengths_are, need_is, fault_is}
-
--- the reduction of a method that has a shape leaves none
-pub left_none : (P : Program) (m : ℕ) (s : Shape) → IsShapeOf P m s → IsLeftWith P m []
-left_none P m s of =
-    let l : IsReducible (all_exits of.shape.compact) = subst (λ (d : Digraph). IsReducible d) of.shape.graph of.shape.reducible in
-    record {
-      graph = of.graph;
-      is_graph = of.is_graph;
-      compact = of.shape.compact;
-      node = node_of s;
-      is_compact = of.shape.is_compact;
-      left = [];
-      leaves = record { last = l.last; steps = l.steps; reduced = l.reduced; nodes = l.nodes };
-      nodes_are = refl;
-    }
 
 -- ---- the first of methods that rise
 
@@ -48,9 +29,19 @@ module _ (ms : List ℕ) (i : ℕ) (rising : IsStrictlyIncreasing ms) (lt : i < 
   here : Contains ms (get_or ms i 0)
   here = contains_at ms i (get_or ms i 0) lt refl
 
-  pub irreducible_here : (P : Program) (nodes : List ℕ) → ((x : ℕ) → Contains (take i ms) x → IsLeftWith P x []) → IsLeftWith P (get_or ms i 0) nodes → nodes ≢ []
-      → IsShapesFault P ms (Irreducible (get_or ms i 0) nodes)
-  irreducible_here P nodes before left some = (here, left, some, λ x has less. before x (stands_before ms i rising lt x has less))
+  pub fault_here : (P : Program) (e : NeedFault) → ((x : ℕ) → Contains (take i ms) x → IsLeftWith P x []) → IsShapeFaultOf P (get_or ms i 0) e → IsShapesFault P ms e
+  fault_here P (Irreducible m nodes) before h =
+      let same : m ≡ get_or ms i 0 = h.0 in (
+        subst (λ (x : ℕ). Contains ms x) (sym same) here,
+        h.1,
+        h.2,
+        λ x has less. before x (stands_before ms i rising lt x has (subst (λ (y : ℕ). x < y) same less)),
+      )
+  fault_here P NoMemory before h = tt
+  fault_here P (Recursion cycle) before h = absurd h
+  fault_here P (MissingBound m p) before h = absurd h
+  fault_here P (MissingSize m p) before h = absurd h
+  fault_here P (TooLarge m) before h = absurd h
 
   pub bound_here : (table : List Found) (p : ℕ) → NoneLacksBound table (take i ms) → (found_at table (get_or ms i 0)).unbounded ≡ Some p → IsFoundFault table ms (MissingBound (get_or ms i 0) p)
   bound_here table p before is = (here, is, λ x has less. before x (stands_before ms i rising lt x has less))

@@ -1,7 +1,7 @@
 -- Methods taken in an order, and methods that rise.
 use Rattle.std.proofs.Common.{◌≡◌, ◌≢◌, ℕ, ◌+◌, ◌<◌, ◌≤◌, ◌⊎◌, List, length, get_or, set, take, Contains, sym, ◌∙◌, subst, inl, inr, arith}
 use Rattle.std.specs.List.Sorted.{IsStrictlyIncreasing}
-use Rattle.std.proofs.lemmas.Bool.{cases_lt}
+use Rattle.std.proofs.lemmas.Bool.{cases_eq, cases_lt}
 use Rattle.std.proofs.lemmas.List.{get_or-take, length-take-le, take_all, take_more, get_or-set_same, get_or-set_other}
 use Rattle.std.proofs.lemmas.List.Elements.{Contains-push_cases}
 use Rattle.lists.specs.Members.{place_of, contains_at, rising_all}
@@ -51,4 +51,18 @@ one_written {A} Q ms table d v i distinct lt below before here x has =
       | inr same ↦
           subst (λ (y : ℕ). Q y (get_or (set table (get_or ms i 0) v) y d)) same
           (subst (λ (a : A). Q (get_or ms i 0) a) (sym (get_or-set_same table (get_or ms i 0) v d below)) here)
+    ]
+
+-- the same of a list in which a number may stand more than once
+pub each_written : {A : Type 0} (Q : ℕ → A → Type 0) (ms : List ℕ) (table : List A) (d v : A) (i : ℕ) → i < length ms → get_or ms i 0 < length table
+    → ((x : ℕ) → Contains (take i ms) x → Q x (get_or table x d)) → Q (get_or ms i 0) v
+    → (x : ℕ) → Contains (take (i + 1) ms) x → Q x (get_or (set table (get_or ms i 0) v) x d)
+each_written {A} Q ms table d v i lt below before here x has =
+    elim (cases_eq x (get_or ms i 0)) [
+      | inl same ↦
+          subst (λ (y : ℕ). Q y (get_or (set table (get_or ms i 0) v) y d)) (sym same)
+          (subst (λ (a : A). Q (get_or ms i 0) a) (sym (get_or-set_same table (get_or ms i 0) v d below)) here)
+      | inr other ↦
+          subst (λ (a : A). Q x a) (sym (get_or-set_other table (get_or ms i 0) x v d other))
+          (before x (elim (taken_cases ms i x lt has) [ inl there ↦ there | inr same ↦ absurd (other (sym same)) ]))
     ]

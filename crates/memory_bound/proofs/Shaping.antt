@@ -7,15 +7,17 @@ use Rattle.std.proofs.lemmas.List.{map-id}
 use Rattle.std.proofs.lemmas.List.Elements.{Contains-get_or}
 use Rattle.lists.specs.Members.{in_tail}
 use Rattle.loop_nest.specs.Digraph.{Digraph, IsDigraph}
-use Rattle.loop_nest.specs.Reduction.{Quotient, Reduces, Leaves, whole}
+use Rattle.loop_nest.specs.Reduction.{Quotient, Reduces, Leaves, IsReducible, whole}
 use Rattle.loop_nest.specs.Reduction.Reduces.{done, drops, merges}
 use Rattle.loop_nest.proofs.Elements.{from_range, from_filter}
 use Rattle.bytecode_model.specs.Program.{Program}
 use Rattle.method_flow.specs.Graphs.{IsGraphOf}
+use Rattle.bound_rules.specs.Bounding.{IsLeftWith}
 use Rattle.flow_graph.specs.Numbering.{IsCompactOf}
+use Rattle.memory_bound.specs.declared.shapes.Shape.{Shape}
 use Rattle.memory_bound.specs.declared.shapes.ShapeFault.{ShapeFault}
 use Rattle.memory_bound.specs.declared.shapes.ShapeFault.TheVariants.{Irreducible, NoMemory}
-use Rattle.memory_bound.specs.Shapes.{all_exits, IsLeftAs, IsLeftIn, IsShapeFault}
+use Rattle.memory_bound.specs.Shapes.{node_of, all_exits, IsLeftAs, IsLeftIn, IsShapeOf, IsShapeFault}
 
 -- ---- each node an exit
 
@@ -96,3 +98,18 @@ left_of P m g is (Irreducible ns) h =
     none_left [] e = refl
     none_left (x ∷ xs) e = let bad : ⊥ = cc in absurd bad
 left_of P m g is NoMemory h = tt
+
+-- the reduction of a method that has a shape leaves none
+pub left_none : (P : Program) (m : ℕ) (s : Shape) → IsShapeOf P m s → IsLeftWith P m []
+left_none P m s of =
+    let l : IsReducible (all_exits of.shape.compact) = subst (λ (d : Digraph). IsReducible d) of.shape.graph of.shape.reducible in
+    record {
+      graph = of.graph;
+      is_graph = of.is_graph;
+      compact = of.shape.compact;
+      node = node_of s;
+      is_compact = of.shape.is_compact;
+      left = [];
+      leaves = record { last = l.last; steps = l.steps; reduced = l.reduced; nodes = l.nodes };
+      nodes_are = refl;
+    }

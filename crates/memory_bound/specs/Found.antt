@@ -13,7 +13,7 @@ use Rattle.memory_bound.specs.declared.found.Found.{Found}
 
 -- of a method of which nothing is found
 abbrev pub unknown : Found
-unknown = record { makes = false; unbounded = None; unlimited = None; heap = None }
+unknown = record { reducible = false; makes = false; unbounded = None; unlimited = None; heap = None }
 
 abbrev pub found_at : List Found → (method : ℕ) → Found
 found_at table m = slice_index_or table m unknown

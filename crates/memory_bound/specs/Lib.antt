@@ -1,6 +1,7 @@
 pub mod Setting
 pub mod Shapes
 pub mod Found
+pub mod Examined
 pub mod Loops
 pub mod Lengths
 pub mod Words

@@ -22,6 +22,12 @@ IsShapesFault P ms (Irreducible m nodes) = Contains ms m × IsLeftWith P m nodes
 IsShapesFault P ms NoMemory = Unit {0}
 IsShapesFault P ms fault = ⊥
 
+-- of this method; of want of memory nothing is said
+abbrev pub IsShapeFaultOf : Program → (method : ℕ) → NeedFault → Type 0
+IsShapeFaultOf P x (Irreducible m nodes) = (m ≡ x) × IsLeftWith P m nodes × (nodes ≢ [])
+IsShapeFaultOf P x NoMemory = Unit {0}
+IsShapeFaultOf P x fault = ⊥
+
 abbrev pub NoneLacksBound : List Found → (methods : List ℕ) → Type 0
 NoneLacksBound table ms = (m : ℕ) → Contains ms m → (found_at table m).unbounded ≡ None
 

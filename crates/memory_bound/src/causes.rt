@@ -8,8 +8,9 @@ ghost use Rattle.bound_rules.specs.Bounding.{IsLeftWith};
 ghost use Rattle.call_regions.specs.Calling.{IsTargetsFirst};
 ghost use Rattle.call_regions.specs.Regions.{AreKnown};
 ghost use Rattle.memory_bound.specs.Setting.{ForEach, bounds_in, lengths_in};
+ghost use Rattle.memory_bound.specs.Examined.{AreFoundIn, AreToldReducible, TellsReducible};
 ghost use Rattle.memory_bound.specs.Causes.{IsCallFault, IsNeedFault};
-ghost use Rattle.memory_bound.specs.Needs.{HaveNoCause, IsFoundFault, IsNeedOf, IsShapesFault, IsFaultIn, IsSmall, NoneLacksBound, NoneLacksLength};
+ghost use Rattle.memory_bound.specs.Needs.{HaveNoCause, IsFoundFault, IsNeedOf, IsShapeFaultOf, IsShapesFault, IsFaultIn, IsSmall, NoneLacksBound, NoneLacksLength};
 ghost use Rattle.memory_bound.specs.Needs.{NoneTooLarge};
 
 use super::examining::examine_all;
@@ -47,24 +48,61 @@ fn rising(alloc: Global, numbers: &[u32]) -> Result<Vec<u32>, AllocError>
     Ok(rising)
 }
 
-/// Whether each cycle of the graphs of these methods, which rise, is a loop with one entry. A method's graph is dropped before the
-/// next one is made.
-fn check_shapes(alloc: Global, f: &FlowProgram, methods: &[u32]) -> Result<(), NeedFault>
+/// Whether each cycle of the graph of the method `m` is a loop with one entry. Its graph is made anew where this isn't found yet.
+fn check_shape(alloc: Global, f: &FlowProgram, m: u32, found: Found) -> Result<(), NeedFault>
+    requires known { m < length f.now.methods }
+    requires told { (P : Program) → IsFlowOf P f.now → TellsReducible P m found }
+    ensures ok { OnOk result ((P : Program) → IsFlowOf P f.now → IsLeftWith P m []) }
+    ensures cause { IfErr result (λ e. (P : Program) → IsFlowOf P f.now → IsShapeFaultOf P m e) }
+{
+    if found.reducible {
+        return Ok(());
+    }
+    match shape_of(alloc, f.method(m)) {
+        Ok(_) => Ok(()),
+        Err(ShapeFault::Irreducible(nodes)) => Err(NeedFault::Irreducible(m, Items::new(nodes))),
+        Err(ShapeFault::NoMemory) => Err(NeedFault::NoMemory),
+    }
+}
+
+/// Whether each cycle of the graphs of these methods, which rise, is a loop with one entry.
+fn check_shapes(
+    alloc: Global,
+    f: &FlowProgram,
+    table: &[Found],
+    methods: &[u32],
+) -> Result<(), NeedFault>
     requires known { All (λ m. m < length f.now.methods) methods.now }
+    requires long { length table.now ≡ length f.now.methods }
     requires rising { IsStrictlyIncreasing methods.now }
+    requires told { AreToldReducible f.now methods.now table.now }
     ensures ok { OnOk result ((P : Program) → IsFlowOf P f.now → (m : ℕ) → Contains methods.now m → IsLeftWith P m []) }
     ensures cause { IfErr result (λ e. (P : Program) → IsFlowOf P f.now → IsShapesFault P methods.now e) }
 {
     for m in methods {
-        match shape_of(alloc, f.method(*m)) {
-            Ok(_) => {}
-            Err(ShapeFault::Irreducible(nodes)) => {
-                return Err(NeedFault::Irreducible(*m, Items::new(nodes)));
-            }
-            Err(ShapeFault::NoMemory) => return Err(NeedFault::NoMemory),
-        }
+        check_shape(alloc, f, *m, table[*m as usize])?;
     }
     Ok(())
+}
+
+/// What is found of each of these methods, by number. `methods` has those of `order`, rising.
+fn examined(
+    alloc: Global,
+    task: &Task<'_>,
+    order: &[u32],
+    methods: &[u32],
+) -> Result<Vec<Found>, NeedFault>
+    requires order { All (λ m. m < length task.now.flow.methods) order.now }
+    requires methods { IsPermutation order.now methods.now }
+    requires rising { IsStrictlyIncreasing methods.now }
+    ensures long { IfOk result (λ v. length v.items ≡ length task.now.flow.methods) }
+    ensures reducible { OnOk result ((P : Program) → IsFlowOf P task.now.flow → (m : ℕ) → Contains methods.now m → IsLeftWith P m []) }
+    ensures found { IfOk result (λ v. AreFoundIn task.now order.now v.items) }
+    ensures cause { IfErr result (λ e. (P : Program) → IsFlowOf P task.now.flow → IsShapesFault P methods.now e) }
+{
+    let table = examine_all(alloc, task, order)?;
+    check_shapes(alloc, task.flow(), &table, methods)?;
+    Ok(table)
 }
 
 /// The first loop without a bound, by method and place, of these methods, which rise.
@@ -140,18 +178,20 @@ fn need_found(
     task: &Task<'_>,
     order: &[u32],
     methods: &[u32],
+    table: &[Found],
 ) -> Result<Need, NeedFault>
     requires order { All (λ m. m < length task.now.flow.methods) order.now }
+    requires long { length table.now ≡ length task.now.flow.methods }
     requires few { length order.now < 2 ^ 32 }
     requires methods { IsPermutation order.now methods.now }
     requires rising { IsStrictlyIncreasing methods.now }
+    requires found { AreFoundIn task.now order.now table.now }
     ensures need { IfOk result (λ n. ForEach task.now (λ P. IsTargetsFirst P P.boot order.now → ((m : ℕ) → Contains order.now m → IsLeftWith P m [])
         → IsNeedOf P (bounds_in task.now) (lengths_in task.now) n)) }
     ensures cause { IfErr result (λ e. ForEach task.now (λ P. IsTargetsFirst P P.boot order.now → ((m : ℕ) → Contains order.now m → IsLeftWith P m [])
         → IsFaultIn P (bounds_in task.now) (lengths_in task.now) e)) }
 {
-    let table = examine_all(alloc, task, order)?;
-    check_found(&table, methods)?;
+    check_found(table, methods)?;
     let stacks = stacks(alloc, task, order)?;
     let boot = task.flow().boot() as usize;
     Ok(Need {
@@ -172,8 +212,8 @@ fn need_in(alloc: Global, task: &Task<'_>, order: &[u32]) -> Result<Need, NeedFa
     order_excludes_cycles();
     let _ = task.flow().method_count();
     let methods = rising(alloc, order)?;
-    check_shapes(alloc, task.flow(), &methods)?;
-    need_found(alloc, task, order, &methods)
+    let table = examined(alloc, task, order, &methods)?;
+    need_found(alloc, task, order, &methods, &table)
 }
 
 /// The need of a task.

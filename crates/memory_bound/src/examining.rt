@@ -1,6 +1,8 @@
 //! What is found of each method, in an order in which a method stands behind all that it may run.
 ghost use Rattle.std.specs.Prelude.{◌≡◌, ◌<◌, ℕ, [], length, replicate, All, Contains, IfOk, MatchOption};
+ghost use Rattle.bytecode_model.specs.Program.{Program};
 ghost use Rattle.loop_nest.specs.Digraph.{Digraph};
+ghost use Rattle.method_flow.specs.Flow.{IsFlowOf};
 ghost use Rattle.path_solver.specs.Longest.{WalkExceeds, bounded_loops};
 ghost use Rattle.section_check.specs.Bounded.{IsGreatest};
 ghost use Rattle.bound_rules.specs.Bounding.{IsLeftWith};
@@ -9,6 +11,7 @@ ghost use Rattle.call_regions.specs.Calling.{IsTargetsFirst};
 ghost use Rattle.memory_bound.specs.Setting.{ForEach, bounds_in, lengths_in};
 ghost use Rattle.memory_rules.specs.Heap.{OfMethod};
 ghost use Rattle.memory_bound.specs.Found.{AreFound, HaveBoundsWithin, IsFoundOf, IsMostOr, found_at};
+ghost use Rattle.memory_bound.specs.Examined.{AreFoundIn, AreToldReducible, TellsReducible};
 ghost use Rattle.memory_bound.specs.Shapes.{IsShapeIn, IsShapeOf};
 ghost use Rattle.memory_bound.specs.Loops.{AreBoundsOf, AreLoopsFound};
 
@@ -136,6 +139,7 @@ fn examine_shape(
     let heap = heap_of(alloc, task, m, table, s, &loops.bounds)?;
     let nodes = s.nodes.as_slice();
     Ok(Found {
+        reducible: true,
         makes: some_node_makes(task, m, table, nodes),
         unbounded: loops.unbounded,
         unlimited: first_unlimited(task, m, nodes),
@@ -147,7 +151,8 @@ fn examine_shape(
 fn examine(alloc: Global, task: &Task<'_>, m: u32, table: &[Found]) -> Result<Found, NoMemory>
     requires method { m < length task.now.flow.methods }
     requires long { length table.now ≡ length task.now.flow.methods }
-    ensures { IfOk result (λ x. ForEach task.now (λ P. IsLeftWith P m [] → AreFound P (bounds_in task.now) (lengths_in task.now) table.now m
+    ensures reducible { IfOk result (λ x. (P : Program) → IsFlowOf P task.now.flow → TellsReducible P m x) }
+    ensures found { IfOk result (λ x. ForEach task.now (λ P. IsLeftWith P m [] → AreFound P (bounds_in task.now) (lengths_in task.now) table.now m
         → IsFoundOf P (bounds_in task.now) (lengths_in task.now) m x)) }
 {
     // The law is for the proof.
@@ -163,8 +168,8 @@ fn examine(alloc: Global, task: &Task<'_>, m: u32, table: &[Found]) -> Result<Fo
 pub fn examine_all(alloc: Global, task: &Task<'_>, order: &[u32]) -> Result<Vec<Found>, NoMemory>
     requires { All (λ m. m < length task.now.flow.methods) order.now }
     ensures long { IfOk result (λ v. length v.items ≡ length task.now.flow.methods) }
-    ensures found { IfOk result (λ v. ForEach task.now (λ P. IsTargetsFirst P P.boot order.now → ((m : ℕ) → Contains order.now m → IsLeftWith P m [])
-        → (m : ℕ) → Contains order.now m → IsFoundOf P (bounds_in task.now) (lengths_in task.now) m (found_at v.items m))) }
+    ensures reducible { IfOk result (λ v. AreToldReducible task.now.flow order.now v.items) }
+    ensures found { IfOk result (λ v. AreFoundIn task.now order.now v.items) }
 {
     let mut table = vec![in alloc; UNKNOWN; task.flow().method_count() as usize]?;
     for m in order {

@@ -1,8 +1,10 @@
 //! What is found of methods.
 
-/// What is found of a method each cycle of which is a loop with one entry.
+/// What is found of a method.
 #[derive(Clone, Copy)]
 pub struct Found {
+    /// Whether it is found that each cycle of its graph is a loop with one entry. Else nothing is found.
+    pub reducible: bool,
     /// Whether it makes objects.
     pub makes: bool,
     /// The place of the first header of a loop that makes objects and has no bound.
@@ -15,6 +17,7 @@ pub struct Found {
 
 /// Of a method of which nothing is found.
 pub const UNKNOWN: Found = Found {
+    reducible: false,
     makes: false,
     unbounded: None,
     unlimited: None,

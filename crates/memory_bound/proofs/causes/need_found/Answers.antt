@@ -1,4 +1,4 @@
-use Rattle.std.proofs.Common.{◌≡◌, ℕ, ◌<◌, List, length, All, IfErr, sym, ap, ◌∙◌, subst, rules, arith}
+use Rattle.std.proofs.Common.{◌≡◌, ℕ, ◌<◌, length, All, IfErr, sym, ap, ◌∙◌, subst, rules, arith}
 use Rattle.std.specs.Prelude.{slice_index, unwrap_or}
 use Rattle.std.proofs.lemmas.List.{get_or_read}
 use Rattle.std.proofs.lemmas.List.Sorted.{All-permutation}
@@ -7,10 +7,9 @@ use Rattle.method_flow.specs.Regions.IsWithin.{itself}
 use Rattle.call_regions.proofs.Sorting.{if_err}
 use Rattle.memory_rules.specs.declared.causes.NeedFault.{NeedFault}
 use Rattle.memory_rules.specs.Stack.{IsStackNeedOf}
-use Rattle.memory_bound.specs.declared.found.Found.{Found}
 use Rattle.memory_bound.specs.Setting.{bounds_in, lengths_in}
-use Rattle.memory_bound.specs.Found.{found_at, unknown}
-use Rattle.memory_bound.specs.Needs.{HaveNoCause, IsFoundFault, IsFaultIn}
+use Rattle.memory_bound.specs.Found.{found_at}
+use Rattle.memory_bound.specs.Needs.{IsFaultIn}
 use Rattle.memory_bound.proofs.Answering.{need_of_found, fault_of_found}
 use Rattle.memory_bound.proofs.causes.need_found.Goals as goal
 
@@ -18,22 +17,20 @@ pub check_found-requires-clause-known : goal.check_found-requires-clause-known
 check_found-requires-clause-known c =
     let ms = c.args.methods.now in
     let f = c.args.task.now.flow in
-    let long : length c.deref.result.now ≡ length f.methods = ap length c.deref.ensures.value ∙ c.in_ok-table.ensures.long in
-    subst (λ (n : ℕ). All (λ (m : ℕ). m < n) ms) (sym long) (All-permutation (λ (m : ℕ). m < length f.methods) c.args.order.now ms c.requires.methods c.requires.order)
+    subst (λ (n : ℕ). All (λ (m : ℕ). m < n) ms) (sym c.requires.long) (All-permutation (λ (m : ℕ). m < length f.methods) c.args.order.now ms c.requires.methods c.requires.order)
 
 pub returns-in_err-check_found-clause-cause : goal.returns-in_err-check_found-clause-cause
 returns-in_err-check_found-clause-cause c =
     let task = c.args.task.now in
     let ms = c.args.methods.now in
-    let table = c.in_ok-table.table.items in
-    let result = c.from_residual-in_err-check_found.result in
+    let table = c.args.table.now in
+    let result = c.from_residual.result in
     let fault = c.in_err-check_found.field-0.0 in
-    let cause = subst (λ (t : List Found). IsFoundFault t ms fault) c.deref.ensures.value c.in_err-check_found.ensures.cause in
     let same : IfErr result (λ e. e ≡ fault) = search rules in
     if_err result (λ e. e ≡ fault) _
     (λ e is P flow sites first left.
     subst (λ (x : NeedFault). IsFaultIn P (bounds_in task) (lengths_in task) x) (sym is)
-    (fault_of_found P (bounds_in task) (lengths_in task) table ms c.args.order.now first c.requires.methods (c.in_ok-table.ensures.found P flow sites first left) fault cause))
+    (fault_of_found P (bounds_in task) (lengths_in task) table ms c.args.order.now first c.requires.methods (c.requires.found P flow sites first left) fault c.in_err-check_found.ensures.cause))
     same
 
 pub returns-clause-need : goal.returns-clause-need
@@ -41,7 +38,7 @@ returns-clause-need c = λ P flow sites first left.
     let task = c.args.task.now in
     let ms = c.args.methods.now in
     let order = c.args.order.now in
-    let table = c.in_ok-table.table.items in
+    let table = c.args.table.now in
     let stacks = c.in_ok-stacks.stacks.items in
     let boot = c.boot-boot.result in
     let same : boot ≡ P.boot = c.boot-boot.ensures.boot ∙ ap (λ (f : Flow). f.boot) c.flow.ensures.flow ∙ flow.boot in
@@ -49,12 +46,10 @@ returns-clause-need c = λ P flow sites first left.
     let here : boot < length c.flow.result.now.methods = let e = c.boot-boot.ensures.boot in omega arith in
     let inside : boot < length task.flow.methods = subst (λ (f : Flow). boot < length f.methods) c.flow.ensures.flow here in
     let in_stacks : boot < length stacks = let e = c.in_ok-stacks.ensures.long in omega arith in
-    let in_table : boot < length table = let e = c.in_ok-table.ensures.long in omega arith in
     let stack : c.index.result.now ≡ slice_index stacks P.boot = get_or_read stacks boot c.index.result.now in_stacks c.index.ensures 0 ∙ ap (slice_index stacks) same in
-    let found : c.index-2.result.now ≡ found_at table P.boot = get_or_read table boot c.index-2.result.now in_table c.index-2.ensures unknown ∙ ap (found_at table) same in
-    let none = subst (λ (t : List Found). HaveNoCause t ms) c.deref.ensures.value c.in_ok-check_found.ensures.ok in
+    let none = c.in_ok-check_found.ensures.ok in
     let deepest = c.in_ok-stacks.ensures.need P flow sites first P.boot ((first.methods.each P.boot).1 itself) in
-    need_of_found P (bounds_in task) (lengths_in task) table ms order first c.requires.methods (c.in_ok-table.ensures.found P flow sites first left) none
+    need_of_found P (bounds_in task) (lengths_in task) table ms order first c.requires.methods (c.requires.found P flow sites first left) none
     (record { stack = c.index.result.now; heap = c.unwrap_or.result })
     (subst (λ (w : ℕ). IsStackNeedOf P P.boot w) (sym stack) deepest)
-    (c.unwrap_or.ensures ∙ ap (λ (x : Found). unwrap_or x.heap 0) found)
+    (c.unwrap_or.ensures ∙ ap (λ (n : ℕ). unwrap_or (found_at table n).heap 0) same)

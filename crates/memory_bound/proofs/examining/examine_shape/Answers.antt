@@ -1,4 +1,4 @@
-use Rattle.std.proofs.Common.{◌↔◌, ℕ, ◌*◌, Bool, List, Contains, sym, subst}
+use Rattle.std.proofs.Common.{◌↔◌, ℕ, ◌*◌, Bool, true, List, Contains, sym, subst}
 use Rattle.std.specs.Prelude.{IsTrue}
 use Rattle.memory_rules.specs.Heap.{PlaceMakesObjects}
 use Rattle.memory_bound.specs.Setting.{bounds_in, lengths_in}
@@ -28,7 +28,7 @@ returns c = λ P flow sites of found.
     let among = subst (λ (us : List ℕ). IsFirstAmong P l m us c.first_unlimited.result) c.as_slice-nodes.ensures
     (c.first_unlimited.ensures P flow sites (subst (λ (us : List ℕ). AreOn P m us) (sym c.as_slice-nodes.ensures) (are_on laws.one P m s of))) in
     found_by_shape laws P m s of b l
-    (record { makes = c.some_node_makes.result; unbounded = c.in_ok-loops.loops.unbounded; unlimited = c.first_unlimited.result; heap = c.in_ok-heap.heap })
+    (record { reducible = true; makes = c.some_node_makes.result; unbounded = c.in_ok-loops.loops.unbounded; unlimited = c.first_unlimited.result; heap = c.in_ok-heap.heap })
     makes making are loops.unbounded among
     (λ have. c.in_ok-heap.ensures P flow sites of found have
     (subst (λ (bs : List ℕ). AreBoundsOf P b m s bs) (sym c.deref-2.ensures.value) (record { making = making; long = c.in_ok-making.ensures.long; loops = are; are = loops.bounds_are })))
