@@ -1,4 +1,4 @@
-mod Lifting
+pub mod Lifting
 mod Bounding
 mod LoopLines
 mod Needs

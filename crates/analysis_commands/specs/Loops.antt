@@ -8,25 +8,13 @@ use Rattle.loop_rules.specs.declared.found.FoundLoop.{FoundLoop}
 use Rattle.loop_rules.specs.Finding.{AreCountedLoops}
 use Rattle.loop_rules.specs.Sites.{int_at}
 use Rattle.int_sites.specs.Constants.{AreConstants}
+use Rattle.answer_lines.specs.LoopLine.{is_nameable, loop_line}
 use Rattle.analysis_commands.specs.Analysis.{named_or_number}
 use Rattle.analysis_commands.specs.Answers.{table_name}
-
--- the name holds no space and no line feed
-abbrev pub is_unbroken : (name : List ℕ) → Bool
-is_unbroken name = list_all (λ byte. not (byte == 32) && not (byte == 10)) name
-
--- a line of bounds can begin with the name: it begins with no #, and is unbroken
-abbrev pub is_nameable : (name : List ℕ) → Bool
-is_nameable [] = false
-is_nameable (byte ∷ bytes) = not (byte == 35) && is_unbroken (byte ∷ bytes)
 
 -- a line can bound loops of the method of this name, which isn't the one that is run first
 abbrev pub can_be_named : (boot method : ℕ) → (name : List ℕ) → Bool
 can_be_named boot method name = not (method == boot) && is_nameable name
-
--- the line that bounds a loop of the method of this name
-abbrev pub loop_line : (name : List ℕ) → (place bound : ℕ) → List ℕ
-loop_line name place bound = name ++ (codes " " ++ (decimal place ++ (codes " loop<=" ++ (decimal bound ++ codes "\n"))))
 
 -- the line of a loop that is found, where one can bound it
 abbrev pub found_line : (name : ℕ → List ℕ) → (boot : ℕ) → FoundLoop → List ℕ

@@ -53,7 +53,7 @@ fn timing_of(settings: &Settings) -> Timing
 }
 
 /// The bounds that a text gives.
-pub(crate) fn bounds_in(alloc: Global, text: &[u8]) -> Result<Bounds, AnalysisFault>
+pub fn bounds_in(alloc: Global, text: &[u8]) -> Result<Bounds, AnalysisFault>
     requires { length text.now ≤ longest_file }
     ensures read { IfOk result (IsRead text.now) }
     ensures fault { IfErr result (IsBoundsFault text.now) }

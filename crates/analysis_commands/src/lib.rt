@@ -12,7 +12,7 @@ mod memory;
 mod names;
 mod subjects;
 
-pub use analysis::{Analysis, AnalysisFault, analysis_of, table_of};
+pub use analysis::{Analysis, AnalysisFault, analysis_of, bounds_in, table_of};
 pub use bound::{NotBounded, bound_bare, bound_number, bound_program};
 pub use check::{CheckRefusal, Held, check_bare, check_program};
 pub use loops::loop_lines;

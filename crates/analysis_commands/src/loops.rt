@@ -1,11 +1,11 @@
 //! The loops of a program that count, as lines of bounds.
 ghost use Rattle.std.specs.Prelude.{◌≡◌, ◌++◌, OnOk, IfOk, flat_map};
 ghost use Rattle.analysis_commands.specs.Answers.{table_name};
-ghost use Rattle.analysis_commands.specs.Loops.{is_unbroken, is_nameable, can_be_named, loop_line, found_line, AreLoopLinesBy, AreLoopLines};
+ghost use Rattle.analysis_commands.specs.Loops.{can_be_named, found_line, AreLoopLinesBy, AreLoopLines};
 
 use crate::analysis::table_of;
 use crate::names::table_name;
-use ascii_text::put_u64;
+use answer_lines::{is_nameable, put_loop_line};
 use base::NoMemory;
 use bytecode_verifier::Verified;
 use int_sites::int_sites;
@@ -15,40 +15,11 @@ use method_flow::FlowProgram;
 use resolved_program::Program;
 use std::alloc::Global;
 
-/// Whether the name holds no space and no line feed.
-fn is_unbroken(name: &[u8]) -> bool
-    ensures { result ≡ is_unbroken name.now }
-{
-    name.iter().all(|byte| *byte != b' ' && *byte != b'\n')
-}
-
-/// Whether a line of bounds can begin with the name.
-fn is_nameable(name: &[u8]) -> bool
-    ensures { result ≡ is_nameable name.now }
-{
-    match name {
-        [] => false,
-        [first, ..] => *first != b'#' && is_unbroken(name),
-    }
-}
-
 /// Whether a line can bound loops of the method of this name.
 fn can_be_named(flow: &FlowProgram, method: u32, name: &[u8]) -> bool
     ensures { result ≡ can_be_named flow.now.boot method name.now }
 {
     method != flow.boot() && is_nameable(name)
-}
-
-/// Appends the line that bounds a loop of the method of this name.
-fn put_loop(text: &mut Vec<u8>, name: &[u8], found: FoundLoop) -> Result<(), NoMemory>
-    ensures { OnOk result (text.new.items ≡ text.old.items ++ loop_line name.now found.place found.bound) }
-{
-    text.extend_from_slice(name)?;
-    text.push(b' ')?;
-    put_u64(text, found.place as u64)?;
-    text.extend_from_slice(b" loop<=")?;
-    put_u64(text, found.bound as u64)?;
-    Ok(text.push(b'\n')?)
 }
 
 /// Appends the line of a loop that was found, where one can bound it.
@@ -62,7 +33,7 @@ fn put_found(
 {
     let name = table_name(alloc, flow, found.method)?;
     if can_be_named(flow, found.method, &name) {
-        put_loop(text, &name, found)
+        put_loop_line(text, &name, found.place, found.bound)
     } else {
         Ok(())
     }

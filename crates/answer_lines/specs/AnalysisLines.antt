@@ -26,6 +26,13 @@ bad_sizes_parts line = codes "bad sizes line=" ∷ decimal line ∷ codes "\n" �
 abbrev pub twice_size_parts : (line : ℕ) → List (List ℕ)
 twice_size_parts line = codes "twice size line=" ∷ decimal line ∷ codes "\n" ∷ []
 
+-- and so of bounds by lines of sources
+abbrev pub bad_lines_parts : (line : ℕ) → List (List ℕ)
+bad_lines_parts line = codes "bad lines line=" ∷ decimal line ∷ codes "\n" ∷ []
+
+abbrev pub twice_lines_parts : (line : ℕ) → List (List ℕ)
+twice_lines_parts line = codes "twice lines line=" ∷ decimal line ∷ codes "\n" ∷ []
+
 -- with this line no certificate begins
 abbrev pub bad_cert_parts : (line : ℕ) → List (List ℕ)
 bad_cert_parts line = codes "bad cert line=" ∷ decimal line ∷ codes "\n" ∷ []

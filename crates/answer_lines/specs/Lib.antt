@@ -4,5 +4,6 @@ pub mod Said
 pub mod AnalysisLines
 pub mod WorkLines
 pub mod MemoryLines
+pub mod LoopLine
 pub mod Unanswered
 pub mod WorkRows

@@ -9,6 +9,7 @@ mod check;
 pub mod laws;
 mod line;
 mod link;
+mod loop_line;
 mod memory;
 mod pieces;
 mod put;
@@ -19,9 +20,13 @@ mod unanswered;
 pub use bound::BoundCause;
 pub use check::{say_fault, say_held};
 pub use line::{AsmLine, Counts, Line, LinkLine, Named, Place, Sizes};
+pub use loop_line::{is_nameable, is_unbroken, put_loop_line};
 pub use memory::memory_line;
 pub use pieces::Piece;
 pub use put::{put_line, say, say_pieces};
 pub use summary::work_line;
-pub use texts::{say_bad_bounds, say_bad_cert, say_bad_sizes, say_twice_bound, say_twice_size};
+pub use texts::{
+    say_bad_bounds, say_bad_cert, say_bad_lines, say_bad_sizes, say_twice_bound, say_twice_lines,
+    say_twice_size,
+};
 pub use unanswered::{Cause, say_unanswered};

@@ -4,6 +4,7 @@ ghost use Rattle.std.specs.List.{concat};
 ghost use Rattle.outside.specs.Outside.{HasCause};
 ghost use Rattle.answer_lines.specs.Said.{Said};
 ghost use Rattle.answer_lines.specs.AnalysisLines.{bad_bounds_parts, twice_bound_parts, bad_sizes_parts, twice_size_parts, bad_cert_parts};
+ghost use Rattle.answer_lines.specs.AnalysisLines.{bad_lines_parts, twice_lines_parts};
 
 use crate::{Piece, say_pieces};
 use outside::{Failed, Sink};
@@ -54,6 +55,22 @@ pub fn say_twice_size<O: Sink>(sink: &mut O, line: u32) -> Result<(), Failed>
     ensures cause { HasCause (O.faults sink.old) (O.faults sink.new) result }
 {
     say_number(sink, b"twice size line=", line as u64)
+}
+
+/// Puts the line of the first line of bounds by lines of sources that is none of their grammar.
+pub fn say_bad_lines<O: Sink>(sink: &mut O, line: u32) -> Result<(), Failed>
+    ensures said { Said false (concat (bad_lines_parts line)) (O.held sink.old) (O.held sink.new) (O.faults sink.old) (O.faults sink.new) result }
+    ensures cause { HasCause (O.faults sink.old) (O.faults sink.new) result }
+{
+    say_number(sink, b"bad lines line=", line as u64)
+}
+
+/// Puts the line of the first of these lines that bounds once more what a line before it bounds.
+pub fn say_twice_lines<O: Sink>(sink: &mut O, line: u32) -> Result<(), Failed>
+    ensures said { Said false (concat (twice_lines_parts line)) (O.held sink.old) (O.held sink.new) (O.faults sink.old) (O.faults sink.new) result }
+    ensures cause { HasCause (O.faults sink.old) (O.faults sink.new) result }
+{
+    say_number(sink, b"twice lines line=", line as u64)
 }
 
 /// Puts the line of the first line with which no certificate begins.

@@ -5,7 +5,7 @@ ghost use Rattle.outside.specs.Outside.{HasCause};
 ghost use Rattle.answer_lines.specs.Said.{Said};
 ghost use Rattle.answer_lines.specs.Unanswered.{unanswered_parts};
 
-use crate::bound::{BoundCause, say_cause};
+use crate::bound::{BoundCause, say_cause, say_subject};
 use crate::memory::say_need_cause;
 use memory_rules::NeedCause;
 use outside::{Failed, Sink};
@@ -17,6 +17,8 @@ pub enum Cause {
     Bound(BoundCause),
     /// No need of memory is given.
     Memory(NeedCause),
+    /// A bound is said of a line of a file, or of a place of a method, that heads no loop.
+    NoLoop,
 }
 
 /// Puts the line of the cause for which what is asked isn't answered. The subject is what the line names.
@@ -27,5 +29,6 @@ pub fn say_unanswered<O: Sink>(sink: &mut O, cause: Cause, subject: &[u8]) -> Re
     match cause {
         Cause::Bound(cause) => say_cause(sink, cause, subject),
         Cause::Memory(cause) => say_need_cause(sink, cause, subject),
+        Cause::NoLoop => say_subject(sink, b"no loop ", subject),
     }
 }

@@ -1,0 +1,16 @@
+-- The line of a text of bounds that bounds a loop.
+use Rattle.std.specs.Prelude.{ℕ, ◌==◌, ◌&&◌, Bool, false, not, List, [], ◌∷◌, ◌++◌, codes, decimal}
+use Rattle.std.specs.List.{list_all}
+
+-- the name holds no space and no line feed
+abbrev pub is_unbroken : (name : List ℕ) → Bool
+is_unbroken name = list_all (λ byte. not (byte == 32) && not (byte == 10)) name
+
+-- a line of bounds can begin with the name: it begins with no #, and is unbroken
+abbrev pub is_nameable : (name : List ℕ) → Bool
+is_nameable [] = false
+is_nameable (byte ∷ bytes) = not (byte == 35) && is_unbroken (byte ∷ bytes)
+
+-- the line that bounds a loop of the method of this name
+abbrev pub loop_line : (name : List ℕ) → (place bound : ℕ) → List ℕ
+loop_line name place bound = name ++ (codes " " ++ (decimal place ++ (codes " loop<=" ++ (decimal bound ++ codes "\n"))))
