@@ -1,0 +1,7 @@
+mod Leasts
+mod Causing
+mod Marks
+mod Placed
+mod Sorts
+mod Written
+mod Texts

@@ -1,0 +1,6 @@
+pub mod Answers
+pub mod Loops
+pub mod Placing
+pub mod Sorting
+pub mod Answering
+pub mod Lines
