@@ -1,0 +1,7 @@
+mod KnownLemmas
+mod FoundLemmas
+mod ToldLemmas
+mod GatherLemmas
+mod FileLemmas
+mod StrayLemmas
+mod HeaderLemmas

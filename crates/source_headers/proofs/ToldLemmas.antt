@@ -1,0 +1,120 @@
+-- What is told of a method is of it.
+use Rattle.std.proofs.Common.{◌≡◌, ◌≢◌, ℕ, ◌*◌, ◌<◌, true, false, List, [], ◌∷◌, length, map, Contains, refl, sym, ◌∙◌, ap, subst, arith, Option, Some, None, inl}
+use Rattle.std.specs.Prelude.{slice_get, IsSome, Result, Ok, Err, IfOk}
+use Rattle.std.specs.Option.{option_map, option_map_or}
+use Rattle.std.proofs.lemmas.List.Elements.{All-contains}
+use Rattle.std.proofs.lemmas.Option.{slice_get_within, get_or_from_slice_get}
+use Rattle.lists.specs.Lists.{onto}
+use Rattle.lists.specs.Lemmas.{some_same, onto_some, map_some, some_is}
+use Rattle.lists.specs.Members.{nil_contains}
+use Rattle.class_pool.specs.declared.class.ClassFile.{ClassFile}
+use Rattle.class_pool.specs.declared.class.Code.{Code}
+use Rattle.class_pool.specs.Found.{code_of}
+use Rattle.class_lookup.specs.Lookup.{Place, method_at}
+use Rattle.loop_nest.specs.Digraph.{Digraph}
+use Rattle.loop_nest.specs.Reduction.{IsReducible, Leaves}
+use Rattle.bytecode_model.specs.Program.{Program, Method, Body, body_of}
+use Rattle.program_tables.specs.Laws.{MethodsStandByNumber}
+use Rattle.program_tables.specs.Numbers.{methods_by_number}
+use Rattle.program_tables.specs.Resolved.{body_in, method_in, resolved_method, resolved_methods, resolved}
+use Rattle.method_flow.specs.Compact.{IsCompact}
+use Rattle.compact_walks.specs.Laws.{GraphsAreMoved, PartsAreSound, EndsAreOne}
+use Rattle.bound_rules.specs.Bounding.{IsLeftWith}
+use Rattle.bound_rules.specs.Laws.{GraphsAreOne}
+use Rattle.bound_causes.specs.Headers.{HeadsLoop}
+use Rattle.bound_causes.specs.Shapes.{IsShape}
+use Rattle.bound_causes.specs.declared.shapes.Shape.{Shape}
+use Rattle.bound_causes.specs.declared.shapes.Shape.TheVariants.{Irreducible, Reducible}
+use Rattle.source_headers.specs.declared.sources.MethodSource.{MethodSource}
+use Rattle.source_headers.specs.Sources.{code_in, source_at}
+use Rattle.source_headers.specs.Straying.{IsHeaderAt}
+use Rattle.source_headers.specs.Told.{headed_places, source_by, IsSourceOf}
+
+pub contains_got : {X : Type 0} (xs : List X) (i : ℕ) (x : X) → slice_get xs i ≡ Some x → Contains xs x
+contains_got xs i x h = (i, slice_get_within xs i x h, get_or_from_slice_get xs i x x h)
+
+-- ---- the method with a code
+
+-- a body is that of a code
+pub record IsBodyOf (cs : List ClassFile) (m : ℕ) (b : Body) : Type 0 where
+  pub numbered : m < length (methods_by_number cs)
+  pub code : Code
+  pub code_is : code_in cs m ≡ Some code
+  pub same : b.code ≡ code.code
+
+pub body_is : MethodsStandByNumber → (cs : List ClassFile) (m : ℕ) (b : Body) → body_of (resolved cs) m ≡ Some b → IsBodyOf cs m b
+body_is by_number cs m b h =
+    let r = onto_some (slice_get (resolved_methods cs) m) (λ (x : Method). x.body) b h in
+    let p = onto_some (slice_get (methods_by_number cs) m) (resolved_method cs) r.0 (sym (by_number cs m) ∙ r.1) in
+    let c = onto_some (slice_get cs p.0.0) (λ c. option_map (method_in cs p.0.0 c) (method_at cs p.0)) r.0 p.2 in
+    let k = map_some (method_in cs p.0.0 c.0) (method_at cs p.0) r.0 c.2 in
+    let body : option_map (body_in cs c.0) (code_of k.0) ≡ Some b = ap (λ (x : Method). x.body) k.2 ∙ r.2 in
+    let code = map_some (body_in cs c.0) (code_of k.0) b body in
+    record {
+      numbered = slice_get_within (methods_by_number cs) m p.0 p.1;
+      code = code.0;
+      code_is = ap (λ (o : Option Place). option_map_or (λ q. onto (method_at cs q) code_of) o None) p.1 ∙ ap (λ o. onto o code_of) k.1 ∙ code.1;
+      same = sym (ap (λ (x : Body). x.code) code.2);
+    }
+
+pub coded_is : MethodsStandByNumber → (cs : List ClassFile) (m : ℕ) → IsSome (body_of (resolved cs) m) → m < length (methods_by_number cs)
+coded_is by_number cs m h = by (body_of (resolved cs) m) refl h
+  where
+    by : (o : Option Body) → body_of (resolved cs) m ≡ o → IsSome o → m < length (methods_by_number cs)
+    by None e h = absurd (let f : false ≡ true = h in cc)
+    by (Some b) e h = (body_is by_number cs m b e).numbered
+
+-- the header of a loop is within the code
+header_within : MethodsStandByNumber → (cs : List ClassFile) (m p : ℕ) → HeadsLoop (resolved cs) m p → (k : Code) → code_in cs m ≡ Some k → p < length k.code
+header_within by_number cs m p h k is =
+    let b = some_is (body_of (resolved cs) m) (λ (b : Body). h.graph.nodes ≡ 2 * length b.code) h.is_graph.size in
+    let body = body_is by_number cs m b.0 b.1 in
+    let same : body.code.code ≡ k.code = ap (λ (x : Code). x.code) (some_same body.code k (sym body.code_is ∙ is)) in
+    let ends = All-contains (λ (e : ℕ × ℕ). (e.0 < h.graph.nodes) × (e.1 < h.graph.nodes)) h.graph.edges (h.header.0, 2 * p) h.is_graph.digraph.edges.ends h.header.1.edge in
+    let long : length b.0.code ≡ length k.code = ap length (body.same ∙ same) in
+    omega (arith, ends.1, b.2, long)
+
+pub places_within : MethodsStandByNumber → (cs : List ClassFile) (m : ℕ) (shape : Shape) → IsShape (resolved cs) m shape → (p : ℕ) → Contains (headed_places shape) p → (k : Code) → code_in cs m ≡ Some k
+    → p < length k.code
+places_within by_number cs m (Irreducible nodes) h p c k is = absurd (nil_contains p c)
+places_within by_number cs m (Reducible places) h p c k is = header_within by_number cs m p ((h.1.each p).0 c) k is
+
+-- where a loop is headed, the method has a code
+pub places_coded : MethodsStandByNumber → (cs : List ClassFile) (m : ℕ) (shape : Shape) → IsShape (resolved cs) m shape → (p : ℕ) → Contains (headed_places shape) p → (k : Code) × (code_in cs m ≡ Some k)
+places_coded by_number cs m (Irreducible nodes) h p c = absurd (nil_contains p c)
+places_coded by_number cs m (Reducible places) h p c =
+    let heads = (h.1.each p).0 c in
+    let b = some_is (body_of (resolved cs) m) (λ (b : Body). heads.graph.nodes ≡ 2 * length b.code) heads.is_graph.size in
+    let body = body_is by_number cs m b.0 b.1 in
+    (body.code, body.code_is)
+
+-- ---- its source
+
+pub source_at_places : {E : Type 0} → MethodsStandByNumber → (cs : List ClassFile) (m : ℕ) (shape : Shape) → IsShape (resolved cs) m shape → (r : Result (Option MethodSource) E) → IfOk r (IsSourceOf cs m)
+    → IfOk r (λ source. (p : ℕ) → Contains (headed_places shape) p → source_by source p ≡ source_at cs m p)
+source_at_places by_number cs m shape h (Ok source) is =
+    λ p c. let k = places_coded by_number cs m shape h p c in is.lines k.0 k.1 p (places_within by_number cs m shape h p c k.0 k.1)
+source_at_places by_number cs m shape h (Err e) is = tt
+
+-- ---- all headers
+
+map_nil : (f : ℕ → ℕ) (xs : List ℕ) → [] ≡ map f xs → xs ≡ []
+map_nil f [] e = refl
+map_nil f (x ∷ xs) e = let bad : ⊥ = cc in absurd bad
+
+-- the reduction of a method's graph doesn't leave nodes and none
+not_both : GraphsAreMoved → PartsAreSound → EndsAreOne → GraphsAreOne → (P : Program) (m : ℕ) (nodes : List ℕ) → IsLeftWith P m nodes → nodes ≢ [] → IsLeftWith P m [] → ⊥
+not_both moves sound ends one P m nodes h some k =
+    let same : k.graph ≡ h.graph = one P m k.graph h.graph k.is_graph h.is_graph in
+    let compact : IsCompact h.graph k.compact k.node = subst (λ (g : Digraph). IsCompact g k.compact k.node) same k.is_compact in
+    let whole = moves P m h.graph k.compact k.node (inl h.is_graph) compact in
+    let part = moves P m h.graph h.compact h.node (inl h.is_graph) h.is_compact in
+    let none : k.left ≡ [] = map_nil k.node k.left k.nodes_are in
+    let reducible : IsReducible k.compact = subst (λ (us : List ℕ). Leaves k.compact us) none k.leaves in
+    let also = (sound h.graph h.graph k.compact h.compact k.node h.node whole part (λ u v e. e) reducible).reducible in
+    let left : h.left ≡ [] = ends h.graph h.compact h.node h.is_compact h.left [] h.leaves also in
+    some (h.nodes_are ∙ ap (map h.node) left)
+
+pub all_headed : GraphsAreMoved → PartsAreSound → EndsAreOne → GraphsAreOne → (P : Program) (m : ℕ) (shape : Shape) → IsShape P m shape → (p : ℕ) → IsHeaderAt P m p → Contains (headed_places shape) p
+all_headed moves sound ends one P m (Irreducible nodes) h p at = absurd (not_both moves sound ends one P m nodes.items h.0 h.1 at.single)
+all_headed moves sound ends one P m (Reducible places) h p at = (h.1.each p).1 ((at.are.each p).0 at.among)

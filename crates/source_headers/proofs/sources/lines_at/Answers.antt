@@ -1,0 +1,17 @@
+use Rattle.std.proofs.Common.{ℕ, Vec, Global, sym, ap, ◌∙◌}
+use Rattle.source_headers.proofs.FileLemmas.{one_line, no_line}
+use Rattle.source_headers.proofs.sources.lines_at.Goals as goal
+use Rattle.source_headers.proofs.sources.lines_at.Goals.{in-Some+in_ok-push, in_default}
+
+pub loop-place-preserved : goal.loop-place-preserved
+loop-place-preserved c =
+    let items = λ (v : Vec ℕ Global). v.items in
+    let found = c.loop-place.found.items in
+    elim c.match-line_at.branch [
+      | in-Some+in_ok-push w ↦
+          one_line c.args.lines.now c.args.places.now c.loop-place.place-index found c.match-line_at.found.items w.in-Some.line c.loop-place-test.true c.loop-place.invariant
+          (ap items w.found-is ∙ w.in_ok-push.ensures.items) (sym c.line_at.ensures ∙ w.in-Some.is)
+      | in_default w ↦
+          no_line c.args.lines.now c.args.places.now c.loop-place.place-index found c.match-line_at.found.items c.loop-place-test.true c.loop-place.invariant (ap items w.found-is)
+          (sym c.line_at.ensures ∙ w.in_default.is)
+    ]

@@ -1,0 +1,10 @@
+pub mod Sources
+pub mod Headers
+pub mod Straying
+pub mod Files
+pub mod Known
+pub mod Found
+pub mod Told
+pub mod Gathered
+pub mod Faults
+pub mod Lacking

@@ -1,0 +1,42 @@
+-- Bounds that are said of what heads no loop.
+use Rattle.std.specs.Prelude.{◌≡◌, ◌≢◌, ℕ, ◌++◌, List, [], ◌∷◌, Contains, IsSome, Some, codes, decimal}
+use Rattle.class_pool.specs.declared.class.ClassFile.{ClassFile}
+use Rattle.program_tables.specs.Resolved.{resolved}
+use Rattle.bytecode_model.specs.Program.{Program, body_of}
+use Rattle.bound_causes.specs.Headers.{AreHeaderPlaces}
+use Rattle.bound_rules.specs.Bounding.{IsLeftWith}
+use Rattle.source_bounds.specs.Notes.{Subject, AtLine, AtPlace, Note}
+use Rattle.source_headers.specs.Sources.{IsFileOf, source_at}
+
+-- the method has code, and isn't the one that is run first
+abbrev pub IsBounded : Program → (method : ℕ) → Type 0
+IsBounded P m = IsSome (body_of P m) × (m ≢ P.boot)
+
+-- the instruction at the place heads a loop of such a method, whose loops have one entry each
+pub record IsHeaderAt (P : Program) (m place : ℕ) : Type 0 where
+  pub bounded : IsBounded P m
+  pub places : List ℕ
+  pub single : IsLeftWith P m []
+  pub are : AreHeaderPlaces P m places
+  pub among : Contains places place
+
+-- A file or a method of the program has no loop there. What is said of other files and methods isn't used, and strays nowhere.
+abbrev pub IsStray : List ClassFile → (name : ℕ → List ℕ) → Subject → Type 0
+IsStray cs name (AtLine file line) = IsFileOf cs file × ((m p : ℕ) → IsHeaderAt (resolved cs) m p → source_at cs m p ≢ Some (file, line))
+IsStray cs name (AtPlace method pc) =
+    ((m : ℕ) × IsBounded (resolved cs) m × (name m ≡ method)) × ((m : ℕ) → IsHeaderAt (resolved cs) m pc → name m ≢ method)
+
+-- as a refusal names it
+abbrev pub subject_text : Subject → List ℕ
+subject_text (AtLine file line) = file ++ (codes ":" ++ decimal line)
+subject_text (AtPlace method pc) = method ++ (codes " " ++ decimal pc)
+
+-- the first of the notes that strays
+pub record IsFirstStray (cs : List ClassFile) (name : ℕ → List ℕ) (notes : List Note) (text : List ℕ) : Type 0 where
+  pub before : List Note
+  pub note : Note
+  pub after : List Note
+  pub parts : notes ≡ before ++ note ∷ after
+  pub stray : IsStray cs name note.subject
+  pub first : (n : Note) → Contains before n → ¬ IsStray cs name n.subject
+  pub text_is : text ≡ subject_text note.subject

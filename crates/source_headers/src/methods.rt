@@ -1,0 +1,174 @@
+//! The loops of a method, and their lines.
+ghost use Rattle.std.specs.Prelude.{◌≡◌, ℕ, ◌<◌, ◌++◌, length, Contains, Some, IfOk, OnOk};
+ghost use Rattle.std.specs.List.Sorted.{IsStrictlyIncreasing};
+ghost use Rattle.method_flow.specs.Flow.{IsFlowOf};
+ghost use Rattle.program_tables.specs.Numbers.{methods_by_number};
+ghost use Rattle.program_tables.specs.Resolved.{resolved};
+ghost use Rattle.bound_causes.specs.Shapes.{IsShape};
+ghost use Rattle.source_headers.specs.Found.{AreRising};
+ghost use Rattle.source_headers.specs.Headers.{unnamed_lines};
+ghost use Rattle.source_headers.specs.Sources.{source_at, IsFileOf};
+ghost use Rattle.source_headers.specs.Told.{headed_places, headers_by, named_by, lines_by, source_by, IsToldOf};
+
+use crate::found::{from_place, number_at};
+use crate::sources::{MethodSource, source_at, source_of};
+use crate::texts::{put_header, put_irreducible, put_unnamed};
+use answer_lines::is_nameable;
+use base::NoMemory;
+use bound_causes::{Shape, shape_of};
+use bound_rules::laws::graphs_are_one;
+use compact_walks::laws::{ends_are_one, graphs_are_moved, parts_are_sound};
+use loop_rules::FoundLoop;
+use method_flow::FlowProgram;
+use program_tables::laws::methods_stand_by_number;
+use resolved_program::Program;
+use source_bounds::SourceBounds;
+use std::alloc::Global;
+
+/// The shape of a method's loops, and the lines of its source where it heads some.
+#[derive(Drop)]
+pub struct MethodLoops {
+    pub shape: Shape,
+    pub source: Option<MethodSource>,
+}
+
+/// A method, and its name.
+#[derive(Clone, Copy)]
+pub struct Method<'a> {
+    pub number: u32,
+    pub name: &'a [u8],
+}
+
+/// The places of the instructions that head loops.
+pub(crate) fn headed_places(shape: &Shape) -> &[u32]
+    ensures { result.now ≡ headed_places shape.now }
+{
+    match shape {
+        Shape::Irreducible(_) => &[],
+        Shape::Reducible(places) => places,
+    }
+}
+
+/// The source of a method of this shape, where it heads loops.
+fn source_where(
+    alloc: Global,
+    program: &Program,
+    number: u32,
+    shape: &Shape,
+) -> Result<Option<MethodSource>, NoMemory>
+    requires number { number < length (methods_by_number program.now) }
+    requires shape { IsShape (resolved program.now) number shape.now }
+    ensures file { IfOk result (λ source. (s : MethodSource) → source ≡ Some s → IsFileOf program.now s.file.items) }
+    ensures source { IfOk result (λ source. (p : ℕ) → Contains (headed_places shape.now) p → source_by source p ≡ source_at program.now number p) }
+{
+    methods_stand_by_number();
+    if headed_places(shape).is_empty() {
+        return Ok(None);
+    }
+    source_of(alloc, program, number)
+}
+
+/// The loops of a method with code.
+pub(crate) fn loops_of(
+    alloc: Global,
+    program: &Program,
+    flow: &FlowProgram,
+    number: u32,
+) -> Result<MethodLoops, NoMemory>
+    requires number { number < length flow.now.methods }
+    requires flow { IsFlowOf (resolved program.now) flow.now }
+    ensures { IfOk result (IsToldOf program.now number) }
+{
+    methods_stand_by_number();
+    graphs_are_one();
+    graphs_are_moved();
+    parts_are_sound();
+    ends_are_one();
+    let shape = shape_of(alloc, flow.method(number))?;
+    let source = source_where(alloc, program, number, &shape)?;
+    Ok(MethodLoops { shape, source })
+}
+
+/// Appends the lines of the headers at these places of a method, which rise.
+fn put_headers(
+    text: &mut Vec<u8>,
+    notes: &SourceBounds,
+    method: Method<'_>,
+    places: &[u32],
+    source: &Option<MethodSource>,
+    found: &[FoundLoop],
+) -> Result<(), NoMemory>
+    requires places { IsStrictlyIncreasing places.now }
+    requires found { AreRising found.now }
+    ensures { OnOk result (text.new.items ≡ text.old.items
+        ++ headers_by notes.now found.now method.entry.number method.entry.name.now source.now places.now) }
+{
+    let mut left = found;
+    for place in places {
+        left = from_place(left, method.number, *place);
+        let number = number_at(left, method.number, *place);
+        put_header(
+            text,
+            notes,
+            method.name,
+            *place,
+            source_at(source, *place),
+            number,
+        )?;
+    }
+    Ok(())
+}
+
+/// Appends the lines of a method whose loops can be named.
+fn put_named(
+    text: &mut Vec<u8>,
+    notes: &SourceBounds,
+    method: Method<'_>,
+    loops: &MethodLoops,
+    found: &[FoundLoop],
+) -> Result<(), NoMemory>
+    requires places { IsStrictlyIncreasing (headed_places loops.now.shape) }
+    requires found { AreRising found.now }
+    ensures { OnOk result (text.new.items ≡ text.old.items
+        ++ named_by notes.now found.now method.entry.number method.entry.name.now loops.now.source loops.now.shape) }
+{
+    match &loops.shape {
+        Shape::Irreducible(nodes) => put_irreducible(text, method.name, nodes),
+        Shape::Reducible(places) => put_headers(text, notes, method, places, &loops.source, found),
+    }
+}
+
+/// Appends the lines of a method whose loops can't be named.
+fn put_unnameable(text: &mut Vec<u8>, method: u32, shape: &Shape) -> Result<(), NoMemory>
+    ensures { OnOk result (text.new.items ≡ text.old.items ++ unnamed_lines method shape.now) }
+{
+    match shape {
+        Shape::Irreducible(_) => put_unnamed(text, method),
+        Shape::Reducible(places) => {
+            if places.is_empty() {
+                return Ok(());
+            }
+            put_unnamed(text, method)
+        }
+    }
+}
+
+/// Appends the lines of a method.
+pub(crate) fn put_method(
+    text: &mut Vec<u8>,
+    notes: &SourceBounds,
+    method: Method<'_>,
+    loops: &MethodLoops,
+    found: &[FoundLoop],
+) -> Result<(), NoMemory>
+    requires places { IsStrictlyIncreasing (headed_places loops.now.shape) }
+    requires found { AreRising found.now }
+    ensures { OnOk result (text.new.items ≡ text.old.items
+        ++ lines_by notes.now found.now method.entry.number method.entry.name.now loops.now) }
+{
+    if is_nameable(method.name) {
+        put_named(text, notes, method, loops, found)
+    } else {
+        put_unnameable(text, method.number, &loops.shape)
+    }
+}
