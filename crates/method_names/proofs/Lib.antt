@@ -1,0 +1,4 @@
+pub mod NamesTexts
+pub mod NamesPlaces
+pub mod NamesClasses
+pub mod NamesAreOne
