@@ -8,7 +8,7 @@ public class Main {
 
     public static void main(String[] arguments) {
         int sample = Io.read();
-        while (sample >= 0) {
+        while (sample >= 0) { //@WCA loop=12
             Io.write(output(sample));
             sample = Io.read();
         }
@@ -18,7 +18,7 @@ public class Main {
     private static int output(int sample) {
         int level = sample;
         try {
-            for (int i = 0; i < STAGES.length; i++) {
+            for (int i = 0; i < STAGES.length; i++) { //@WCA loop=2
                 level = STAGES[i].step(level);
             }
         } catch (Overload overload) {

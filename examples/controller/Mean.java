@@ -7,7 +7,7 @@ class Mean implements Stage {
         last[next] = sample;
         next = (next + 1) % last.length;
         int sum = 0;
-        for (int age = 0; age < last.length; age++) {
+        for (int age = 0; age < last.length; age++) { //@WCA loop=4
             int place = (next + last.length - 1 - age) % last.length;
             sum += last[place] * Weights.of(age);
         }

@@ -14,9 +14,10 @@ import tempfile
 
 HERE = os.path.dirname(os.path.abspath(__file__))
 sys.dont_write_bytecode = True
-sys.path[:0] = [os.path.join(HERE, each) for each in ('bounds', 'graphs', 'images', '../harness')]
+sys.path[:0] = [os.path.join(HERE, each) for each in ('bounds', 'graphs', 'images', 'headers', '../harness')]
 import damage  # noqa: E402
 import flow  # noqa: E402
+import hand_headers  # noqa: E402
 import image_file  # noqa: E402
 import microcode  # noqa: E402
 import programs  # noqa: E402
@@ -24,7 +25,9 @@ from calls import Call, data_of, out_text  # noqa: E402
 from certificate import Maker, answer as checked  # noqa: E402
 from classfile import main_class  # noqa: E402
 from costs import Timing  # noqa: E402
+from headers import Headers  # noqa: E402
 from study import Study, read_bounds  # noqa: E402
+from tables import all_bounds  # noqa: E402
 
 TABLES = os.path.join(HERE, '../tables')
 SETTINGS = ['1024', '262144', '16', '64', '1', '2', '1000000000']
@@ -306,9 +309,36 @@ def texts(table):
         table.each('asm t=' + text(MICROCODE), 't:' + way, microcode.answer)
 
 
+# ---- lines of sources, and the bounds of all methods
+
+
+def sourced(table):
+    """notes of lines and of places by `headers`, and bounds by `bound --all`, byte by byte and line by line"""
+    k = hand_headers.Sourced('A', 'A.java')
+    k.lines('f', hand_headers.LOOP, [(0, 7)]).lines('c', hand_headers.COUNTS, [(0, 9)]).main()
+    each = Linked(k.data())
+    each.link(table)
+    known, notes = Headers('A', [each.data]), 'A.java:7 loop<=15\n# no more\nA.f(II)V 2 loop<=12\n\nA.java:9 loop<=3\n'
+
+    def of_notes(data):
+        answer = known.answer(data)
+        if isinstance(answer, str):
+            return 2, b'', answer.encode('utf-8', 'surrogateescape').decode('utf-8', 'replace') + '\n'
+        return 0, ''.join(line + '\n' for line in answer).encode(), ''
+    for way in ('cut', 'without', 'with=20', 'with=0a', 'with=30', 'with=3a', 'xor=01', 'xor=80', 'line', 'lines', 'swap'):
+        table.each('headers i=@ l=' + text(notes), 'l:' + way, of_notes)
+    bounds = 'A.f(II)V 2 loop<=12\n# no more\nA.c(II)V 2 loop<=10\n'
+
+    def of_bounds(data):
+        answer = all_bounds(each.program, Timing(), data)
+        return (2, b'', answer + '\n') if isinstance(answer, str) else (0, '%s .. %s' % (answer[0], answer[-1]), '')
+    for way in ('cut', 'with=20', 'xor=01', 'line', 'lines', 'swap'):
+        table.each('bound --all i=@ b=' + text(bounds), 'b:' + way, of_bounds)
+
+
 def main():
     table = Table()
-    for fill in (bare, class_files, linked, texts):
+    for fill in (bare, class_files, linked, texts, sourced):
         before = table.calls
         fill(table)
         print('%s: %d damages' % (fill.__name__, table.calls - before))

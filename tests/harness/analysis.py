@@ -6,7 +6,7 @@ of it begins that has them. The parts of the other rows stand between tabs; in a
 import os
 
 from class_files import told
-from kind import Kind, files_of
+from kind import Kind, files_of, sum_of
 from table import rows_of
 
 HERE = os.path.dirname(os.path.abspath(__file__))
@@ -80,6 +80,62 @@ def held(answer):
     """the line of a certificate that holds, or why it doesn't"""
     line = answer.line()
     return line if answer.status == 0 and line.startswith('holds ') and not answer.out else told(answer)
+
+
+class Listed(Asked):
+    """the lines that each row's command puts"""
+
+    def answer(self, caller, rows):
+        title, main, files = program_of(rows[0])
+        linked = caller.link(main, files)
+        yield '%s: %s' % (title, 'linked' if linked.status == 0 else told(linked))
+        caller.put('image', linked.out)
+        for row in rows[1:]:
+            _, title, *parts = row.split('\t')
+            yield from self.lines_of(title, self.asked(caller, *parts))
+
+    def lines_of(self, title, answer):
+        if answer.status != 0 or answer.err:
+            yield '%s: %s' % (title, told(answer))
+            return
+        *lines, end = answer.out.decode('utf-8', 'replace').split('\n')
+        yield '%s: %s' % (title, 'put' if end == '' else 'no line feed at the end')
+        yield from ('  ' + line for line in self.shown(lines))
+
+    def shown(self, lines):
+        """what is wanted of the lines"""
+        return lines
+
+
+class Headed(Listed):
+    """what `headers` puts: rows are `program`; then `headers`, a title and, where lines are handed in, these"""
+
+    def asked(self, caller, *lines):
+        for text in lines:
+            caller.put('lines', text_of(text))
+        return caller.call(['headers', 'image', *('lines' for _ in lines)])
+
+
+# How the names of the classes begin that the machine brings.
+BROUGHT = ('java/', 'jop/')
+
+
+def folded(lines):
+    """lines of methods, in which those in front that are of classes of the machine's are told by their number and their sum"""
+    count = next((place for place, line in enumerate(lines) if not line.startswith(BROUGHT)), len(lines))
+    brought = ''.join(line + '\n' for line in lines[:count]).encode()
+    return ['%d lines of the machine, sum %08x' % (count, sum_of(brought)), *lines[count:]]
+
+
+class AllBounded(Listed):
+    """what `bound --all` puts: rows are `program`; then `all`, a title, options and bounds"""
+
+    def shown(self, lines):
+        return folded(lines)
+
+    def asked(self, caller, options, bounds):
+        caller.put('bounds', text_of(bounds))
+        return caller.call(['bound', '--all', *options.split(), 'image', 'bounds'])
 
 
 class Counted(Asked):

@@ -23,6 +23,8 @@ KINDS = {
     'bounded_files': bounded_files.BoundedFiles(),
     'checked': analysis.Checked(),
     'bounded': analysis.Bounded(),
+    'all_bounded': analysis.AllBounded(),
+    'headed': analysis.Headed(),
     'counted': analysis.Counted(),
     'needed': analysis.Needed(),
 }

@@ -1,20 +1,22 @@
 -- The numbers of a command that is read.
-use Rattle.std.proofs.Common.{◌≡◌, ℕ, zero, suc, ◌+◌, ◌<◌, ◌≤◌, ◌^◌, true, List, [], ◌∷◌, length, Some, None, Ok, Err, ◌⊎◌, inl, inr, refl, sym, ap, ◌∙◌, subst, arith, length-append}
-use Rattle.std.specs.Prelude.{is_some, unwrap_or, Contains, IfOk}
+use Rattle.std.proofs.Common.{◌≡◌, ℕ, zero, suc, ◌+◌, ◌<◌, ◌≤◌, ◌^◌, Bool, true, false, List, [], ◌∷◌, length, Some, None, Ok, Err, ◌⊎◌, inl, inr, refl, sym, ap, ◌∙◌, subst, arith, length-append}
+use Rattle.std.specs.Prelude.{is_some, unwrap_or, Contains, IfOk, if◌then◌else◌}
 use Rattle.std.specs.declared.option.Option.{Option}
 use Rattle.std.specs.declared.result.Result.{Result}
 use Rattle.std.specs.List.{flat_map}
 use Rattle.std.specs.Option.{option_to_list}
 use Rattle.std.specs.Borrow.{Bor}
 use Rattle.command_line.specs.declared.table.Verb.{Verb}
-use Rattle.command_line.specs.declared.table.Verb.TheVariants.{Link, Run, Trace, Bound, Check, Loops, Need, Asm, Work}
+use Rattle.command_line.specs.declared.table.Verb.TheVariants.{Link, Run, Trace, Bound, Check, Loops, Headers, Need, Asm, Work}
 use Rattle.command_line.specs.declared.table.Name.{Name}
-use Rattle.command_line.specs.declared.table.Name.TheVariants.{Main, Method, Cycles, Stack, Memory, Blocks, BlockWords, Read, Write, Micro}
+use Rattle.command_line.specs.declared.table.Name.TheVariants.{Main, Method, All, Cycles, Stack, Memory, Blocks, BlockWords, Read, Write, Micro}
 use Rattle.command_line.specs.declared.command.Command.{Command}
+use Rattle.command_line.specs.declared.command.Command.TheVariants as commands
 use Rattle.command_line.specs.Table.{name_word, usual, Value, Nothing, AWord, ANumber, OneOf, value_of_name, operands_of}
 use Rattle.command_line.specs.Command.{texts, given, with_value, none_given, value, settings_of, made, command_of}
 use Rattle.command_line.specs.Grammar.{Chosen, words_chosen, Means, AreChosen, values_from, AreOperands, IsCommand}
 use Rattle.command_line.specs.Range.{AreSettings, AreInRange, AreThere, OperandsFollow}
+use Rattle.command_line.proofs.WordLemmas.{length_texts}
 use Rattle.command_line.proofs.Stored.{IsFull, full_with, given-same, given-other, same_or_other}
 use Rattle.command_line.proofs.Telling.{commands_told}
 
@@ -63,6 +65,7 @@ kept_chosen verb k values (c ∷ cs) n full fits chosen kept =
 none_kept : (n : ℕ) → AreKept none_given n
 none_kept n Main m h = absurd (cc)
 none_kept n Method m h = absurd (cc)
+none_kept n All m h = absurd (cc)
 none_kept n Cycles m h = absurd (cc)
 none_kept n Stack m h = absurd (cc)
 none_kept n Memory m h = absurd (cc)
@@ -107,13 +110,22 @@ settings_are values n kept =
 named_there : (values : List (Option ℕ)) (name : Name) (n : ℕ) → value_of_name name ≡ AWord → usual name ≡ 0 → 0 < n → AreKept values n → value values name < n
 named_there values name n takes none some kept = meant (given values name) (usual name) (λ m. m < n) (omega (arith, none, some)) (λ m h. let P : Value → Type 0 = λ v. CanMean v n m in subst P takes (kept name m h))
 
+-- the bound of one method, or the bounds of all
+bound_by : (P : Command → Type 0) (all : Bool) (values : List (Option ℕ)) (k : ℕ) → P (commands.BoundAll (settings_of values) k (k + 1)) → P (commands.Bound (settings_of values) (value values Method) k (k + 1))
+    → P (if all then commands.BoundAll (settings_of values) k (k + 1) else commands.Bound (settings_of values) (value values Method) k (k + 1))
+bound_by P true values k every one = every
+bound_by P false values k every one = one
+
 made_in_range : (verb : Verb) (values : List (Option ℕ)) (k m n : ℕ) (operands : List (List ℕ)) → AreKept values n → AreOperands (operands_of verb) operands m → AreInRange (made verb values k m)
 made_in_range Link values k m n operands kept are = tt
 made_in_range Run values k m n operands kept are = settings_are values n kept
 made_in_range Trace values k m n operands kept are = settings_are values n kept
-made_in_range Bound values k m n operands kept are = settings_are values n kept
+made_in_range Bound values k m n operands kept are =
+    let settings = settings_are values n kept in
+    bound_by AreInRange (is_some (given values All)) values k settings settings
 made_in_range Check values k m n operands kept are = settings_are values n kept
 made_in_range Loops values k m n operands kept are = tt
+made_in_range Headers values k m n operands kept are = let some = are.0 in let few = are.1 in let is = are.3 in (omega (arith, some, is), omega (arith, few, is))
 made_in_range Need values k m n operands kept are = tt
 made_in_range Asm values k m n operands kept are = tt
 made_in_range Work values k m n operands kept are = (are.2.2, are.2.3)
@@ -128,11 +140,13 @@ made_there Trace values k m n operands all kept are = let many = are.0 in omega 
 made_there Bound values k m n operands all kept are =
     let many = are.0 in
     let below : k + 1 < n = omega (arith, all, many) in
-    (named_there values Method n refl refl (omega (arith, below)) kept, omega (arith, below), below)
+    let first : k < n = omega (arith, below) in
+    bound_by (AreThere n) (is_some (given values All)) values k (first, below) (named_there values Method n refl refl (omega (arith, below)) kept, first, below)
 made_there Check values k m n operands all kept are =
     let many = are.0 in
     (omega (arith, all, many), omega (arith, all, many), omega (arith, all, many))
 made_there Loops values k m n operands all kept are = let many = are.0 in omega (arith, all, many)
+made_there Headers values k m n operands all kept are = let is = are.3 in omega (arith, all, is)
 made_there Need values k m n operands all kept are =
     let many = are.0 in
     (omega (arith, all, many), omega (arith, all, many), omega (arith, all, many))
@@ -143,9 +157,10 @@ made_follow : (verb : Verb) (values : List (Option ℕ)) (k m : ℕ) → Operand
 made_follow Link values k m = tt
 made_follow Run values k m = tt
 made_follow Trace values k m = tt
-made_follow Bound values k m = refl
+made_follow Bound values k m = bound_by OperandsFollow (is_some (given values All)) values k refl refl
 made_follow Check values k m = (refl, refl)
 made_follow Loops values k m = tt
+made_follow Headers values k m = tt
 made_follow Need values k m = (refl, refl)
 made_follow Asm values k m = tt
 made_follow Work values k m = tt
@@ -158,10 +173,6 @@ commands_in_range words command is =
     let values = values_from none_given is.options in
     let P : Command → Type 0 = λ c. AreInRange c × AreThere (length words) c in
     subst P (sym is.command_is) (made_in_range is.verb values k is.number (length words) is.operands kept is.are_operands, made_there is.verb values k is.number (length words) is.operands all kept is.are_operands)
-
-length_texts : (ws : List (Bor (List ℕ))) → length (texts ws) ≡ length ws
-length_texts [] = refl
-length_texts (w ∷ ws) = omega (arith, length_texts ws)
 
 read_in_range : (ws : List (Bor (List ℕ))) (command : Command) → Ok command ≡ command_of (texts ws) → AreInRange command × AreThere (length ws) command
 read_in_range ws command is =

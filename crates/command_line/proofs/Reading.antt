@@ -1,37 +1,37 @@
 -- A command's words are read as that command.
-use Rattle.std.proofs.Common.{◌≡◌, ℕ, zero, suc, ◌+◌, ◌-◌, ◌<◌, Bool, true, false, List, [], ◌∷◌, ◌++◌, length, get_or, Some, None, Ok, inl, inr, refl, sym, ap, ◌∙◌, subst, arith, append_assoc, length-append}
-use Rattle.std.specs.Prelude.{◌==◌, ◌&&◌, Err, is_some, unwrap_or, Contains, All, Any}
+use Rattle.std.proofs.Common.{◌≡◌, ℕ, zero, suc, ◌+◌, ◌-◌, ◌<◌, ◌≤◌, true, false, List, [], ◌∷◌, ◌++◌, length, get_or, Some, None, Ok, inl, inr, refl, sym, ap, ◌∙◌, subst, arith, append_assoc, length-append}
+use Rattle.std.specs.Prelude.{◌==◌, Err, is_some, unwrap_or, Contains, All, Any}
 use Rattle.std.specs.declared.option.Option.{Option}
 use Rattle.std.specs.declared.result.Result.{Result}
-use Rattle.std.specs.List.{flat_map}
+use Rattle.std.specs.List.{flat_map, list_any}
 use Rattle.std.specs.Option.{option_to_list}
 use Rattle.std.proofs.lemmas.Bool.Decides.{nat_tests}
+use Rattle.std.proofs.lemmas.List.Folds.{list_any_at}
+use Rattle.std.proofs.lemmas.List.Sums.{list_all-from_AllPass}
 use Rattle.command_line.specs.declared.table.Verb.{Verb}
-use Rattle.command_line.specs.declared.table.Verb.TheVariants.{Link, Run, Trace, Bound, Check, Loops, Need, Asm, Work}
 use Rattle.command_line.specs.declared.table.Name.{Name}
-use Rattle.command_line.specs.declared.table.Name.TheVariants.{Main, Method, Cycles, Stack, Memory, Blocks, BlockWords, Read, Write, Micro}
 use Rattle.command_line.specs.declared.command.Command.{Command}
-use Rattle.command_line.specs.Table.{name_word, names_of, name_of, required_of, Value, Nothing, AWord, ANumber, OneOf, value_of_name, Operands, Exactly, OneOrMore, Number, operands_of}
-use Rattle.command_line.specs.Command.{given, with_value, none_given, has_required, is_flag, made, exactly_at, empty_at, past_number, number_from, operands_stop, operand_number, unless_stopped, words_at, command_of}
+use Rattle.command_line.specs.Table.{name_word, names_of, name_of, required_of, Value, Nothing, AWord, ANumber, OneOf, value_of_name, Operands, Exactly, AtMost, OneOrMore, Number, operands_of}
+use Rattle.command_line.specs.Command.{given, with_value, none_given, is_taken, has_required, is_flag, made, exactly_at, at_most_at, empty_at, past_number, number_from, operands_stop, operand_number, unless_stopped, words_at, command_of}
 use Rattle.command_line.specs.Grammar.{Chosen, words_chosen, Means, AreChosen, IsNoneOf, AreOnce, values_from, AreOperands, BeginsWithNoOption, IsCommand}
 use Rattle.command_line.proofs.Numbers.{number-some}
-use Rattle.command_line.proofs.WordLemmas.{if_true, option_word, operand_word, flagged, valued, value_means, exactly_step, empty_step}
-use Rattle.command_line.proofs.Stored.{IsFull, full_with, given-same, given-other, same_or_other, option_of_word, named_by_word, verb_of_word}
+use Rattle.command_line.proofs.WordLemmas.{if_true, option_word, operand_word, flagged, valued, value_means, exactly_step, at_most_step, empty_step}
+use Rattle.command_line.proofs.Stored.{IsFull, full_with, given-same, given-other, same_or_other, none_taken, untaken_with, option_of_word, named_by_word, verb_of_word}
 use Rattle.command_line.proofs.Meanings.{means-meaning}
 
 -- ---- options
 
--- none of the options was given before
+-- none of the options was given before, nor one that excludes it
 abbrev pub AreNew : List (Option ℕ) → List Chosen → Type 0
 AreNew values [] = Unit {0}
-AreNew values (c ∷ cs) = (is_some (given values c.name) ≡ false) × AreNew values cs
+AreNew values (c ∷ cs) = (is_taken values c.name ≡ false) × AreNew values cs
 
 new_later : (values : List (Option ℕ)) (a : Name) (n : ℕ) (cs : List Chosen) → AreNew values cs → IsNoneOf a cs → AreNew (with_value values a n) cs
 new_later values a n [] new none = tt
-new_later values a n (c ∷ cs) new none = (ap is_some (given-other values a c.name n none.0) ∙ new.0, new_later values a n cs new.1 none.1)
+new_later values a n (c ∷ cs) new none = (untaken_with values a c.name n new.0 none.0, new_later values a n cs new.1 none.1)
 
 -- one option, with what it takes
-one_flag : (verb : Verb) (k : ℕ) (values : List (Option ℕ)) (name : Name) (v : Value) (n : ℕ) (rest : List (List ℕ)) → Contains (names_of verb) name → is_some (given values name) ≡ false → value_of_name name ≡ v → Means v (k + 1) None n
+one_flag : (verb : Verb) (k : ℕ) (values : List (Option ℕ)) (name : Name) (v : Value) (n : ℕ) (rest : List (List ℕ)) → Contains (names_of verb) name → is_taken values name ≡ false → value_of_name name ≡ v → Means v (k + 1) None n
     → words_at None verb (k + 1) (with_value values name n) rest ≡ words_at None verb k values (name_word name ∷ rest)
 one_flag verb k values name Nothing n rest has new is means =
     ap (λ m. words_at None verb (k + 1) (with_value values name m) rest) means
@@ -47,7 +47,7 @@ takes_value AWord k word n h = refl
 takes_value (ANumber from to) k word n h = refl
 takes_value (OneOf ns) k word n h = refl
 
-pub one_valued : (verb : Verb) (k : ℕ) (values : List (Option ℕ)) (name : Name) (word : List ℕ) (n : ℕ) (rest : List (List ℕ)) → Contains (names_of verb) name → is_some (given values name) ≡ false → Means (value_of_name name) (k + 1) (Some word) n
+pub one_valued : (verb : Verb) (k : ℕ) (values : List (Option ℕ)) (name : Name) (word : List ℕ) (n : ℕ) (rest : List (List ℕ)) → Contains (names_of verb) name → is_taken values name ≡ false → Means (value_of_name name) (k + 1) (Some word) n
     → words_at None verb (k + 2) (with_value values name n) rest ≡ words_at None verb k values (name_word name ∷ word ∷ rest)
 one_valued verb k values name word n rest has new means =
     let two : k + 2 ≡ k + 1 + 1 = omega arith in
@@ -56,7 +56,7 @@ one_valued verb k values name word n rest has new means =
     ∙ valued verb k values (name_of verb (name_word name)) name (word ∷ rest) (named_by_word verb name has) new (takes_value (value_of_name name) (k + 1) word n means)
     ∙ option_word verb k values (name_word name) (word ∷ rest) (option_of_word name)
 
-one : (verb : Verb) (k : ℕ) (values : List (Option ℕ)) (name : Name) (value : Option (List ℕ)) (n : ℕ) (rest : List (List ℕ)) → Contains (names_of verb) name → is_some (given values name) ≡ false → Means (value_of_name name) (k + 1) value n
+one : (verb : Verb) (k : ℕ) (values : List (Option ℕ)) (name : Name) (value : Option (List ℕ)) (n : ℕ) (rest : List (List ℕ)) → Contains (names_of verb) name → is_taken values name ≡ false → Means (value_of_name name) (k + 1) value n
     → words_at None verb (k + length (name_word name ∷ option_to_list value)) (with_value values name n) rest ≡ words_at None verb k values ((name_word name ∷ option_to_list value) ++ rest)
 one verb k values name None n rest has new means = one_flag verb k values name (value_of_name name) n rest has new refl means
 one verb k values name (Some word) n rest has new means = one_valued verb k values name word n rest has new means
@@ -89,20 +89,13 @@ chosen_given values (c ∷ cs) name zero x full lt is named =
     given_stays (with_value values c.name c.means) cs name (full_with values c.name c.means full) (subst (λ (b : Name). is_some (given (with_value values c.name c.means) b) ≡ true) same (ap is_some (given-same values c.name c.means full)))
 chosen_given values (c ∷ cs) name (suc k) x full lt is named = chosen_given (with_value values c.name c.means) cs name k x (full_with values c.name c.means full) (omega (arith, lt)) is named
 
-one_required : (b : Bool) → b ≡ true → (b && true) ≡ true
-one_required true h = refl
-one_required false h = h
-
-pub required_given : (verb : Verb) (cs : List Chosen) → All (λ name. Any (λ (c : Chosen). c.name ≡ name) cs) (required_of verb) → has_required verb (values_from none_given cs) ≡ true
-required_given Link cs h = let a = h 0 Main (omega arith) in one_required (is_some (given (values_from none_given cs) Main)) (chosen_given none_given cs Main a.0 a.1 refl a.2 a.3 a.4)
-required_given Bound cs h = let a = h 0 Method (omega arith) in one_required (is_some (given (values_from none_given cs) Method)) (chosen_given none_given cs Method a.0 a.1 refl a.2 a.3 a.4)
-required_given Run cs h = refl
-required_given Trace cs h = refl
-required_given Check cs h = refl
-required_given Loops cs h = refl
-required_given Need cs h = refl
-required_given Asm cs h = refl
-required_given Work cs h = refl
+pub required_given : (verb : Verb) (cs : List Chosen) → All (λ group. Any (λ (c : Chosen). Contains group c.name) cs) (required_of verb) → has_required verb (values_from none_given cs) ≡ true
+required_given verb cs h = list_all-from_AllPass (λ group. list_any (λ name. is_some (given (values_from none_given cs) name)) group) (required_of verb) (λ i d lt.
+    let chosen = h i d lt in
+    let is = chosen_given none_given cs chosen.1.name chosen.0 chosen.1 refl chosen.2 chosen.3 refl in
+    let at = chosen.4 in
+    list_any_at (λ name. is_some (given (values_from none_given cs) name)) (get_or (required_of verb) i d) at.0 chosen.1.name at.1
+    (subst (λ (name : Name). is_some (given (values_from none_given cs) name) ≡ true) (sym at.2) is))
 
 -- ---- operands
 
@@ -118,12 +111,20 @@ exactly_none k n (w ∷ ws) many all =
     let more : (n == 0) ≡ false = grind (arith, nat_tests) in
     sym (exactly_step k n w ws more some.0) ∙ exactly_none (k + 1) (n - 1) ws (omega (arith, many)) some.1
 
+at_most_none : (k n : ℕ) (ws : List (List ℕ)) → length ws ≤ n → All (λ word. 0 < length word) ws → at_most_at k n ws ≡ None
+at_most_none k n [] few all = refl
+at_most_none k n (w ∷ ws) few all =
+    let some = some_words w ws all in
+    let more : (n == 0) ≡ false = grind (arith, nat_tests) in
+    sym (at_most_step k n w ws more some.0) ∙ at_most_none (k + 1) (n - 1) ws (omega (arith, few)) some.1
+
 empty_none : (k : ℕ) (ws : List (List ℕ)) → All (λ word. 0 < length word) ws → empty_at k ws ≡ None
 empty_none k [] all = refl
 empty_none k (w ∷ ws) all = let some = some_words w ws all in sym (empty_step k w ws some.0) ∙ empty_none (k + 1) ws some.1
 
-unstopped : (o : Operands) (k : ℕ) (w : List ℕ) (ws : List (List ℕ)) (n : ℕ) → AreOperands o (w ∷ ws) n → (operands_stop o k w ws ≡ None) × (operand_number o w ≡ n)
+unstopped : (o : Operands) (k : ℕ) (w : List ℕ) (ws : List (List ℕ)) (n : ℕ) → AreOperands o (w ∷ ws) n → (operands_stop o k w ws ≡ None) × (operand_number o w ws ≡ n)
 unstopped (Exactly m) k w ws n h = (exactly_none k m (w ∷ ws) h.0 h.1, sym h.2)
+unstopped (AtMost m) k w ws n h = let many = h.3 in (at_most_none k m (w ∷ ws) h.1 h.2, omega (arith, many))
 unstopped OneOrMore k w ws n h = (empty_none k (w ∷ ws) h.1, sym h.2)
 unstopped (Number from to) k w ws n h =
     let same : w ≡ h.0 = cc in
@@ -137,27 +138,15 @@ operands_read verb k values [] n required first operands = absurd first
 operands_read verb k values (w ∷ ws) n required first operands =
     let on = unstopped (operands_of verb) k w ws n operands in
     sym (operand_word verb k values w ws first)
-    ∙ sym (if_true (has_required verb values) (unless_stopped (operands_stop (operands_of verb) k w ws) (made verb values k (operand_number (operands_of verb) w))) (Err k) required)
-    ∙ ap (λ stop. unless_stopped stop (made verb values k (operand_number (operands_of verb) w))) on.0
+    ∙ sym (if_true (has_required verb values) (unless_stopped (operands_stop (operands_of verb) k w ws) (made verb values k (operand_number (operands_of verb) w ws))) (Err k) required)
+    ∙ ap (λ stop. unless_stopped stop (made verb values k (operand_number (operands_of verb) w ws))) on.0
     ∙ ap (λ j. Ok (made verb values k j)) on.1
 
 -- ---- the whole
 
 none_before : (cs : List Chosen) → AreNew none_given cs
 none_before [] = tt
-none_before (c ∷ cs) = (none_is c.name, none_before cs)
-  where
-    none_is : (name : Name) → is_some (given none_given name) ≡ false
-    none_is Main = refl
-    none_is Method = refl
-    none_is Cycles = refl
-    none_is Stack = refl
-    none_is Memory = refl
-    none_is Blocks = refl
-    none_is BlockWords = refl
-    none_is Read = refl
-    none_is Write = refl
-    none_is Micro = refl
+none_before (c ∷ cs) = (none_taken c.name, none_before cs)
 
 pub commands_read : (words : List (List ℕ)) (command : Command) → IsCommand words command → command_of words ≡ Ok command
 commands_read words command is =

@@ -1,21 +1,21 @@
 -- Where words stop: a command can go on before that word, and with it none.
 use Rattle.std.proofs.Common.{◌≡◌, ℕ, zero, suc, ◌+◌, ◌-◌, ◌<◌, Bool, true, false, List, [], ◌∷◌, ◌++◌, length, take, replicate, Some, None, Ok, ◌⊎◌, inl, inr, refl, sym, ap, ◌∙◌, subst, arith, append_assoc, length-append}
 use Rattle.std.proofs.Math.Seq.{take-append_seam, take-append-add}
-use Rattle.std.specs.Prelude.{◌==◌, ◌&&◌, Err, codes, is_some, Contains, if◌then◌else◌}
+use Rattle.std.specs.Prelude.{◌==◌, ◌&&◌, Err, codes, Contains, if◌then◌else◌}
 use Rattle.std.specs.declared.option.Option.{Option}
 use Rattle.std.specs.declared.result.Result.{Result}
 use Rattle.std.proofs.lemmas.Bool.{cases_Bool}
 use Rattle.std.proofs.lemmas.Bool.Decides.{nat_tests}
 use Rattle.command_line.specs.declared.table.Verb.{Verb}
-use Rattle.command_line.specs.declared.table.Verb.TheVariants.{Link, Run, Trace, Bound, Check, Loops, Need, Asm, Work}
+use Rattle.command_line.specs.declared.table.Verb.TheVariants.{Link, Run, Trace, Bound, Check, Loops, Headers, Need, Asm, Work}
 use Rattle.command_line.specs.declared.table.Name.{Name}
-use Rattle.command_line.specs.declared.table.Name.TheVariants.{Main, Method, Cycles, Stack, Memory, Blocks, BlockWords, Read, Write, Micro}
+use Rattle.command_line.specs.declared.table.Name.TheVariants.{Main, Method, All, Cycles, Stack, Memory, Blocks, BlockWords, Read, Write, Micro}
 use Rattle.command_line.specs.declared.command.Command.{Command}
-use Rattle.command_line.specs.Table.{name_word, names_of, verb_named, name_of, Value, AWord, value_of_name, Operands, Exactly, OneOrMore, Number, operands_of}
-use Rattle.command_line.specs.Command.{is_option, given, with_value, none_given, has_required, is_flag, meaning, made, exactly_at, empty_at, past_number, number_from, operands_stop, operand_number, unless_stopped, words_at, command_of}
+use Rattle.command_line.specs.Table.{name_word, names_of, verb_named, name_of, Value, AWord, value_of_name, Operands, Exactly, AtMost, OneOrMore, Number, operands_of}
+use Rattle.command_line.specs.Command.{is_option, with_value, none_given, is_taken, has_required, is_flag, meaning, made, exactly_at, at_most_at, empty_at, past_number, number_from, operands_stop, operand_number, unless_stopped, words_at, command_of}
 use Rattle.command_line.specs.Grammar.{Means, IsCommand, StopsAt, Answers, CommandsAreRead}
-use Rattle.command_line.proofs.WordLemmas.{if_true, if_false, option_at, option_word, operand_word, value_by, exactly_step, exactly_past, exactly_empty, empty_step, empty_here}
-use Rattle.command_line.proofs.Stored.{IsFull, full_with, given-same}
+use Rattle.command_line.proofs.WordLemmas.{if_true, if_false, option_at, option_word, operand_word, value_by, exactly_step, exactly_past, exactly_empty, at_most_step, at_most_past, at_most_empty, empty_step, empty_here}
+use Rattle.command_line.proofs.Stored.{IsFull, full_with, taken_with}
 use Rattle.command_line.proofs.Reading.{one_valued, commands_read}
 use Rattle.command_line.proofs.Telling.{commands_told}
 
@@ -80,6 +80,22 @@ exactly_stops k n (w ∷ ws) j h = elim (cases_Bool (n == 0)) [
   ]
 ]
 
+at_most_stops : (k n : ℕ) (ws : List (List ℕ)) (j : ℕ) → at_most_at k n ws ≡ Some j → ListStops (at_most_at k n) k ws j
+at_most_stops k n [] j h = absurd (cc)
+at_most_stops k n (w ∷ ws) j h = elim (cases_Bool (n == 0)) [
+  | inl e ↦
+      let so = at_most_past k n w ws e in
+      let is : j ≡ k = cc in
+      here_by (at_most_at k n) k w ws [] j is refl (λ after. sym (at_most_past k n w after e))
+  | inr e ↦ elim (cases_Bool (length w == 0)) [
+    | inl f ↦
+        let so = at_most_empty k n w ws f in
+        let is : j ≡ k = cc in
+        here_by (at_most_at k n) k w ws [] j is refl (λ after. sym (at_most_empty k n w after f))
+    | inr f ↦ list_push (at_most_at k n) (at_most_at (k + 1) (n - 1)) k w ws j (λ r. at_most_step k n w r e f) (at_most_stops (k + 1) (n - 1) ws j (at_most_step k n w ws e f ∙ h))
+  ]
+]
+
 empty_stops : (k : ℕ) (ws : List (List ℕ)) (j : ℕ) → empty_at k ws ≡ Some j → ListStops (empty_at k) k ws j
 empty_stops k [] j h = absurd (cc)
 empty_stops k (w ∷ ws) j h = elim (cases_Bool (length w == 0)) [
@@ -122,6 +138,13 @@ operand_stops (Exactly n) k w ws j h = elim (cases_Bool (n == 0)) [
     | inr f ↦ inr (list_same (exactly_at (k + 1) (n - 1)) (λ r. exactly_at k n (w ∷ r)) (k + 1) ws j (λ r. exactly_step k n w r e f) (exactly_stops (k + 1) (n - 1) ws j (exactly_step k n w ws e f ∙ h)))
   ]
 ]
+operand_stops (AtMost n) k w ws j h = elim (cases_Bool (n == 0)) [
+  | inl e ↦ let so = at_most_past k n w ws e in let is : j ≡ k = cc in inl (is, λ after. sym (at_most_past k n w after e) ∙ ap (λ (i : ℕ). Some i) (sym is))
+  | inr e ↦ elim (cases_Bool (length w == 0)) [
+    | inl f ↦ let so = at_most_empty k n w ws f in let is : j ≡ k = cc in inl (is, λ after. sym (at_most_empty k n w after f) ∙ ap (λ (i : ℕ). Some i) (sym is))
+    | inr f ↦ inr (list_same (at_most_at (k + 1) (n - 1)) (λ r. at_most_at k n (w ∷ r)) (k + 1) ws j (λ r. at_most_step k n w r e f) (at_most_stops (k + 1) (n - 1) ws j (at_most_step k n w ws e f ∙ h)))
+  ]
+]
 operand_stops OneOrMore k w ws j h = elim (cases_Bool (length w == 0)) [
   | inl f ↦ let so = empty_here k w ws f in let is : j ≡ k = cc in inl (is, λ after. sym (empty_here k w after f) ∙ ap (λ (i : ℕ). Some i) (sym is))
   | inr f ↦ inr (list_same (empty_at (k + 1)) (λ r. empty_at k (w ∷ r)) (k + 1) ws j (λ r. empty_step k w r f) (empty_stops (k + 1) ws j (empty_step k w ws f ∙ h)))
@@ -152,14 +175,14 @@ and_true : (b : Bool) → b ≡ true → (b && true) ≡ true
 and_true true h = refl
 and_true false h = h
 
-ends_link : (k : ℕ) (values : List (Option ℕ)) → is_some (given values Main) ≡ true → fault_at None Link k values (codes "b" ∷ []) ≡ None
-ends_link k values h = ap fault (sym (if_true (has_required Link values) (Ok (made Link values k 0)) (Err k) (and_true (is_some (given values Main)) h)))
+ends_link : (k : ℕ) (values : List (Option ℕ)) → is_taken values Main ≡ true → fault_at None Link k values (codes "b" ∷ []) ≡ None
+ends_link k values h = ap fault (sym (if_true (has_required Link values) (Ok (made Link values k 0)) (Err k) (and_true (is_taken values Main) h)))
 
-ends_bound : (k : ℕ) (values : List (Option ℕ)) → is_some (given values Method) ≡ true → fault_at None Bound k values (codes "b" ∷ codes "b" ∷ []) ≡ None
-ends_bound k values h = ap fault (sym (if_true (has_required Bound values) (Ok (made Bound values k 0)) (Err k) (and_true (is_some (given values Method)) h)))
+ends_bound : (k : ℕ) (values : List (Option ℕ)) → is_taken values Method ≡ true → fault_at None Bound k values (codes "b" ∷ codes "b" ∷ []) ≡ None
+ends_bound k values h = ap fault (sym (if_true (has_required Bound values) (Ok (made Bound values k 0)) (Err k) (and_true (is_taken values Method) h)))
 
 -- an option that is required and lacks, with a value
-lacking : (verb : Verb) (k : ℕ) (values : List (Option ℕ)) (name : Name) (rest : List (List ℕ)) → Contains (names_of verb) name → value_of_name name ≡ AWord → is_some (given values name) ≡ false
+lacking : (verb : Verb) (k : ℕ) (values : List (Option ℕ)) (name : Name) (rest : List (List ℕ)) → Contains (names_of verb) name → value_of_name name ≡ AWord → is_taken values name ≡ false
     → words_at None verb (k + 2) (with_value values name (k + 1)) rest ≡ words_at None verb k values (name_word name ∷ codes "A" ∷ rest)
 lacking verb k values name rest has takes new =
     let P : Value → Type 0 = λ v. Means v (k + 1) (Some (codes "A")) (k + 1) in
@@ -167,22 +190,23 @@ lacking verb k values name rest has takes new =
     one_valued verb k values name (codes "A") (k + 1) rest has new (subst P (sym takes) means)
 
 finish : (verb : Verb) (k : ℕ) (values : List (Option ℕ)) → IsFull values → Finish None verb k values
-finish Link k values full = elim (cases_Bool (is_some (given values Main))) [
+finish Link k values full = elim (cases_Bool (is_taken values Main)) [
   | inl e ↦ (codes "b" ∷ [], ends_link k values e)
   | inr e ↦
-      let last = ends_link (k + 2) (with_value values Main (k + 1)) (ap is_some (given-same values Main (k + 1) full)) in
+      let last = ends_link (k + 2) (with_value values Main (k + 1)) (taken_with values Main (k + 1) full) in
       (name_word Main ∷ codes "A" ∷ codes "b" ∷ [], ap fault (sym (lacking Link k values Main (codes "b" ∷ []) (0, omega arith, refl) refl e)) ∙ last)
 ]
-finish Bound k values full = elim (cases_Bool (is_some (given values Method))) [
+finish Bound k values full = elim (cases_Bool (is_taken values Method)) [
   | inl e ↦ (codes "b" ∷ codes "b" ∷ [], ends_bound k values e)
   | inr e ↦
-      let last = ends_bound (k + 2) (with_value values Method (k + 1)) (ap is_some (given-same values Method (k + 1) full)) in
+      let last = ends_bound (k + 2) (with_value values Method (k + 1)) (taken_with values Method (k + 1) full) in
       (name_word Method ∷ codes "A" ∷ codes "b" ∷ codes "b" ∷ [], ap fault (sym (lacking Bound k values Method (codes "b" ∷ codes "b" ∷ []) (0, omega arith, refl) refl e)) ∙ last)
 ]
 finish Run k values full = (codes "b" ∷ [], refl)
 finish Trace k values full = (codes "b" ∷ [], refl)
 finish Check k values full = (codes "b" ∷ codes "b" ∷ codes "b" ∷ [], refl)
 finish Loops k values full = (codes "b" ∷ [], refl)
+finish Headers k values full = (codes "b" ∷ [], refl)
 finish Need k values full = (codes "b" ∷ codes "b" ∷ codes "b" ∷ [], refl)
 finish Asm k values full = (codes "b" ∷ [], refl)
 finish Work k values full = (codes "1" ∷ [], refl)
@@ -190,6 +214,7 @@ finish Work k values full = (codes "1" ∷ [], refl)
 any_value : (name : Name) (k : ℕ) → is_flag (value_of_name name) ≡ false → (word : List ℕ) × (n : ℕ) × (meaning (value_of_name name) k word ≡ Some n)
 any_value Main k h = (codes "A", k, refl)
 any_value Method k h = (codes "A", k, refl)
+any_value All k h = absurd (cc)
 any_value Cycles k h = (codes "1", 1, refl)
 any_value Stack k h = (codes "256", 256, refl)
 any_value Memory k h = (codes "16", 16, refl)
@@ -236,15 +261,15 @@ stops_option verb k values w ws j None full step h plain valued =
     let is : j ≡ k = cc in
     let f = finish verb k values full in
     here_by (fault_at None verb k values) k w ws f.0 j is f.1 (λ after. ap fault (sym (step after)))
-stops_option verb k values w ws j (Some name) full step h plain valued = elim (cases_Bool (is_some (given values name))) [
+stops_option verb k values w ws j (Some name) full step h plain valued = elim (cases_Bool (is_taken values name)) [
   | inl e ↦
-      let at = λ (r : List (List ℕ)). if_true (is_some (given values name)) (Err k) (if is_flag (value_of_name name) then words_at None verb (k + 1) (with_value values name 1) r else words_at (Some name) verb (k + 1) values r) e ∙ step r in
+      let at = λ (r : List (List ℕ)). if_true (is_taken values name) (Err k) (if is_flag (value_of_name name) then words_at None verb (k + 1) (with_value values name 1) r else words_at (Some name) verb (k + 1) values r) e ∙ step r in
       let so = ap fault (at ws) in
       let is : j ≡ k = cc in
       let f = finish verb k values full in
       here_by (fault_at None verb k values) k w ws f.0 j is f.1 (λ after. ap fault (sym (at after)))
   | inr e ↦
-      let on = λ (r : List (List ℕ)). if_false (is_some (given values name)) (Err k) (if is_flag (value_of_name name) then words_at None verb (k + 1) (with_value values name 1) r else words_at (Some name) verb (k + 1) values r) e ∙ step r in
+      let on = λ (r : List (List ℕ)). if_false (is_taken values name) (Err k) (if is_flag (value_of_name name) then words_at None verb (k + 1) (with_value values name 1) r else words_at (Some name) verb (k + 1) values r) e ∙ step r in
       elim (cases_Bool (is_flag (value_of_name name))) [
         | inl f ↦
             let at = λ (r : List (List ℕ)). ap fault (if_true (is_flag (value_of_name name)) (words_at None verb (k + 1) (with_value values name 1) r) (words_at (Some name) verb (k + 1) values r) f ∙ on r) in
@@ -258,17 +283,17 @@ stops_option verb k values w ws j (Some name) full step h plain valued = elim (c
 stops_operands : (verb : Verb) (k : ℕ) (values : List (Option ℕ)) (w : List ℕ) (ws : List (List ℕ)) (j : ℕ) → IsFull values → is_option w ≡ false → fault_at None verb k values (w ∷ ws) ≡ Some j → Stops None verb k values (w ∷ ws) j
 stops_operands verb k values w ws j full none h =
     let stop = operands_stop (operands_of verb) k w in
-    let command = made verb values k (operand_number (operands_of verb) w) in
+    let command = λ (r : List (List ℕ)). made verb values k (operand_number (operands_of verb) w r) in
     let f = finish verb k values full in
     elim (cases_Bool (has_required verb values)) [
       | inl e ↦
-          let at = λ (r : List (List ℕ)). fault_unless (stop r) command ∙ ap fault (if_true (has_required verb values) (unless_stopped (stop r) command) (Err k) e ∙ operand_word verb k values w r none) in
+          let at = λ (r : List (List ℕ)). fault_unless (stop r) (command r) ∙ ap fault (if_true (has_required verb values) (unless_stopped (stop r) (command r)) (Err k) e ∙ operand_word verb k values w r none) in
           elim (operand_stops (operands_of verb) k w ws j (at ws ∙ h)) [
             | inl first ↦ here_by (fault_at None verb k values) k w ws f.0 j first.0 f.1 (λ after. sym (at after) ∙ first.1 after ∙ ap (λ (i : ℕ). Some i) first.0)
             | inr later ↦ list_push (fault_at None verb k values) (operands_stop (operands_of verb) k w) k w ws j at later
           ]
       | inr e ↦
-          let at = λ (r : List (List ℕ)). if_false (has_required verb values) (unless_stopped (stop r) command) (Err k) e ∙ operand_word verb k values w r none in
+          let at = λ (r : List (List ℕ)). if_false (has_required verb values) (unless_stopped (stop r) (command r)) (Err k) e ∙ operand_word verb k values w r none in
           let so = ap fault (at ws) in
           let is : j ≡ k = cc in
           here_by (fault_at None verb k values) k w ws f.0 j is f.1 (λ after. ap fault (sym (at after)))

@@ -1,6 +1,6 @@
 -- What options were given to mean, by their names; and what words name.
-use Rattle.std.proofs.Common.{◌≡◌, ℕ, ◌<◌, Bool, true, List, [], ◌∷◌, length, get_or, Some, None, ◌⊎◌, inl, inr, refl, sym, ap, ◌∙◌, subst, arith, eq-eqb}
-use Rattle.std.specs.Prelude.{◌==◌, bytes_eq, Contains, if◌then◌else◌}
+use Rattle.std.proofs.Common.{◌≡◌, ℕ, zero, suc, ◌<◌, Bool, true, false, List, [], ◌∷◌, length, get_or, Some, None, ◌⊎◌, inl, inr, refl, sym, ap, ◌∙◌, subst, arith, eq-eqb}
+use Rattle.std.specs.Prelude.{◌==◌, bytes_eq, is_some, Contains, if◌then◌else◌}
 use Rattle.std.specs.declared.option.Option.{Option}
 use Rattle.std.specs.List.{find}
 use Rattle.std.proofs.lemmas.List.{get_or-set_same, get_or-set_other, length-set}
@@ -8,11 +8,11 @@ use Rattle.std.proofs.lemmas.List.Folds.{Any-from_list_any, list_any_at}
 use Rattle.std.proofs.lemmas.Bool.{cases_Bool}
 use Rattle.std.proofs.lemmas.Slice.Eq.{bytes_eq-Decides}
 use Rattle.command_line.specs.declared.table.Verb.{Verb}
-use Rattle.command_line.specs.declared.table.Verb.TheVariants.{Link, Run, Trace, Bound, Check, Loops, Need, Asm, Work}
+use Rattle.command_line.specs.declared.table.Verb.TheVariants.{Link, Run, Trace, Bound, Check, Loops, Headers, Need, Asm, Work}
 use Rattle.command_line.specs.declared.table.Name.{Name}
-use Rattle.command_line.specs.declared.table.Name.TheVariants.{Main, Method, Cycles, Stack, Memory, Blocks, BlockWords, Read, Write, Micro}
-use Rattle.command_line.specs.Table.{name_word, all_names, place_of, same_name, names_of, verb_word, all_verbs, verb_named, name_named, has_name, kept_by, name_of}
-use Rattle.command_line.specs.Command.{is_option, given, with_value}
+use Rattle.command_line.specs.declared.table.Name.TheVariants.{Main, Method, All, Cycles, Stack, Memory, Blocks, BlockWords, Read, Write, Micro}
+use Rattle.command_line.specs.Table.{name_word, all_names, place_of, same_name, rivals, names_of, verb_word, all_verbs, verb_named, name_named, has_name, kept_by, name_of}
+use Rattle.command_line.specs.Command.{is_option, none_given, given, with_value, is_taken}
 use Rattle.command_line.proofs.WordLemmas.{if_true}
 
 -- ---- places
@@ -20,6 +20,7 @@ use Rattle.command_line.proofs.WordLemmas.{if_true}
 name_at : (a : Name) → get_or all_names (place_of a) Main ≡ a
 name_at Main = refl
 name_at Method = refl
+name_at All = refl
 name_at Cycles = refl
 name_at Stack = refl
 name_at Memory = refl
@@ -32,9 +33,10 @@ name_at Micro = refl
 same_place : (a b : Name) → place_of a ≡ place_of b → a ≡ b
 same_place a b e = sym (name_at a) ∙ ap (λ i. get_or all_names i Main) e ∙ name_at b
 
-place_below : (a : Name) → place_of a < 10
+place_below : (a : Name) → place_of a < 11
 place_below Main = omega arith
 place_below Method = omega arith
+place_below All = omega arith
 place_below Cycles = omega arith
 place_below Stack = omega arith
 place_below Memory = omega arith
@@ -50,7 +52,7 @@ eq_true x y e = grind arith
 -- ---- what is stored
 
 abbrev pub IsFull : List (Option ℕ) → Type 0
-IsFull values = length values ≡ 10
+IsFull values = length values ≡ 11
 
 pub full_with : (values : List (Option ℕ)) (a : Name) (n : ℕ) → IsFull values → IsFull (with_value values a n)
 full_with values a n full = length-set values (place_of a) (Some n) ∙ full
@@ -66,6 +68,106 @@ same_or_other a b = elim (cases_Bool (place_of a == place_of b)) [
   | inl e ↦ inl (same_place a b (eq_true (place_of a) (place_of b) e))
   | inr e ↦ inr (λ same. let so : (place_of a == place_of b) ≡ true = eq-eqb (place_of a) (place_of b) (ap place_of same) in absurd (cc))
 ]
+
+-- ---- what is taken
+
+pub not_given : (name : Name) → is_some (given none_given name) ≡ false
+not_given Main = refl
+not_given Method = refl
+not_given All = refl
+not_given Cycles = refl
+not_given Stack = refl
+not_given Memory = refl
+not_given Blocks = refl
+not_given BlockWords = refl
+not_given Read = refl
+not_given Write = refl
+not_given Micro = refl
+
+own_rival : (a : Name) → Contains (rivals a) a
+own_rival Main = (0, omega arith, refl)
+own_rival Method = (0, omega arith, refl)
+own_rival All = (0, omega arith, refl)
+own_rival Cycles = (0, omega arith, refl)
+own_rival Stack = (0, omega arith, refl)
+own_rival Memory = (0, omega arith, refl)
+own_rival Blocks = (0, omega arith, refl)
+own_rival BlockWords = (0, omega arith, refl)
+own_rival Read = (0, omega arith, refl)
+own_rival Write = (0, omega arith, refl)
+own_rival Micro = (0, omega arith, refl)
+
+-- an option that nothing excludes
+alone : (a b : Name) → Contains (a ∷ []) b → Contains (rivals a) a → Contains (rivals b) a
+alone a b (zero, lt, is) own = subst (λ (x : Name). Contains (rivals x) a) is own
+alone a b (suc k, lt, is) own = absurd (omega (arith, lt))
+
+rival_back : (a b : Name) → Contains (rivals a) b → Contains (rivals b) a
+rival_back Method b (zero, lt, is) = subst (λ (x : Name). Contains (rivals x) Method) is (own_rival Method)
+rival_back Method b (suc zero, lt, is) = subst (λ (x : Name). Contains (rivals x) Method) is (1, omega arith, refl)
+rival_back Method b (suc (suc k), lt, is) = absurd (omega (arith, lt))
+rival_back All b (zero, lt, is) = subst (λ (x : Name). Contains (rivals x) All) is (own_rival All)
+rival_back All b (suc zero, lt, is) = subst (λ (x : Name). Contains (rivals x) All) is (1, omega arith, refl)
+rival_back All b (suc (suc k), lt, is) = absurd (omega (arith, lt))
+rival_back Main b h = alone Main b h (own_rival Main)
+rival_back Cycles b h = alone Cycles b h (own_rival Cycles)
+rival_back Stack b h = alone Stack b h (own_rival Stack)
+rival_back Memory b h = alone Memory b h (own_rival Memory)
+rival_back Blocks b h = alone Blocks b h (own_rival Blocks)
+rival_back BlockWords b h = alone BlockWords b h (own_rival BlockWords)
+rival_back Read b h = alone Read b h (own_rival Read)
+rival_back Write b h = alone Write b h (own_rival Write)
+rival_back Micro b h = alone Micro b h (own_rival Micro)
+
+not_taken : (values : List (Option ℕ)) (name other : Name) → is_taken values name ≡ false → Contains (rivals name) other → is_some (given values other) ≡ false
+not_taken values name other h is = elim (cases_Bool (is_some (given values other))) [
+  | inl e ↦
+      let so : is_taken values name ≡ true = list_any_at (λ o. is_some (given values o)) (rivals name) is.0 other is.1 (subst (λ (x : Name). is_some (given values x) ≡ true) (sym is.2) e) in
+      absurd (cc)
+  | inr e ↦ e
+]
+
+untaken : (values : List (Option ℕ)) (name : Name) → ((other : Name) → Contains (rivals name) other → is_some (given values other) ≡ false) → is_taken values name ≡ false
+untaken values name none = elim (cases_Bool (is_taken values name)) [
+  | inl e ↦
+      let some = Any-from_list_any (λ o. is_some (given values o)) (rivals name) e in
+      let is = some.4 in
+      let never = none some.1 (some.0, some.2, some.3) in
+      absurd (cc)
+  | inr e ↦ e
+]
+
+pub none_taken : (name : Name) → is_taken none_given name ≡ false
+none_taken name = untaken none_given name (λ other is. not_given other)
+
+pub taken_with : (values : List (Option ℕ)) (a : Name) (n : ℕ) → IsFull values → is_taken (with_value values a n) a ≡ true
+taken_with values a n full =
+    let own = own_rival a in
+    list_any_at (λ o. is_some (given (with_value values a n) o)) (rivals a) own.0 a own.1
+    (subst (λ (x : Name). is_some (given (with_value values a n) x) ≡ true) (sym own.2) (ap is_some (given-same values a n full)))
+
+-- what is new stays so behind an option that doesn't exclude it
+pub untaken_with : (values : List (Option ℕ)) (a b : Name) (n : ℕ) → is_taken values b ≡ false → (Contains (rivals a) b → ⊥) → is_taken (with_value values a n) b ≡ false
+untaken_with values a b n new none = untaken (with_value values a n) b (λ other is. elim (same_or_other a other) [
+  | inl same ↦ absurd (none (rival_back b a (subst (λ (x : Name). Contains (rivals b) x) (sym same) is)))
+  | inr differs ↦ ap is_some (given-other values a other n differs) ∙ not_taken values b other new is
+])
+
+given_before : (values : List (Option ℕ)) (a other : Name) (n : ℕ) → IsFull values → is_some (given (with_value values a n) other) ≡ false → is_some (given values other) ≡ false
+given_before values a other n full h = elim (same_or_other a other) [
+  | inl same ↦
+      let so : is_some (given (with_value values a n) other) ≡ true = subst (λ (x : Name). is_some (given (with_value values a n) x) ≡ true) same (ap is_some (given-same values a n full)) in
+      absurd (cc)
+  | inr differs ↦ ap is_some (sym (given-other values a other n differs)) ∙ h
+]
+
+-- what is new behind an option was new before it, and isn't excluded by it
+pub untaken_before : (values : List (Option ℕ)) (a b : Name) (n : ℕ) → IsFull values → is_taken (with_value values a n) b ≡ false → (is_taken values b ≡ false) × (Contains (rivals a) b → ⊥)
+untaken_before values a b n full new =
+    let here : is_some (given (with_value values a n) a) ≡ true = ap is_some (given-same values a n full) in (
+      untaken values b (λ other is. given_before values a other n full (not_taken (with_value values a n) b other new is)),
+      λ rival. let never = not_taken (with_value values a n) b a new (rival_back a b rival) in absurd (cc),
+    )
 
 -- ---- words that name
 
@@ -94,6 +196,7 @@ in_has verb name is = list_any_at (same_name name) (names_of verb) is.0 name is.
 name_of_word : (name : Name) → name_named (name_word name) ≡ Some name
 name_of_word Main = refl
 name_of_word Method = refl
+name_of_word All = refl
 name_of_word Cycles = refl
 name_of_word Stack = refl
 name_of_word Memory = refl
@@ -106,6 +209,7 @@ name_of_word Micro = refl
 pub option_of_word : (name : Name) → is_option (name_word name) ≡ true
 option_of_word Main = refl
 option_of_word Method = refl
+option_of_word All = refl
 option_of_word Cycles = refl
 option_of_word Stack = refl
 option_of_word Memory = refl
@@ -142,6 +246,7 @@ verb_of_word Trace = refl
 verb_of_word Bound = refl
 verb_of_word Check = refl
 verb_of_word Loops = refl
+verb_of_word Headers = refl
 verb_of_word Need = refl
 verb_of_word Asm = refl
 verb_of_word Work = refl

@@ -1,23 +1,23 @@
 -- What is read of words is a command that they are.
-use Rattle.std.proofs.Common.{◌≡◌, ℕ, suc, ◌+◌, ◌-◌, ◌<◌, Bool, true, false, List, [], ◌∷◌, ◌++◌, length, Some, None, Ok, inl, inr, refl, sym, ap, ◌∙◌, subst, arith, append_assoc, length-append}
-use Rattle.std.specs.Prelude.{◌==◌, ◌&&◌, Err, is_some, unwrap_or, Contains, All, Any, if◌then◌else◌}
+use Rattle.std.proofs.Common.{◌≡◌, ℕ, suc, ◌+◌, ◌-◌, ◌<◌, ◌≤◌, true, false, List, [], ◌∷◌, ◌++◌, length, get_or, Some, None, Ok, inl, inr, refl, sym, ap, ◌∙◌, subst, arith, append_assoc, length-append}
+use Rattle.std.specs.Prelude.{◌==◌, Err, is_some, unwrap_or, Contains, All, Any, if◌then◌else◌}
 use Rattle.std.specs.declared.option.Option.{Option}
 use Rattle.std.specs.declared.result.Result.{Result}
-use Rattle.std.specs.List.{flat_map}
+use Rattle.std.specs.List.{flat_map, list_any}
 use Rattle.std.proofs.lemmas.Bool.{cases_Bool}
 use Rattle.std.proofs.lemmas.Bool.Decides.{nat_tests}
 use Rattle.std.proofs.lemmas.List.Elements.{All-cons, All-nil}
+use Rattle.std.proofs.lemmas.List.Folds.{Any-from_list_any}
+use Rattle.std.proofs.lemmas.List.Sums.{AllPass-from_list_all}
 use Rattle.command_line.specs.declared.table.Verb.{Verb}
-use Rattle.command_line.specs.declared.table.Verb.TheVariants.{Link, Run, Trace, Bound, Check, Loops, Need, Asm, Work}
 use Rattle.command_line.specs.declared.table.Name.{Name}
-use Rattle.command_line.specs.declared.table.Name.TheVariants.{Main, Method}
 use Rattle.command_line.specs.declared.command.Command.{Command}
-use Rattle.command_line.specs.Table.{name_word, names_of, verb_word, verb_named, name_of, required_of, Value, Nothing, AWord, ANumber, OneOf, value_of_name, Operands, Exactly, OneOrMore, Number, operands_of}
-use Rattle.command_line.specs.Command.{is_option, given, with_value, none_given, has_required, is_flag, meaning, made, exactly_at, empty_at, past_number, number_from, operands_stop, operand_number, unless_stopped, operands_at, words_at, command_of}
+use Rattle.command_line.specs.Table.{name_word, names_of, verb_word, verb_named, name_of, required_of, Value, Nothing, AWord, ANumber, OneOf, value_of_name, Operands, Exactly, AtMost, OneOrMore, Number, operands_of}
+use Rattle.command_line.specs.Command.{is_option, given, with_value, none_given, is_taken, has_required, is_flag, meaning, made, exactly_at, at_most_at, empty_at, past_number, number_from, operands_stop, operand_number, unless_stopped, operands_at, words_at, command_of}
 use Rattle.command_line.specs.Grammar.{Chosen, words_chosen, Means, AreChosen, IsNoneOf, AreOnce, values_from, AreOperands, BeginsWithNoOption, IsCommand}
 use Rattle.command_line.proofs.Numbers.{number-means}
-use Rattle.command_line.proofs.WordLemmas.{if_true, if_false, option_at, option_word, operand_word, value_by, exactly_step, exactly_past, exactly_empty, empty_step, empty_here}
-use Rattle.command_line.proofs.Stored.{IsFull, full_with, given-same, given-other, same_or_other, word_of_name, word_of_verb}
+use Rattle.command_line.proofs.WordLemmas.{if_true, if_false, option_at, option_word, operand_word, value_by, exactly_step, exactly_past, exactly_empty, at_most_step, at_most_past, at_most_empty, empty_step, empty_here}
+use Rattle.command_line.proofs.Stored.{IsFull, full_with, given-other, same_or_other, not_given, untaken_before, word_of_name, word_of_verb}
 use Rattle.command_line.proofs.Meanings.{length_some, meaning-means}
 use Rattle.command_line.proofs.Reading.{AreNew}
 
@@ -40,6 +40,20 @@ exactly_words k n (w ∷ ws) h = elim (cases_Bool (n == 0)) [
   ]
 ]
 
+at_most_words : (k n : ℕ) (ws : List (List ℕ)) → at_most_at k n ws ≡ None → (length ws ≤ n) × All (λ word. 0 < length word) ws
+at_most_words k n [] h = (omega arith, All-nil (λ (word : List ℕ). 0 < length word))
+at_most_words k n (w ∷ ws) h = elim (cases_Bool (n == 0)) [
+  | inl e ↦ let so = at_most_past k n w ws e in absurd (cc)
+  | inr e ↦ elim (cases_Bool (length w == 0)) [
+    | inl f ↦ let so = at_most_empty k n w ws f in absurd (cc)
+    | inr f ↦
+        let later = at_most_words (k + 1) (n - 1) ws (at_most_step k n w ws e f ∙ h) in
+        let few = later.0 in
+        let more : 0 < n = grind (arith, nat_tests) in
+        (omega (arith, few, more), All-cons (λ (word : List ℕ). 0 < length word) w ws (length_some w f) later.1)
+  ]
+]
+
 empty_words : (k : ℕ) (ws : List (List ℕ)) → empty_at k ws ≡ None → All (λ word. 0 < length word) ws
 empty_words k [] h = All-nil (λ (word : List ℕ). 0 < length word)
 empty_words k (w ∷ ws) h = elim (cases_Bool (length w == 0)) [
@@ -52,8 +66,9 @@ number_words from to k w ws None read h = absurd (cc)
 number_words from to k w [] (Some n) read h = (w, refl, number-means from to w n read)
 number_words from to k w (more ∷ ws) (Some n) read h = absurd (cc)
 
-operand_words : (o : Operands) (k : ℕ) (w : List ℕ) (ws : List (List ℕ)) → operands_stop o k w ws ≡ None → AreOperands o (w ∷ ws) (operand_number o w)
+operand_words : (o : Operands) (k : ℕ) (w : List ℕ) (ws : List (List ℕ)) → operands_stop o k w ws ≡ None → AreOperands o (w ∷ ws) (operand_number o w ws)
 operand_words (Exactly m) k w ws h = let is = exactly_words k m (w ∷ ws) h in (is.0, is.1, refl)
+operand_words (AtMost m) k w ws h = let is = at_most_words k m (w ∷ ws) h in (omega arith, is.0, is.1, omega arith)
 operand_words OneOrMore k w ws h = (omega arith, empty_words k (w ∷ ws) h, refl)
 operand_words (Number from to) k w ws h = number_words from to k w ws (number_from from to w) refl h
 
@@ -84,13 +99,13 @@ unless_parts (Some k) made command h = absurd (cc)
 told_operands : (verb : Verb) (k : ℕ) (values : List (Option ℕ)) (w : List ℕ) (ws : List (List ℕ)) (command : Command) → is_option w ≡ false → operands_at verb values k w ws ≡ Ok command → Told verb k values (w ∷ ws) command
 told_operands verb k values w ws command none h = elim (cases_Bool (has_required verb values)) [
   | inl e ↦
-      let parts = unless_parts (operands_stop (operands_of verb) k w ws) (made verb values k (operand_number (operands_of verb) w)) command
-      (if_true (has_required verb values) (unless_stopped (operands_stop (operands_of verb) k w ws) (made verb values k (operand_number (operands_of verb) w))) (Err k) e ∙ h) in
+      let parts = unless_parts (operands_stop (operands_of verb) k w ws) (made verb values k (operand_number (operands_of verb) w ws)) command
+      (if_true (has_required verb values) (unless_stopped (operands_stop (operands_of verb) k w ws) (made verb values k (operand_number (operands_of verb) w ws))) (Err k) e ∙ h) in
       let same : k + 0 ≡ k = omega arith in
       record {
         options = [];
         operands = w ∷ ws;
-        number = operand_number (operands_of verb) w;
+        number = operand_number (operands_of verb) w ws;
         words_are = refl;
         chosen = tt;
         once = tt;
@@ -98,28 +113,23 @@ told_operands verb k values w ws command none h = elim (cases_Bool (has_required
         required = e;
         first = none;
         are_operands = operand_words (operands_of verb) k w ws parts.0;
-        command_is = sym parts.1 ∙ ap (λ j. made verb values j (operand_number (operands_of verb) w)) (sym same);
+        command_is = sym parts.1 ∙ ap (λ j. made verb values j (operand_number (operands_of verb) w ws)) (sym same);
       }
   | inr e ↦
-      let so : Err k ≡ operands_at verb values k w ws = if_false (has_required verb values) (unless_stopped (operands_stop (operands_of verb) k w ws) (made verb values k (operand_number (operands_of verb) w))) (Err k) e in
+      let so : Err k ≡ operands_at verb values k w ws = if_false (has_required verb values) (unless_stopped (operands_stop (operands_of verb) k w ws) (made verb values k (operand_number (operands_of verb) w ws))) (Err k) e in
       absurd (cc)
 ]
 
--- what was new behind an option was new before it, and is another option
+-- what was new behind an option was new before it, and isn't excluded by it
 new_before : (values : List (Option ℕ)) (a : Name) (n : ℕ) (cs : List Chosen) → IsFull values → AreNew (with_value values a n) cs → AreNew values cs × IsNoneOf a cs
 new_before values a n [] full new = (tt, tt)
 new_before values a n (c ∷ cs) full new =
     let later = new_before values a n cs full new.1 in
-    elim (same_or_other a c.name) [
-      | inl same ↦
-          let so : is_some (given (with_value values a n) c.name) ≡ true = subst (λ (b : Name). is_some (given (with_value values a n) b) ≡ true) same (ap is_some (given-same values a n full)) in
-          let never = new.0 in
-          absurd (cc)
-      | inr other ↦ ((ap is_some (sym (given-other values a c.name n other)) ∙ new.0, later.0), (other, later.1))
-    ]
+    let before = untaken_before values a c.name n full new.0 in
+    ((before.0, later.0), (before.1, later.1))
 
 add_option : (verb : Verb) (k : ℕ) (values : List (Option ℕ)) (c : Chosen) (words rest : List (List ℕ)) (command : Command) → IsFull values → words ≡ words_chosen c ++ rest → Contains (names_of verb) c.name
-    → Means (value_of_name c.name) (k + 1) c.value c.means → is_some (given values c.name) ≡ false → Told verb (k + length (words_chosen c)) (with_value values c.name c.means) rest command → Told verb k values words command
+    → Means (value_of_name c.name) (k + 1) c.value c.means → is_taken values c.name ≡ false → Told verb (k + length (words_chosen c)) (with_value values c.name c.means) rest command → Told verb k values words command
 add_option verb k values c words rest command full are has means new t =
     let before = new_before values c.name c.means t.options full t.new in
     let place : k + length (words_chosen c) + length (flat_map words_chosen t.options) ≡ k + length (words_chosen c ++ flat_map words_chosen t.options) = omega (arith, length-append (words_chosen c) (flat_map words_chosen t.options)) in
@@ -145,13 +155,13 @@ told_option : (verb : Verb) (k : ℕ) (values : List (Option ℕ)) (word : List 
 told_option verb k values word rest command None full named h plain valued = absurd (cc)
 told_option verb k values word rest command (Some name) full named h plain valued =
     let is = word_of_name verb word name named in
-    elim (cases_Bool (is_some (given values name))) [
+    elim (cases_Bool (is_taken values name)) [
       | inl e ↦
           let so : Err k ≡ option_at verb k values (Some name) rest =
-          if_true (is_some (given values name)) (Err k) (if is_flag (value_of_name name) then words_at None verb (k + 1) (with_value values name 1) rest else words_at (Some name) verb (k + 1) values rest) e in
+          if_true (is_taken values name) (Err k) (if is_flag (value_of_name name) then words_at None verb (k + 1) (with_value values name 1) rest else words_at (Some name) verb (k + 1) values rest) e in
           absurd (cc)
       | inr e ↦
-          let on = if_false (is_some (given values name)) (Err k) (if is_flag (value_of_name name) then words_at None verb (k + 1) (with_value values name 1) rest else words_at (Some name) verb (k + 1) values rest) e ∙ h in
+          let on = if_false (is_taken values name) (Err k) (if is_flag (value_of_name name) then words_at None verb (k + 1) (with_value values name 1) rest else words_at (Some name) verb (k + 1) values rest) e ∙ h in
           elim (cases_Bool (is_flag (value_of_name name))) [
             | inl f ↦
                 let t = plain (with_value values name 1) (full_with values name 1 full) (if_true (is_flag (value_of_name name)) (words_at None verb (k + 1) (with_value values name 1) rest) (words_at (Some name) verb (k + 1) values rest) f ∙ on) in
@@ -202,20 +212,13 @@ given_by values (c ∷ cs) name full h new = elim (same_or_other c.name name) [
       (suc later.0, later.1, omega (arith, later.2), later.3, later.4)
 ]
 
-and_first : (b : Bool) → (b && true) ≡ true → b ≡ true
-and_first true h = refl
-and_first false h = h
-
-required_are : (verb : Verb) (cs : List Chosen) → has_required verb (values_from none_given cs) ≡ true → All (λ name. Any (λ (c : Chosen). c.name ≡ name) cs) (required_of verb)
-required_are Link cs h = All-cons (λ name. Any (λ (c : Chosen). c.name ≡ name) cs) Main [] (given_by none_given cs Main refl (and_first (is_some (given (values_from none_given cs) Main)) h) refl) (All-nil (λ name. Any (λ (c : Chosen). c.name ≡ name) cs))
-required_are Bound cs h = All-cons (λ name. Any (λ (c : Chosen). c.name ≡ name) cs) Method [] (given_by none_given cs Method refl (and_first (is_some (given (values_from none_given cs) Method)) h) refl) (All-nil (λ name. Any (λ (c : Chosen). c.name ≡ name) cs))
-required_are Run cs h = All-nil (λ name. Any (λ (c : Chosen). c.name ≡ name) cs)
-required_are Trace cs h = All-nil (λ name. Any (λ (c : Chosen). c.name ≡ name) cs)
-required_are Check cs h = All-nil (λ name. Any (λ (c : Chosen). c.name ≡ name) cs)
-required_are Loops cs h = All-nil (λ name. Any (λ (c : Chosen). c.name ≡ name) cs)
-required_are Need cs h = All-nil (λ name. Any (λ (c : Chosen). c.name ≡ name) cs)
-required_are Asm cs h = All-nil (λ name. Any (λ (c : Chosen). c.name ≡ name) cs)
-required_are Work cs h = All-nil (λ name. Any (λ (c : Chosen). c.name ≡ name) cs)
+required_are : (verb : Verb) (cs : List Chosen) → has_required verb (values_from none_given cs) ≡ true → All (λ group. Any (λ (c : Chosen). Contains group c.name) cs) (required_of verb)
+required_are verb cs h = λ i d lt.
+    let group = get_or (required_of verb) i d in
+    let all = AllPass-from_list_all (λ names. list_any (λ name. is_some (given (values_from none_given cs) name)) names) (required_of verb) h i d lt in
+    let some = Any-from_list_any (λ name. is_some (given (values_from none_given cs) name)) group all in
+    let by = given_by none_given cs some.1 refl some.4 (not_given some.1) in
+    (by.0, by.1, by.2, by.3, subst (λ (name : Name). Contains group name) (sym by.4) (some.0, some.2, some.3))
 
 -- ---- the whole
 

@@ -1,16 +1,15 @@
 -- Words, one after another.
 use Rattle.std.proofs.Common.{◌≡◌, ℕ, ◌+◌, ◌-◌, ◌<◌, ◌≤◌, Bool, true, false, List, [], ◌∷◌, length, get_or, take, drop, Some, None, refl, sym, ap, ◌∙◌, arith, add-one, drop-cons, take_all}
 use Rattle.std.proofs.lemmas.Bool.{false≢true}
-use Rattle.std.specs.Prelude.{◌==◌, Err, is_some, if◌then◌else◌}
+use Rattle.std.specs.Prelude.{◌==◌, Err, if◌then◌else◌}
 use Rattle.std.specs.declared.option.Option.{Option}
 use Rattle.std.specs.declared.result.Result.{Result}
 use Rattle.std.specs.Borrow.{Bor}
 use Rattle.command_line.specs.declared.command.Command.{Command}
 use Rattle.command_line.specs.declared.table.Verb.{Verb}
 use Rattle.command_line.specs.declared.table.Name.{Name}
-use Rattle.command_line.specs.declared.table.Name.TheVariants.{Main, Method, Cycles, Stack, Memory, Blocks, BlockWords, Read, Write, Micro}
 use Rattle.command_line.specs.Table.{value_of_name, name_of, verb_named}
-use Rattle.command_line.specs.Command.{texts, is_option, meaning, given, with_value, is_flag, exactly_at, empty_at, past_number, operands_at, words_at, none_given, command_of}
+use Rattle.command_line.specs.Command.{texts, is_option, meaning, with_value, is_taken, is_flag, exactly_at, at_most_at, empty_at, past_number, operands_at, words_at, none_given, command_of}
 
 pub if_false : {A : Type 0} (b : Bool) (x y : A) → b ≡ false → y ≡ (if b then x else y)
 if_false true x y h = absurd (false≢true (sym h))
@@ -21,6 +20,10 @@ if_true true x y h = refl
 if_true false x y h = absurd (false≢true h)
 
 -- ---- the words behind a place
+
+pub length_texts : (ws : List (Bor (List ℕ))) → length (texts ws) ≡ length ws
+length_texts [] = refl
+length_texts (w ∷ ws) = omega (arith, length_texts ws)
 
 pub texts_drop : (ws : List (Bor (List ℕ))) (i : ℕ) (d : Bor (List ℕ)) → i < length ws → texts (drop i ws) ≡ (get_or ws i d).now ∷ texts (drop (i + 1) ws)
 texts_drop ws i d lt = ap texts (drop-cons ws i d lt) ∙ ap (λ j. (get_or ws i d).now ∷ texts (drop j ws)) (sym (add-one i))
@@ -41,6 +44,16 @@ same_both false k = refl
 pub exactly_empty : (k n : ℕ) (w : List ℕ) (r : List (List ℕ)) → (length w == 0) ≡ true → Some k ≡ exactly_at k n (w ∷ r)
 exactly_empty k n w r h = same_both (n == 0) k ∙ ap (λ x. if n == 0 then Some k else x) (if_true (length w == 0) (Some k) (exactly_at (k + 1) (n - 1) r) h)
 
+pub at_most_step : (k n : ℕ) (w : List ℕ) (r : List (List ℕ)) → (n == 0) ≡ false → (length w == 0) ≡ false → at_most_at (k + 1) (n - 1) r ≡ at_most_at k n (w ∷ r)
+at_most_step k n w r h g =
+    if_false (length w == 0) (Some k) (at_most_at (k + 1) (n - 1) r) g ∙ if_false (n == 0) (Some k) (if length w == 0 then Some k else at_most_at (k + 1) (n - 1) r) h
+
+pub at_most_past : (k n : ℕ) (w : List ℕ) (r : List (List ℕ)) → (n == 0) ≡ true → Some k ≡ at_most_at k n (w ∷ r)
+at_most_past k n w r h = if_true (n == 0) (Some k) (if length w == 0 then Some k else at_most_at (k + 1) (n - 1) r) h
+
+pub at_most_empty : (k n : ℕ) (w : List ℕ) (r : List (List ℕ)) → (length w == 0) ≡ true → Some k ≡ at_most_at k n (w ∷ r)
+at_most_empty k n w r h = same_both (n == 0) k ∙ ap (λ x. if n == 0 then Some k else x) (if_true (length w == 0) (Some k) (at_most_at (k + 1) (n - 1) r) h)
+
 pub empty_step : (k : ℕ) (w : List ℕ) (r : List (List ℕ)) → (length w == 0) ≡ false → empty_at (k + 1) r ≡ empty_at k (w ∷ r)
 empty_step k w r h = if_false (length w == 0) (Some k) (empty_at (k + 1) r) h
 
@@ -53,7 +66,7 @@ empty_here k w r h = if_true (length w == 0) (Some k) (empty_at (k + 1) r) h
 abbrev pub option_at : Verb → (k : ℕ) → List (Option ℕ) → Option Name → List (List ℕ) → Result Command ℕ
 option_at verb k values None rest = Err k
 option_at verb k values (Some name) rest =
-    if is_some (given values name) then Err k
+    if is_taken values name then Err k
     else if is_flag (value_of_name name) then words_at None verb (k + 1) (with_value values name 1) rest
     else words_at (Some name) verb (k + 1) values rest
 
@@ -61,7 +74,7 @@ by_option : (verb : Verb) (k : ℕ) (values : List (Option ℕ)) (o : Option Nam
     → option_at verb k values o rest ≡ elim o [
       | None ↦ Err k
       | Some name ↦
-          if is_some (given values name) then Err k
+          if is_taken values name then Err k
           else if is_flag (value_of_name name) then words_at None verb (k + 1) (with_value values name 1) rest
           else words_at (Some name) verb (k + 1) values rest
     ]
@@ -76,7 +89,7 @@ option_word verb k values word rest h =
     elim (name_of verb word) [
       | None ↦ Err k
       | Some name ↦
-          if is_some (given values name) then Err k
+          if is_taken values name then Err k
           else if is_flag (value_of_name name) then words_at None verb (k + 1) (with_value values name 1) rest
           else words_at (Some name) verb (k + 1) values rest
     ]
@@ -88,7 +101,7 @@ operand_word verb k values word rest h = if_false (is_option word) (
     elim (name_of verb word) [
       | None ↦ Err k
       | Some name ↦
-          if is_some (given values name) then Err k
+          if is_taken values name then Err k
           else if is_flag (value_of_name name) then words_at None verb (k + 1) (with_value values name 1) rest
           else words_at (Some name) verb (k + 1) values rest
     ]
@@ -98,23 +111,23 @@ operand_word verb k values word rest h = if_false (is_option word) (
 pub no_option : (verb : Verb) (k : ℕ) (values : List (Option ℕ)) (o : Option Name) (rest : List (List ℕ)) → o ≡ None → Err k ≡ option_at verb k values o rest
 no_option verb k values o rest h = ap (λ q. option_at verb k values q rest) (sym h)
 
-pub twice : (verb : Verb) (k : ℕ) (values : List (Option ℕ)) (o : Option Name) (name : Name) (rest : List (List ℕ)) → o ≡ Some name → is_some (given values name) ≡ true → Err k ≡ option_at verb k values o rest
+pub twice : (verb : Verb) (k : ℕ) (values : List (Option ℕ)) (o : Option Name) (name : Name) (rest : List (List ℕ)) → o ≡ Some name → is_taken values name ≡ true → Err k ≡ option_at verb k values o rest
 twice verb k values o name rest h g =
-    if_true (is_some (given values name)) (Err k) (if is_flag (value_of_name name) then words_at None verb (k + 1) (with_value values name 1) rest else words_at (Some name) verb (k + 1) values rest) g
+    if_true (is_taken values name) (Err k) (if is_flag (value_of_name name) then words_at None verb (k + 1) (with_value values name 1) rest else words_at (Some name) verb (k + 1) values rest) g
     ∙ ap (λ q. option_at verb k values q rest) (sym h)
 
-pub flagged : (verb : Verb) (k : ℕ) (values : List (Option ℕ)) (o : Option Name) (name : Name) (rest : List (List ℕ)) → o ≡ Some name → is_some (given values name) ≡ false → is_flag (value_of_name name) ≡ true
+pub flagged : (verb : Verb) (k : ℕ) (values : List (Option ℕ)) (o : Option Name) (name : Name) (rest : List (List ℕ)) → o ≡ Some name → is_taken values name ≡ false → is_flag (value_of_name name) ≡ true
     → words_at None verb (k + 1) (with_value values name 1) rest ≡ option_at verb k values o rest
 flagged verb k values o name rest h g f =
     if_true (is_flag (value_of_name name)) (words_at None verb (k + 1) (with_value values name 1) rest) (words_at (Some name) verb (k + 1) values rest) f
-    ∙ (if_false (is_some (given values name)) (Err k) (if is_flag (value_of_name name) then words_at None verb (k + 1) (with_value values name 1) rest else words_at (Some name) verb (k + 1) values rest) g
+    ∙ (if_false (is_taken values name) (Err k) (if is_flag (value_of_name name) then words_at None verb (k + 1) (with_value values name 1) rest else words_at (Some name) verb (k + 1) values rest) g
     ∙ ap (λ q. option_at verb k values q rest) (sym h))
 
-pub valued : (verb : Verb) (k : ℕ) (values : List (Option ℕ)) (o : Option Name) (name : Name) (rest : List (List ℕ)) → o ≡ Some name → is_some (given values name) ≡ false → is_flag (value_of_name name) ≡ false
+pub valued : (verb : Verb) (k : ℕ) (values : List (Option ℕ)) (o : Option Name) (name : Name) (rest : List (List ℕ)) → o ≡ Some name → is_taken values name ≡ false → is_flag (value_of_name name) ≡ false
     → words_at (Some name) verb (k + 1) values rest ≡ option_at verb k values o rest
 valued verb k values o name rest h g f =
     if_false (is_flag (value_of_name name)) (words_at None verb (k + 1) (with_value values name 1) rest) (words_at (Some name) verb (k + 1) values rest) f
-    ∙ (if_false (is_some (given values name)) (Err k) (if is_flag (value_of_name name) then words_at None verb (k + 1) (with_value values name 1) rest else words_at (Some name) verb (k + 1) values rest) g
+    ∙ (if_false (is_taken values name) (Err k) (if is_flag (value_of_name name) then words_at None verb (k + 1) (with_value values name 1) rest else words_at (Some name) verb (k + 1) values rest) g
     ∙ ap (λ q. option_at verb k values q rest) (sym h))
 
 pub value_by : (verb : Verb) (k : ℕ) (values : List (Option ℕ)) (name : Name) (word : List ℕ) (rest : List (List ℕ)) (o : Option ℕ) → meaning (value_of_name name) k word ≡ o
@@ -143,6 +156,14 @@ past_at (w ∷ ws) i k n lt none = exactly_past k n (get_or (w ∷ ws) i w).now 
 pub empty_at_place : (ws : List (Bor (List ℕ))) (i k n : ℕ) (d : Bor (List ℕ)) → i < length ws → (length (get_or ws i d).now == 0) ≡ true → Some k ≡ exactly_at k n (texts (drop i ws))
 empty_at_place ws i k n d lt empty = exactly_empty k n (get_or ws i d).now (texts (drop (i + 1) ws)) empty ∙ ap (exactly_at k n) (sym (texts_drop ws i d lt))
 
+-- the same, of so many at most
+pub past_most_at : (ws : List (Bor (List ℕ))) (i k n : ℕ) → i < length ws → (n == 0) ≡ true → Some k ≡ at_most_at k n (texts (drop i ws))
+past_most_at [] i k n lt none = absurd (omega (arith, lt))
+past_most_at (w ∷ ws) i k n lt none = at_most_past k n (get_or (w ∷ ws) i w).now (texts (drop (i + 1) (w ∷ ws))) none ∙ ap (at_most_at k n) (sym (texts_drop (w ∷ ws) i w lt))
+
+pub empty_most_at : (ws : List (Bor (List ℕ))) (i k n : ℕ) (d : Bor (List ℕ)) → i < length ws → (length (get_or ws i d).now == 0) ≡ true → Some k ≡ at_most_at k n (texts (drop i ws))
+empty_most_at ws i k n d lt empty = at_most_empty k n (get_or ws i d).now (texts (drop (i + 1) ws)) empty ∙ ap (at_most_at k n) (sym (texts_drop ws i d lt))
+
 -- ---- an option with its value
 
 abbrev pub behind : List (Bor (List ℕ)) → List (Bor (List ℕ))
@@ -161,7 +182,7 @@ value_more verb (w ∷ ws) k n values name e some means =
     ap (λ (r : List (Bor (List ℕ))). words_at None verb (k + 1) (with_value values name n) (texts r)) (behind_first w ws) ∙ value_means verb k values name w.now (texts ws) n means
 
 pub valued_more : (verb : Verb) (ws : List (Bor (List ℕ))) (k n : ℕ) (values : List (Option ℕ)) (name : Name) (d e : Bor (List ℕ)) → 1 ≤ length ws → 1 ≤ length (behind ws)
-    → is_option (get_or ws 0 d).now ≡ true → name_of verb (get_or ws 0 d).now ≡ Some name → is_some (given values name) ≡ false → is_flag (value_of_name name) ≡ false
+    → is_option (get_or ws 0 d).now ≡ true → name_of verb (get_or ws 0 d).now ≡ Some name → is_taken values name ≡ false → is_flag (value_of_name name) ≡ false
     → meaning (value_of_name name) (k + 1) (get_or (behind ws) 0 e).now ≡ Some n
     → words_at None verb (k + 2) (with_value values name n) (texts (behind (behind ws))) ≡ words_at None verb k values (texts ws)
 valued_more verb [] k n values name d e some more option named new flag means = absurd (omega (arith, some))
@@ -176,20 +197,6 @@ valued_more verb (w ∷ ws) k n values name d e some more option named new flag 
 pub count_behind : (ws : List (Bor (List ℕ))) → 1 ≤ length ws → length (behind ws) + 1 ≡ length ws
 count_behind [] some = absurd (omega (arith, some))
 count_behind (w ∷ ws) some = omega (arith, ap length (behind_first w ws))
-
--- ---- what is no flag
-
-pub no_flag : (name : Name) → (name ≡ Micro → ⊥) → is_flag (value_of_name name) ≡ false
-no_flag Main h = refl
-no_flag Method h = refl
-no_flag Cycles h = refl
-no_flag Stack h = refl
-no_flag Memory h = refl
-no_flag Blocks h = refl
-no_flag BlockWords h = refl
-no_flag Read h = refl
-no_flag Write h = refl
-no_flag Micro h = absurd (h refl)
 
 -- ---- the first word
 

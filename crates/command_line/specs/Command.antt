@@ -8,14 +8,14 @@ use Rattle.std.specs.Borrow.{Bor}
 use Rattle.std.specs.List.{list_any, list_all}
 use Rattle.ascii_text.specs.Number.{value_of}
 use Rattle.command_line.specs.declared.table.Verb.{Verb}
-use Rattle.command_line.specs.declared.table.Verb.TheVariants.{Link, Run, Trace, Bound, Check, Loops, Need, Asm, Work}
+use Rattle.command_line.specs.declared.table.Verb.TheVariants.{Link, Run, Trace, Bound, Check, Loops, Headers, Need, Asm, Work}
 use Rattle.command_line.specs.declared.table.Name.{Name}
-use Rattle.command_line.specs.declared.table.Name.TheVariants.{Main, Method, Cycles, Stack, Memory, Blocks, BlockWords, Read, Write, Micro}
+use Rattle.command_line.specs.declared.table.Name.TheVariants.{Main, Method, All, Cycles, Stack, Memory, Blocks, BlockWords, Read, Write, Micro}
 use Rattle.command_line.specs.declared.command.Settings.{Settings}
 use Rattle.command_line.specs.declared.command.Command.{Command}
 use Rattle.command_line.specs.declared.command.Command.TheVariants as commands
-use Rattle.command_line.specs.Table.{place_of, Value, Nothing, AWord, ANumber, OneOf, value_of_name, usual, required_of, Operands, Exactly, OneOrMore, Number}
-use Rattle.command_line.specs.Table.{operands_of, verb_named, name_of}
+use Rattle.command_line.specs.Table.{place_of, Value, Nothing, AWord, ANumber, OneOf, value_of_name, usual, rivals, required_of, Operands, Exactly, AtMost}
+use Rattle.command_line.specs.Table.{OneOrMore, Number, operands_of, verb_named, name_of}
 
 -- the bytes of the words
 abbrev pub texts : List (Bor (List ℕ)) → List (List ℕ)
@@ -47,7 +47,7 @@ meaning (OneOf ns) k word = if is_number word && list_any (λ n. n == value_of w
 
 -- of each option, by its place among all, what it was given to mean
 abbrev pub none_given : List (Option ℕ)
-none_given = None ∷ None ∷ None ∷ None ∷ None ∷ None ∷ None ∷ None ∷ None ∷ None ∷ []
+none_given = None ∷ None ∷ None ∷ None ∷ None ∷ None ∷ None ∷ None ∷ None ∷ None ∷ None ∷ []
 
 abbrev pub given : List (Option ℕ) → Name → Option ℕ
 given values name = get_or values (place_of name) None
@@ -55,8 +55,12 @@ given values name = get_or values (place_of name) None
 abbrev pub with_value : List (Option ℕ) → Name → ℕ → List (Option ℕ)
 with_value values name n = slice_set values (place_of name) (Some n)
 
+-- whether an option was given, or one that excludes it
+abbrev pub is_taken : List (Option ℕ) → Name → Bool
+is_taken values name = list_any (λ other. is_some (given values other)) (rivals name)
+
 abbrev pub has_required : Verb → List (Option ℕ) → Bool
-has_required verb values = list_all (λ name. is_some (given values name)) (required_of verb)
+has_required verb values = list_all (λ group. list_any (λ name. is_some (given values name)) group) (required_of verb)
 
 -- what an option means, given or not
 abbrev pub value : List (Option ℕ) → Name → ℕ
@@ -73,14 +77,17 @@ settings_of values = record {
   write = value values Write;
 }
 
--- the command, whose first operand is word k, and means n where it is a number
+-- the command, whose first operand is word k; n is the number that it is, or how many operands there are, where the command has either
 abbrev pub made : Verb → List (Option ℕ) → (k n : ℕ) → Command
 made Link values k n = commands.Link (value values Main) k
 made Run values k n = commands.Run (settings_of values) k
 made Trace values k n = commands.Trace (settings_of values) (is_some (given values Micro)) k
-made Bound values k n = commands.Bound (settings_of values) (value values Method) k (k + 1)
+made Bound values k n =
+    if is_some (given values All) then commands.BoundAll (settings_of values) k (k + 1)
+    else commands.Bound (settings_of values) (value values Method) k (k + 1)
 made Check values k n = commands.Check (settings_of values) k (k + 1) (k + 2)
 made Loops values k n = commands.Loops k
+made Headers values k n = commands.Headers k n
 made Need values k n = commands.Memory k (k + 1) (k + 2)
 made Asm values k n = commands.Asm k
 made Work values k n = commands.Work n
@@ -91,6 +98,11 @@ made Work values k n = commands.Work n
 abbrev pub exactly_at : (k : ℕ) → (n : ℕ) → List (List ℕ) → Option ℕ
 exactly_at k n [] = if n == 0 then None else Some k
 exactly_at k n (word ∷ rest) = if n == 0 then Some k else if length word == 0 then Some k else exactly_at (k + 1) (n - 1) rest
+
+-- so many operands at most from word k on, none empty, which end the words; else the first word that is none of them
+abbrev pub at_most_at : (k : ℕ) → (n : ℕ) → List (List ℕ) → Option ℕ
+at_most_at k n [] = None
+at_most_at k n (word ∷ rest) = if n == 0 then Some k else if length word == 0 then Some k else at_most_at (k + 1) (n - 1) rest
 
 -- the first empty word from word k on
 abbrev pub empty_at : (k : ℕ) → List (List ℕ) → Option ℕ
@@ -106,13 +118,15 @@ past_number k (Some n) (more ∷ rest) = Some (k + 1)
 -- the first word at which the operands stop being those, from word k on
 abbrev pub operands_stop : Operands → (k : ℕ) → (operand : List ℕ) → (rest : List (List ℕ)) → Option ℕ
 operands_stop (Exactly n) k operand rest = exactly_at k n (operand ∷ rest)
+operands_stop (AtMost n) k operand rest = at_most_at k n (operand ∷ rest)
 operands_stop OneOrMore k operand rest = empty_at k (operand ∷ rest)
 operands_stop (Number from to) k operand rest = past_number k (number_from from to operand) rest
 
--- the number that the operand is, where it is one
-abbrev pub operand_number : Operands → (operand : List ℕ) → ℕ
-operand_number (Number from to) operand = unwrap_or (number_from from to operand) 0
-operand_number operands operand = 0
+-- the number that the operand is, where it is one, and how many operands there are, where the command leaves that open
+abbrev pub operand_number : Operands → (operand : List ℕ) → (rest : List (List ℕ)) → ℕ
+operand_number (Number from to) operand rest = unwrap_or (number_from from to operand) 0
+operand_number (AtMost n) operand rest = 1 + length rest
+operand_number operands operand rest = 0
 
 abbrev pub unless_stopped : Option ℕ → Command → Result Command ℕ
 unless_stopped None command = Ok command
@@ -122,7 +136,7 @@ unless_stopped (Some k) command = Err k
 abbrev pub operands_at : Verb → List (Option ℕ) → (k : ℕ) → (operand : List ℕ) → (rest : List (List ℕ)) → Result Command ℕ
 operands_at verb values k operand rest =
     if has_required verb values then unless_stopped (operands_stop (operands_of verb) k operand rest)
-    (made verb values k (operand_number (operands_of verb) operand)) else Err k
+    (made verb values k (operand_number (operands_of verb) operand rest)) else Err k
 
 -- how many operands there are at least
 abbrev pub least_operands : Operands → ℕ
@@ -133,8 +147,8 @@ abbrev pub is_flag : Value → Bool
 is_flag Nothing = true
 is_flag value = false
 
--- Options, each at most once with its value, and then the operands, from word k on, which is the value of an option that was named, or isn't. These values
--- were given before.
+-- Options, each at most once with its value and none beside one that excludes it, and then the operands, from word k on, which is the value of an option that
+-- was named, or isn't. These values were given before.
 abbrev pub words_at : (named : Option Name) → Verb → (k : ℕ) → List (Option ℕ) → List (List ℕ) → Result Command ℕ
 words_at named verb k values [] = Err k
 words_at (Some name) verb k values (word ∷ rest) =
@@ -144,7 +158,7 @@ words_at None verb k values (word ∷ rest) =
     elim (name_of verb word) [
       | None ↦ Err k
       | Some name ↦
-          if is_some (given values name) then Err k
+          if is_taken values name then Err k
           else if is_flag (value_of_name name) then words_at None verb (k + 1) (with_value values name 1) rest
           else words_at (Some name) verb (k + 1) values rest
     ]

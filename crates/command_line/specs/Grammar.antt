@@ -8,8 +8,8 @@ use Rattle.ascii_text.specs.Number.{IsDecimalNumber, value_of}
 use Rattle.command_line.specs.declared.table.Verb.{Verb}
 use Rattle.command_line.specs.declared.table.Name.{Name}
 use Rattle.command_line.specs.declared.command.Command.{Command}
-use Rattle.command_line.specs.Table.{name_word, verb_word, names_of, required_of, Value, Nothing, AWord, ANumber, OneOf, value_of_name, Operands, Exactly}
-use Rattle.command_line.specs.Table.{OneOrMore, Number, operands_of}
+use Rattle.command_line.specs.Table.{name_word, verb_word, names_of, rivals, required_of, Value, Nothing, AWord, ANumber, OneOf, value_of_name, Operands}
+use Rattle.command_line.specs.Table.{Exactly, AtMost, OneOrMore, Number, operands_of}
 use Rattle.command_line.specs.Command.{command_of, is_option, none_given, with_value, made}
 
 -- an option that is given: its name, its value if it takes one, and what that means
@@ -39,12 +39,12 @@ AreChosen verb k [] = Unit {0}
 AreChosen verb k (c ∷ cs) = Contains (names_of verb) c.name × Means (value_of_name c.name) (k + 1) c.value c.means
     × AreChosen verb (k + length (words_chosen c)) cs
 
--- none of the options has this name
+-- none of the options has this name, or one that excludes it
 abbrev pub IsNoneOf : Name → List Chosen → Type 0
 IsNoneOf name [] = Unit {0}
-IsNoneOf name (c ∷ cs) = (name ≡ c.name → ⊥) × IsNoneOf name cs
+IsNoneOf name (c ∷ cs) = (Contains (rivals name) c.name → ⊥) × IsNoneOf name cs
 
--- each at most once
+-- each at most once, and none that excludes another
 abbrev pub AreOnce : List Chosen → Type 0
 AreOnce [] = Unit {0}
 AreOnce (c ∷ cs) = IsNoneOf c.name cs × AreOnce cs
@@ -54,9 +54,10 @@ abbrev pub values_from : List (Option ℕ) → List Chosen → List (Option ℕ)
 values_from values [] = values
 values_from values (c ∷ cs) = values_from (with_value values c.name c.means) cs
 
--- as many operands as the command has, none empty; a number means n
+-- as many operands as the command has, none empty; n is the number that the operand is, or how many there are, where the command leaves that open
 abbrev pub AreOperands : Operands → List (List ℕ) → ℕ → Type 0
 AreOperands (Exactly many) words n = (length words ≡ many) × All (λ word. 0 < length word) words × (n ≡ 0)
+AreOperands (AtMost many) words n = (0 < length words) × (length words ≤ many) × All (λ word. 0 < length word) words × (n ≡ length words)
 AreOperands OneOrMore words n = (0 < length words) × All (λ word. 0 < length word) words × (n ≡ 0)
 AreOperands (Number from to) words n = (word : List ℕ) × (words ≡ word ∷ []) × IsNumberFrom from to word n
 
@@ -64,8 +65,8 @@ abbrev pub BeginsWithNoOption : List (List ℕ) → Type 0
 BeginsWithNoOption [] = ⊥
 BeginsWithNoOption (word ∷ words) = is_option word ≡ false
 
--- The words are a command's name; some of its options, each at most once and those that it requires among them, each with its value; and its operands, of
--- which the first doesn't begin as an option does.
+-- The words are a command's name; some of its options, each at most once and none that excludes another, of those that it requires one of each group, each with
+-- its value; and its operands, of which the first doesn't begin as an option does.
 pub record IsCommand (words : List (List ℕ)) (command : Command) : Type 0 where
   pub verb : Verb
   pub options : List Chosen
@@ -74,7 +75,7 @@ pub record IsCommand (words : List (List ℕ)) (command : Command) : Type 0 wher
   pub words_are : words ≡ verb_word verb ∷ (flat_map words_chosen options ++ operands)
   pub chosen : AreChosen verb 1 options
   pub once : AreOnce options
-  pub required : All (λ name. Any (λ (c : Chosen). c.name ≡ name) options) (required_of verb)
+  pub required : All (λ group. Any (λ (c : Chosen). Contains group c.name) options) (required_of verb)
   pub first : BeginsWithNoOption operands
   pub are_operands : AreOperands (operands_of verb) operands number
   pub command_is : command ≡ made verb (values_from none_given options) (1 + length (flat_map words_chosen options)) number

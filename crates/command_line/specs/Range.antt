@@ -2,7 +2,7 @@
 use Rattle.std.specs.Prelude.{◌≡◌, ℕ, ◌+◌, ◌^◌, ◌<◌, ◌≤◌, ◌⊎◌}
 use Rattle.command_line.specs.declared.command.Settings.{Settings}
 use Rattle.command_line.specs.declared.command.Command.{Command}
-use Rattle.command_line.specs.declared.command.Command.TheVariants.{Link, Run, Trace, Bound, Check, Loops, Memory, Asm, Work}
+use Rattle.command_line.specs.declared.command.Command.TheVariants.{Link, Run, Trace, Bound, BoundAll, Check, Loops, Headers, Memory, Asm, Work}
 
 pub record AreSettings (settings : Settings) : Type 0 where
   pub cycles : settings.cycles < 2 ^ 63
@@ -21,8 +21,10 @@ AreInRange (Link main first) = Unit {0}
 AreInRange (Run settings image) = AreSettings settings
 AreInRange (Trace settings micro image) = AreSettings settings
 AreInRange (Bound settings method image bounds) = AreSettings settings
+AreInRange (BoundAll settings image bounds) = AreSettings settings
 AreInRange (Check settings image bounds certificate) = AreSettings settings
 AreInRange (Loops image) = Unit {0}
+AreInRange (Headers image operands) = (1 ≤ operands) × (operands ≤ 2)
 AreInRange (Memory image bounds sizes) = Unit {0}
 AreInRange (Asm text) = Unit {0}
 AreInRange (Work count) = (1 ≤ count) × (count ≤ 1000)
@@ -33,8 +35,10 @@ AreThere n (Link main first) = (main < n) × (first < n)
 AreThere n (Run settings image) = image < n
 AreThere n (Trace settings micro image) = image < n
 AreThere n (Bound settings method image bounds) = (method < n) × (image < n) × (bounds < n)
+AreThere n (BoundAll settings image bounds) = (image < n) × (bounds < n)
 AreThere n (Check settings image bounds certificate) = (image < n) × (bounds < n) × (certificate < n)
 AreThere n (Loops image) = image < n
+AreThere n (Headers image operands) = image + operands ≤ n
 AreThere n (Memory image bounds sizes) = (image < n) × (bounds < n) × (sizes < n)
 AreThere n (Asm text) = text < n
 AreThere n (Work count) = Unit {0}
@@ -42,6 +46,7 @@ AreThere n (Work count) = Unit {0}
 -- the operands of a command that has several are words one behind another
 abbrev pub OperandsFollow : Command → Type 0
 OperandsFollow (Bound settings method image bounds) = bounds ≡ image + 1
+OperandsFollow (BoundAll settings image bounds) = bounds ≡ image + 1
 OperandsFollow (Check settings image bounds certificate) = (bounds ≡ image + 1) × (certificate ≡ image + 2)
 OperandsFollow (Memory image bounds sizes) = (bounds ≡ image + 1) × (sizes ≡ image + 2)
 OperandsFollow command = Unit {0}

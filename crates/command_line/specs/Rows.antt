@@ -1,7 +1,7 @@
 -- Words and what is read of them, worked out by hand.
 use Rattle.std.specs.Prelude.{◌≡◌, true, false, [], ◌∷◌, Ok, Err, codes}
 use Rattle.command_line.specs.declared.command.Settings.{Settings}
-use Rattle.command_line.specs.declared.command.Command.TheVariants.{Link, Run, Trace, Bound, Check, Loops, Memory, Asm, Work}
+use Rattle.command_line.specs.declared.command.Command.TheVariants.{Link, Run, Trace, Bound, BoundAll, Check, Loops, Headers, Memory, Asm, Work}
 use Rattle.command_line.specs.Command.{command_of}
 
 abbrev usual : Settings
@@ -27,12 +27,21 @@ CommandRows =
     × (command_of (codes "trace" ∷ codes "--micro" ∷ codes "b" ∷ codes "c" ∷ []) ≡ Err 3)
     × (command_of (codes "trace" ∷ codes "b" ∷ []) ≡ Ok (Trace usual false 1))
     × (command_of (codes "bound" ∷ codes "--method" ∷ codes "A.a()V" ∷ codes "i" ∷ codes "b" ∷ []) ≡ Ok (Bound usual 2 3 4))
+    × (command_of (codes "bound" ∷ codes "--all" ∷ codes "i" ∷ codes "b" ∷ []) ≡ Ok (BoundAll usual 2 3))
+    × (command_of (codes "bound" ∷ codes "--all" ∷ codes "i" ∷ []) ≡ Err 3)
     × (command_of (codes "bound" ∷ codes "i" ∷ codes "b" ∷ []) ≡ Err 1)
     × (command_of (codes "bound" ∷ codes "--cycles" ∷ codes "1" ∷ []) ≡ Err 1)
     × (command_of (codes "check" ∷ codes "i" ∷ codes "b" ∷ codes "c" ∷ []) ≡ Ok (Check usual 1 2 3))
     × (command_of (codes "check" ∷ codes "i" ∷ codes "b" ∷ []) ≡ Err 3)
     × (command_of (codes "loops" ∷ codes "i" ∷ []) ≡ Ok (Loops 1))
     × (command_of (codes "loops" ∷ codes "--read" ∷ codes "1" ∷ codes "i" ∷ []) ≡ Err 1)
+    × (command_of (codes "headers" ∷ []) ≡ Err 1)
+    × (command_of (codes "headers" ∷ codes "i" ∷ []) ≡ Ok (Headers 1 1))
+    × (command_of (codes "headers" ∷ codes "i" ∷ codes "l" ∷ []) ≡ Ok (Headers 1 2))
+    × (command_of (codes "headers" ∷ codes "i" ∷ codes "l" ∷ codes "m" ∷ []) ≡ Err 3)
+    × (command_of (codes "headers" ∷ codes "i" ∷ [] ∷ []) ≡ Err 2)
+    × (command_of (codes "headers" ∷ [] ∷ []) ≡ Err 1)
+    × (command_of (codes "headers" ∷ codes "--read" ∷ codes "1" ∷ codes "i" ∷ []) ≡ Err 1)
     × (command_of (codes "memory" ∷ codes "i" ∷ codes "b" ∷ codes "s" ∷ []) ≡ Ok (Memory 1 2 3))
     × (command_of (codes "memory" ∷ codes "i" ∷ codes "b" ∷ []) ≡ Err 3)
     × (command_of (codes "asm" ∷ codes "t" ∷ []) ≡ Ok (Asm 1))
@@ -43,7 +52,7 @@ CommandRows =
     × (command_of (codes "work" ∷ codes "01" ∷ []) ≡ Err 1)
     × (command_of (codes "work" ∷ codes "1" ∷ codes "1" ∷ []) ≡ Err 2)
 
--- values at both ends and past them, and options that are given twice
+-- values at both ends and past them, and options that are given twice or exclude one another
 abbrev pub ValueRows : Type 0
 ValueRows =
     (command_of (codes "run" ∷ codes "--cycles" ∷ []) ≡ Err 2)
@@ -64,4 +73,10 @@ ValueRows =
     × (command_of (codes "check" ∷ codes "--write" ∷ codes "63" ∷ codes "--read" ∷ codes "0" ∷ codes "i" ∷ codes "b" ∷ codes "c" ∷ []) ≡ Ok
     (Check (record usual { read = 0; write = 63 }) 5 6 7))
     × (command_of (codes "check" ∷ codes "--write" ∷ codes "64" ∷ []) ≡ Err 2)
+    × (command_of (codes "bound" ∷ codes "--read" ∷ codes "0" ∷ codes "--all" ∷ codes "--blocks" ∷ codes "8" ∷ codes "i" ∷ codes "b" ∷ []) ≡ Ok
+    (BoundAll (record usual { blocks = 8; read = 0 }) 6 7))
     × (command_of (codes "trace" ∷ codes "--micro" ∷ codes "--micro" ∷ codes "b" ∷ []) ≡ Err 2)
+    × (command_of (codes "bound" ∷ codes "--all" ∷ codes "--all" ∷ codes "i" ∷ codes "b" ∷ []) ≡ Err 2)
+    × (command_of (codes "bound" ∷ codes "--all" ∷ codes "--method" ∷ codes "A.a()V" ∷ codes "i" ∷ codes "b" ∷ []) ≡ Err 2)
+    × (command_of (codes "bound" ∷ codes "--method" ∷ codes "A.a()V" ∷ codes "--all" ∷ codes "i" ∷ codes "b" ∷ []) ≡ Err 3)
+    × (command_of (codes "bound" ∷ codes "--method" ∷ codes "A.a()V" ∷ codes "--method" ∷ codes "A.a()V" ∷ []) ≡ Err 3)

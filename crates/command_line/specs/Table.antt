@@ -3,15 +3,16 @@ use Rattle.std.specs.Prelude.{ℕ, ◌-◌, ◌^◌, Bool, ◌==◌, if◌then�
 use Rattle.std.specs.declared.option.Option.{Option}
 use Rattle.std.specs.List.{find, list_any}
 use Rattle.command_line.specs.declared.table.Verb.{Verb}
-use Rattle.command_line.specs.declared.table.Verb.TheVariants.{Link, Run, Trace, Bound, Check, Loops, Need, Asm, Work}
+use Rattle.command_line.specs.declared.table.Verb.TheVariants.{Link, Run, Trace, Bound, Check, Loops, Headers, Need, Asm, Work}
 use Rattle.command_line.specs.declared.table.Name.{Name}
-use Rattle.command_line.specs.declared.table.Name.TheVariants.{Main, Method, Cycles, Stack, Memory, Blocks, BlockWords, Read, Write, Micro}
+use Rattle.command_line.specs.declared.table.Name.TheVariants.{Main, Method, All, Cycles, Stack, Memory, Blocks, BlockWords, Read, Write, Micro}
 
 -- ---- options
 
 abbrev pub name_word : Name → List ℕ
 name_word Main = codes "--main"
 name_word Method = codes "--method"
+name_word All = codes "--all"
 name_word Cycles = codes "--cycles"
 name_word Stack = codes "--stack"
 name_word Memory = codes "--memory"
@@ -22,23 +23,30 @@ name_word Write = codes "--write"
 name_word Micro = codes "--micro"
 
 abbrev pub all_names : List Name
-all_names = Main ∷ Method ∷ Cycles ∷ Stack ∷ Memory ∷ Blocks ∷ BlockWords ∷ Read ∷ Write ∷ Micro ∷ []
+all_names = Main ∷ Method ∷ All ∷ Cycles ∷ Stack ∷ Memory ∷ Blocks ∷ BlockWords ∷ Read ∷ Write ∷ Micro ∷ []
 
 -- the place of an option among all
 abbrev pub place_of : Name → ℕ
 place_of Main = 0
 place_of Method = 1
-place_of Cycles = 2
-place_of Stack = 3
-place_of Memory = 4
-place_of Blocks = 5
-place_of BlockWords = 6
-place_of Read = 7
-place_of Write = 8
-place_of Micro = 9
+place_of All = 2
+place_of Cycles = 3
+place_of Stack = 4
+place_of Memory = 5
+place_of Blocks = 6
+place_of BlockWords = 7
+place_of Read = 8
+place_of Write = 9
+place_of Micro = 10
 
 abbrev pub same_name : Name → Name → Bool
 same_name a b = place_of a == place_of b
+
+-- the options beside which this one is not given: itself, since none is given twice, and those that exclude it
+abbrev pub rivals : Name → List Name
+rivals Method = Method ∷ All ∷ []
+rivals All = All ∷ Method ∷ []
+rivals name = name ∷ []
 
 -- what an option takes: nothing, a word, a number from one to another, or one of some numbers
 pub data Value : Type 0 where
@@ -50,6 +58,7 @@ pub data Value : Type 0 where
 abbrev pub value_of_name : Name → Value
 value_of_name Main = AWord
 value_of_name Method = AWord
+value_of_name All = Nothing
 value_of_name Cycles = ANumber 0 (2 ^ 63 - 1)
 value_of_name Stack = OneOf (256 ∷ 512 ∷ 1024 ∷ [])
 value_of_name Memory = ANumber 16 16777216
@@ -79,12 +88,13 @@ verb_word Trace = codes "trace"
 verb_word Bound = codes "bound"
 verb_word Check = codes "check"
 verb_word Loops = codes "loops"
+verb_word Headers = codes "headers"
 verb_word Need = codes "memory"
 verb_word Asm = codes "asm"
 verb_word Work = codes "work"
 
 abbrev pub all_verbs : List Verb
-all_verbs = Link ∷ Run ∷ Trace ∷ Bound ∷ Check ∷ Loops ∷ Need ∷ Asm ∷ Work ∷ []
+all_verbs = Link ∷ Run ∷ Trace ∷ Bound ∷ Check ∷ Loops ∷ Headers ∷ Need ∷ Asm ∷ Work ∷ []
 
 -- the four that a bound depends on
 abbrev pub bound_names : List Name
@@ -97,22 +107,24 @@ abbrev pub names_of : Verb → List Name
 names_of Link = Main ∷ []
 names_of Run = run_names
 names_of Trace = Micro ∷ run_names
-names_of Bound = Method ∷ bound_names
+names_of Bound = Method ∷ All ∷ bound_names
 names_of Check = bound_names
 names_of Loops = []
+names_of Headers = []
 names_of Need = []
 names_of Asm = []
 names_of Work = []
 
--- the options that have to be given
-abbrev pub required_of : Verb → List Name
-required_of Link = Main ∷ []
-required_of Bound = Method ∷ []
+-- groups of options, of each of which one has to be given
+abbrev pub required_of : Verb → List (List Name)
+required_of Link = (Main ∷ []) ∷ []
+required_of Bound = (Method ∷ All ∷ []) ∷ []
 required_of verb = []
 
--- what operands a command has: so many, one or more, or a number from one to another
+-- what operands a command has: so many, one to so many, one or more, or a number from one to another
 pub data Operands : Type 0 where
   Exactly : ℕ → Operands
+  AtMost : ℕ → Operands
   OneOrMore : Operands
   Number : (from to : ℕ) → Operands
 
@@ -123,6 +135,7 @@ operands_of Trace = Exactly 1
 operands_of Bound = Exactly 2
 operands_of Check = Exactly 3
 operands_of Loops = Exactly 1
+operands_of Headers = AtMost 2
 operands_of Need = Exactly 3
 operands_of Asm = Exactly 1
 operands_of Work = Number 1 1000

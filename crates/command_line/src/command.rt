@@ -42,6 +42,12 @@ pub enum Command {
         image: u32,
         bounds: u32,
     },
+    /// The bounds of all methods.
+    BoundAll {
+        settings: Settings,
+        image: u32,
+        bounds: u32,
+    },
     Check {
         settings: Settings,
         image: u32,
@@ -51,6 +57,12 @@ pub enum Command {
     /// The image's loops that count.
     Loops {
         image: u32,
+    },
+    /// The bounds of the image's loops as a text, by lines of sources where the second operand gives them; there are one or two
+    /// operands.
+    Headers {
+        image: u32,
+        operands: u32,
     },
     /// What a run of the image needs of memory.
     Memory {

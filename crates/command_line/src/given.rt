@@ -1,6 +1,6 @@
 //! What options were given to mean.
 ghost use Rattle.std.specs.Prelude.{◌≡◌, ℕ, ◌<◌, ◌^◌, is_some, IfSome};
-ghost use Rattle.command_line.specs.Command.{number_from, meaning, given, with_value, has_required, settings_of};
+ghost use Rattle.command_line.specs.Command.{number_from, meaning, with_value, is_taken, has_required, settings_of};
 ghost use Rattle.command_line.specs.Given.{values_of};
 ghost use Rattle.command_line.specs.Table.{value_of_name};
 
@@ -13,6 +13,7 @@ use ascii_text::read_u64;
 pub(crate) struct Given {
     pub(crate) main: Option<u32>,
     pub(crate) method: Option<u32>,
+    pub(crate) all: Option<u32>,
     pub(crate) cycles: Option<u64>,
     pub(crate) stack: Option<u32>,
     pub(crate) memory: Option<u32>,
@@ -27,6 +28,7 @@ pub(crate) struct Given {
 pub(crate) const NONE_GIVEN: Given = Given {
     main: None,
     method: None,
+    all: None,
     cycles: None,
     stack: None,
     memory: None,
@@ -81,18 +83,18 @@ pub(crate) fn meaning(name: Name, k: u32, word: &str) -> Option<u64>
         Name::Blocks => number_from(1, 256, word),
         Name::BlockWords => number_from(1, 1024, word),
         Name::Read | Name::Write => number_from(0, 63, word),
-        Name::Micro => None,
+        Name::Micro | Name::All => None,
     }
 }
 
 impl Given {
-    /// Whether the option was given.
-    pub(crate) fn has(&self, name: Name) -> bool
-        ensures { result ≡ is_some (given (values_of self.now) name) }
+    /// Whether the option was given, or one that excludes it.
+    pub(crate) fn is_taken(&self, name: Name) -> bool
+        ensures { result ≡ is_taken (values_of self.now) name }
     {
         match name {
             Name::Main => self.main.is_some(),
-            Name::Method => self.method.is_some(),
+            Name::Method | Name::All => self.method.is_some() || self.all.is_some(),
             Name::Cycles => self.cycles.is_some(),
             Name::Stack => self.stack.is_some(),
             Name::Memory => self.memory.is_some(),
@@ -113,6 +115,7 @@ impl Given {
         match name {
             Name::Main => made.main = Some(n as u32),
             Name::Method => made.method = Some(n as u32),
+            Name::All => made.all = Some(n as u32),
             Name::Cycles => made.cycles = Some(n),
             Name::Stack => made.stack = Some(n as u32),
             Name::Memory => made.memory = Some(n as u32),
@@ -131,11 +134,12 @@ impl Given {
     {
         match verb {
             Verb::Link => self.main.is_some(),
-            Verb::Bound => self.method.is_some(),
+            Verb::Bound => self.method.is_some() || self.all.is_some(),
             Verb::Run
             | Verb::Trace
             | Verb::Check
             | Verb::Loops
+            | Verb::Headers
             | Verb::Need
             | Verb::Asm
             | Verb::Work => true,

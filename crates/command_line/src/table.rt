@@ -1,6 +1,7 @@
 //! The table of commands and their options.
 ghost use Rattle.std.specs.Prelude.{◌≡◌};
-ghost use Rattle.command_line.specs.Table.{verb_named, name_named, has_name, name_of};
+ghost use Rattle.command_line.specs.Command.{is_flag};
+ghost use Rattle.command_line.specs.Table.{value_of_name, verb_named, name_named, has_name, name_of};
 
 /// What a command does.
 #[derive(Clone, Copy)]
@@ -11,6 +12,7 @@ pub(crate) enum Verb {
     Bound,
     Check,
     Loops,
+    Headers,
     /// What a run needs of memory.
     Need,
     Asm,
@@ -22,6 +24,7 @@ pub(crate) enum Verb {
 pub(crate) enum Name {
     Main,
     Method,
+    All,
     Cycles,
     Stack,
     Memory,
@@ -48,6 +51,8 @@ pub(crate) fn verb_named(word: &str) -> Option<Verb>
         Some(Verb::Check)
     } else if word == "loops" {
         Some(Verb::Loops)
+    } else if word == "headers" {
+        Some(Verb::Headers)
     } else if word == "memory" {
         Some(Verb::Need)
     } else if word == "asm" {
@@ -67,6 +72,8 @@ fn name_named(word: &str) -> Option<Name>
         Some(Name::Main)
     } else if word == "--method" {
         Some(Name::Method)
+    } else if word == "--all" {
+        Some(Name::All)
     } else if word == "--cycles" {
         Some(Name::Cycles)
     } else if word == "--stack" {
@@ -96,9 +103,9 @@ fn has_name(verb: Verb, name: Name) -> bool
         Verb::Link => matches!(name, Name::Main),
         Verb::Run => is_of_run(name),
         Verb::Trace => matches!(name, Name::Micro) || is_of_run(name),
-        Verb::Bound => matches!(name, Name::Method) || is_of_bound(name),
+        Verb::Bound => matches!(name, Name::Method | Name::All) || is_of_bound(name),
         Verb::Check => is_of_bound(name),
-        Verb::Loops | Verb::Need | Verb::Asm | Verb::Work => false,
+        Verb::Loops | Verb::Headers | Verb::Need | Verb::Asm | Verb::Work => false,
     }
 }
 
@@ -117,6 +124,13 @@ fn is_of_bound(name: Name) -> bool
         name,
         Name::Blocks | Name::BlockWords | Name::Read | Name::Write
     )
+}
+
+/// Whether an option takes no value.
+pub(crate) fn is_flag(name: Name) -> bool
+    ensures { result ≡ is_flag (value_of_name name) }
+{
+    matches!(name, Name::Micro | Name::All)
 }
 
 /// The option of a command that a word names.

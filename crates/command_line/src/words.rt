@@ -1,14 +1,14 @@
 //! The command that the words give.
 ghost use Rattle.std.specs.Prelude.{◌≡◌, ◌+◌, ◌<◌, ◌≤◌, ◌^◌, ◌∷◌, length, IfOk};
-ghost use Rattle.command_line.specs.Command.{texts, is_option, none_given, exactly_at, empty_at, made, operands_at, operands_stop, operand_number};
-ghost use Rattle.command_line.specs.Command.{least_operands, words_at, command_of};
+ghost use Rattle.command_line.specs.Command.{texts, is_option, none_given, exactly_at, at_most_at, empty_at, made, operands_at, operands_stop};
+ghost use Rattle.command_line.specs.Command.{operand_number, least_operands, words_at, command_of};
 ghost use Rattle.command_line.specs.Given.{values_of};
 ghost use Rattle.command_line.specs.Range.{AreInRange, AreThere, OperandsFollow};
 ghost use Rattle.command_line.specs.Table.{operands_of};
 
 use crate::command::Command;
 use crate::given::{Given, NONE_GIVEN, meaning, number_from};
-use crate::table::{Name, Verb, name_of, verb_named};
+use crate::table::{Verb, is_flag, name_of, verb_named};
 
 /// Whether a word begins as an option does.
 fn is_option(word: &str) -> bool
@@ -50,10 +50,10 @@ fn read_options(verb: Verb, words: &[&str]) -> Result<Command, u32>
         let Some(name) = name_of(verb, word) else {
             return Err(k);
         };
-        if given.has(name) {
+        if given.is_taken(name) {
             return Err(k);
         }
-        if matches!(name, Name::Micro) {
+        if is_flag(name) {
             given = given.with(name, 1);
             k += 1;
             rest = after;
@@ -88,7 +88,7 @@ fn read_operands(
     }
     match operands_stop(verb, k, operand, rest) {
         Some(at) => Err(at),
-        None => Ok(made(verb, given, k, operand_number(verb, operand))),
+        None => Ok(made(verb, given, k, operand_number(verb, operand, rest))),
     }
 }
 
@@ -113,19 +113,28 @@ fn operands_stop(verb: Verb, k: u32, operand: &str, rest: &[&str]) -> Option<u32
         }
         Verb::Run | Verb::Trace | Verb::Loops | Verb::Asm => exactly(k, 1, operand, rest),
         Verb::Bound => exactly(k, 2, operand, rest),
+        Verb::Headers => {
+            if operand.is_empty() {
+                Some(k)
+            } else {
+                past_most(k + 1, 1, rest)
+            }
+        }
         Verb::Check | Verb::Need => exactly(k, 3, operand, rest),
     }
 }
 
-/// The number that an operand is, where it is one.
-fn operand_number(verb: Verb, operand: &str) -> u32
-    ensures { result ≡ operand_number (operands_of verb) operand.now }
+/// The number that the operand is, where it is one, and how many operands there are, where the command leaves that open.
+fn operand_number(verb: Verb, operand: &str, rest: &[&str]) -> u32
+    requires { 1 + length rest.now < 2 ^ 32 }
+    ensures { result ≡ operand_number (operands_of verb) operand.now (texts rest.now) }
 {
     match verb {
         Verb::Work => match number_from(1, 1000, operand) {
             Some(count) => count as u32,
             None => 0,
         },
+        Verb::Headers => 1 + rest.len() as u32,
         Verb::Link
         | Verb::Run
         | Verb::Trace
@@ -169,6 +178,23 @@ fn no_operand(k: u32, count: u32, words: &[&str]) -> Option<u32>
     if left == 0 { None } else { Some(at) }
 }
 
+/// The first of these words, from word `k` on, that is one too many, or is empty.
+fn past_most(k: u32, count: u32, words: &[&str]) -> Option<u32>
+    requires { k + length words.now < 2 ^ 32 }
+    ensures { result ≡ at_most_at k count (texts words.now) }
+{
+    let mut at = k;
+    let mut left = count;
+    for word in words {
+        if left == 0 || word.is_empty() {
+            return Some(at);
+        }
+        at += 1;
+        left -= 1;
+    }
+    None
+}
+
 /// The first of these words, from word `k` on, that is empty.
 fn first_empty(k: u32, words: &[&str]) -> Option<u32>
     requires { k + length words.now < 2 ^ 32 }
@@ -184,7 +210,7 @@ fn first_empty(k: u32, words: &[&str]) -> Option<u32>
     None
 }
 
-/// The command whose first operand is word `k`, and means `count` where it is a number.
+/// The command whose first operand is word `k`; `count` is the number that it is, or how many operands there are.
 fn made(verb: Verb, given: &Given, k: u32, count: u32) -> Command
     requires { k + least_operands (operands_of verb) ≤ 2 ^ 32 }
     ensures { result ≡ made verb (values_of given.now) k count }
@@ -203,12 +229,7 @@ fn made(verb: Verb, given: &Given, k: u32, count: u32) -> Command
             micro: given.micro.is_some(),
             image: k,
         },
-        Verb::Bound => Command::Bound {
-            settings: given.settings(),
-            method: given.method.unwrap_or(0),
-            image: k,
-            bounds: k + 1,
-        },
+        Verb::Bound => bound(given, k),
         Verb::Check => Command::Check {
             settings: given.settings(),
             image: k,
@@ -216,6 +237,10 @@ fn made(verb: Verb, given: &Given, k: u32, count: u32) -> Command
             certificate: k + 2,
         },
         Verb::Loops => Command::Loops { image: k },
+        Verb::Headers => Command::Headers {
+            image: k,
+            operands: count,
+        },
         Verb::Need => Command::Memory {
             image: k,
             bounds: k + 1,
@@ -223,5 +248,26 @@ fn made(verb: Verb, given: &Given, k: u32, count: u32) -> Command
         },
         Verb::Asm => Command::Asm { text: k },
         Verb::Work => Command::Work { count },
+    }
+}
+
+/// The bound of one method or the bounds of all, whose image is word `k`.
+fn bound(given: &Given, k: u32) -> Command
+    requires { k + 1 < 2 ^ 32 }
+    ensures { result ≡ made Verb.Bound (values_of given.now) k 0 }
+{
+    if given.all.is_some() {
+        Command::BoundAll {
+            settings: given.settings(),
+            image: k,
+            bounds: k + 1,
+        }
+    } else {
+        Command::Bound {
+            settings: given.settings(),
+            method: given.method.unwrap_or(0),
+            image: k,
+            bounds: k + 1,
+        }
     }
 }

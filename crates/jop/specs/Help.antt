@@ -2,7 +2,7 @@
 use Rattle.std.specs.Prelude.{ℕ, Bool, ◌||◌, if◌then◌else◌, List, [], ◌∷◌, Some, None, codes, bytes_eq}
 use Rattle.std.specs.declared.option.Option.{Option}
 use Rattle.jop.specs.declared.help.Question.{Question}
-use Rattle.jop.specs.declared.help.Question.TheVariants.{Version, Commands, Link, Run, Trace, Bound, Check, Loops, Memory, Work, Asm}
+use Rattle.jop.specs.declared.help.Question.TheVariants.{Version, Commands, Link, Run, Trace, Bound, Check, Loops, Headers, Memory, Work, Asm}
 
 abbrev pub is_help : (word : List ℕ) → Bool
 is_help word = bytes_eq word (codes "--help") || bytes_eq word (codes "-h")
@@ -24,6 +24,7 @@ commands =
     ∷ record { word = codes "bound"; question = Bound }
     ∷ record { word = codes "check"; question = Check }
     ∷ record { word = codes "loops"; question = Loops }
+    ∷ record { word = codes "headers"; question = Headers }
     ∷ record { word = codes "memory"; question = Memory }
     ∷ record { word = codes "work"; question = Work }
     ∷ record { word = codes "asm"; question = Asm }

@@ -18,9 +18,12 @@ usage:
   jop trace [--micro] [OPTION VALUE].. IMAGE runs it, and puts a line for each step
   jop bound --method NAME [OPTION VALUE].. IMAGE BOUNDS
                                              puts a certificate of what a method takes at most
+  jop bound --all [OPTION VALUE].. IMAGE BOUNDS
+                                             puts a line for each method, with its bound or why it has none
   jop check [OPTION VALUE].. IMAGE BOUNDS CERTIFICATE
                                              says whether a certificate shows what a method takes at most
   jop loops IMAGE                            puts the bounds of the loops that count
+  jop headers IMAGE [LINES]                  puts a text of bounds with the source line of each loop
   jop memory IMAGE BOUNDS SIZES              says how many words a run needs at most
   jop work N                                 makes a program of N methods, links, runs and bounds it
   jop asm TEXT                               assembles microcode
@@ -97,11 +100,14 @@ example:
 
 const BOUND: &str = "\
 jop bound --method NAME [OPTION VALUE].. IMAGE BOUNDS
+jop bound --all [OPTION VALUE].. IMAGE BOUNDS
 
 Bounds what a method takes, in cycles, whatever the method cache holds, and puts a certificate of it on standard output.
-Its last line is the number.
+Its last line is the number. With --all it puts a line for each method with code in place of a certificate:
+`NAME bound=N`, `NAME bound=never` where it never returns, or `NAME bound=none` and why there is none.
 
-  --method NAME      the method: its class, a dot, its name and its descriptor, as `app/Main.step(I)I`. It must be given
+  --method NAME      the method: its class, a dot, its name and its descriptor, as `app/Main.step(I)I`
+  --all              all methods; this or --method must be given
   --blocks N         blocks of the method cache, 1 to 256 (16)
   --block-words N    words of a block, 1 to 1024 (64)
   --read N           cycles that a read waits, 0 to 63 (1)
@@ -109,7 +115,7 @@ Its last line is the number.
   BOUNDS             a text of lines `NAME PC loop<=N`, a line for each loop
 
 answers:
-  none, and the certificate                status 0
+  none, and the certificate or the lines   status 0
   bound: no method                         status 2: no method with code has the name
   bound: recursion NAME..                  status 2: these methods call one another in a ring
   bound: irreducible NAME NODE..           status 2: a loop has several entries
@@ -123,6 +129,7 @@ answers:
 
 example:
   $ jop bound --method 'Mean.step(I)I' controller.jopi examples/controller/controller.bounds > mean.cert
+  $ jop bound --all controller.jopi examples/controller/controller.bounds
 ";
 
 const CHECK: &str = "\
@@ -167,6 +174,34 @@ answers:
 
 example:
   $ jop loops controller.jopi > found.bounds
+";
+
+const HEADERS: &str = "\
+jop headers IMAGE [LINES]
+
+Puts a text of bounds on standard output: for each loop of the image its source as a remark `# FILE:LINE`, where the
+class file tells it, and `NAME PC loop<=N`. N is the least of what `loops` finds and what LINES says. A loop of which
+neither tells a number gets `# NAME PC loop<=`: put one in, and take away the `# `.
+
+  LINES          a text of lines `FILE:LINE loop<=N`: each loop whose header is of this line of the source. Lines
+                 `NAME PC loop<=N` are taken, too, so that an older text of bounds can be looked through
+
+remarks:
+  # NAME irreducible NODE..                a loop of the method has several entries: it can't be bounded
+  # method=M unnamed                       its name holds a space or begins with #, so that no line can name it
+
+answers:
+  none, and the text                       status 0
+  bad lines line=N                         status 2: line N is neither of these, empty, nor a remark
+  twice lines line=N                       status 2: line N says something of a loop's line or place once more
+  no loop FILE:LINE, no loop NAME PC       status 2: a file or a method of the image has no loop there
+  bad image, differs word=K .., link: ..   status 2
+  usage: word K, too big NAME sum=S        status 2
+  read fault, write fault                  status 4
+  no memory                                status 5
+
+example:
+  $ jop headers controller.jopi > controller.headers
 ";
 
 const MEMORY: &str = "\
@@ -243,6 +278,7 @@ pub enum Question {
     Bound,
     Check,
     Loops,
+    Headers,
     Memory,
     Work,
     Asm,
@@ -284,6 +320,8 @@ fn command_named(word: &str) -> Option<Question>
         Some(Question::Check)
     } else if word == "loops" {
         Some(Question::Loops)
+    } else if word == "headers" {
+        Some(Question::Headers)
     } else if word == "memory" {
         Some(Question::Memory)
     } else if word == "work" {
@@ -326,6 +364,7 @@ fn text_of(question: Question) -> &'static str {
         Question::Bound => BOUND,
         Question::Check => CHECK,
         Question::Loops => LOOPS,
+        Question::Headers => HEADERS,
         Question::Memory => MEMORY,
         Question::Work => WORK,
         Question::Asm => ASM,

@@ -5,7 +5,6 @@ use Rattle.std.specs.declared.alloc.Global.{Global}
 use Rattle.outside.specs.Outside.{Grew}
 use Rattle.image_file.specs.Linked as file
 use Rattle.command_line.specs.declared.command.Command.{Command}
-use Rattle.command_line.specs.declared.command.Command.TheVariants as commands
 use Rattle.jopizer.specs.Linked.{Parts, IsLinked, image_of}
 use Rattle.jopizer.specs.Laws.{OneLinked, LinkedImagesAreRead}
 use Rattle.jop_cli.specs.declared.asking.Asked.{Asked}
@@ -13,8 +12,11 @@ use Rattle.jop_cli.specs.declared.outcome.Ending.{Ending}
 use Rattle.jop_cli.specs.declared.outcome.Ending.TheVariants as endings
 use Rattle.jop_cli.specs.Line.{text_at, line_of}
 use Rattle.jop_cli.specs.World.{World}
-use Rattle.jop_cli.specs.Asking.{AsksFiles, asked_of}
-use Rattle.jop_cli.specs.Answer.{Does, outcome_of}
+use Rattle.jop_cli.specs.declared.task.Task.{Task}
+use Rattle.jop_cli.specs.declared.task.Task.TheVariants.{Ask}
+use Rattle.jop_cli.specs.Asking.{AsksFiles}
+use Rattle.jop_cli.specs.Tasks.{task_of}
+use Rattle.jop_cli.specs.Answer.{DoesTask, Does, outcome_of}
 use Rattle.jop_cli.specs.Calls.{Call, NothingFailed, AreTold}
 use Rattle.jop_cli.specs.Correct.{IsAnswered, puts, says, lacks, QuestionsAreAnswered}
 use Rattle.jop_cli.proofs.Wholly.{IsWholly, wholly, executed}
@@ -23,12 +25,8 @@ use Rattle.jop_cli.proofs.AskingLaw.{Comes, comes}
 use Rattle.jop_cli.proofs.AskingLaw as asked
 
 -- what a command does that asks a question
-asks : (words : List (List ℕ)) (command : Command) (a : Asked) (old new : World) (ending : Ending) → asked_of command ≡ Some a → Does words (Ok command) old new ending → AsksFiles words a old new ending
-asks words (commands.Check s image bounds certificate) a old new ending is does = subst (λ (x : Asked). AsksFiles words x old new ending) (cc is) does
-asks words (commands.Bound s method image bounds) a old new ending is does = subst (λ (x : Asked). AsksFiles words x old new ending) (cc is) does
-asks words (commands.Loops image) a old new ending is does = subst (λ (x : Asked). AsksFiles words x old new ending) (cc is) does
-asks words (commands.Memory image bounds sizes) a old new ending is does = subst (λ (x : Asked). AsksFiles words x old new ending) (cc is) does
-asks words command a old new ending is does = absurd (cc)
+asks : (words : List (List ℕ)) (command : Command) (a : Asked) (old new : World) (ending : Ending) → task_of command ≡ Ask a → Does words (Ok command) old new ending → AsksFiles words a old new ending
+asks words command a old new ending is does = subst (λ (x : Task). DoesTask words x old new ending) is does
 
 answered : (c : Call) (a : Asked) (l : Parts) (files : List (List ℕ)) (ending : Ending) → IsWholly c ending → Comes c a l files ending → IsAnswered c a.question l files
 answered c a l files ending w (asked.puts text is written put) =

@@ -37,7 +37,7 @@ use Rattle.jop_cli.specs.Line.{line_of}
 use Rattle.jop_cli.specs.World.{IsQuiet}
 use Rattle.jop_cli.specs.Checking.{fault_ending}
 use Rattle.jop_cli.specs.Bounding.{cause_ending, Bounds, EndsNotBounded}
-use Rattle.jop_cli.specs.Asking.{bounding}
+use Rattle.jop_cli.specs.Tasks.{bounding}
 use Rattle.jop_cli.specs.Answer.{outcome_of}
 use Rattle.jop_cli.specs.Calls.{Call, NothingFailed, LacksMemory}
 use Rattle.jop_cli.specs.Correct.{BoundsTexts, IsBounded, Forbids, AnswersForbidden, BoundingIsComplete, BoundRefusalsAreCaused, WrittenBoundsAreKept}

@@ -38,7 +38,7 @@ use Rattle.jop_cli.specs.declared.outcome.Outcome.TheVariants as outcomes
 use Rattle.jop_cli.specs.Line.{line_of}
 use Rattle.jop_cli.specs.World.{IsQuiet}
 use Rattle.jop_cli.specs.Checking.{fault_ending, refusal_ending, Checks, EndsHeld, EndsRefused}
-use Rattle.jop_cli.specs.Asking.{checking}
+use Rattle.jop_cli.specs.Tasks.{checking}
 use Rattle.jop_cli.specs.Answer.{outcome_of}
 use Rattle.jop_cli.specs.Calls.{Call, NothingFailed, LacksMemory}
 use Rattle.jop_cli.specs.Correct.{ChecksTexts, AnswersLine, CheckingIsComplete, FaultsAreAnswered}

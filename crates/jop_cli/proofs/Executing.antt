@@ -1,13 +1,16 @@
 -- The run of an image, as an answer of the call.
-use Rattle.std.proofs.Common.{◌≡◌, ℕ, ◌≤◌, Bool, true, false, List, refl, sym, subst, inl, inr, ⊎_elim}
+use Rattle.std.proofs.Common.{◌≡◌, ℕ, ◌≤◌, Bool, true, false, List, Ok, refl, sym, ◌∙◌, ap, subst, ◌⊎◌, inl, inr, ⊎_elim}
 use Rattle.std.specs.declared.option.Option.{Option}
 use Rattle.std.specs.declared.result.Result.{Result}
 use Rattle.image_file.specs.Bare.{Image}
 use Rattle.jop_cli.specs.declared.settings.Plan.{Plan}
 use Rattle.jop_cli.specs.declared.show.Show.{Show}
-use Rattle.jop_cli.specs.Show.{bare_shown}
+use Rattle.jop_cli.specs.declared.show.Show.TheVariants as shows
+use Rattle.jop_cli.specs.Show.{bare_shown, IsTrace}
 use Rattle.command_line.specs.declared.command.Settings.{Settings}
 use Rattle.command_line.specs.declared.command.Command.{Command}
+use Rattle.command_line.specs.declared.command.Command.TheVariants as commands
+use Rattle.command_line.specs.Command.{command_of}
 use Rattle.jop_cli.specs.declared.outcome.Ending.{Ending}
 use Rattle.jop_cli.specs.declared.outcome.Ending.TheVariants as endings
 use Rattle.jop_cli.specs.Leaving.{FailsRisen}
@@ -26,7 +29,10 @@ use Rattle.jop_cli.specs.Phase.{HasSettings, is_linked}
 use Rattle.jop_cli.specs.BareFile.{blocks_of_code, RanBare, RanWith, RunsBareBytes}
 use Rattle.jop_cli.specs.LinkedFile.{RunsLinkedBytes}
 use Rattle.jop_cli.specs.World.{World, IsUntaken, Reads}
-use Rattle.jop_cli.specs.Answer.{Does, RunsFile, lent_of, lent_without_input}
+use Rattle.jop_cli.specs.declared.task.Task.{Task}
+use Rattle.jop_cli.specs.declared.task.Task.TheVariants as tasks
+use Rattle.jop_cli.specs.Tasks.{task_of}
+use Rattle.jop_cli.specs.Answer.{DoesTask, Does, RunsFile, ShowsOutput, RunsWord, RunsImage, RunsProgram, lent_of, lent_without_input}
 use Rattle.jop_cli.proofs.Refusing.{IsRefusing, Says, refuses, holds, bytes_refuse, image_refuses, linked_says, bare_refuses}
 
 pub with_settings : (settings : Settings) (show : Show) (n : ℕ) (image : Image) (plan : Plan) (old new : Lent) (ending : Ending) → settings.stack ≡ n → blocks_of_code settings image ≤ settings.blocks → HasSettings settings plan.config
@@ -51,6 +57,61 @@ runs_read settings show word whole bytes old new ending same all bare linked unt
 
 pub does_by : (words : List (List ℕ)) (r q : Result Command ℕ) (old new : World) (ending : Ending) → q ≡ r → Does words q old new ending → Does words r old new ending
 does_by words r q old new ending is does = let P : Result Command ℕ → Type 0 = λ x. Does words x old new ending in subst P is does
+
+-- ---- commands and what they do
+
+pub does_task : (words : List (List ℕ)) (r : Result Command ℕ) (command : Command) (task : Task) (old new : World) (ending : Ending) → ◌≡◌ {A = Result Command ℕ} (Ok command) r → task ≡ task_of command
+    → DoesTask words task old new ending → Does words r old new ending
+does_task words r command task old new ending is same does = does_by words r (Ok command) old new ending is (subst (λ (t : Task). DoesTask words t old new ending) same does)
+
+-- a command that shows a program's output is `run`
+run_shows : (command : Command) → ShowsOutput (task_of command) → (settings : Settings) × (image : ℕ) × (command ≡ commands.Run settings image)
+run_shows (commands.Run settings image) shows = (settings, image, refl)
+run_shows (commands.Trace settings micro image) shows = absurd shows
+run_shows (commands.Link main first) shows = absurd shows
+run_shows (commands.Bound settings method image bounds) shows = absurd shows
+run_shows (commands.BoundAll settings image bounds) shows = absurd shows
+run_shows (commands.Check settings image bounds certificate) shows = absurd shows
+run_shows (commands.Loops image) shows = absurd shows
+run_shows (commands.Headers image operands) shows = absurd shows
+run_shows (commands.Memory image bounds sizes) shows = absurd shows
+run_shows (commands.Asm text) shows = absurd shows
+run_shows (commands.Work n) shows = absurd shows
+
+pub shows_output : (words : List (List ℕ)) (command : Command) (task : Task) → command_of words ≡ Ok command → task ≡ task_of command → ShowsOutput task → RunsProgram words
+shows_output words command task is same shows =
+    let r = run_shows command (subst ShowsOutput same shows) in
+    (r.0, r.1, is ∙ ap (λ (x : Command). Ok x) r.2)
+
+-- one that doesn't shows a trace
+pub traces_else : (settings : Settings) (show : Show) (image : ℕ) → (ShowsOutput (tasks.Run settings show image) → ⊥) → IsTrace show
+traces_else settings shows.Output image none = none tt
+traces_else settings (shows.Trace cycles) image none = tt
+
+-- one that runs an image is `run` or `trace`
+run_or_trace : (command : Command) (image : ℕ) → RunsWord (task_of command) image
+    → (settings : Settings) × ((command ≡ commands.Run settings image) ⊎ ((micro : Bool) × (command ≡ commands.Trace settings micro image)))
+run_or_trace (commands.Run settings word) image runs = (settings, inl (ap (commands.Run settings) (sym runs)))
+run_or_trace (commands.Trace settings micro word) image runs = (settings, inr (micro, ap (commands.Trace settings micro) (sym runs)))
+run_or_trace (commands.Link main first) image runs = absurd runs
+run_or_trace (commands.Bound settings method word bounds) image runs = absurd runs
+run_or_trace (commands.BoundAll settings word bounds) image runs = absurd runs
+run_or_trace (commands.Check settings word bounds certificate) image runs = absurd runs
+run_or_trace (commands.Loops word) image runs = absurd runs
+run_or_trace (commands.Headers word operands) image runs = absurd runs
+run_or_trace (commands.Memory word bounds sizes) image runs = absurd runs
+run_or_trace (commands.Asm text) image runs = absurd runs
+run_or_trace (commands.Work n) image runs = absurd runs
+
+pub runs_word : (words : List (List ℕ)) (command : Command) (task : Task) (image : ℕ) → command_of words ≡ Ok command → task ≡ task_of command → RunsWord task image → RunsImage words image
+runs_word words command task image is same runs =
+    let r = run_or_trace command image (subst (λ (t : Task). RunsWord t image) same runs) in (
+      r.0,
+      ⊎_elim
+          (λ run. inl (is ∙ ap (λ (x : Command). Ok x) run))
+          (λ trace. inr (trace.0, is ∙ ap (λ (x : Command). Ok x) trace.1))
+          r.1,
+    )
 
 -- ---- only a run takes input
 

@@ -27,7 +27,7 @@ use Rattle.jop_cli.specs.Courses.{RanShown, RanLinked}
 use Rattle.jop_cli.specs.Answer.{lent_of}
 use Rattle.jop_cli.specs.Correct.{BoundsHoldInRuns}
 
-setting_of : (shown : Shown) (c : Call) (cs : List ClassFile) (g : Setting) (reset : machine.State) (limit : ℕ) (old new : Lent) → RanShown shown c cs g reset limit old new → IsSetting g
+pub setting_of : (shown : Shown) (c : Call) (cs : List ClassFile) (g : Setting) (reset : machine.State) (limit : ℕ) (old new : Lent) → RanShown shown c cs g reset limit old new → IsSetting g
 setting_of Output c cs g reset limit old new r = r.is_setting
 setting_of (Trace cycles names) c cs g reset limit old new r = r.is_setting
 
@@ -39,7 +39,7 @@ module _ (places : PlacesTellWords) (steps : StepsAreTold) (g : Setting) (is : I
       let words = places g is in
       (steps g t words.0 mid a is words.1 (timing_along n mid goes) follows).timing
 
-reset_timing : (settings : Settings) (config : Config) (n : ℕ) (words : List ℕ) → HasSettings settings config → HasTiming (timing_of settings) (linked_reset n words config)
+pub reset_timing : (settings : Settings) (config : Config) (n : ℕ) (words : List ℕ) → HasSettings settings config → HasTiming (timing_of settings) (linked_reset n words config)
 reset_timing settings config n words has = record { read = has.read; write = has.write; blocks = has.blocks; block_words = has.block_words }
 
 pub bounds_hold_in_runs : PlacesTellWords → StepsAreTold → BoundsHoldInRuns

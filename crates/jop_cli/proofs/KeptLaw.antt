@@ -22,7 +22,8 @@ use Rattle.jop_cli.specs.Line.{text_at, line_of}
 use Rattle.jop_cli.specs.Linking.{files_of}
 use Rattle.jop_cli.specs.Checking.{refusal_ending, EndsHeld}
 use Rattle.jop_cli.specs.Bounding.{Bounds}
-use Rattle.jop_cli.specs.Asking.{AnswersLinked, Answers, PutsAnswer, AsksRead, AsksFiles, checking, bounding}
+use Rattle.jop_cli.specs.Asking.{AnswersLinked, Answers, PutsAnswer, AsksRead, AsksFiles}
+use Rattle.jop_cli.specs.Tasks.{checking, bounding}
 use Rattle.jop_cli.specs.Answer.{outcome_of}
 use Rattle.jop_cli.specs.Calls.{Call}
 use Rattle.jop_cli.specs.Correct.{ShowsHeld, ShowsWritten, CheckedBoundsAreKept, WrittenBoundsAreKept}
@@ -46,6 +47,7 @@ module _ (c : Call) (s : Settings) (image : ℕ) (w : IsWholly c c.answered.endi
         linked = a.linked;
         is_linked = a.is_linked;
         is_file = a.is_file;
+        are_resolved = a.are_resolved;
         setting = a.setting;
         codes = k.reads.codes_fit;
         lines = k.bounds;
@@ -104,6 +106,7 @@ module _ (c : Call) (s : Settings) (method image : ℕ) (w : IsWholly c c.answer
         linked = a.linked;
         is_linked = a.is_linked;
         is_file = a.is_file;
+        are_resolved = a.are_resolved;
         setting = a.setting;
         codes = k.codes_fit;
         lines = k.bounds;

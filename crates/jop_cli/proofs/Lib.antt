@@ -21,7 +21,10 @@ mod BoundingLaw
 mod KeptLaw
 mod AnsweringLaw
 mod HoldingLaw
+mod LoopsLaw
+mod CountedLaw
 mod NeedAnswers
+mod BoundAnswers
 mod NeedsLaw
 mod Shown
 mod Leaving

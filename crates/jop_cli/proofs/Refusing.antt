@@ -15,6 +15,8 @@ use Rattle.analysis_commands.specs.declared.bound.NotBounded.{NotBounded}
 use Rattle.analysis_commands.specs.declared.bound.NotBounded.TheVariants as bound
 use Rattle.analysis_commands.specs.declared.memory.MemoryRefusal.{MemoryRefusal}
 use Rattle.analysis_commands.specs.declared.memory.MemoryRefusal.TheVariants as needs
+use Rattle.source_headers.specs.declared.fault.HeaderFault.{HeaderFault}
+use Rattle.source_headers.specs.declared.fault.HeaderFault.TheVariants as headers
 use Rattle.jopizer.specs.Linked.{Parts}
 use Rattle.command_line.specs.declared.command.Settings.{Settings}
 use Rattle.jop_cli.specs.declared.asking.Question.{Question}
@@ -31,6 +33,7 @@ use Rattle.jop_cli.specs.Linking.{OperandsFault}
 use Rattle.jop_cli.specs.Checking.{fault_ending, refusal_ending, EndsHeld, Checks, EndsTooLong, ChecksBare}
 use Rattle.jop_cli.specs.Bounding.{cause_ending, BoundsBare}
 use Rattle.jop_cli.specs.Needs.{memory_ending}
+use Rattle.jop_cli.specs.Headers.{header_ending}
 use Rattle.jop_cli.specs.Asking.{IsAnswer, IsBareAnswer}
 use Rattle.jop_cli.specs.Answer.{outcome_of, outcome_unsaid}
 
@@ -100,6 +103,12 @@ need_refuses (needs.TwiceSize line) = tt
 need_refuses (needs.NoNeed cause subject) = tt
 need_refuses needs.NoMemory = tt
 
+header_refuses : (fault : HeaderFault) → IsRefusing (header_ending fault)
+header_refuses (headers.BadLine line) = tt
+header_refuses (headers.TwiceLine line) = tt
+header_refuses (headers.Stray subject) = tt
+header_refuses headers.NoMemory = tt
+
 pub bytes_refuse : (bytes : List ℕ) (e : Ending) → BytesFault bytes e → IsRefusing e
 bytes_refuse bytes (endings.Refused refusal) h = tt
 bytes_refuse bytes (endings.NotLinked refusal name) h = tt
@@ -129,7 +138,9 @@ checks_say {s = s} e checks = ⊎_elim (λ h. holds h.held h.says) (λ r. refuse
 pub linked_says : (words : List (List ℕ)) (question : Question) (l : Parts) (operands : List (List ℕ)) (e : Ending) → IsAnswer words question l operands (Ends e) → Says e
 linked_says words (questions.Check s) l operands e checks = checks_say e checks
 linked_says words (questions.Bound s method) l operands e ends = refuses (refusing_by e (cause_ending s ends.cause) ends.says (cause_refuses s ends.cause))
+linked_says words (questions.Bounds s) l operands e ends = refuses (refusing_by e (fault_ending s ends.fault) ends.says (fault_refuses s ends.fault))
 linked_says words questions.Loops l operands e is = refuses (refusing_by e endings.NoMemory is tt)
+linked_says words questions.Headers l operands e ends = refuses (refusing_by e (header_ending ends.fault) ends.says (header_refuses ends.fault))
 linked_says words questions.Memory l operands e ends = refuses (refusing_by e (memory_ending ends.refusal) ends.says (need_refuses ends.refusal))
 
 too_long_refuses : (s : Settings) (image : Image) (e : Ending) → EndsTooLong s image e → IsRefusing e
@@ -138,5 +149,7 @@ too_long_refuses s image e long = refusing_by e _ long.says tt
 pub bare_refuses : (question : Question) (image : Image) (operands : List (List ℕ)) (e : Ending) → IsBareAnswer question image operands (Ends e) → IsRefusing e
 bare_refuses (questions.Check s) image operands e ends = ⊎_elim (too_long_refuses s image e) (λ r. refusing_by e (refusal_ending s r.refusal) r.says (refusal_refuses s r.refusal)) ends
 bare_refuses (questions.Bound s method) image operands e ends = ⊎_elim (too_long_refuses s image e) (λ r. refusing_by e (cause_ending s r.cause) r.says (cause_refuses s r.cause)) ends
+bare_refuses (questions.Bounds s) image operands e ends = ⊎_elim (too_long_refuses s image e) (λ r. refusing_by e (fault_ending s r.fault) r.says (fault_refuses s r.fault)) ends
 bare_refuses questions.Loops image operands e ends = absurd ends
+bare_refuses questions.Headers image operands e ends = refusing_by e (header_ending ends.fault) ends.says (header_refuses ends.fault)
 bare_refuses questions.Memory image operands e ends = refusing_by e (memory_ending ends.refusal) ends.says (need_refuses ends.refusal)

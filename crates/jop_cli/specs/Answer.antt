@@ -5,13 +5,14 @@ use Rattle.std.specs.declared.result.Result.{Result}
 use Rattle.outside.specs.Outside.{Grew, Rose}
 use Rattle.command_line.specs.declared.command.Settings.{Settings}
 use Rattle.command_line.specs.declared.command.Command.{Command}
-use Rattle.command_line.specs.declared.command.Command.TheVariants.{Run, Trace, Bound, Check, Loops, Memory, Asm as Assemble, Link as LinkTo, Work}
+use Rattle.command_line.specs.declared.command.Command.TheVariants.{Run, Trace}
 use Rattle.command_line.specs.Command.{command_of}
 use Rattle.answer_lines.specs.Said.{SaidLess}
 use Rattle.answer_lines.specs.declared.unanswered.Cause.{Cause}
 use Rattle.answer_lines.specs.declared.unanswered.Cause.TheVariants as causes
 use Rattle.jop_cli.specs.declared.outcome.Refusal.{Refusal}
-use Rattle.jop_cli.specs.declared.outcome.Refusal.TheVariants.{Usage, TooBig, MethodTooLong, Link, Check as NotChecked, Bound as Forbidden, Memory as NotMet}
+use Rattle.jop_cli.specs.declared.outcome.Refusal.TheVariants.{Usage, TooBig, MethodTooLong, Link}
+use Rattle.jop_cli.specs.declared.outcome.Refusal.TheVariants.{Check as NotChecked, Bound as Forbidden, Memory as NotMet, NoLoop}
 use Rattle.jop_cli.specs.declared.outcome.Ending.{Ending}
 use Rattle.jop_cli.specs.declared.outcome.Ending.TheVariants.{Ended, Written, Linked, Holds, Uncaught, Refused, TooLong, NotLinked, NotHeld, NotAnswered, Spent}
 use Rattle.jop_cli.specs.declared.outcome.Ending.TheVariants.{ReadFault, InputFault, WriteFault, NoMemory}
@@ -27,7 +28,10 @@ use Rattle.jop_cli.specs.LinkedFile.{RunsLinkedBytes}
 use Rattle.jop_cli.specs.World.{World, IsQuiet, IsUntaken, FilesStayBut, IsUnchanged, Reads, IsTooBig}
 use Rattle.jop_cli.specs.Assembling.{Assembles}
 use Rattle.jop_cli.specs.Linking.{LinksFiles}
-use Rattle.jop_cli.specs.Asking.{AsksFiles, checking, bounding, finding_loops, needing}
+use Rattle.jop_cli.specs.Asking.{AsksFiles}
+use Rattle.jop_cli.specs.declared.task.Task.{Task}
+use Rattle.jop_cli.specs.declared.task.Task.TheVariants as tasks
+use Rattle.jop_cli.specs.Tasks.{task_of}
 use Rattle.jop_cli.specs.Working.{Works}
 
 -- what a run is lent
@@ -73,18 +77,18 @@ RunsFile settings show word old new ending = (FileFault word old new ending × I
 
 -- ---- all commands
 
+-- how what a command does ends
+abbrev pub DoesTask : (words : List (List ℕ)) → Task → World → World → Ending → Type 0
+DoesTask words (tasks.Run settings show image) old new ending = RunsFile settings show image old new ending
+DoesTask words (tasks.Assemble text) old new ending = Assembles text old new ending
+DoesTask words (tasks.Link main first) old new ending = LinksFiles (text_at words main) first old new ending
+DoesTask words (tasks.Ask asked) old new ending = AsksFiles words asked old new ending
+DoesTask words (tasks.Work n) old new ending = Works n old new ending
+
 -- how what was read of the words ends: a command, or the number of a word
 abbrev pub Does : (words : List (List ℕ)) → Result Command ℕ → World → World → Ending → Type 0
 Does words (Err k) old new ending = (ending ≡ Refused (Usage k)) × IsUnchanged old new
-Does words (Ok (Run settings image)) old new ending = RunsFile settings shows.Output image old new ending
-Does words (Ok (Trace settings micro image)) old new ending = RunsFile settings (shows.Trace micro) image old new ending
-Does words (Ok (Assemble text)) old new ending = Assembles text old new ending
-Does words (Ok (LinkTo main first)) old new ending = LinksFiles (text_at words main) first old new ending
-Does words (Ok (Check settings image bounds certificate)) old new ending = AsksFiles words (checking settings image) old new ending
-Does words (Ok (Bound settings method image bounds)) old new ending = AsksFiles words (bounding settings method image) old new ending
-Does words (Ok (Loops image)) old new ending = AsksFiles words (finding_loops image) old new ending
-Does words (Ok (Memory image bounds sizes)) old new ending = AsksFiles words (needing image) old new ending
-Does words (Ok (Work n)) old new ending = Works n old new ending
+Does words (Ok command) old new ending = DoesTask words (task_of command) old new ending
 
 abbrev pub Executed : List (List ℕ) → World → World → Ending → Type 0
 Executed words old new ending = Does words (command_of words) old new ending
@@ -93,6 +97,7 @@ Executed words old new ending = Does words (command_of words) old new ending
 abbrev pub refusal_of : Cause → Refusal
 refusal_of (causes.Bound cause) = Forbidden cause
 refusal_of (causes.Memory cause) = NotMet cause
+refusal_of causes.NoLoop = NoLoop
 
 abbrev pub outcome_of : Ending → Outcome
 outcome_of (Ended counts) = outcomes.Ended
@@ -128,6 +133,16 @@ outcome_unsaid ReadFault = outcomes.ReadFault
 outcome_unsaid InputFault = outcomes.ReadFault
 outcome_unsaid WriteFault = outcomes.WriteFault
 outcome_unsaid NoMemory = outcomes.NoMemory
+
+-- it runs an image, and shows its output
+abbrev pub ShowsOutput : Task → Type 0
+ShowsOutput (tasks.Run settings shows.Output image) = Unit {0}
+ShowsOutput task = ⊥
+
+-- it runs the image of this word
+abbrev pub RunsWord : Task → (image : ℕ) → Type 0
+RunsWord (tasks.Run settings show word) image = image ≡ word
+RunsWord task image = ⊥
 
 -- the words say `run` or `trace` of an image
 abbrev pub RunsImage : (words : List (List ℕ)) → (image : ℕ) → Type 0

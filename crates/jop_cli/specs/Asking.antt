@@ -6,17 +6,16 @@ use Rattle.outside.specs.Files.{OnlyWords, AreFiles}
 use Rattle.image_file.specs.Bare.{Image, IsBare}
 use Rattle.image_file.specs.Linked as file
 use Rattle.command_line.specs.declared.command.Settings.{Settings}
-use Rattle.command_line.specs.declared.command.Command.{Command}
-use Rattle.command_line.specs.declared.command.Command.TheVariants as commands
 use Rattle.command_line.specs.Range.{AreSettings}
 use Rattle.jopizer.specs.Linked.{Parts, IsLinked, image_of}
 use Rattle.jop_cli.specs.declared.asking.Question.{Question}
-use Rattle.jop_cli.specs.declared.asking.Question.TheVariants.{Check, Bound, Loops, Memory}
+use Rattle.jop_cli.specs.declared.asking.Question.TheVariants.{Check, Bound, Bounds, Loops, Headers, Memory}
 use Rattle.jop_cli.specs.declared.asking.Asked.{Asked}
 use Rattle.jop_cli.specs.declared.outcome.Answer.{Answer}
 use Rattle.jop_cli.specs.declared.outcome.Answer.TheVariants.{Text, Ends}
 use Rattle.jop_cli.specs.declared.outcome.Ending.{Ending}
 use Rattle.jop_cli.specs.declared.outcome.Ending.TheVariants.{Written, WriteFault}
+use Rattle.program_tables.specs.Resolving.{IsResolved}
 use Rattle.boundary.specs.Setting.{IsSetting}
 use Rattle.jop_cli.specs.LinkedRun.{linked_setting}
 use Rattle.jop_cli.specs.Line.{text_at}
@@ -27,6 +26,8 @@ use Rattle.jop_cli.specs.World.{World, IsQuiet, IsUntaken}
 use Rattle.jop_cli.specs.Linking.{files_of, OperandsFault}
 use Rattle.jop_cli.specs.Checking.{Checks, ChecksBare}
 use Rattle.jop_cli.specs.Bounding.{AnswersBound, BoundsBare}
+use Rattle.jop_cli.specs.AllBounds.{AnswersBounds, AnswersBareBounds}
+use Rattle.jop_cli.specs.Headers.{AnswersHeaders, AnswersBareHeaders}
 use Rattle.jop_cli.specs.Needs.{AnswersLoops, AnswersNothing, AnswersNeed, AnswersBareNeed}
 
 -- ---- the answers, question by question; the operands' texts stand in their order, the image's bytes first
@@ -40,30 +41,37 @@ EndsBy cause (Ends ending) = cause ending
 abbrev pub HasSettings : Question → Type 0
 HasSettings (Check s) = AreSettings s
 HasSettings (Bound s method) = AreSettings s
+HasSettings (Bounds s) = AreSettings s
 HasSettings Loops = Unit {0}
+HasSettings Headers = Unit {0}
 HasSettings Memory = Unit {0}
 
 -- what was linked answers so; the words name what is asked for
 abbrev pub IsAnswer : (words : List (List ℕ)) → Question → Parts → (operands : List (List ℕ)) → Answer → Type 0
 IsAnswer words (Check s) l operands answer = EndsBy (Checks l.classes s (text_at operands 1) (text_at operands 2)) answer
 IsAnswer words (Bound s method) l operands answer = AnswersBound l.classes s (text_at operands 1) (text_at words method) answer
+IsAnswer words (Bounds s) l operands answer = AnswersBounds l.classes s (text_at operands 1) answer
 IsAnswer words Loops l operands answer = AnswersLoops l.classes answer
+IsAnswer words Headers l operands answer = AnswersHeaders l.classes (text_at operands 1) answer
 IsAnswer words Memory l operands answer = AnswersNeed l (text_at operands 1) (text_at operands 2) answer
 
 -- so does a bare image, which has no classes
 abbrev pub IsBareAnswer : Question → Image → (operands : List (List ℕ)) → Answer → Type 0
 IsBareAnswer (Check s) image operands answer = EndsBy (ChecksBare s image (text_at operands 1) (text_at operands 2)) answer
 IsBareAnswer (Bound s method) image operands answer = EndsBy (BoundsBare s image (text_at operands 1)) answer
+IsBareAnswer (Bounds s) image operands answer = AnswersBareBounds s image (text_at operands 1) answer
 IsBareAnswer Loops image operands answer = AnswersNothing answer
+IsBareAnswer Headers image operands answer = AnswersBareHeaders (text_at operands 1) answer
 IsBareAnswer Memory image operands answer = AnswersBareNeed image (text_at operands 1) (text_at operands 2) answer
 
 -- ---- the image
 
--- the bytes are the file of what was linked, of which machines of any size run the program, and it answers so
+-- the bytes are the file of what was linked, whose classes are resolved and of which machines of any size run the program, and it answers so
 pub record AnswersLinked (words : List (List ℕ)) (question : Question) (operands : List (List ℕ)) (answer : Answer) : Type 0 where
   pub linked : Parts
   pub is_linked : IsLinked linked
   pub is_file : file.IsLinked (text_at operands 0) (image_of linked)
+  pub are_resolved : IsResolved linked.classes
   pub setting : (chip memory : ℕ) → IsSetting (linked_setting linked.classes chip memory)
   pub answers : IsAnswer words question linked operands answer
 
@@ -116,25 +124,3 @@ abbrev pub AsksFiles : (words : List (List ℕ)) → Asked → World → World �
 AsksFiles words asked old new ending =
     (OperandsFault asked.image (asked.image + asked.operands) (files_of old) (files_of new) ending × IsQuiet old new)
     ⊎ AsksRead words asked old new ending
-
--- ---- the questions of commands
-
-abbrev pub checking : Settings → (image : ℕ) → Asked
-checking s image = record { question = Check s; image = image; operands = 3 }
-
-abbrev pub bounding : Settings → (method image : ℕ) → Asked
-bounding s method image = record { question = Bound s method; image = image; operands = 2 }
-
-abbrev pub finding_loops : (image : ℕ) → Asked
-finding_loops image = record { question = Loops; image = image; operands = 1 }
-
-abbrev pub needing : (image : ℕ) → Asked
-needing image = record { question = Memory; image = image; operands = 3 }
-
--- what a command asks of an image, where it does
-abbrev pub asked_of : Command → Option Asked
-asked_of (commands.Check s image bounds certificate) = Some (checking s image)
-asked_of (commands.Bound s method image bounds) = Some (bounding s method image)
-asked_of (commands.Loops image) = Some (finding_loops image)
-asked_of (commands.Memory image bounds sizes) = Some (needing image)
-asked_of command = None

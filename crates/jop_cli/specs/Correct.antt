@@ -4,9 +4,9 @@
 --   program_tables Resolved (the program of resolved classes), bytecode_model State and Steps (what a step of the bytecode is),
 --   jop_core State, Cycle and Reset (what a cycle of the machine is), machine_stands StandsFor (which state the machine stands for),
 --   boundary Runs (the run of both), image_words Regions and image_file Linked (what an image and its file are), image_file Bare and microcode_asm Roms
---   (the same of a bare image and of a microprogram), command_line Command (what words say), and of this crate World, Linking, LinkedSettings,
---   Calls and Courses.
-use Rattle.std.specs.Prelude.{◌≡◌, ℕ, suc, ◌+◌, ◌≤◌, ◌⊎◌, Bool, List, [], ◌∷◌, length, Option, Some, Ok, MatchOption}
+--   (the same of a bare image and of a microprogram), command_line Command (what words say), and of this crate Tasks (what commands do), World,
+--   Linking, LinkedSettings, Calls and Courses.
+use Rattle.std.specs.Prelude.{◌≡◌, ℕ, suc, ◌+◌, ◌≤◌, ◌⊎◌, ℤ, Bool, List, [], ◌∷◌, length, Contains, Option, Some, IsSome, Ok, MatchOption}
 use Rattle.std.specs.Prelude.{Vec}
 use Rattle.std.specs.declared.alloc.Global.{Global}
 use Rattle.std.specs.List.{concat}
@@ -17,7 +17,7 @@ use Rattle.microcode_asm.specs.Roms.{IsAssembled}
 use Rattle.microcode_asm.specs.Listing.{listing_of}
 use Rattle.command_line.specs.declared.command.Settings.{Settings}
 use Rattle.command_line.specs.declared.command.Command.{Command}
-use Rattle.command_line.specs.declared.command.Command.TheVariants.{Run, Trace, Bound, Check, Asm as Assemble, Link as LinkTo, Work}
+use Rattle.command_line.specs.declared.command.Command.TheVariants.{Run, Trace, Bound, Check, Loops, Asm as Assemble, Link as LinkTo, Work}
 use Rattle.command_line.specs.Command.{command_of}
 use Rattle.jopizer.specs.declared.refusal.LinkRefusal.{LinkRefusal}
 use Rattle.jopizer.specs.Linked.{Parts, IsLinked, image_of}
@@ -27,7 +27,7 @@ use Rattle.jop_core.specs.Reset.{linked_reset}
 use Rattle.class_pool.specs.declared.class.ClassFile.{ClassFile}
 use Rattle.bytecode_model.specs.declared.Ending.TheVariants.{Raising}
 use Rattle.bytecode_model.specs.State.{State}
-use Rattle.bytecode_model.specs.Program.{Limits}
+use Rattle.bytecode_model.specs.Program.{Limits, body_of}
 use Rattle.bytecode_model.specs.Effects.{fault_object, OutOfMemoryError, StackOverflowError}
 use Rattle.bytecode_model.specs.Steps.{boot_state, run_from}
 use Rattle.bytecode_typing.specs.Typed.{Typing}
@@ -42,6 +42,12 @@ use Rattle.boundary.specs.Runs.{Goes}
 use Rattle.jop_cli.specs.declared.outcome.Ending.{Ending}
 use Rattle.jop_cli.specs.declared.outcome.Ending.TheVariants as endings
 use Rattle.program_tables.specs.Resolved.{resolved}
+use Rattle.program_tables.specs.Resolving.{IsResolved}
+use Rattle.loop_rules.specs.declared.found.FoundLoop.{FoundLoop}
+use Rattle.loop_rules.specs.Sites.{int_at}
+use Rattle.int_sites.specs.Constants.{AreConstants}
+use Rattle.counted_activations.specs.Others.{CountsIn, KeepsOthers}
+use Rattle.analysis_commands.specs.Loops.{AreLoopLines}
 use Rattle.ascii_text.specs.Line.{lines_of as text_lines}
 use Rattle.loop_bounds.specs.Bounds.{LoopBound}
 use Rattle.loop_bounds.specs.Grammar.{IsRead}
@@ -78,7 +84,9 @@ use Rattle.jop_cli.specs.World.{IsQuiet}
 use Rattle.jop_cli.specs.Calls.{Call, NothingFailed, LacksMemory, Puts, IsTold, AreTold}
 use Rattle.jop_cli.specs.Working.{IsWorkLine, NotWorked}
 use Rattle.jop_cli.specs.Courses.{RanLinked, RanBare}
-use Rattle.jop_cli.specs.Asking.{IsAnswer, asked_of}
+use Rattle.jop_cli.specs.declared.task.Task.TheVariants.{Ask}
+use Rattle.jop_cli.specs.Asking.{IsAnswer}
+use Rattle.jop_cli.specs.Tasks.{task_of}
 use Rattle.jop_cli.specs.Answer.{outcome_of}
 
 -- ---- `link`
@@ -200,6 +208,7 @@ pub record ShowsHeld (c : Call) (settings : Settings) (image : ℕ) : Type 0 whe
   pub linked : Parts
   pub is_linked : IsLinked linked
   pub is_file : file.IsLinked (text_at files 0) (image_of linked)
+  pub are_resolved : IsResolved linked.classes
   pub setting : (chip memory : ℕ) → IsSetting (linked_setting linked.classes chip memory)
   pub codes : CodesFit settings linked
   pub lines : List LoopBound
@@ -281,6 +290,7 @@ pub record ShowsWritten (c : Call) (settings : Settings) (method image : ℕ) : 
   pub linked : Parts
   pub is_linked : IsLinked linked
   pub is_file : file.IsLinked (text_at files 0) (image_of linked)
+  pub are_resolved : IsResolved linked.classes
   pub setting : (chip memory : ℕ) → IsSetting (linked_setting linked.classes chip memory)
   pub codes : CodesFit settings linked
   pub lines : List LoopBound
@@ -299,6 +309,14 @@ WrittenBoundsAreKept =
 -- So it is of `check` and of `bound`.
 abbrev pub BoundsAreKept : Type 0
 BoundsAreKept = CheckedBoundsAreKept × WrittenBoundsAreKept
+
+-- ---- names
+
+-- In resolved classes a name is that of one method with code: so what a line says of a method of this name it says of one.
+abbrev pub NamesTellMethods : Type 0
+NamesTellMethods =
+    (cs : List ClassFile) → IsResolved cs → (m n : ℕ) → IsSome (body_of (resolved cs) m) → IsSome (body_of (resolved cs) n)
+    → name_of cs m ≡ name_of cs n → m ≡ n
 
 -- ---- the bounds in the runs
 
@@ -319,7 +337,46 @@ BoundsHoldInRuns =
     → (h : IsActivation (linked_setting l.classes settings.stack r.config.memory) m a b) → Keeps bound_of h
     → MatchOption bound ⊥ (λ most. cycles_of a b ≤ most)
 
--- ---- what is asked of an image: `check`, `bound`, `loops`, `memory`
+-- ---- `loops`
+
+-- What the lines say that were put of the loops of what is linked: they are those of its loops that count, and each of these counts to its number.
+pub record LoopsCount (c : Call) (bytes : List ℕ) : Type 0 where
+  pub linked : Parts
+  pub is_linked : IsLinked linked
+  pub is_file : file.IsLinked bytes (image_of linked)
+  pub are_resolved : IsResolved linked.classes
+  pub text : List ℕ
+  pub lines : AreLoopLines linked.classes text
+  pub put : Grew c.old.out c.new.out text
+  pub counts : (x : FoundLoop) → Contains lines.found x → CountsIn (resolved linked.classes) (int_at lines.constants) x.method x.place x.bound
+
+-- no line was put of a bare image, which has no classes
+pub record HasNoLoop (c : Call) (bytes : List ℕ) : Type 0 where
+  pub image : Image
+  pub bare : IsBare bytes image
+  pub put : Grew c.old.out c.new.out []
+
+-- What a call shows that answers that the lines of loops are written.
+pub record ShowsLoops (c : Call) (image : ℕ) : Type 0 where
+  pub files : List (List ℕ)
+  pub are : AreFiles c.old.files image (image + 1) files
+  pub shows : LoopsCount c (text_at files 0) ⊎ HasNoLoop c (text_at files 0)
+
+abbrev pub WrittenLoopsCount : Type 0
+WrittenLoopsCount = (c : Call) (image : ℕ) → command_of c.words ≡ Ok (Loops image) → c.outcome ≡ Written → ShowsLoops c image
+
+-- In the runs of what is linked a bound of a method asks for the other loops alone: each ended activation of the method that begins at a boundary of such a
+-- run takes at most so many cycles, where it keeps the bounds of the loops that don't count to them; where the bound is never, no such activation ends.
+abbrev pub CountedLoopsAreKept : Type 0
+CountedLoopsAreKept =
+    (c : Call) (settings : Settings) (show : Show) (l : Parts) (r : RanLinked c settings show l) (constants : List (Option ℤ)) (bound_of : BoundOf) (m : ℕ)
+    (bound : Option ℕ) (a b : Stage)
+    → IsResolved l.classes → AreConstants l.classes constants → BoundsActivations (resolved l.classes) (timing_of settings) bound_of m bound
+    → IsBoundary settings l r.config a
+    → (h : IsActivation (linked_setting l.classes settings.stack r.config.memory) m a b) → KeepsOthers (int_at constants) bound_of h
+    → MatchOption bound ⊥ (λ most. cycles_of a b ≤ most)
+
+-- ---- what is asked of an image: `check`, `bound`, `loops`, `headers`, `memory`
 
 -- What comes of a question about what is linked: the whole of a text was put that answers it, and no line; or a line was said, and nothing was put,
 -- where an ending answers; or there was no memory.
@@ -333,7 +390,7 @@ pub data IsAnswered (c : Call) (question : Question) (l : Parts) (files : List (
 -- Of each question just that comes: `IsAnswer` says of each text and of each ending when it answers.
 abbrev pub QuestionsAreAnswered : Type 0
 QuestionsAreAnswered =
-    (c : Call) (command : Command) (asked : Asked) (l : Parts) (files : List (List ℕ)) → command_of c.words ≡ Ok command → asked_of command ≡ Some asked
+    (c : Call) (command : Command) (asked : Asked) (l : Parts) (files : List (List ℕ)) → command_of c.words ≡ Ok command → task_of command ≡ Ask asked
     → length files ≡ asked.operands → AreTold c asked.image files → IsLinked l → file.IsLinked (text_at files 0) (image_of l) → NothingFailed c
     → IsAnswered c asked.question l files
 

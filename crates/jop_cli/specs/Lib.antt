@@ -13,8 +13,11 @@ pub mod LinkedFile
 pub mod Checking
 pub mod Bounding
 pub mod Needs
+pub mod Headers
+pub mod AllBounds
 pub mod Opening
 pub mod Asking
+pub mod Tasks
 pub mod Working
 pub mod Answer
 pub mod Status

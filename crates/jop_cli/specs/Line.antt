@@ -3,7 +3,7 @@ use Rattle.std.specs.Prelude.{ℕ, Bool, true, false, List, [], ◌∷◌, get_o
 use Rattle.std.specs.List.{concat}
 use Rattle.jop_cli.specs.declared.outcome.Refusal.{Refusal}
 use Rattle.jop_cli.specs.declared.outcome.Refusal.TheVariants.{Usage, TooBig, BadImage, Differs, MethodTooLong, MemoryTooSmall, BadBounds, TwiceBound, BadSizes}
-use Rattle.jop_cli.specs.declared.outcome.Refusal.TheVariants.{TwiceSize, BadCert, Check, Bound, Memory, Asm, Link}
+use Rattle.jop_cli.specs.declared.outcome.Refusal.TheVariants.{TwiceSize, BadLines, TwiceLines, BadCert, Check, Bound, Memory, NoLoop, Asm, Link}
 use Rattle.jop_cli.specs.declared.outcome.AsmRefusal.TheVariants as asm
 use Rattle.jop_cli.specs.declared.outcome.Ending.{Ending}
 use Rattle.jop_cli.specs.declared.outcome.Ending.TheVariants.{Ended, Written, Linked, Holds, Uncaught, Refused, TooLong, NotLinked, NotHeld, NotAnswered, Spent}
@@ -62,10 +62,13 @@ refusal_parts words (BadBounds line) = analysis.bad_bounds_parts line
 refusal_parts words (TwiceBound line) = analysis.twice_bound_parts line
 refusal_parts words (BadSizes line) = analysis.bad_sizes_parts line
 refusal_parts words (TwiceSize line) = analysis.twice_size_parts line
+refusal_parts words (BadLines line) = analysis.bad_lines_parts line
+refusal_parts words (TwiceLines line) = analysis.twice_lines_parts line
 refusal_parts words (BadCert line) = analysis.bad_cert_parts line
 refusal_parts words (Check fault) = []
 refusal_parts words (Bound cause) = []
 refusal_parts words (Memory cause) = []
+refusal_parts words NoLoop = []
 refusal_parts words (Asm (asm.Line number kind)) = codes "asm: line=" ∷ decimal number ∷ codes " " ∷ kind_name kind ∷ codes "\n" ∷ []
 refusal_parts words (Asm (asm.TooLong count)) = codes "asm: too long words=" ∷ decimal count ∷ codes "\n" ∷ []
 refusal_parts words (Link refusal) = []

@@ -9,10 +9,11 @@ ghost use Rattle.jop_cli.specs.World.{world};
 ghost use Rattle.jop_cli.specs.Leaving.{Leaves};
 ghost use Rattle.jop_cli.specs.Opening.{Opens};
 ghost use Rattle.jop_cli.specs.Asking.{HasSettings, IsAnswer, IsBareAnswer, Answers, PutsText, PutsAnswer, AsksFiles};
-ghost use Rattle.jop_cli.specs.Asking.{checking, bounding, finding_loops, needing};
 
+use crate::all_bounds::{bounds_bare, bounds_linked};
 use crate::bounding::{bound_bare_image, bound_linked};
 use crate::checking::{check_bare_image, check_linked};
+use crate::headers::{headers_bare, headers_linked};
 use crate::image::{Image, open_image};
 use crate::lines::text_of;
 use crate::linking::read_operands;
@@ -31,8 +32,12 @@ pub(crate) enum Question {
     Check { settings: Settings },
     /// A certificate of the method that the word names. Its operands are an image and bounds of loops.
     Bound { settings: Settings, method: u32 },
+    /// The bounds of all methods. Its operands are an image and bounds of loops.
+    Bounds { settings: Settings },
     /// The loops that count. Its operand is an image.
     Loops,
+    /// The loops as a text of bounds. Its operands are an image, and bounds by lines of sources where they are given.
+    Headers,
     /// What a run needs of memory. Its operands are an image, bounds of loops and lengths of arrays.
     Memory,
 }
@@ -45,52 +50,6 @@ pub(crate) struct Asked {
     pub image: u32,
     /// How many operands there are.
     pub operands: u32,
-}
-
-impl Asked {
-    /// Whether a certificate holds.
-    pub(crate) fn checking(settings: Settings, image: u32) -> Self
-        ensures { result ≡ checking settings image }
-    {
-        Asked {
-            question: Question::Check { settings },
-            image,
-            operands: 3,
-        }
-    }
-
-    /// A certificate of a method.
-    pub(crate) fn bounding(settings: Settings, method: u32, image: u32) -> Self
-        ensures { result ≡ bounding settings method image }
-    {
-        Asked {
-            question: Question::Bound { settings, method },
-            image,
-            operands: 2,
-        }
-    }
-
-    /// The loops that count.
-    pub(crate) fn finding_loops(image: u32) -> Self
-        ensures { result ≡ finding_loops image }
-    {
-        Asked {
-            question: Question::Loops,
-            image,
-            operands: 1,
-        }
-    }
-
-    /// What a run needs of memory.
-    pub(crate) fn needing(image: u32) -> Self
-        ensures { result ≡ needing image }
-    {
-        Asked {
-            question: Question::Memory,
-            image,
-            operands: 3,
-        }
-    }
 }
 
 /// The text of the operand of this number; that of the image is number 0.
@@ -126,7 +85,9 @@ fn answer_linked(
         Question::Bound { settings, method } => {
             bound_linked(alloc, linked, &settings, text_of(words, method), bounds)
         }
+        Question::Bounds { settings } => bounds_linked(alloc, linked, &settings, bounds),
         Question::Loops => loops_linked(alloc, linked),
+        Question::Headers => headers_linked(alloc, linked, bounds),
         Question::Memory => memory_linked(alloc, linked, bounds, operand(operands, 2)),
     }
 }
@@ -146,7 +107,9 @@ fn answer_bare(alloc: Global, question: Question, image: &Bare, operands: &[Vec<
         Question::Bound { settings, .. } => {
             Answer::Ends(bound_bare_image(alloc, image, &settings, bounds))
         }
+        Question::Bounds { settings } => bounds_bare(alloc, image, &settings, bounds),
         Question::Loops => Answer::Text(Vec::new(alloc)),
+        Question::Headers => headers_bare(alloc, bounds),
         Question::Memory => memory_bare(alloc, image, bounds, operand(operands, 2)),
     }
 }
@@ -169,6 +132,7 @@ fn answer_image(
             // The laws are for the proof.
             linked.is_typed();
             linked.is_said();
+            linked.program().program().is_resolved();
             answer_linked(alloc, words, question, linked, operands)
         }
         Image::Bare(bare) => answer_bare(alloc, question, bare, operands),

@@ -3,14 +3,17 @@
 //! The laws speak of calls of `jop`: what its contract says of its arguments and of its outcome makes one (`call_of`).
 ghost use Rattle.jop_cli.specs.Correct.{LinkingIsComplete, RunsAreTheBytecodes, TracesAreTheRuns, OneBareImage, BareRunsAreTheBytecodes, BareTracesAreTheRuns};
 ghost use Rattle.jop_cli.specs.Correct.{AssemblingIsComplete, BoundsAreKept, CheckingIsComplete, FaultsAreAnswered, BoundingIsComplete, BoundRefusalsAreCaused};
-ghost use Rattle.jop_cli.specs.Correct.{BoundsHoldInRuns, QuestionsAreAnswered, NeedsSuffice, WorkingIsComplete, WorkLinesAreTrue};
+ghost use Rattle.jop_cli.specs.Correct.{BoundsHoldInRuns, WrittenLoopsCount, CountedLoopsAreKept, QuestionsAreAnswered, NeedsSuffice};
+ghost use Rattle.jop_cli.specs.Correct.{NamesTellMethods, WorkingIsComplete, WorkLinesAreTrue};
 
 use activations::laws::{places_tell_words, steps_are_told};
 use bound_cert::has_one_certificate;
 use bound_rules::laws::{faults_are_one, refused_is_not_met};
+use counted_activations::laws::{counted_loops_of_runs, found_loops_count};
 use jopizer::laws::{linked_images_are_read, one_linked};
 use loop_bounds::laws::{gives_one, read_is_not_refused};
 use memory_laws::laws::{heap_need_suffices, stack_need_suffices};
+use method_names::names::names_are_one;
 
 /// Class files that nothing refuses are linked.
 pub fn linking_is_complete()
@@ -108,12 +111,35 @@ pub fn bound_refusals_are_caused()
     read_is_not_refused();
 }
 
+/// A name is that of one method with code.
+pub fn names_tell_methods()
+    ensures { NamesTellMethods }
+{
+    names_are_one();
+}
+
 /// A bound of a method holds of the runs of what is linked.
 pub fn bounds_hold_in_runs()
     ensures { BoundsHoldInRuns }
 {
     places_tell_words();
     steps_are_told();
+}
+
+/// Where the answer is that the lines of loops are written, the loops count to their numbers.
+pub fn written_loops_count()
+    ensures { WrittenLoopsCount }
+{
+    found_loops_count();
+}
+
+/// In the runs of what is linked a bound of a method asks for the other loops alone.
+pub fn counted_loops_are_kept()
+    ensures { CountedLoopsAreKept }
+{
+    places_tell_words();
+    steps_are_told();
+    counted_loops_of_runs();
 }
 
 /// What is asked of an image that is linked is answered.

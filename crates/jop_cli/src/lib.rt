@@ -1,11 +1,13 @@
 //! The program: what it does with the words of its command line.
 #![tactic(auto)]
 
+mod all_bounds;
 mod asking;
 mod assembling;
 mod bare_file;
 mod bounding;
 mod checking;
+mod headers;
 pub mod host;
 mod image;
 pub mod laws;
@@ -21,6 +23,7 @@ mod program_end;
 mod run;
 mod settings;
 mod show;
+mod task;
 mod top;
 mod working;
 

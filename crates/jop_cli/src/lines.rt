@@ -8,8 +8,8 @@ ghost use Rattle.jop_cli.specs.Line.{text_at, kind_name, link_parts, too_long_pa
 
 use crate::outcome::{AsmRefusal, Ending, Refusal};
 use answer_lines::{
-    AsmLine, Line, LinkLine, say, say_bad_bounds, say_bad_cert, say_bad_sizes, say_fault, say_held,
-    say_twice_bound, say_twice_size, say_unanswered,
+    AsmLine, Line, LinkLine, say, say_bad_bounds, say_bad_cert, say_bad_lines, say_bad_sizes,
+    say_fault, say_held, say_twice_bound, say_twice_lines, say_twice_size, say_unanswered,
 };
 use jopizer::LinkRefusal;
 use microcode_asm::AsmKind;
@@ -78,8 +78,14 @@ fn say_refusal<O: Sink>(sink: &mut O, words: &[&str], refusal: Refusal) -> Resul
         Refusal::TwiceBound(line) => say_twice_bound(sink, line),
         Refusal::BadSizes(line) => say_bad_sizes(sink, line),
         Refusal::TwiceSize(line) => say_twice_size(sink, line),
+        Refusal::BadLines(line) => say_bad_lines(sink, line),
+        Refusal::TwiceLines(line) => say_twice_lines(sink, line),
         Refusal::BadCert(line) => say_bad_cert(sink, line),
-        Refusal::Check(_) | Refusal::Bound(_) | Refusal::Memory(_) | Refusal::Link(_) => Ok(()),
+        Refusal::Check(_)
+        | Refusal::Bound(_)
+        | Refusal::Memory(_)
+        | Refusal::NoLoop
+        | Refusal::Link(_) => Ok(()),
     }
 }
 

@@ -39,8 +39,8 @@ fn memory_ending(refusal: MemoryRefusal) -> Ending
     }
 }
 
-/// The answer that is this line.
-fn line_answer(line: Result<Vec<u8>, NoMemory>) -> Answer
+/// The answer that is this text.
+pub(crate) fn line_answer(line: Result<Vec<u8>, NoMemory>) -> Answer
     ensures { IsLineAnswer line result }
 {
     match line {

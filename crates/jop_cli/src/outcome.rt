@@ -33,6 +33,10 @@ pub enum Refusal {
     BadSizes(u32),
     /// The line of this number is the first of the lengths that gives one once more.
     TwiceSize(u32),
+    /// The line of this number, counted from 1, is the first of the bounds by lines of sources that is none of their grammar.
+    BadLines(u32),
+    /// The line of this number is the first of them that bounds once more what a line before it bounds.
+    TwiceLines(u32),
     /// With the line of this number no certificate begins.
     BadCert(u64),
     /// This is the first condition of the certificate that fails.
@@ -41,6 +45,8 @@ pub enum Refusal {
     Bound(BoundCause),
     /// This is why no need of memory is given.
     Memory(NeedCause),
+    /// A bound is said of what heads no loop.
+    NoLoop,
     /// The text isn't assembled.
     Asm(AsmRefusal),
     /// The files aren't linked.

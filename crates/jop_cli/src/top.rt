@@ -9,9 +9,11 @@ ghost use Rattle.jop_cli.specs.LinkedFile.{RunsLinkedBytes};
 ghost use Rattle.jop_cli.specs.World.{world};
 ghost use Rattle.jop_cli.specs.Show.{IsTrace};
 ghost use Rattle.jop_cli.specs.Leaving.{Leaves, LeavesAll, FailsRisen};
-ghost use Rattle.jop_cli.specs.Answer.{ReadsLinked, RunsFile, RunsLinkedFile, RunsProgram, Executed, Answered, Said, refusal_of, outcome_of, outcome_unsaid};
+ghost use Rattle.jop_cli.specs.Tasks.{IsAmong};
+ghost use Rattle.jop_cli.specs.Answer.{ReadsLinked, RunsFile, DoesTask, ShowsOutput, RunsWord, RunsLinkedFile, RunsProgram, Executed, Answered, Said};
+ghost use Rattle.jop_cli.specs.Answer.{refusal_of, outcome_of, outcome_unsaid};
 
-use crate::asking::{Asked, ask_files};
+use crate::asking::ask_files;
 use crate::assembling::assemble_file;
 use crate::bare_file::run_fitting;
 use crate::image::{Image, open_image};
@@ -21,9 +23,10 @@ use crate::linking::link_files;
 use crate::load::load;
 use crate::outcome::{Ending, Outcome, Refusal};
 use crate::show::Show;
+use crate::task::{Task, task_of};
 use crate::working::work;
 use answer_lines::Cause;
-use command_line::{Command, Settings, read_words};
+use command_line::{Settings, read_words};
 use jop_core::Watch;
 use outside::{Files, Sink, Source};
 use std::alloc::Global;
@@ -95,6 +98,46 @@ fn run_file<F: Files, S: Source, O: Sink, V: Watch>(
     }
 }
 
+/// Does what a command does, but for its line.
+fn perform<F: Files, S: Source, O: Sink, V: Watch>(
+    alloc: Global,
+    words: &[&str],
+    task: Task,
+    files: &mut F,
+    input: &mut S,
+    out: &mut O,
+    watch: &mut V,
+) -> Ending
+    requires words { length words.now ≡ F.words files.old }
+    requires few { length words.now < 2 ^ 32 }
+    requires among { IsAmong (length words.now) task }
+    ensures does { DoesTask (texts words.now) task
+        (world (F.words files.old) (F.told files.old) (F.faults files.old) (S.left input.old) (S.faults input.old) (O.held out.old) (O.faults out.old)
+        (V.held watch.old))
+        (world (F.words files.new) (F.told files.new) (F.faults files.new) (S.left input.new) (S.faults input.new) (O.held out.new) (O.faults out.new)
+        (V.held watch.new)) result }
+    ensures leaves { Leaves result → (input.new ≡ input.old) × (out.new ≡ out.old) × (watch.new ≡ watch.old) }
+    ensures watch { (ShowsOutput task → ⊥) → watch.new ≡ watch.old }
+    ensures input { ((image : ℕ) (bytes : List ℕ) → RunsWord task image → ReadsLinked image bytes
+        (world (F.words files.old) (F.told files.old) (F.faults files.old) (S.left input.old) (S.faults input.old) (O.held out.old) (O.faults out.old)
+        (V.held watch.old))
+        (world (F.words files.new) (F.told files.new) (F.faults files.new) (S.left input.new) (S.faults input.new) (O.held out.new) (O.faults out.new)
+        (V.held watch.new)) → ⊥) → input.new ≡ input.old }
+    ensures rose { FailsRisen result (S.faults input.old) (S.faults input.new) }
+{
+    match task {
+        Task::Run {
+            settings,
+            show,
+            image,
+        } => run_file(alloc, &settings, show, image, files, input, out, watch),
+        Task::Assemble { text } => assemble_file(alloc, text, files, out),
+        Task::Link { main, first } => link_files(alloc, words, main, first, files, out),
+        Task::Ask(asked) => ask_files(alloc, words, &asked, files, out),
+        Task::Work { count } => work(alloc, count, out),
+    }
+}
+
 /// Does the command of the words, but for its line.
 fn execute<F: Files, S: Source, O: Sink, V: Watch>(
     alloc: Global,
@@ -120,57 +163,9 @@ fn execute<F: Files, S: Source, O: Sink, V: Watch>(
         (V.held watch.new)) → ⊥) → input.new ≡ input.old }
     ensures rose { FailsRisen result (S.faults input.old) (S.faults input.new) }
 {
-    let command = match read_words(words) {
-        Ok(command) => command,
-        Err(k) => return Ending::Refused(Refusal::Usage(k)),
-    };
-    match command {
-        Command::Run { settings, image } => {
-            run_file(
-                alloc,
-                &settings,
-                Show::Output,
-                image,
-                files,
-                input,
-                out,
-                watch,
-            )
-        }
-        Command::Trace {
-            settings,
-            micro,
-            image,
-        } => {
-            let show = Show::Trace { cycles: micro };
-            run_file(alloc, &settings, show, image, files, input, out, watch)
-        }
-        Command::Asm { text } => assemble_file(alloc, text, files, out),
-        Command::Link { main, first } => link_files(alloc, words, main, first, files, out),
-        Command::Check {
-            settings,
-            image,
-            ..
-        } => ask_files(alloc, words, &Asked::checking(settings, image), files, out),
-        Command::Bound {
-            settings,
-            method,
-            image,
-            ..
-        } => ask_files(
-            alloc,
-            words,
-            &Asked::bounding(settings, method, image),
-            files,
-            out,
-        ),
-        Command::Loops { image } => {
-            ask_files(alloc, words, &Asked::finding_loops(image), files, out)
-        }
-        Command::Memory { image, .. } => {
-            ask_files(alloc, words, &Asked::needing(image), files, out)
-        }
-        Command::Work { count } => work(alloc, count, out),
+    match read_words(words) {
+        Ok(command) => perform(alloc, words, task_of(command), files, input, out, watch),
+        Err(k) => Ending::Refused(Refusal::Usage(k)),
     }
 }
 
@@ -213,6 +208,7 @@ fn refusal_of(cause: Cause) -> Refusal
     match cause {
         Cause::Bound(cause) => Refusal::Bound(cause),
         Cause::Memory(cause) => Refusal::Memory(cause),
+        Cause::NoLoop => Refusal::NoLoop,
     }
 }
 
@@ -246,7 +242,8 @@ fn outcome_for(ending: &Ending) -> Outcome
 /// run, and puts its lines into `out`, and hands `watch` nothing: one before each step, one for each byte of the output and, if asked to, one before each
 /// cycle. `asm` puts the words of the text's microprogram into `out`, a line for each, and `link` the file of the image of the
 /// class files. `bound` puts the text of a certificate of the method that is asked for, and `work` the line of the class that it makes,
-/// links, runs and bounds. `loops` puts a line of bounds for each loop that counts, and `memory` the line of what a run needs.
+/// links, runs and bounds. `loops` puts a line of bounds for each loop that counts, `headers` a text of bounds with the
+/// lines of their sources, `bound --all` a line for each method, and `memory` the line of what a run needs.
 /// `check` puts nothing there: it says whether a certificate meets its conditions.
 pub fn jop<F: Files, S: Source, O: Sink, E: Sink, V: Watch>(
     alloc: Global,

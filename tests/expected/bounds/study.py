@@ -127,8 +127,10 @@ class Study(Priced):
     def cause(self, name):
         """why no bound of the method of a name is given, as it is printed, or none"""
         root = self.root(name)
-        if root is None:
-            return 'no method'
+        return 'no method' if root is None else self.cause_of(root)
+
+    def cause_of(self, root):
+        """why no bound of a method is given, or none"""
         cycle = self.program.cycles(root)
         if cycle is not None:
             return 'recursion' if cycle == 'several' else ' '.join(['recursion', *(self.program.names[m] for m in cycle)])

@@ -113,6 +113,58 @@ class Bounds:
         return 'JOPC 2, bound %s, holds %s %s' % (printed, method, printed)
 
 
+class AllBounds:
+    """rows of the bounds of all methods, with the lines that are put"""
+
+    def __init__(self):
+        self.rows, self.wanted, self.count = [], [], {}
+
+    def program(self, title, main, files, reference=None):
+        self.rows.append(' '.join(['program', title, main, *(reference or [data.hex() for data in files])]))
+        self.wanted.append('%s: linked' % title)
+        self.known = flow.Program(main, files)
+
+    def all(self, title, timing, lines, said=()):
+        """the bounds of all methods; lines that are said have to be among them, or a line that is said has to be the one that refuses"""
+        self.rows.append('\t'.join(['all', title, ' '.join(timing.options()), '|'.join(lines)]))
+        answer = all_bounds(self.known, timing, analysis.text_of('|'.join(lines)))
+        if isinstance(answer, str):
+            assert said in ((), answer), (title, said, answer)
+            self.wanted.append('%s: %s' % (title, answer))
+            return
+        assert not isinstance(said, str) and set(said) <= set(answer), (title, said, answer)
+        self.wanted += ['%s: put' % title, *('  ' + line for line in analysis.folded(answer))]
+        for line in answer:
+            word = ' '.join(line.rsplit(' bound=', 1)[1].split(' ')[:2])
+            word = 'a number' if word.isdigit() else word
+            self.count[word] = self.count.get(word, 0) + 1
+
+
+def all_bounds(program, timing, text):
+    """the lines of `bound --all`, or what refuses the bounds"""
+    too_long = Study(program, timing, {}).too_long()
+    if too_long is not None:
+        return 'method too long %s blocks=%d limit=%d' % (program.names[too_long[0]], too_long[1], timing.blocks)
+    bounds = read_bounds(text)
+    if isinstance(bounds, str):
+        return bounds
+    study, boot = Study(program, timing, bounds), len(program.classes) - 1
+    return [bound_line(study, m) for m in range(len(program.coded)) if program.coded[m][0] != boot]
+
+
+def bound_line(study, m):
+    """the line of a method: its number, `never`, or the cause with the method and the place, but without the ring and the nodes"""
+    name, cause = study.program.names[m], study.cause_of(m)
+    if cause is None:
+        value = study.printed(m)
+        return '%s bound=%s' % (name, 'never' if value is None else value)
+    if cause.startswith('recursion'):
+        cause = 'recursion'
+    elif cause.startswith('irreducible'):
+        cause = 'irreducible ' + next(study.program.names[t] for t in study.region(m) if study.graph(t).loops() is None)
+    return '%s bound=none %s' % (name, cause)
+
+
 def number(table, name):
     return table.known.names.index(name)
 

@@ -1,4 +1,5 @@
 use Rattle.std.proofs.Common.{refl, subst, inl, inr}
+use Rattle.program_tables.specs.Resolving.{IsResolved}
 use Rattle.jop_cli.specs.declared.image.Image.{Image}
 use Rattle.jop_cli.specs.Opening.{Opens}
 use Rattle.jop_cli.specs.Line.{text_at}
@@ -15,6 +16,7 @@ returns-in-Linked c =
         linked = _;
         is_linked = opens.1;
         is_file = opens.2;
+        are_resolved = subst IsResolved c.program.ensures.program (subst IsResolved c.program-in-Linked.ensures.program c.is_resolved.ensures);
         setting = λ chip memory. record { says = c.is_said.ensures; lawful = c.is_typed.ensures.lawful; typed = c.is_typed.ensures.typed; origin = inl refl };
         answers = c.answer_linked.ensures;
       }),

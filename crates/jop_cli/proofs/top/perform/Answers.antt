@@ -1,0 +1,64 @@
+use Rattle.std.proofs.Common.{◌≡◌, ℕ, sym, subst, refl}
+use Rattle.command_line.specs.Command.{texts}
+use Rattle.jop_cli.specs.declared.task.Task.{Task}
+use Rattle.jop_cli.specs.World.{world}
+use Rattle.jop_cli.specs.Answer.{DoesTask, ShowsOutput}
+use Rattle.jop_cli.proofs.Executing.{traces_else, assembles_risen, links_risen, asks_risen}
+use Rattle.jop_cli.proofs.Worked.{works_risen}
+use Rattle.jop_cli.proofs.top.perform.Goals as goal
+
+pub returns-in-Assemble-clause-does : goal.returns-in-Assemble-clause-does
+returns-in-Assemble-clause-does g c =
+    let D : Task → Type 0 = λ task. DoesTask (texts c.args.words.now) task
+    (world (g.F.Files.words c.args.files.now) (g.F.Files.told c.args.files.now) (g.F.Files.faults c.args.files.now) (g.S.Source.left c.args.input.now) (g.S.Source.faults c.args.input.now) (g.O.Sink.held c.args.out.now) (g.O.Sink.faults c.args.out.now) (g.V.Watch.held c.args.watch.now))
+    (world (g.F.Files.words c.assemble_file.new.files) (g.F.Files.told c.assemble_file.new.files) (g.F.Files.faults c.assemble_file.new.files) (g.S.Source.left c.args.input.now) (g.S.Source.faults c.args.input.now) (g.O.Sink.held c.assemble_file.new.out) (g.O.Sink.faults c.assemble_file.new.out) (g.V.Watch.held c.args.watch.now))
+    c.assemble_file.result in
+    subst D (sym c.in-Assemble.is) (c.assemble_file.ensures.assembles (g.S.Source.left c.args.input.now) (g.S.Source.faults c.args.input.now) (g.V.Watch.held c.args.watch.now))
+
+pub returns-in-Link-clause-does : goal.returns-in-Link-clause-does
+returns-in-Link-clause-does g c =
+    let D : Task → Type 0 = λ task. DoesTask (texts c.args.words.now) task
+    (world (g.F.Files.words c.args.files.now) (g.F.Files.told c.args.files.now) (g.F.Files.faults c.args.files.now) (g.S.Source.left c.args.input.now) (g.S.Source.faults c.args.input.now) (g.O.Sink.held c.args.out.now) (g.O.Sink.faults c.args.out.now) (g.V.Watch.held c.args.watch.now))
+    (world (g.F.Files.words c.link_files.new.files) (g.F.Files.told c.link_files.new.files) (g.F.Files.faults c.link_files.new.files) (g.S.Source.left c.args.input.now) (g.S.Source.faults c.args.input.now) (g.O.Sink.held c.link_files.new.out) (g.O.Sink.faults c.link_files.new.out) (g.V.Watch.held c.args.watch.now))
+    c.link_files.result in
+    subst D (sym c.in-Link.is) (c.link_files.ensures.links (g.S.Source.left c.args.input.now) (g.S.Source.faults c.args.input.now) (g.V.Watch.held c.args.watch.now))
+
+pub returns-in-Ask-clause-does : goal.returns-in-Ask-clause-does
+returns-in-Ask-clause-does g c =
+    let D : Task → Type 0 = λ task. DoesTask (texts c.args.words.now) task
+    (world (g.F.Files.words c.args.files.now) (g.F.Files.told c.args.files.now) (g.F.Files.faults c.args.files.now) (g.S.Source.left c.args.input.now) (g.S.Source.faults c.args.input.now) (g.O.Sink.held c.args.out.now) (g.O.Sink.faults c.args.out.now) (g.V.Watch.held c.args.watch.now))
+    (world (g.F.Files.words c.ask_files.new.files) (g.F.Files.told c.ask_files.new.files) (g.F.Files.faults c.ask_files.new.files) (g.S.Source.left c.args.input.now) (g.S.Source.faults c.args.input.now) (g.O.Sink.held c.ask_files.new.out) (g.O.Sink.faults c.ask_files.new.out) (g.V.Watch.held c.args.watch.now))
+    c.ask_files.result in
+    subst D (sym c.in-Ask.is) (c.ask_files.ensures.asks (g.S.Source.left c.args.input.now) (g.S.Source.faults c.args.input.now) (g.V.Watch.held c.args.watch.now))
+
+pub returns-in-Work-clause-does : goal.returns-in-Work-clause-does
+returns-in-Work-clause-does g c =
+    let D : Task → Type 0 = λ task. DoesTask (texts c.args.words.now) task
+    (world (g.F.Files.words c.args.files.now) (g.F.Files.told c.args.files.now) (g.F.Files.faults c.args.files.now) (g.S.Source.left c.args.input.now) (g.S.Source.faults c.args.input.now) (g.O.Sink.held c.args.out.now) (g.O.Sink.faults c.args.out.now) (g.V.Watch.held c.args.watch.now))
+    (world (g.F.Files.words c.args.files.now) (g.F.Files.told c.args.files.now) (g.F.Files.faults c.args.files.now) (g.S.Source.left c.args.input.now) (g.S.Source.faults c.args.input.now) (g.O.Sink.held c.work.new.out) (g.O.Sink.faults c.work.new.out) (g.V.Watch.held c.args.watch.now))
+    c.work.result in
+    subst D (sym c.in-Work.is) (c.work.ensures.works (g.F.Files.words c.args.files.now) (g.F.Files.told c.args.files.now) (g.F.Files.faults c.args.files.now) (g.S.Source.left c.args.input.now) (g.S.Source.faults c.args.input.now) (g.V.Watch.held c.args.watch.now))
+
+pub returns-in-Run-clause-watch : goal.returns-in-Run-clause-watch
+returns-in-Run-clause-watch g c none =
+    c.run_file.ensures.watch (traces_else c.in-Run.settings c.in-Run.show c.in-Run.image (λ shows. none (subst ShowsOutput (sym c.in-Run.is) shows)))
+
+pub returns-in-Assemble-clause-rose : goal.returns-in-Assemble-clause-rose
+returns-in-Assemble-clause-rose g c =
+    assembles_risen c.in-Assemble.text _ _ c.assemble_file.result (g.S.Source.faults c.args.input.now) (g.S.Source.faults c.args.input.now)
+    (c.assemble_file.ensures.assembles (g.S.Source.left c.args.input.now) (g.S.Source.faults c.args.input.now) (g.V.Watch.held c.args.watch.now))
+
+pub returns-in-Link-clause-rose : goal.returns-in-Link-clause-rose
+returns-in-Link-clause-rose g c =
+    links_risen _ c.in-Link.first _ _ c.link_files.result (g.S.Source.faults c.args.input.now) (g.S.Source.faults c.args.input.now)
+    (c.link_files.ensures.links (g.S.Source.left c.args.input.now) (g.S.Source.faults c.args.input.now) (g.V.Watch.held c.args.watch.now))
+
+pub returns-in-Ask-clause-rose : goal.returns-in-Ask-clause-rose
+returns-in-Ask-clause-rose g c =
+    asks_risen _ _ _ _ c.ask_files.result (g.S.Source.faults c.args.input.now) (g.S.Source.faults c.args.input.now)
+    (c.ask_files.ensures.asks (g.S.Source.left c.args.input.now) (g.S.Source.faults c.args.input.now) (g.V.Watch.held c.args.watch.now))
+
+pub returns-in-Work-clause-rose : goal.returns-in-Work-clause-rose
+returns-in-Work-clause-rose g c =
+    works_risen c.in-Work.count _ _ c.work.result (g.S.Source.faults c.args.input.now) (g.S.Source.faults c.args.input.now)
+    (c.work.ensures.works (g.F.Files.words c.args.files.now) (g.F.Files.told c.args.files.now) (g.F.Files.faults c.args.files.now) (g.S.Source.left c.args.input.now) (g.S.Source.faults c.args.input.now) (g.V.Watch.held c.args.watch.now))

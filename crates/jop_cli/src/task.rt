@@ -1,0 +1,90 @@
+//! What a command does, by the words that it means.
+ghost use Rattle.std.specs.Prelude.{◌≡◌, ℕ};
+ghost use Rattle.command_line.specs.Range.{AreInRange, AreThere, OperandsFollow};
+ghost use Rattle.jop_cli.specs.Tasks.{task_of, IsAmong};
+
+use crate::asking::{Asked, Question};
+use crate::show::Show;
+use command_line::{Command, Settings};
+
+/// What a command does.
+#[derive(Clone, Copy)]
+pub(crate) enum Task {
+    /// Runs the image of a word, and shows its output or its trace.
+    Run {
+        settings: Settings,
+        show: Show,
+        image: u32,
+    },
+    /// Assembles the text of a word.
+    Assemble {
+        text: u32,
+    },
+    /// Links the class files of the words from `first` on, with the main class that a word names.
+    Link {
+        main: u32,
+        first: u32,
+    },
+    /// Asks something of the image of a word.
+    Ask(Asked),
+    /// Makes a class of so many methods, links it, runs it and bounds it.
+    Work {
+        count: u32,
+    },
+}
+
+/// A question about the image of a word, with so many operands.
+fn ask(question: Question, image: u32, operands: u32) -> Task
+    ensures { result ≡ Task.Ask (record { question = question; image = image; operands = operands }) }
+{
+    Task::Ask(Asked {
+        question,
+        image,
+        operands,
+    })
+}
+
+/// What the command does.
+pub(crate) fn task_of(command: Command) -> Task
+    ensures task { result ≡ task_of command }
+    ensures among { (words : ℕ) → AreInRange command → AreThere words command → OperandsFollow command → IsAmong words result }
+{
+    match command {
+        Command::Link { main, first } => Task::Link { main, first },
+        Command::Run { settings, image } => Task::Run {
+            settings,
+            show: Show::Output,
+            image,
+        },
+        Command::Trace {
+            settings,
+            micro,
+            image,
+        } => Task::Run {
+            settings,
+            show: Show::Trace { cycles: micro },
+            image,
+        },
+        Command::Bound {
+            settings,
+            method,
+            image,
+            ..
+        } => ask(Question::Bound { settings, method }, image, 2),
+        Command::BoundAll {
+            settings,
+            image,
+            ..
+        } => ask(Question::Bounds { settings }, image, 2),
+        Command::Check {
+            settings,
+            image,
+            ..
+        } => ask(Question::Check { settings }, image, 3),
+        Command::Loops { image } => ask(Question::Loops, image, 1),
+        Command::Headers { image, operands } => ask(Question::Headers, image, operands),
+        Command::Memory { image, .. } => ask(Question::Memory, image, 3),
+        Command::Asm { text } => Task::Assemble { text },
+        Command::Work { count } => Task::Work { count },
+    }
+}

@@ -1,0 +1,151 @@
+"""Notes by hand for the programs of hand_headers.py and of javac: what a row shows, the notes, none where none are handed in, and lines that have to be among those that are put, or the
+line that refuses the notes."""
+MOST = 2**32 - 1
+OUT_OF_ORDER = 'T.outOfOrder(II)V 2'
+COUNTS = 'T.counts(II)V 2'
+
+HAND = [
+    ('no lines', None, [
+        # the nearest start, whatever the order
+        '# T.java:11', '# T.inOrder(II)V 2 loop<=', '# T.java:21', '# %s loop<=' % OUT_OF_ORDER, '# T.java:32', '# T.java:42', '# T.java:51', '# T.java:61',
+        # none at the place or before it, no table, bytes that are no table
+        '# T.allBehind(II)V 2 loop<=', '# T.noTable(II)V 2 loop<=', '# T.java:91', '# T.java:92', '# T.cutOff(II)V 2 loop<=',
+        '# T.java:80', '# T.atItsStart(II)V 0 loop<=', '# T.java:0', '# T.java:65535',
+        # what counts, what has several entries, names that can't stand in a line
+        '# T.java:100', COUNTS + ' loop<=10', '# T.several(II)V irreducible 4 8', '# method=61 unnamed', '# T.#g(II)V 2 loop<=', '# method=74 unnamed',
+        # odd names of files
+        '# Spaced.f(II)V 2 loop<=', '# Colon:7.java:2', '# Plain.f(II)V 2 loop<=', '# Long.f(II)V 2 loop<=', '# a/b/Packed.java:8', '# Acc\u00e9nt.java:12']),
+    ('an empty text', [], ['# T.java:11', '# T.inOrder(II)V 2 loop<=']),
+    ('remarks and empty lines', ['', '#', '# T.java:11 loop<=1', '#T.java:11 loop<=1', ''], ['# T.inOrder(II)V 2 loop<=']),
+    # numbers
+    ('a line', ['T.java:21 loop<=7'], ['# T.java:21', OUT_OF_ORDER + ' loop<=7']),
+    ('a place', [OUT_OF_ORDER + ' loop<=7'], ['# T.java:21', OUT_OF_ORDER + ' loop<=7']),
+    ('a place without a line', ['T.noTable(II)V 2 loop<=7'], ['T.noTable(II)V 2 loop<=7']),
+    ('less than what counts', ['T.java:100 loop<=9'], [COUNTS + ' loop<=9']),
+    ('as what counts', ['T.java:100 loop<=10'], [COUNTS + ' loop<=10']),
+    ('more than what counts', ['T.java:100 loop<=11'], [COUNTS + ' loop<=10']),
+    ('a place with less than what counts', [COUNTS + ' loop<=3'], [COUNTS + ' loop<=3']),
+    ('a line with less than a place', ['T.java:21 loop<=7', OUT_OF_ORDER + ' loop<=8'], [OUT_OF_ORDER + ' loop<=7']),
+    ('a place with less than a line', ['T.java:21 loop<=8', OUT_OF_ORDER + ' loop<=7'], [OUT_OF_ORDER + ' loop<=7']),
+    ('the least of three', ['T.java:100 loop<=8', COUNTS + ' loop<=7'], [COUNTS + ' loop<=7']),
+    ('0', ['T.java:21 loop<=0'], [OUT_OF_ORDER + ' loop<=0']),
+    ('0 of what counts', ['T.java:100 loop<=0'], [COUNTS + ' loop<=0']),
+    ('the greatest number', ['T.java:21 loop<=%d' % MOST], [OUT_OF_ORDER + ' loop<=%d' % MOST]),
+    ('line 0', ['T.java:0 loop<=5'], ['T.leastLine(II)V 2 loop<=5']),
+    ('line 65535', ['T.java:65535 loop<=5'], ['T.greatestLine(II)V 2 loop<=5']),
+    ('loops of several methods of one line', ['T.java:110 loop<=5'], ['T.twoLoops(II)V 2 loop<=5', 'T.twoLoops(II)V 15 loop<=10', 'T.sameLine(II)V 2 loop<=5']),
+    ('one of them by its place', ['T.sameLine(II)V 2 loop<=4', 'T.java:110 loop<=5'], ['T.twoLoops(II)V 2 loop<=5', 'T.sameLine(II)V 2 loop<=4']),
+    ('loops of two classes of one file', ['T.java:11 loop<=6'], ['T.inOrder(II)V 2 loop<=6', 'Beside.f(II)V 2 loop<=6']),
+    ('a line of another class of the file', ['T.java:150 loop<=6'], ['Beside.h(II)V 2 loop<=6']),
+    ('a file of a package', ['a/b/Packed.java:8 loop<=6'], ['a/b/Packed.f(II)V 2 loop<=6']),
+    ('the last colon', ['Colon:7.java:2 loop<=6'], ['Colon.f(II)V 2 loop<=6']),
+    ('bytes beyond ASCII', ['Acc\u00e9nt.java:12 loop<=6'], ['Accented.f(II)V 2 loop<=6']),
+    ('a loop of a method without a name', ['T.java:140 loop<=6'], ['# method=61 unnamed']),
+    # what isn't used
+    ('a file that no class names', ['Other.java:1 loop<=6', 'Packed.java:8 loop<=6', 'b/Packed.java:8 loop<=6', 't.java:11 loop<=6', 'T.jav:11 loop<=6'], ['# T.inOrder(II)V 2 loop<=']),
+    ('a file whose name has a space, as far as it goes', ['ced.java:1 loop<=6'], ['# Spaced.f(II)V 2 loop<=']),
+    ('a method that is not there', ['T.gone(II)V 2 loop<=6', 'T.inOrder(I)V 2 loop<=6', 'inOrder(II)V 2 loop<=6', 'jop/Boot.boot()V 0 loop<=6'], ['# T.inOrder(II)V 2 loop<=']),
+    ('a method without code', ['java/io/Serializable.e()V 0 loop<=6', 'java/lang/Object.wait()V 0 loop<=6'], ['# T.inOrder(II)V 2 loop<=']),
+    ('the method that runs first', ['jop/Boot.boot()V 2 loop<=6'], ['# T.inOrder(II)V 2 loop<=']),
+    # what strays
+    ('a line without a loop', ['T.java:10 loop<=6'], 'no loop T.java:10'),
+    ('a line of a table that is out of the way', ['T.java:40 loop<=6'], 'no loop T.java:40'),
+    ('the line of a table that counts no more', ['T.java:41 loop<=6'], 'no loop T.java:41'),
+    ('a line of a loop of several entries', ['T.java:121 loop<=6'], 'no loop T.java:121'),
+    ('a line past all', ['T.java:4294967295 loop<=6'], 'no loop T.java:4294967295'),
+    ('a line of a file of a class that has no such loop', ['a/b/Packed.java:9 loop<=6'], 'no loop a/b/Packed.java:9'),
+    ('a line of an odd file', ['Colon:7.java:7 loop<=6'], 'no loop Colon:7.java:7'),
+    ('a place without a loop', ['T.inOrder(II)V 3 loop<=6'], 'no loop T.inOrder(II)V 3'),
+    ('the place 0', ['T.inOrder(II)V 0 loop<=6'], 'no loop T.inOrder(II)V 0'),
+    ('a place past the code', ['T.inOrder(II)V 4294967295 loop<=6'], 'no loop T.inOrder(II)V 4294967295'),
+    ('a place of a method of several entries', ['T.several(II)V 4 loop<=6'], 'no loop T.several(II)V 4'),
+    ('a method without loops', ['T.none(II)V 0 loop<=6'], 'no loop T.none(II)V 0'),
+    ('a method of a core class', ['java/lang/String.length()I 0 loop<=6'], 'no loop java/lang/String.length()I 0'),
+    ('in front of others', ['T.java:10 loop<=6', 'T.java:21 loop<=7', 'T.inOrder(II)V 3 loop<=6'], 'no loop T.java:10'),
+    ('behind others', ['T.java:21 loop<=7', 'Other.java:5 loop<=1', OUT_OF_ORDER + ' loop<=7', 'T.inOrder(II)V 3 loop<=6', 'T.java:10 loop<=6'], 'no loop T.inOrder(II)V 3'),
+    ('at last', ['T.java:21 loop<=7', '', '# x', COUNTS + ' loop<=7', 'T.java:12 loop<=6'], 'no loop T.java:12'),
+    # what is read twice, or of no form
+    ('a line twice', ['T.java:21 loop<=7', '', 'T.java:21 loop<=7'], 'twice lines line=3'),
+    ('a line twice, with another number', ['T.java:21 loop<=7', 'T.java:100 loop<=7', 'T.java:21 loop<=8'], 'twice lines line=3'),
+    ('a place twice', [OUT_OF_ORDER + ' loop<=7', OUT_OF_ORDER + ' loop<=8'], 'twice lines line=2'),
+    ('an unknown line twice', ['Other.java:21 loop<=7', 'Other.java:21 loop<=7'], 'twice lines line=2'),
+    ('a line of two files', ['a/b/Packed.java:8 loop<=7', 'Packed.java:8 loop<=7'], ['a/b/Packed.f(II)V 2 loop<=7']),
+    ('twice before bad', ['T.java:21 loop<=7', 'T.java:21 loop<=8', 'x'], 'twice lines line=2'),
+    ('bad before twice', ['T.java:21 loop<=7', 'x', 'T.java:21 loop<=8'], 'bad lines line=2'),
+    ('bad before a stray one', ['T.java:10 loop<=7', 'x'], 'bad lines line=2'),
+    ('twice before a stray one', ['T.java:10 loop<=7', 'T.java:10 loop<=7'], 'twice lines line=2'),
+    ('no number', ['T.java:21 loop<='], 'bad lines line=1'),
+    ('no bound', ['T.java:21'], 'bad lines line=1'),
+    ('no line', ['T.java loop<=7'], 'bad lines line=1'),
+    ('no number of the line', ['T.java: loop<=7'], 'bad lines line=1'),
+    ('no file', [':21 loop<=7'], 'bad lines line=1'),
+    ('a name of a file that is empty', [':7 loop<=7'], 'bad lines line=1'),
+    ('a leading zero of the line', ['T.java:021 loop<=7'], 'bad lines line=1'),
+    ('a leading zero of the number', ['T.java:21 loop<=07'], 'bad lines line=1'),
+    ('a sign of the line', ['T.java:+21 loop<=7'], 'bad lines line=1'),
+    ('a sign of the number', ['T.java:21 loop<=-7'], 'bad lines line=1'),
+    ('a line past 32 bits', ['T.java:4294967296 loop<=7'], 'bad lines line=1'),
+    ('a number past 32 bits', ['T.java:21 loop<=4294967296'], 'bad lines line=1'),
+    ('a place past 32 bits', [OUT_OF_ORDER.rstrip('2') + '4294967296 loop<=7'], 'bad lines line=1'),
+    ('another sign', ['T.java:21 loop<7'], 'bad lines line=1'),
+    ('another word', ['T.java:21 Loop<=7'], 'bad lines line=1'),
+    ('two spaces', ['T.java:21  loop<=7'], 'bad lines line=1'),
+    ('a space in front', [' T.java:21 loop<=7'], 'bad lines line=1'),
+    ('a space behind', ['T.java:21 loop<=7 '], 'bad lines line=1'),
+    ('a space in the number', ['T.java:21 loop<= 7'], 'bad lines line=1'),
+    ('a space within the file', ['Spa ced.java:1 loop<=7'], 'bad lines line=1'),
+    ('a space that is none', ['T.java:21\u00a0loop<=7'], 'bad lines line=1'),
+    ('a length', ['T.inOrder(II)V 2 length<=7'], 'bad lines line=1'),
+    ('a place without a name', [' 2 loop<=7'], 'bad lines line=1'),
+    ('a comment of a source', ['T.java:21: for (;;) { //@WCA loop=7'], 'bad lines line=1'),
+    ('a space alone', [' '], 'bad lines line=1'),
+    ('behind good ones', ['T.java:21 loop<=7', '', '# x', 'T.java:100 loop<=7', 'T.java:32 loop<=7;'], 'bad lines line=5'),
+]
+
+LINES = [
+    ('no lines', None, ['# Lines.java:10', '# Lines.copies(I)V 7 loop<=', '# Lines.copies(I)V 29 loop<=', '# Lines.copies(I)V 50 loop<=', 'Lines.counts()V 2 loop<=12']),
+    ('copies of a loop by finally', ['Lines.java:10 loop<=3'], ['Lines.copies(I)V 7 loop<=3', 'Lines.copies(I)V 29 loop<=3', 'Lines.copies(I)V 50 loop<=3']),
+    ('one copy by its place', ['Lines.java:10 loop<=3', 'Lines.copies(I)V 29 loop<=2'], ['Lines.copies(I)V 7 loop<=3', 'Lines.copies(I)V 29 loop<=2', 'Lines.copies(I)V 50 loop<=3']),
+    ('two loops of a line', ['Lines.java:17 loop<=8'], ['Lines.onOneLine(I)V 2 loop<=8', 'Lines.onOneLine(I)V 19 loop<=5']),
+    ('two loops of a line, less', ['Lines.java:17 loop<=4'], ['Lines.onOneLine(I)V 2 loop<=4', 'Lines.onOneLine(I)V 19 loop<=4']),
+    ('loops within one another', ['Lines.java:21 loop<=9'], ['Lines.nestedOnOneLine(I)V 2 loop<=6', 'Lines.nestedOnOneLine(I)V 10 loop<=9']),
+    ('a do loop by the first line of its body', ['Lines.java:27 loop<=9'], ['Lines.bodyFirst(I)V 2 loop<=9']),
+    ('a do loop by its own line', ['Lines.java:26 loop<=9'], 'no loop Lines.java:26'),
+    ('a do loop by the line of its condition', ['Lines.java:29 loop<=9'], 'no loop Lines.java:29'),
+    ('a for loop by the line of its condition', ['Lines.java:34 loop<=9'], ['Lines.overLines(I)V 2 loop<=9']),
+    ('a for loop by its first line', ['Lines.java:33 loop<=9'], 'no loop Lines.java:33'),
+    ('a while loop by the line of its condition', ['Lines.java:41 loop<=9'], ['Lines.behindItsCondition(I)V 0 loop<=9']),
+    ('a second class of the file', ['Lines.java:60 loop<=9'], ['Beside.loop(I)V 2 loop<=9']),
+    ('a class within it', ['Lines.java:67 loop<=9'], ['Beside$Within.loop(I)V 0 loop<=9']),
+    ('the file that the second class would have', ['Beside.java:60 loop<=9'], ['# Beside.loop(I)V 2 loop<=']),
+    ('a file of a package', ['plant/Lift.java:6 loop<=9'], ['plant/Lift.rise(I)V 2 loop<=9']),
+    ('it without its folder', ['Lift.java:6 loop<=9'], ['# plant/Lift.rise(I)V 2 loop<=']),
+    ('a remark of the source', ['Lines.java:1 loop<=9'], 'no loop Lines.java:1'),
+]
+OLD = ['Edited.java:5 loop<=10', 'Edited.java:8 loop<=90']
+OLD_PLACES = ['Edited.sum(I)I 4 loop<=10', 'Edited.sum(I)I 21 loop<=90']
+JAVAC = {
+    'javac': LINES,
+    'without_tables': [
+        ('no lines', None, ['# Lines.copies(I)V 7 loop<=', 'Lines.counts()V 2 loop<=12', 'Plain.counts()V 2 loop<=7']),
+        ('a line', ['Lines.java:10 loop<=3', 'Lines.java:1 loop<=3'], ['# Lines.copies(I)V 7 loop<=']),
+        ('a place', ['Lines.copies(I)V 7 loop<=3'], ['Lines.copies(I)V 7 loop<=3']),
+        ('a place without a loop', ['Lines.copies(I)V 8 loop<=3'], 'no loop Lines.copies(I)V 8'),
+    ],
+    'files_alone': [
+        ('no lines', None, ['# Lines.copies(I)V 7 loop<=', 'Lines.counts()V 2 loop<=12']),
+        ('a line', ['Lines.java:10 loop<=3'], 'no loop Lines.java:10'),
+        ('a place', ['Lines.copies(I)V 7 loop<=3'], ['Lines.copies(I)V 7 loop<=3']),
+    ],
+    'before': [
+        ('notes', OLD, ['# Edited.java:5', 'Edited.sum(I)I 4 loop<=10', '# Edited.java:8', 'Edited.sum(I)I 21 loop<=90']),
+        ('notes by places', OLD_PLACES, ['Edited.sum(I)I 4 loop<=10', 'Edited.sum(I)I 21 loop<=90']),
+    ],
+    # the first loop is gone, the second one stands where it stood
+    'after': [
+        ('the notes from before', OLD, 'no loop Edited.java:8'),
+        ('the notes by places from before', OLD_PLACES, 'no loop Edited.sum(I)I 21'),
+        ('a note that has come to stand at another loop', OLD[:1], ['# Edited.java:5', 'Edited.sum(I)I 4 loop<=10']),
+        ('a note that is made anew', ['Edited.java:5 loop<=90'], ['Edited.sum(I)I 4 loop<=90']),
+    ],
+}

@@ -1,0 +1,126 @@
+"""What `jop headers` answers, worked out from class files and lines by the words of docs/formats.md and docs/commands.md alone.
+
+Loops are those of ../graphs/flow.py, the numbers that are found those of ../loops/counted.py, files and lines those of sources.py.
+"""
+import os
+import re
+import sys
+
+HERE = os.path.dirname(os.path.abspath(__file__))
+sys.path[:0] = [HERE, os.path.join(HERE, '../loops'), os.path.join(HERE, '../graphs')]
+import counted  # noqa: E402
+import flow  # noqa: E402
+from rechecker.texts import MOST_BOUND, NUMBER, lines_of  # noqa: E402
+from sources import Source  # noqa: E402
+
+OF_LINE = re.compile(b'([^ \n]+):%b loop<=%b' % (NUMBER.encode(), NUMBER.encode()))
+OF_PLACE = re.compile(b'([^ \n]+) %b loop<=%b' % (NUMBER.encode(), NUMBER.encode()))
+
+
+def read_notes(text):
+    """the numbers by what is bounded, a separator, a name and a number; or what is said of the first line that is refused"""
+    notes = {}
+    for number, line in enumerate(lines_of(text), 1):
+        if not line or line.startswith(b'#'):
+            continue
+        separator, found = ':', OF_LINE.fullmatch(line)
+        if not found:
+            separator, found = ' ', OF_PLACE.fullmatch(line)
+        if not found or int(found[2]) > MOST_BOUND or int(found[3]) > MOST_BOUND:
+            return 'bad lines line=%d' % number
+        subject = separator, found[1].decode('utf-8', 'surrogateescape'), int(found[2])
+        if subject in notes:
+            return 'twice lines line=%d' % number
+        notes[subject] = int(found[3])
+    return notes
+
+
+class Headers:
+    """the headers of a program's loops, with their sources"""
+
+    def __init__(self, main, files):
+        self.program = counted.Program(main, files)
+        self.sources = [Source(data) for data in files]
+        boot = len(self.program.classes) - 1
+        self.methods = [m for m in range(len(self.program.coded)) if self.program.coded[m][0] != boot]
+        self.graphs = {m: flow.Graph(self.program.body(m)) for m in self.methods}
+        self.headers = {m: self.headers_of(m) for m in self.methods}
+
+    def headers_of(self, m):
+        """the places of the headers of a method's loops, rising, or none where its graph isn't reducible"""
+        loops = self.graphs[m].loops()
+        return None if loops is None else [place for place, _ in sorted(loops)]
+
+    def source_of(self, m):
+        """what is known of the source of a method's class, or none: those of the core classes tell nothing"""
+        number = self.program.coded[m][0] - self.program.first_own
+        return self.sources[number] if 0 <= number < len(self.sources) else None
+
+    def source(self, m, place):
+        """the file and the line of an instruction, or none"""
+        source = self.source_of(m)
+        file = named(source.file) if source else None
+        line = source.line(self.program.coded[m][1], place) if file is not None else None
+        return None if line is None else (file, line)
+
+    def files(self):
+        return {named(source.file) for source in self.sources} - {None}
+
+    def at(self, separator):
+        """what notes with this separator may be said of: names that are known, and where loops are headed"""
+        sites = {(m, place) for m in self.methods for place in self.headers[m] or []}
+        if separator == ' ':
+            return {self.program.names[m] for m in self.methods}, {(self.program.names[m], place) for m, place in sites}
+        return self.files(), {self.source(m, place) for m, place in sites}
+
+    def strays(self, notes):
+        """what is bounded at lines of the program's files and at places of its methods, and isn't there, in the order of the notes"""
+        known = {separator: self.at(separator) for separator in ': '}
+        for separator, name, number in notes:
+            names, sites = known[separator]
+            if name in names and (name, number) not in sites:
+                yield name + separator + str(number)
+
+    def written(self, m, place, notes, found):
+        """the number that is written for a loop, or none"""
+        source = self.source(m, place)
+        numbers = [found.get(place), notes.get((' ', self.program.names[m], place)), notes.get((':', *source)) if source else None]
+        return min((number for number in numbers if number is not None), default=None)
+
+    def lines(self, notes):
+        for m in self.methods:
+            name, headers = self.program.names[m], self.headers[m]
+            if headers == []:
+                continue
+            if not is_nameable(name):
+                yield '# method=%d unnamed' % m
+            elif headers is None:
+                yield ' '.join(['#', name, 'irreducible', *(str(place) for place, _ in self.graphs[m].reduced())])
+            else:
+                yield from self.method_lines(m, notes)
+
+    def method_lines(self, m, notes):
+        found = dict(counted.counted(self.program, m))
+        for place in self.headers[m]:
+            source, number = self.source(m, place), self.written(m, place, notes, found)
+            if source:
+                yield '# %s:%d' % source
+            line = '%s %d loop<=' % (self.program.names[m], place)
+            yield '# ' + line if number is None else line + str(number)
+
+    def answer(self, text):
+        """the lines that are put, or what is said of the first note that is refused"""
+        notes = read_notes(text)
+        if isinstance(notes, str):
+            return notes
+        stray = next(self.strays(notes), None)
+        return list(self.lines(notes)) if stray is None else 'no loop ' + stray
+
+
+def named(file):
+    """a file as a line of notes can name it, or none"""
+    return None if file is None or b' ' in file or b'\n' in file else file.decode('utf-8', 'surrogateescape')
+
+
+def is_nameable(name):
+    return not name.startswith('#') and ' ' not in name and '\n' not in name
