@@ -1,0 +1,14 @@
+pub mod Expanding
+pub mod Keeping
+pub mod Sums
+pub mod GoingRound
+pub mod Natural
+pub mod Tight
+pub mod Concluding
+pub mod PathLemmas
+pub mod Gluing
+pub mod RoundLemmas
+pub mod GhostMembers
+pub mod ProblemLemmas
+pub mod Posing
+pub mod Stepping
