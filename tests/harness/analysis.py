@@ -24,6 +24,11 @@ def program_of(row):
     return title, main, files_of([each for each in words if each.startswith(MARK)])
 
 
+def program_row(title, main, files, reference=None):
+    """the first row of a case, with the class files or, in their place, words that refer to a row that has them"""
+    return ' '.join(['program', title, main, *(reference or [data.hex() for data in files])])
+
+
 def text_of(part):
     """the bytes of a text, each line with its end"""
     return ''.join(line + '\n' for line in part.split('|')).encode() if part else b''
@@ -44,8 +49,10 @@ class Asked(Kind):
         yield '%s: %s' % (title, 'linked' if linked.status == 0 else told(linked))
         caller.put('image', linked.out)
         for row in rows[1:]:
-            word, *parts = row.split('\t')
-            yield '%s: %s' % (parts[0], self.asked(caller, word, *parts[1:]))
+            yield from self.answered(caller, *row.split('\t'))
+
+    def answered(self, caller, word, title, *parts):
+        yield '%s: %s' % (title, self.asked(caller, word, *parts))
 
 
 class Checked(Asked):
@@ -85,14 +92,8 @@ def held(answer):
 class Listed(Asked):
     """the lines that each row's command puts"""
 
-    def answer(self, caller, rows):
-        title, main, files = program_of(rows[0])
-        linked = caller.link(main, files)
-        yield '%s: %s' % (title, 'linked' if linked.status == 0 else told(linked))
-        caller.put('image', linked.out)
-        for row in rows[1:]:
-            _, title, *parts = row.split('\t')
-            yield from self.lines_of(title, self.asked(caller, *parts))
+    def answered(self, caller, word, title, *parts):
+        yield from self.lines_of(title, self.asked(caller, *parts))
 
     def lines_of(self, title, answer):
         if answer.status != 0 or answer.err:

@@ -25,7 +25,7 @@ class Checks:
 
     def program(self, title, main, files, reference=None):
         """begins the rows of a program; its files stand in a row of another table, if that is said"""
-        self.rows.append(' '.join(['program', title, main, *(reference or [data.hex() for data in files])]))
+        self.rows.append(analysis.program_row(title, main, files, reference))
         self.wanted.append('%s: linked' % title)
         assert analysis.program_of(self.rows[-1]) == (title, main, files)
         self.known = flow.Program(main, files)
@@ -84,7 +84,7 @@ class Bounds:
         self.rows, self.wanted, self.count = [], [], {}
 
     def program(self, title, main, files, reference=None):
-        self.rows.append(' '.join(['program', title, main, *(reference or [data.hex() for data in files])]))
+        self.rows.append(analysis.program_row(title, main, files, reference))
         self.wanted.append('%s: linked' % title)
         self.known = flow.Program(main, files)
 
@@ -120,7 +120,7 @@ class AllBounds:
         self.rows, self.wanted, self.count = [], [], {}
 
     def program(self, title, main, files, reference=None):
-        self.rows.append(' '.join(['program', title, main, *(reference or [data.hex() for data in files])]))
+        self.rows.append(analysis.program_row(title, main, files, reference))
         self.wanted.append('%s: linked' % title)
         self.known = flow.Program(main, files)
 

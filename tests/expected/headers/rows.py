@@ -57,7 +57,7 @@ class Rows:
         self.rows, self.wanted = [], []
 
     def program(self, title, main, files, reference=None):
-        self.rows.append(' '.join(['program', title, main, *(reference or [data.hex() for data in files])]))
+        self.rows.append(analysis.program_row(title, main, files, reference))
         self.wanted.append(title + ': linked')
         assert analysis.program_of(self.rows[-1]) == (title, main, files)
         self.known = Headers(main, files)

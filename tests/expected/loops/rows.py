@@ -85,7 +85,7 @@ class Rows:
 
     def program(self, title, main, files, reference=None):
         """a row; its program"""
-        self.rows.append(' '.join(['program', title, main, *(reference or [data.hex() for data in files])]))
+        self.rows.append(analysis.program_row(title, main, files, reference))
         assert analysis.program_of(self.rows[-1]) == (title, main, files)
         program = counted.Program(main, files)
         lines = list(program.found())
