@@ -7,9 +7,9 @@ use Rattle.std.specs.List.{flat_map}
 use Rattle.std.specs.Option.{option_to_list}
 use Rattle.std.specs.Borrow.{Bor}
 use Rattle.command_line.specs.declared.table.Verb.{Verb}
-use Rattle.command_line.specs.declared.table.Verb.TheVariants.{Link, Run, Trace, Bound, Check, Loops, Headers, Need, Asm, Work}
+use Rattle.command_line.specs.declared.table.Verb.TheVariants.{Link, Run, Trace, Profile, Bound, Check, Loops, Headers, Need, Asm, Work}
 use Rattle.command_line.specs.declared.table.Name.{Name}
-use Rattle.command_line.specs.declared.table.Name.TheVariants.{Main, Method, All, Cycles, Stack, Memory, Blocks, BlockWords, Read, Write, Micro}
+use Rattle.command_line.specs.declared.table.Name.TheVariants.{Main, Method, All, Shapes, Cycles, Stack, Memory, Blocks, BlockWords, Read, Write, Micro}
 use Rattle.command_line.specs.declared.command.Command.{Command}
 use Rattle.command_line.specs.declared.command.Command.TheVariants as commands
 use Rattle.command_line.specs.Table.{name_word, usual, Value, Nothing, AWord, ANumber, OneOf, value_of_name, operands_of}
@@ -66,6 +66,7 @@ none_kept : (n : ℕ) → AreKept none_given n
 none_kept n Main m h = absurd (cc)
 none_kept n Method m h = absurd (cc)
 none_kept n All m h = absurd (cc)
+none_kept n Shapes m h = absurd (cc)
 none_kept n Cycles m h = absurd (cc)
 none_kept n Stack m h = absurd (cc)
 none_kept n Memory m h = absurd (cc)
@@ -110,19 +111,21 @@ settings_are values n kept =
 named_there : (values : List (Option ℕ)) (name : Name) (n : ℕ) → value_of_name name ≡ AWord → usual name ≡ 0 → 0 < n → AreKept values n → value values name < n
 named_there values name n takes none some kept = meant (given values name) (usual name) (λ m. m < n) (omega (arith, none, some)) (λ m h. let P : Value → Type 0 = λ v. CanMean v n m in subst P takes (kept name m h))
 
--- the bound of one method, or the bounds of all
-bound_by : (P : Command → Type 0) (all : Bool) (values : List (Option ℕ)) (k : ℕ) → P (commands.BoundAll (settings_of values) k (k + 1)) → P (commands.Bound (settings_of values) (value values Method) k (k + 1))
-    → P (if all then commands.BoundAll (settings_of values) k (k + 1) else commands.Bound (settings_of values) (value values Method) k (k + 1))
-bound_by P true values k every one = every
-bound_by P false values k every one = one
+-- the bounds of all methods, or the bound of one, in each shape or in one
+bound_by : (P : Command → Type 0) (all shapes : Bool) (every each one : Command) → P every → P each → P one → P (if all then every else if shapes then each else one)
+bound_by P true shapes every each one is_every is_each is_one = is_every
+bound_by P false true every each one is_every is_each is_one = is_each
+bound_by P false false every each one is_every is_each is_one = is_one
 
 made_in_range : (verb : Verb) (values : List (Option ℕ)) (k m n : ℕ) (operands : List (List ℕ)) → AreKept values n → AreOperands (operands_of verb) operands m → AreInRange (made verb values k m)
 made_in_range Link values k m n operands kept are = tt
 made_in_range Run values k m n operands kept are = settings_are values n kept
 made_in_range Trace values k m n operands kept are = settings_are values n kept
+made_in_range Profile values k m n operands kept are = settings_are values n kept
 made_in_range Bound values k m n operands kept are =
     let settings = settings_are values n kept in
-    bound_by AreInRange (is_some (given values All)) values k settings settings
+    bound_by AreInRange (is_some (given values All)) (is_some (given values Shapes)) (commands.BoundAll (settings_of values) k (k + 1)) (commands.BoundShapes (settings_of values) (value values Method) k (k + 1))
+    (commands.Bound (settings_of values) (value values Method) k (k + 1)) settings settings settings
 made_in_range Check values k m n operands kept are = settings_are values n kept
 made_in_range Loops values k m n operands kept are = tt
 made_in_range Headers values k m n operands kept are = let some = are.0 in let few = are.1 in let is = are.3 in (omega (arith, some, is), omega (arith, few, is))
@@ -137,11 +140,16 @@ made_there Link values k m n operands all kept are =
     (named_there values Main n refl refl (omega (arith, below)) kept, below)
 made_there Run values k m n operands all kept are = let many = are.0 in omega (arith, all, many)
 made_there Trace values k m n operands all kept are = let many = are.0 in omega (arith, all, many)
+made_there Profile values k m n operands all kept are =
+    let many = are.0 in
+    (omega (arith, all, many), omega (arith, all, many))
 made_there Bound values k m n operands all kept are =
     let many = are.0 in
     let below : k + 1 < n = omega (arith, all, many) in
     let first : k < n = omega (arith, below) in
-    bound_by (AreThere n) (is_some (given values All)) values k (first, below) (named_there values Method n refl refl (omega (arith, below)) kept, first, below)
+    let named = named_there values Method n refl refl (omega (arith, below)) kept in
+    bound_by (AreThere n) (is_some (given values All)) (is_some (given values Shapes)) (commands.BoundAll (settings_of values) k (k + 1)) (commands.BoundShapes (settings_of values) (value values Method) k (k + 1))
+    (commands.Bound (settings_of values) (value values Method) k (k + 1)) (first, below) (named, first, below) (named, first, below)
 made_there Check values k m n operands all kept are =
     let many = are.0 in
     (omega (arith, all, many), omega (arith, all, many), omega (arith, all, many))
@@ -157,7 +165,10 @@ made_follow : (verb : Verb) (values : List (Option ℕ)) (k m : ℕ) → Operand
 made_follow Link values k m = tt
 made_follow Run values k m = tt
 made_follow Trace values k m = tt
-made_follow Bound values k m = bound_by OperandsFollow (is_some (given values All)) values k refl refl
+made_follow Profile values k m = refl
+made_follow Bound values k m =
+    bound_by OperandsFollow (is_some (given values All)) (is_some (given values Shapes)) (commands.BoundAll (settings_of values) k (k + 1)) (commands.BoundShapes (settings_of values) (value values Method) k (k + 1))
+    (commands.Bound (settings_of values) (value values Method) k (k + 1)) refl refl refl
 made_follow Check values k m = (refl, refl)
 made_follow Loops values k m = tt
 made_follow Headers values k m = tt

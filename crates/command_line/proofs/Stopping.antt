@@ -7,9 +7,9 @@ use Rattle.std.specs.declared.result.Result.{Result}
 use Rattle.std.proofs.lemmas.Bool.{cases_Bool}
 use Rattle.std.proofs.lemmas.Bool.Decides.{nat_tests}
 use Rattle.command_line.specs.declared.table.Verb.{Verb}
-use Rattle.command_line.specs.declared.table.Verb.TheVariants.{Link, Run, Trace, Bound, Check, Loops, Headers, Need, Asm, Work}
+use Rattle.command_line.specs.declared.table.Verb.TheVariants.{Link, Run, Trace, Profile, Bound, Check, Loops, Headers, Need, Asm, Work}
 use Rattle.command_line.specs.declared.table.Name.{Name}
-use Rattle.command_line.specs.declared.table.Name.TheVariants.{Main, Method, All, Cycles, Stack, Memory, Blocks, BlockWords, Read, Write, Micro}
+use Rattle.command_line.specs.declared.table.Name.TheVariants.{Main, Method, All, Shapes, Cycles, Stack, Memory, Blocks, BlockWords, Read, Write, Micro}
 use Rattle.command_line.specs.declared.command.Command.{Command}
 use Rattle.command_line.specs.Table.{name_word, names_of, verb_named, name_of, Value, AWord, value_of_name, Operands, Exactly, AtMost, OneOrMore, Number, operands_of}
 use Rattle.command_line.specs.Command.{is_option, with_value, none_given, is_taken, has_required, is_flag, meaning, made, exactly_at, at_most_at, empty_at, past_number, number_from, operands_stop, operand_number, unless_stopped, words_at, command_of}
@@ -204,6 +204,7 @@ finish Bound k values full = elim (cases_Bool (is_taken values Method)) [
 ]
 finish Run k values full = (codes "b" ∷ [], refl)
 finish Trace k values full = (codes "b" ∷ [], refl)
+finish Profile k values full = (codes "b" ∷ codes "b" ∷ [], refl)
 finish Check k values full = (codes "b" ∷ codes "b" ∷ codes "b" ∷ [], refl)
 finish Loops k values full = (codes "b" ∷ [], refl)
 finish Headers k values full = (codes "b" ∷ [], refl)
@@ -215,6 +216,7 @@ any_value : (name : Name) (k : ℕ) → is_flag (value_of_name name) ≡ false �
 any_value Main k h = (codes "A", k, refl)
 any_value Method k h = (codes "A", k, refl)
 any_value All k h = absurd (cc)
+any_value Shapes k h = absurd (cc)
 any_value Cycles k h = (codes "1", 1, refl)
 any_value Stack k h = (codes "256", 256, refl)
 any_value Memory k h = (codes "16", 16, refl)

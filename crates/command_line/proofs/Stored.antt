@@ -8,9 +8,9 @@ use Rattle.std.proofs.lemmas.List.Folds.{Any-from_list_any, list_any_at}
 use Rattle.std.proofs.lemmas.Bool.{cases_Bool}
 use Rattle.std.proofs.lemmas.Slice.Eq.{bytes_eq-Decides}
 use Rattle.command_line.specs.declared.table.Verb.{Verb}
-use Rattle.command_line.specs.declared.table.Verb.TheVariants.{Link, Run, Trace, Bound, Check, Loops, Headers, Need, Asm, Work}
+use Rattle.command_line.specs.declared.table.Verb.TheVariants.{Link, Run, Trace, Profile, Bound, Check, Loops, Headers, Need, Asm, Work}
 use Rattle.command_line.specs.declared.table.Name.{Name}
-use Rattle.command_line.specs.declared.table.Name.TheVariants.{Main, Method, All, Cycles, Stack, Memory, Blocks, BlockWords, Read, Write, Micro}
+use Rattle.command_line.specs.declared.table.Name.TheVariants.{Main, Method, All, Shapes, Cycles, Stack, Memory, Blocks, BlockWords, Read, Write, Micro}
 use Rattle.command_line.specs.Table.{name_word, all_names, place_of, same_name, rivals, names_of, verb_word, all_verbs, verb_named, name_named, has_name, kept_by, name_of}
 use Rattle.command_line.specs.Command.{is_option, none_given, given, with_value, is_taken}
 use Rattle.command_line.proofs.WordLemmas.{if_true}
@@ -21,6 +21,7 @@ name_at : (a : Name) → get_or all_names (place_of a) Main ≡ a
 name_at Main = refl
 name_at Method = refl
 name_at All = refl
+name_at Shapes = refl
 name_at Cycles = refl
 name_at Stack = refl
 name_at Memory = refl
@@ -33,10 +34,11 @@ name_at Micro = refl
 same_place : (a b : Name) → place_of a ≡ place_of b → a ≡ b
 same_place a b e = sym (name_at a) ∙ ap (λ i. get_or all_names i Main) e ∙ name_at b
 
-place_below : (a : Name) → place_of a < 11
+place_below : (a : Name) → place_of a < 12
 place_below Main = omega arith
 place_below Method = omega arith
 place_below All = omega arith
+place_below Shapes = omega arith
 place_below Cycles = omega arith
 place_below Stack = omega arith
 place_below Memory = omega arith
@@ -52,7 +54,7 @@ eq_true x y e = grind arith
 -- ---- what is stored
 
 abbrev pub IsFull : List (Option ℕ) → Type 0
-IsFull values = length values ≡ 11
+IsFull values = length values ≡ 12
 
 pub full_with : (values : List (Option ℕ)) (a : Name) (n : ℕ) → IsFull values → IsFull (with_value values a n)
 full_with values a n full = length-set values (place_of a) (Some n) ∙ full
@@ -75,6 +77,7 @@ pub not_given : (name : Name) → is_some (given none_given name) ≡ false
 not_given Main = refl
 not_given Method = refl
 not_given All = refl
+not_given Shapes = refl
 not_given Cycles = refl
 not_given Stack = refl
 not_given Memory = refl
@@ -88,6 +91,7 @@ own_rival : (a : Name) → Contains (rivals a) a
 own_rival Main = (0, omega arith, refl)
 own_rival Method = (0, omega arith, refl)
 own_rival All = (0, omega arith, refl)
+own_rival Shapes = (0, omega arith, refl)
 own_rival Cycles = (0, omega arith, refl)
 own_rival Stack = (0, omega arith, refl)
 own_rival Memory = (0, omega arith, refl)
@@ -108,13 +112,23 @@ rival_back Method b (suc zero, lt, is) = subst (λ (x : Name). Contains (rivals 
 rival_back Method b (suc (suc k), lt, is) = absurd (omega (arith, lt))
 rival_back All b (zero, lt, is) = subst (λ (x : Name). Contains (rivals x) All) is (own_rival All)
 rival_back All b (suc zero, lt, is) = subst (λ (x : Name). Contains (rivals x) All) is (1, omega arith, refl)
-rival_back All b (suc (suc k), lt, is) = absurd (omega (arith, lt))
+rival_back All b (suc (suc zero), lt, is) = subst (λ (x : Name). Contains (rivals x) All) is (1, omega arith, refl)
+rival_back All b (suc (suc (suc k)), lt, is) = absurd (omega (arith, lt))
+rival_back Shapes b (zero, lt, is) = subst (λ (x : Name). Contains (rivals x) Shapes) is (own_rival Shapes)
+rival_back Shapes b (suc zero, lt, is) = subst (λ (x : Name). Contains (rivals x) Shapes) is (2, omega arith, refl)
+rival_back Shapes b (suc (suc zero), lt, is) = subst (λ (x : Name). Contains (rivals x) Shapes) is (1, omega arith, refl)
+rival_back Shapes b (suc (suc (suc zero)), lt, is) = subst (λ (x : Name). Contains (rivals x) Shapes) is (1, omega arith, refl)
+rival_back Shapes b (suc (suc (suc (suc k))), lt, is) = absurd (omega (arith, lt))
+rival_back Blocks b (zero, lt, is) = subst (λ (x : Name). Contains (rivals x) Blocks) is (own_rival Blocks)
+rival_back Blocks b (suc zero, lt, is) = subst (λ (x : Name). Contains (rivals x) Blocks) is (2, omega arith, refl)
+rival_back Blocks b (suc (suc k), lt, is) = absurd (omega (arith, lt))
+rival_back BlockWords b (zero, lt, is) = subst (λ (x : Name). Contains (rivals x) BlockWords) is (own_rival BlockWords)
+rival_back BlockWords b (suc zero, lt, is) = subst (λ (x : Name). Contains (rivals x) BlockWords) is (3, omega arith, refl)
+rival_back BlockWords b (suc (suc k), lt, is) = absurd (omega (arith, lt))
 rival_back Main b h = alone Main b h (own_rival Main)
 rival_back Cycles b h = alone Cycles b h (own_rival Cycles)
 rival_back Stack b h = alone Stack b h (own_rival Stack)
 rival_back Memory b h = alone Memory b h (own_rival Memory)
-rival_back Blocks b h = alone Blocks b h (own_rival Blocks)
-rival_back BlockWords b h = alone BlockWords b h (own_rival BlockWords)
 rival_back Read b h = alone Read b h (own_rival Read)
 rival_back Write b h = alone Write b h (own_rival Write)
 rival_back Micro b h = alone Micro b h (own_rival Micro)
@@ -197,6 +211,7 @@ name_of_word : (name : Name) → name_named (name_word name) ≡ Some name
 name_of_word Main = refl
 name_of_word Method = refl
 name_of_word All = refl
+name_of_word Shapes = refl
 name_of_word Cycles = refl
 name_of_word Stack = refl
 name_of_word Memory = refl
@@ -210,6 +225,7 @@ pub option_of_word : (name : Name) → is_option (name_word name) ≡ true
 option_of_word Main = refl
 option_of_word Method = refl
 option_of_word All = refl
+option_of_word Shapes = refl
 option_of_word Cycles = refl
 option_of_word Stack = refl
 option_of_word Memory = refl
@@ -243,6 +259,7 @@ pub verb_of_word : (verb : Verb) → verb_named (verb_word verb) ≡ Some verb
 verb_of_word Link = refl
 verb_of_word Run = refl
 verb_of_word Trace = refl
+verb_of_word Profile = refl
 verb_of_word Bound = refl
 verb_of_word Check = refl
 verb_of_word Loops = refl

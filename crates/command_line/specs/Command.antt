@@ -8,9 +8,9 @@ use Rattle.std.specs.Borrow.{Bor}
 use Rattle.std.specs.List.{list_any, list_all}
 use Rattle.ascii_text.specs.Number.{value_of}
 use Rattle.command_line.specs.declared.table.Verb.{Verb}
-use Rattle.command_line.specs.declared.table.Verb.TheVariants.{Link, Run, Trace, Bound, Check, Loops, Headers, Need, Asm, Work}
+use Rattle.command_line.specs.declared.table.Verb.TheVariants.{Link, Run, Trace, Profile, Bound, Check, Loops, Headers, Need, Asm, Work}
 use Rattle.command_line.specs.declared.table.Name.{Name}
-use Rattle.command_line.specs.declared.table.Name.TheVariants.{Main, Method, All, Cycles, Stack, Memory, Blocks, BlockWords, Read, Write, Micro}
+use Rattle.command_line.specs.declared.table.Name.TheVariants.{Main, Method, All, Shapes, Cycles, Stack, Memory, Blocks, BlockWords, Read, Write, Micro}
 use Rattle.command_line.specs.declared.command.Settings.{Settings}
 use Rattle.command_line.specs.declared.command.Command.{Command}
 use Rattle.command_line.specs.declared.command.Command.TheVariants as commands
@@ -47,7 +47,7 @@ meaning (OneOf ns) k word = if is_number word && list_any (λ n. n == value_of w
 
 -- of each option, by its place among all, what it was given to mean
 abbrev pub none_given : List (Option ℕ)
-none_given = None ∷ None ∷ None ∷ None ∷ None ∷ None ∷ None ∷ None ∷ None ∷ None ∷ None ∷ []
+none_given = None ∷ None ∷ None ∷ None ∷ None ∷ None ∷ None ∷ None ∷ None ∷ None ∷ None ∷ None ∷ []
 
 abbrev pub given : List (Option ℕ) → Name → Option ℕ
 given values name = get_or values (place_of name) None
@@ -82,8 +82,10 @@ abbrev pub made : Verb → List (Option ℕ) → (k n : ℕ) → Command
 made Link values k n = commands.Link (value values Main) k
 made Run values k n = commands.Run (settings_of values) k
 made Trace values k n = commands.Trace (settings_of values) (is_some (given values Micro)) k
+made Profile values k n = commands.Profile (settings_of values) k (k + 1)
 made Bound values k n =
     if is_some (given values All) then commands.BoundAll (settings_of values) k (k + 1)
+    else if is_some (given values Shapes) then commands.BoundShapes (settings_of values) (value values Method) k (k + 1)
     else commands.Bound (settings_of values) (value values Method) k (k + 1)
 made Check values k n = commands.Check (settings_of values) k (k + 1) (k + 2)
 made Loops values k n = commands.Loops k

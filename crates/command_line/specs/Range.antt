@@ -2,7 +2,8 @@
 use Rattle.std.specs.Prelude.{◌≡◌, ℕ, ◌+◌, ◌^◌, ◌<◌, ◌≤◌, ◌⊎◌}
 use Rattle.command_line.specs.declared.command.Settings.{Settings}
 use Rattle.command_line.specs.declared.command.Command.{Command}
-use Rattle.command_line.specs.declared.command.Command.TheVariants.{Link, Run, Trace, Bound, BoundAll, Check, Loops, Headers, Memory, Asm, Work}
+use Rattle.command_line.specs.declared.command.Command.TheVariants.{Link, Run, Trace, Profile, Bound, BoundAll, BoundShapes, Check}
+use Rattle.command_line.specs.declared.command.Command.TheVariants.{Loops, Headers, Memory, Asm, Work}
 
 pub record AreSettings (settings : Settings) : Type 0 where
   pub cycles : settings.cycles < 2 ^ 63
@@ -20,8 +21,10 @@ abbrev pub AreInRange : Command → Type 0
 AreInRange (Link main first) = Unit {0}
 AreInRange (Run settings image) = AreSettings settings
 AreInRange (Trace settings micro image) = AreSettings settings
+AreInRange (Profile settings image bounds) = AreSettings settings
 AreInRange (Bound settings method image bounds) = AreSettings settings
 AreInRange (BoundAll settings image bounds) = AreSettings settings
+AreInRange (BoundShapes settings method image bounds) = AreSettings settings
 AreInRange (Check settings image bounds certificate) = AreSettings settings
 AreInRange (Loops image) = Unit {0}
 AreInRange (Headers image operands) = (1 ≤ operands) × (operands ≤ 2)
@@ -34,8 +37,10 @@ abbrev pub AreThere : (n : ℕ) → Command → Type 0
 AreThere n (Link main first) = (main < n) × (first < n)
 AreThere n (Run settings image) = image < n
 AreThere n (Trace settings micro image) = image < n
+AreThere n (Profile settings image bounds) = (image < n) × (bounds < n)
 AreThere n (Bound settings method image bounds) = (method < n) × (image < n) × (bounds < n)
 AreThere n (BoundAll settings image bounds) = (image < n) × (bounds < n)
+AreThere n (BoundShapes settings method image bounds) = (method < n) × (image < n) × (bounds < n)
 AreThere n (Check settings image bounds certificate) = (image < n) × (bounds < n) × (certificate < n)
 AreThere n (Loops image) = image < n
 AreThere n (Headers image operands) = image + operands ≤ n
@@ -45,8 +50,10 @@ AreThere n (Work count) = Unit {0}
 
 -- the operands of a command that has several are words one behind another
 abbrev pub OperandsFollow : Command → Type 0
+OperandsFollow (Profile settings image bounds) = bounds ≡ image + 1
 OperandsFollow (Bound settings method image bounds) = bounds ≡ image + 1
 OperandsFollow (BoundAll settings image bounds) = bounds ≡ image + 1
+OperandsFollow (BoundShapes settings method image bounds) = bounds ≡ image + 1
 OperandsFollow (Check settings image bounds certificate) = (bounds ≡ image + 1) × (certificate ≡ image + 2)
 OperandsFollow (Memory image bounds sizes) = (bounds ≡ image + 1) × (sizes ≡ image + 2)
 OperandsFollow command = Unit {0}

@@ -1,7 +1,8 @@
 -- Words and what is read of them, worked out by hand.
 use Rattle.std.specs.Prelude.{◌≡◌, true, false, [], ◌∷◌, Ok, Err, codes}
 use Rattle.command_line.specs.declared.command.Settings.{Settings}
-use Rattle.command_line.specs.declared.command.Command.TheVariants.{Link, Run, Trace, Bound, BoundAll, Check, Loops, Headers, Memory, Asm, Work}
+use Rattle.command_line.specs.declared.command.Command.TheVariants.{Link, Run, Trace, Profile, Bound, BoundAll, BoundShapes, Check}
+use Rattle.command_line.specs.declared.command.Command.TheVariants.{Loops, Headers, Memory, Asm, Work}
 use Rattle.command_line.specs.Command.{command_of}
 
 abbrev usual : Settings
@@ -26,9 +27,17 @@ CommandRows =
     × (command_of (codes "trace" ∷ codes "--micro" ∷ codes "b" ∷ []) ≡ Ok (Trace usual true 2))
     × (command_of (codes "trace" ∷ codes "--micro" ∷ codes "b" ∷ codes "c" ∷ []) ≡ Err 3)
     × (command_of (codes "trace" ∷ codes "b" ∷ []) ≡ Ok (Trace usual false 1))
+    × (command_of (codes "profile" ∷ codes "i" ∷ codes "b" ∷ []) ≡ Ok (Profile usual 1 2))
+    × (command_of (codes "profile" ∷ codes "i" ∷ []) ≡ Err 2)
+    × (command_of (codes "profile" ∷ codes "i" ∷ codes "b" ∷ codes "c" ∷ []) ≡ Err 3)
+    × (command_of (codes "profile" ∷ codes "--micro" ∷ codes "i" ∷ codes "b" ∷ []) ≡ Err 1)
     × (command_of (codes "bound" ∷ codes "--method" ∷ codes "A.a()V" ∷ codes "i" ∷ codes "b" ∷ []) ≡ Ok (Bound usual 2 3 4))
     × (command_of (codes "bound" ∷ codes "--all" ∷ codes "i" ∷ codes "b" ∷ []) ≡ Ok (BoundAll usual 2 3))
     × (command_of (codes "bound" ∷ codes "--all" ∷ codes "i" ∷ []) ≡ Err 3)
+    × (command_of (codes "bound" ∷ codes "--shapes" ∷ codes "--method" ∷ codes "A.a()V" ∷ codes "i" ∷ codes "b" ∷ []) ≡ Ok (BoundShapes usual 3 4 5))
+    × (command_of (codes "bound" ∷ codes "--method" ∷ codes "A.a()V" ∷ codes "--shapes" ∷ codes "i" ∷ codes "b" ∷ []) ≡ Ok (BoundShapes usual 2 4 5))
+    × (command_of (codes "bound" ∷ codes "--shapes" ∷ codes "--method" ∷ codes "A.a()V" ∷ codes "i" ∷ []) ≡ Err 5)
+    × (command_of (codes "bound" ∷ codes "--shapes" ∷ codes "i" ∷ codes "b" ∷ []) ≡ Err 2)
     × (command_of (codes "bound" ∷ codes "i" ∷ codes "b" ∷ []) ≡ Err 1)
     × (command_of (codes "bound" ∷ codes "--cycles" ∷ codes "1" ∷ []) ≡ Err 1)
     × (command_of (codes "check" ∷ codes "i" ∷ codes "b" ∷ codes "c" ∷ []) ≡ Ok (Check usual 1 2 3))
@@ -75,8 +84,20 @@ ValueRows =
     × (command_of (codes "check" ∷ codes "--write" ∷ codes "64" ∷ []) ≡ Err 2)
     × (command_of (codes "bound" ∷ codes "--read" ∷ codes "0" ∷ codes "--all" ∷ codes "--blocks" ∷ codes "8" ∷ codes "i" ∷ codes "b" ∷ []) ≡ Ok
     (BoundAll (record usual { blocks = 8; read = 0 }) 6 7))
+    × (command_of
+    (codes "bound" ∷ codes "--shapes" ∷ codes "--read" ∷ codes "0" ∷ codes "--write" ∷ codes "1" ∷ codes "--method" ∷ codes "A.a()V" ∷ codes "i"
+    ∷ codes "b" ∷ [])
+    ≡ Ok (BoundShapes (record usual { read = 0; write = 1 }) 7 8 9))
+    × (command_of (codes "check" ∷ codes "--shapes" ∷ codes "i" ∷ codes "b" ∷ codes "c" ∷ []) ≡ Err 1)
     × (command_of (codes "trace" ∷ codes "--micro" ∷ codes "--micro" ∷ codes "b" ∷ []) ≡ Err 2)
     × (command_of (codes "bound" ∷ codes "--all" ∷ codes "--all" ∷ codes "i" ∷ codes "b" ∷ []) ≡ Err 2)
     × (command_of (codes "bound" ∷ codes "--all" ∷ codes "--method" ∷ codes "A.a()V" ∷ codes "i" ∷ codes "b" ∷ []) ≡ Err 2)
     × (command_of (codes "bound" ∷ codes "--method" ∷ codes "A.a()V" ∷ codes "--all" ∷ codes "i" ∷ codes "b" ∷ []) ≡ Err 3)
     × (command_of (codes "bound" ∷ codes "--method" ∷ codes "A.a()V" ∷ codes "--method" ∷ codes "A.a()V" ∷ []) ≡ Err 3)
+    × (command_of (codes "bound" ∷ codes "--shapes" ∷ codes "--shapes" ∷ codes "i" ∷ codes "b" ∷ []) ≡ Err 2)
+    × (command_of (codes "bound" ∷ codes "--shapes" ∷ codes "--all" ∷ codes "i" ∷ codes "b" ∷ []) ≡ Err 2)
+    × (command_of (codes "bound" ∷ codes "--all" ∷ codes "--shapes" ∷ codes "i" ∷ codes "b" ∷ []) ≡ Err 2)
+    × (command_of (codes "bound" ∷ codes "--shapes" ∷ codes "--blocks" ∷ codes "8" ∷ []) ≡ Err 2)
+    × (command_of (codes "bound" ∷ codes "--shapes" ∷ codes "--block-words" ∷ codes "8" ∷ []) ≡ Err 2)
+    × (command_of (codes "bound" ∷ codes "--blocks" ∷ codes "8" ∷ codes "--shapes" ∷ []) ≡ Err 3)
+    × (command_of (codes "bound" ∷ codes "--block-words" ∷ codes "8" ∷ codes "--shapes" ∷ []) ≡ Err 3)

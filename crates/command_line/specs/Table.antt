@@ -3,9 +3,9 @@ use Rattle.std.specs.Prelude.{ℕ, ◌-◌, ◌^◌, Bool, ◌==◌, if◌then�
 use Rattle.std.specs.declared.option.Option.{Option}
 use Rattle.std.specs.List.{find, list_any}
 use Rattle.command_line.specs.declared.table.Verb.{Verb}
-use Rattle.command_line.specs.declared.table.Verb.TheVariants.{Link, Run, Trace, Bound, Check, Loops, Headers, Need, Asm, Work}
+use Rattle.command_line.specs.declared.table.Verb.TheVariants.{Link, Run, Trace, Profile, Bound, Check, Loops, Headers, Need, Asm, Work}
 use Rattle.command_line.specs.declared.table.Name.{Name}
-use Rattle.command_line.specs.declared.table.Name.TheVariants.{Main, Method, All, Cycles, Stack, Memory, Blocks, BlockWords, Read, Write, Micro}
+use Rattle.command_line.specs.declared.table.Name.TheVariants.{Main, Method, All, Shapes, Cycles, Stack, Memory, Blocks, BlockWords, Read, Write, Micro}
 
 -- ---- options
 
@@ -13,6 +13,7 @@ abbrev pub name_word : Name → List ℕ
 name_word Main = codes "--main"
 name_word Method = codes "--method"
 name_word All = codes "--all"
+name_word Shapes = codes "--shapes"
 name_word Cycles = codes "--cycles"
 name_word Stack = codes "--stack"
 name_word Memory = codes "--memory"
@@ -23,21 +24,22 @@ name_word Write = codes "--write"
 name_word Micro = codes "--micro"
 
 abbrev pub all_names : List Name
-all_names = Main ∷ Method ∷ All ∷ Cycles ∷ Stack ∷ Memory ∷ Blocks ∷ BlockWords ∷ Read ∷ Write ∷ Micro ∷ []
+all_names = Main ∷ Method ∷ All ∷ Shapes ∷ Cycles ∷ Stack ∷ Memory ∷ Blocks ∷ BlockWords ∷ Read ∷ Write ∷ Micro ∷ []
 
 -- the place of an option among all
 abbrev pub place_of : Name → ℕ
 place_of Main = 0
 place_of Method = 1
 place_of All = 2
-place_of Cycles = 3
-place_of Stack = 4
-place_of Memory = 5
-place_of Blocks = 6
-place_of BlockWords = 7
-place_of Read = 8
-place_of Write = 9
-place_of Micro = 10
+place_of Shapes = 3
+place_of Cycles = 4
+place_of Stack = 5
+place_of Memory = 6
+place_of Blocks = 7
+place_of BlockWords = 8
+place_of Read = 9
+place_of Write = 10
+place_of Micro = 11
 
 abbrev pub same_name : Name → Name → Bool
 same_name a b = place_of a == place_of b
@@ -45,7 +47,10 @@ same_name a b = place_of a == place_of b
 -- the options beside which this one is not given: itself, since none is given twice, and those that exclude it
 abbrev pub rivals : Name → List Name
 rivals Method = Method ∷ All ∷ []
-rivals All = All ∷ Method ∷ []
+rivals All = All ∷ Method ∷ Shapes ∷ []
+rivals Shapes = Shapes ∷ All ∷ Blocks ∷ BlockWords ∷ []
+rivals Blocks = Blocks ∷ Shapes ∷ []
+rivals BlockWords = BlockWords ∷ Shapes ∷ []
 rivals name = name ∷ []
 
 -- what an option takes: nothing, a word, a number from one to another, or one of some numbers
@@ -59,6 +64,7 @@ abbrev pub value_of_name : Name → Value
 value_of_name Main = AWord
 value_of_name Method = AWord
 value_of_name All = Nothing
+value_of_name Shapes = Nothing
 value_of_name Cycles = ANumber 0 (2 ^ 63 - 1)
 value_of_name Stack = OneOf (256 ∷ 512 ∷ 1024 ∷ [])
 value_of_name Memory = ANumber 16 16777216
@@ -85,6 +91,7 @@ abbrev pub verb_word : Verb → List ℕ
 verb_word Link = codes "link"
 verb_word Run = codes "run"
 verb_word Trace = codes "trace"
+verb_word Profile = codes "profile"
 verb_word Bound = codes "bound"
 verb_word Check = codes "check"
 verb_word Loops = codes "loops"
@@ -94,7 +101,7 @@ verb_word Asm = codes "asm"
 verb_word Work = codes "work"
 
 abbrev pub all_verbs : List Verb
-all_verbs = Link ∷ Run ∷ Trace ∷ Bound ∷ Check ∷ Loops ∷ Headers ∷ Need ∷ Asm ∷ Work ∷ []
+all_verbs = Link ∷ Run ∷ Trace ∷ Profile ∷ Bound ∷ Check ∷ Loops ∷ Headers ∷ Need ∷ Asm ∷ Work ∷ []
 
 -- the four that a bound depends on
 abbrev pub bound_names : List Name
@@ -107,7 +114,8 @@ abbrev pub names_of : Verb → List Name
 names_of Link = Main ∷ []
 names_of Run = run_names
 names_of Trace = Micro ∷ run_names
-names_of Bound = Method ∷ All ∷ bound_names
+names_of Profile = run_names
+names_of Bound = Method ∷ All ∷ Shapes ∷ bound_names
 names_of Check = bound_names
 names_of Loops = []
 names_of Headers = []
@@ -132,6 +140,7 @@ abbrev pub operands_of : Verb → Operands
 operands_of Link = OneOrMore
 operands_of Run = Exactly 1
 operands_of Trace = Exactly 1
+operands_of Profile = Exactly 2
 operands_of Bound = Exactly 2
 operands_of Check = Exactly 3
 operands_of Loops = Exactly 1

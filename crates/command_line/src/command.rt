@@ -36,6 +36,12 @@ pub enum Command {
         micro: bool,
         image: u32,
     },
+    /// The image runs, and what the activations of its methods took is told beside their bounds.
+    Profile {
+        settings: Settings,
+        image: u32,
+        bounds: u32,
+    },
     Bound {
         settings: Settings,
         method: u32,
@@ -45,6 +51,13 @@ pub enum Command {
     /// The bounds of all methods.
     BoundAll {
         settings: Settings,
+        image: u32,
+        bounds: u32,
+    },
+    /// The bound of a method in each shape of the method cache, whatever shape the settings have.
+    BoundShapes {
+        settings: Settings,
+        method: u32,
         image: u32,
         bounds: u32,
     },

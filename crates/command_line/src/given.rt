@@ -14,6 +14,7 @@ pub(crate) struct Given {
     pub(crate) main: Option<u32>,
     pub(crate) method: Option<u32>,
     pub(crate) all: Option<u32>,
+    pub(crate) shapes: Option<u32>,
     pub(crate) cycles: Option<u64>,
     pub(crate) stack: Option<u32>,
     pub(crate) memory: Option<u32>,
@@ -29,6 +30,7 @@ pub(crate) const NONE_GIVEN: Given = Given {
     main: None,
     method: None,
     all: None,
+    shapes: None,
     cycles: None,
     stack: None,
     memory: None,
@@ -83,7 +85,7 @@ pub(crate) fn meaning(name: Name, k: u32, word: &str) -> Option<u64>
         Name::Blocks => number_from(1, 256, word),
         Name::BlockWords => number_from(1, 1024, word),
         Name::Read | Name::Write => number_from(0, 63, word),
-        Name::Micro | Name::All => None,
+        Name::Micro | Name::All | Name::Shapes => None,
     }
 }
 
@@ -94,16 +96,28 @@ impl Given {
     {
         match name {
             Name::Main => self.main.is_some(),
-            Name::Method | Name::All => self.method.is_some() || self.all.is_some(),
+            Name::Method => self.method.is_some() || self.all.is_some(),
+            Name::All => self.all.is_some() || self.method.is_some() || self.shapes.is_some(),
+            Name::Shapes => self.is_shape_taken(),
             Name::Cycles => self.cycles.is_some(),
             Name::Stack => self.stack.is_some(),
             Name::Memory => self.memory.is_some(),
-            Name::Blocks => self.blocks.is_some(),
-            Name::BlockWords => self.block_words.is_some(),
+            Name::Blocks => self.blocks.is_some() || self.shapes.is_some(),
+            Name::BlockWords => self.block_words.is_some() || self.shapes.is_some(),
             Name::Read => self.read.is_some(),
             Name::Write => self.write.is_some(),
             Name::Micro => self.micro.is_some(),
         }
+    }
+
+    /// Whether the option was given that asks for each shape, or one that excludes it.
+    fn is_shape_taken(&self) -> bool
+        ensures { result ≡ is_taken (values_of self.now) Name.Shapes }
+    {
+        self.shapes.is_some()
+            || self.all.is_some()
+            || self.blocks.is_some()
+            || self.block_words.is_some()
     }
 
     /// The same, with this option given too.
@@ -116,6 +130,7 @@ impl Given {
             Name::Main => made.main = Some(n as u32),
             Name::Method => made.method = Some(n as u32),
             Name::All => made.all = Some(n as u32),
+            Name::Shapes => made.shapes = Some(n as u32),
             Name::Cycles => made.cycles = Some(n),
             Name::Stack => made.stack = Some(n as u32),
             Name::Memory => made.memory = Some(n as u32),
@@ -137,6 +152,7 @@ impl Given {
             Verb::Bound => self.method.is_some() || self.all.is_some(),
             Verb::Run
             | Verb::Trace
+            | Verb::Profile
             | Verb::Check
             | Verb::Loops
             | Verb::Headers

@@ -9,6 +9,7 @@ pub(crate) enum Verb {
     Link,
     Run,
     Trace,
+    Profile,
     Bound,
     Check,
     Loops,
@@ -25,6 +26,7 @@ pub(crate) enum Name {
     Main,
     Method,
     All,
+    Shapes,
     Cycles,
     Stack,
     Memory,
@@ -45,6 +47,8 @@ pub(crate) fn verb_named(word: &str) -> Option<Verb>
         Some(Verb::Run)
     } else if word == "trace" {
         Some(Verb::Trace)
+    } else if word == "profile" {
+        Some(Verb::Profile)
     } else if word == "bound" {
         Some(Verb::Bound)
     } else if word == "check" {
@@ -74,6 +78,8 @@ fn name_named(word: &str) -> Option<Name>
         Some(Name::Method)
     } else if word == "--all" {
         Some(Name::All)
+    } else if word == "--shapes" {
+        Some(Name::Shapes)
     } else if word == "--cycles" {
         Some(Name::Cycles)
     } else if word == "--stack" {
@@ -101,9 +107,9 @@ fn has_name(verb: Verb, name: Name) -> bool
 {
     match verb {
         Verb::Link => matches!(name, Name::Main),
-        Verb::Run => is_of_run(name),
+        Verb::Run | Verb::Profile => is_of_run(name),
         Verb::Trace => matches!(name, Name::Micro) || is_of_run(name),
-        Verb::Bound => matches!(name, Name::Method | Name::All) || is_of_bound(name),
+        Verb::Bound => matches!(name, Name::Method | Name::All | Name::Shapes) || is_of_bound(name),
         Verb::Check => is_of_bound(name),
         Verb::Loops | Verb::Headers | Verb::Need | Verb::Asm | Verb::Work => false,
     }
@@ -130,7 +136,7 @@ fn is_of_bound(name: Name) -> bool
 pub(crate) fn is_flag(name: Name) -> bool
     ensures { result ≡ is_flag (value_of_name name) }
 {
-    matches!(name, Name::Micro | Name::All)
+    matches!(name, Name::Micro | Name::All | Name::Shapes)
 }
 
 /// The option of a command that a word names.

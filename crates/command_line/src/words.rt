@@ -112,7 +112,7 @@ fn operands_stop(verb: Verb, k: u32, operand: &str, rest: &[&str]) -> Option<u32
             }
         }
         Verb::Run | Verb::Trace | Verb::Loops | Verb::Asm => exactly(k, 1, operand, rest),
-        Verb::Bound => exactly(k, 2, operand, rest),
+        Verb::Profile | Verb::Bound => exactly(k, 2, operand, rest),
         Verb::Headers => {
             if operand.is_empty() {
                 Some(k)
@@ -138,6 +138,7 @@ fn operand_number(verb: Verb, operand: &str, rest: &[&str]) -> u32
         Verb::Link
         | Verb::Run
         | Verb::Trace
+        | Verb::Profile
         | Verb::Bound
         | Verb::Check
         | Verb::Loops
@@ -229,6 +230,11 @@ fn made(verb: Verb, given: &Given, k: u32, count: u32) -> Command
             micro: given.micro.is_some(),
             image: k,
         },
+        Verb::Profile => Command::Profile {
+            settings: given.settings(),
+            image: k,
+            bounds: k + 1,
+        },
         Verb::Bound => bound(given, k),
         Verb::Check => Command::Check {
             settings: given.settings(),
@@ -251,7 +257,7 @@ fn made(verb: Verb, given: &Given, k: u32, count: u32) -> Command
     }
 }
 
-/// The bound of one method or the bounds of all, whose image is word `k`.
+/// The bounds of all methods, or the bound of one, in each shape or in one; word `k` is the image.
 fn bound(given: &Given, k: u32) -> Command
     requires { k + 1 < 2 ^ 32 }
     ensures { result ≡ made Verb.Bound (values_of given.now) k 0 }
@@ -259,6 +265,13 @@ fn bound(given: &Given, k: u32) -> Command
     if given.all.is_some() {
         Command::BoundAll {
             settings: given.settings(),
+            image: k,
+            bounds: k + 1,
+        }
+    } else if given.shapes.is_some() {
+        Command::BoundShapes {
+            settings: given.settings(),
+            method: given.method.unwrap_or(0),
             image: k,
             bounds: k + 1,
         }
