@@ -64,8 +64,8 @@ module _ (done : List ℕ) (found : List MethodBound) (m : ℕ) (bound : MethodB
 -- ---- what is answered
 
 answer_is : (P : Program) (t : Timing) (bound_of : BoundOf) (ms : List ℕ) (m : ℕ) (bound : MethodBound) → AreBoundable P bound_of ms → Contains ms m → IsMethodBound P t bound_of m bound → IsBoundAnswer P t bound_of m (answer_by bound)
-answer_is P t bound_of ms m (bounds.Printed None) h has is = (record { calls = h.calls m has; reducible = h.ready.reducible m has; lines = h.ready.lines m has; size = is.1 }, is.0)
-answer_is P t bound_of ms m (bounds.Printed (Some n)) h has is = (record { calls = h.calls m has; reducible = h.ready.reducible m has; lines = h.ready.lines m has; size = is.1 }, is.0)
+answer_is P t bound_of ms m (bounds.Printed None) h has is = (record { calls = h.calls m has; reducible = h.ready.reducible m has; lines = h.ready.lines m has; size = is.1 }, is.0, is.2)
+answer_is P t bound_of ms m (bounds.Printed (Some n)) h has is = (record { calls = h.calls m has; reducible = h.ready.reducible m has; lines = h.ready.lines m has; size = is.1 }, is.0, is.2)
 answer_is P t bound_of ms m (bounds.TooLarge x) h has is = (h.calls m has, h.ready.reducible m has, h.ready.lines m has, is)
 
 refused_is : (P : Program) (t : Timing) (bound_of : BoundOf) (ms : List ℕ) (m : ℕ) (cause : Option BoundCause) → (Contains ms m → ⊥) → IsSortedOut P bound_of m cause ms → IsBoundAnswer P t bound_of m (refused_by cause)

@@ -2,12 +2,14 @@
 use Rattle.std.proofs.Common.{ℕ, ◌+◌, List, [], ◌∷◌, ◌++◌, get_or, Contains, Option, None, sym, ap, ◌∙◌, subst, inl, inr, arith}
 use Rattle.std.proofs.lemmas.List.{length_push}
 use Rattle.std.proofs.lemmas.Option.{slice_get_within}
+use Rattle.bound_rules.specs.Laws.{OneMoreMeets}
 use Rattle.wcet.specs.declared.ending.MethodBound.{MethodBound}
 use Rattle.wcet.specs.declared.methods.Methods.{Methods}
 use Rattle.wcet.specs.Known.{Setting, bounds_in, ForEach, known_at, IsKnownOf}
 use Rattle.wcet.specs.Ready.{AreBehindCalls}
 use Rattle.wcet.specs.Ending.{AreKnownWithin, IsMethodBound}
 use Rattle.wcet.specs.Sharing.{AreLeastWithin, AreMethodBounds, AreFoundFor}
+use Rattle.wcet.proofs.Gathering.{has_sections}
 use Rattle.wcet.proofs.KnownWithin.{agree_within, exceed_within, numbers_within}
 use Rattle.wcet.proofs.Pushed.{push_cases}
 
@@ -35,14 +37,15 @@ bounds_more set done bounds m x h here = record {
 }
 
 -- what is known of all that may run while one of them does
-pub each_known : (set : Setting) (order : List ℕ) (a : Methods) (least : List (Option ℕ)) → AreFoundFor set order a → AreLeastWithin set order a.table.items least → (m : ℕ) → Contains order m
+pub each_known : OneMoreMeets → (set : Setting) (order : List ℕ) (a : Methods) (least : List (Option ℕ)) → AreFoundFor set order a → AreLeastWithin set order a.table.items least → (m : ℕ) → Contains order m
     → ForEach set (λ P. AreKnownWithin P set.timing (bounds_in set) a.table.items (get_or least m None) m)
-each_known set order a least h within m has = λ P of.
+each_known one_more set order a least h within m has = λ P of.
     let table = a.table.items in
     let behind : AreBehindCalls P order = h.behind P of in
     let known : (x : ℕ) → Contains order x → IsKnownOf P set.timing (bounds_in set) table x (known_at table x) = h.found.known P of behind in
     record {
       agree = λ N are x inside. (agree_within P set.timing (bounds_in set) order table behind known m has N are x inside, exceed_within P set.timing (bounds_in set) order table behind known m has N are x inside);
       known = λ small. numbers_within P set.timing (bounds_in set) order table behind known m has small;
+      sections = has_sections one_more P set.timing (bounds_in set) order table behind known (h.found.shown P of behind) (λ x among. (get_or least x None, within.each P of behind x among)) m has;
       is_least = within.each P of behind m has;
     }

@@ -1,8 +1,10 @@
 -- The certificate of the root, once all methods of its order are found.
-use Rattle.std.proofs.Common.{◌≡◌, ℕ, ◌-◌, ◌<◌, ◌≤◌, ◌^◌, Bool, true, false, List, [], ◌∷◌, map, length, get_or, Contains, Option, Some, None, refl, sym, ap, ◌∙◌, subst, inr, arith}
-use Rattle.std.specs.Prelude.{AllPairs, IfSome, IfNone, IsTrue, unwrap_or}
+use Rattle.std.proofs.Common.{◌≡◌, ℕ, ◌<◌, ◌^◌, List, [], ◌∷◌, map, length, get_or, Contains, Option, Some, None, refl, sym, ap, ◌∙◌, subst, inr, arith}
+use Rattle.std.specs.Prelude.{AllPairs, IfSome, IfNone}
+use Rattle.std.proofs.lemmas.Bool.{false≢true}
 use Rattle.std.proofs.lemmas.List.{get_or-map, length-map}
 use Rattle.cache_regions.specs.Region.{AreDistinct}
+use Rattle.section_check.specs.Least.{IsLeast}
 use Rattle.section_check.specs.LeastLemmas.{least_same}
 use Rattle.bytecode_model.specs.Program.{Program}
 use Rattle.bound_cert.specs.CertLines.{IsBound}
@@ -11,28 +13,23 @@ use Rattle.bound_cert.specs.declared.cert.SectionSort.{SectionSort}
 use Rattle.bound_cert.specs.Certificate.{IsInGrammar, sort_of}
 use Rattle.method_flow.specs.Flow.{IsFlowOf}
 use Rattle.method_flow.specs.Keeping.{BoundOf}
-use Rattle.method_flow.specs.Regions.{load}
 use Rattle.method_flow.specs.Regions.IsWithin.{itself}
 use Rattle.method_flow.specs.declared.timing.Timing.{Timing}
 use Rattle.bound_rules.specs.declared.faults.BoundRefusal.{BoundRefusal}
 use Rattle.bound_rules.specs.declared.faults.BoundRefusal.TheVariants.{NoMethod, Recursion, Irreducible, MissingBound, TooLarge, NoMemory}
 use Rattle.bound_rules.specs.Conditions.{MeetsConditions}
-use Rattle.bound_rules.specs.Fitting.{RegionFits, loads_of}
-use Rattle.bound_rules.specs.Numbers.{IsFull}
-use Rattle.bound_rules.specs.Numbers.IsFull.{fits as full_fits, exceeds as full_exceeds}
-use Rattle.bound_rules.specs.Told.{Valued, SaysFull, value_in, with_cycles}
-use Rattle.bound_rules.specs.Told.SaysFull.{fits as says_fits, exceeds as says_exceeds}
+use Rattle.bound_rules.specs.Told.{SaysFull}
 use Rattle.compact_walks.specs.Limited.{limit}
 use Rattle.wcet.specs.declared.known.Known.{Known}
 use Rattle.wcet.specs.declared.methods.Methods.{Methods}
 use Rattle.wcet.specs.Known.{Setting, bounds_in, ForEach, known_at, IsKnownOf}
-use Rattle.wcet.specs.Laws.{numbers_by}
 use Rattle.wcet.specs.Methods.{IsLargeAmong, values_by}
-use Rattle.wcet.specs.Ending.{IsPrintedSmall, IsLargeWithin, AreKnownWithin, AreReadyFound}
+use Rattle.wcet.specs.Ending.{IsPrintedSmall, IsLargeWithin, AreSmallWithin, AreKnownWithin, AreReadyFound}
 use Rattle.wcet.specs.Ready.{AreBehindCalls, IsWantOfMemory, IsSizeCause}
 use Rattle.wcet.proofs.MoreFound.{value_found}
 use Rattle.wcet.proofs.KnownWithin.{agree_within, exceed_within, numbers_within}
-use Rattle.wcet.proofs.Ended.{all_small}
+use Rattle.wcet.proofs.Ended.{at_most, all_small}
+use Rattle.wcet.proofs.Gathering.{says_by}
 
 -- ---- what stands once
 
@@ -55,9 +52,27 @@ module _ (set : Setting) (root : ℕ) (a : Methods) (h : AreReadyFound set root 
   abbrev table : List Known
   table = a.table.items
 
+  -- what the sections say of the root with all its loads
+  says_root : (P : Program) → IsFlowOf P set.flow → AreSmallWithin P table root → SaysFull P set.timing (values_by table h.order) root (Some (known_at table root).full)
+  says_root P of small =
+      let ready = h.ready P of in
+      let behind : AreBehindCalls P h.order = ready.order.first in
+      let known = h.found.known P of behind in
+      let has : Contains h.order root = (ready.order.methods.each root).1 itself in
+      let numbers = numbers_within P set.timing (bounds_in set) h.order table behind known root has small in
+      says_by P set.timing table root (values_by table h.order) (known root has).told.fits (numbers.full root itself) (known_at table root).fits refl (value_found table root h.order has)
+
+  -- where none of them has a number that is too large, none of all has
+  least_none : (P : Program) → IsFlowOf P set.flow → AreSmallWithin P table root → (o : Option ℕ) → IsLeast (IsLargeAmong table h.order) o → o ≡ None
+  least_none P of small None least = refl
+  least_none P of small (Some x) least = absurd (false≢true (sym (small x (((h.ready P of).order.methods.each x).0 least.0.0)) ∙ least.0.1))
+
+  at_none : a.least ≡ None → (X : Type 0) → IfNone a.least X → X
+  at_none none X has = let I : Option ℕ → Type 0 = λ o. IfNone o X in subst I none has
+
   -- what is known of all that may run
-  pub root_known : ForEach set (λ P. AreKnownWithin P set.timing (bounds_in set) table a.least root)
-  root_known P of =
+  pub root_known : root < length set.flow.methods → ForEach set (λ P. AreKnownWithin P set.timing (bounds_in set) table a.least root)
+  root_known inside P of =
       let ready = h.ready P of in
       let behind : AreBehindCalls P h.order = ready.order.first in
       let known : (x : ℕ) → Contains h.order x → IsKnownOf P set.timing (bounds_in set) table x (known_at table x) = h.found.known P of behind in
@@ -65,19 +80,23 @@ module _ (set : Setting) (root : ℕ) (a : Methods) (h : AreReadyFound set root 
       record {
         agree = λ N are x within. (agree_within P set.timing (bounds_in set) h.order table behind known root has N are x within, exceed_within P set.timing (bounds_in set) h.order table behind known root has N are x within);
         known = λ small. numbers_within P set.timing (bounds_in set) h.order table behind known root has small;
+        sections = λ small. record {
+          sections = a.sections.items;
+          values = values_by table h.order;
+          meet = at_none (least_none P of small a.least h.found.least) _ h.found.meet P of behind;
+          coded = (of.coded root).1 inside;
+          says = says_root P of small;
+        };
         is_least = least_same (IsLargeAmong table h.order) (IsLargeWithin P table root) a.least (λ u large. ((ready.order.methods.each u).0 large.0, large.1)) (λ u large. ((ready.order.methods.each u).1 large.0, large.1)) h.found.least;
       }
 
   module _ (bound : Option ℕ) (none : a.least ≡ None) (printed : IsPrintedSmall set (known_at table root).full bound) where
-    at_none : (X : Type 0) → IfNone a.least X → X
-    at_none X has = let I : Option ℕ → Type 0 = λ o. IfNone o X in subst I none has
-
     pub in_grammar : root < 2 ^ 32 → IsInGrammar (record { version = 2; root = root; sections = a.sections.items; bound = bound })
     in_grammar small = record {
       version = inr refl;
       root = small;
       sections = h.found.in_text;
-      apart = sorts_apart a.sections.items h.order (at_none _ h.found.methods) h.distinct;
+      apart = sorts_apart a.sections.items h.order (at_none none _ h.found.methods) h.distinct;
       bound = in_range bound printed.within;
     }
       where
@@ -85,50 +104,15 @@ module _ (set : Setting) (root : ℕ) (a : Methods) (h : AreReadyFound set root 
         in_range None within = tt
         in_range (Some n) within = within
 
-    abbrev values : List Valued
-    values = values_by table h.order
-
-    abbrev fits : Bool
-    fits = (known_at table root).fits
-
-    abbrev asked : Option ℕ
-    asked = (known_at table root).asked
-
-    -- with the loads of all, or those of the method itself
-    said_by : (P : Program) → IsFlowOf P set.flow → (IsTrue fits → RegionFits P set.timing root) × (RegionFits P set.timing root → IsTrue fits) → IsFull P set.timing (numbers_by table) root → (b : Bool) → fits ≡ b
-        → value_in fits root values ≡ Some asked → SaysFull P set.timing values root (Some (known_at table root).full)
-    said_by P of told (full_fits together e) b is value =
-        let V : Bool → Type 0 = λ c. value_in c root values ≡ Some asked in
-        let here : value_in true root values ≡ Some asked = subst V (told.1 together) value in
-        says_fits together (ap (λ (o : Option ℕ). Some o) e ∙ ap (with_cycles (loads_of together)) (sym here))
-    said_by P of told (full_exceeds apart e) true is value = absurd (apart (told.0 is))
-    said_by P of told (full_exceeds apart e) false is value =
-        let V : Bool → Type 0 = λ c. value_in c root values ≡ Some asked in
-        let here : value_in false root values ≡ Some asked = subst V is value in
-        says_exceeds apart (ap (λ (o : Option ℕ). Some o) e ∙ ap (with_cycles (load P set.timing.read root)) (sym here))
-
-    -- what the sections say of the root with all its loads
-    says_root : (P : Program) → IsFlowOf P set.flow → SaysFull P set.timing (values_by table h.order) root (Some (known_at table root).full)
-    says_root P of =
-        let ready = h.ready P of in
-        let has : Contains h.order root = (ready.order.methods.each root).1 itself in
-        let known = h.found.known P of ready.order.first root has in
-        let numbers = (root_known P of).known (all_small P set.timing (bounds_in set) table a.least root (root_known P of) none) in
-        said_by P of known.told.fits (numbers.full root itself) (known_at table root).fits refl (value_found table root h.order has)
-
     pub meets : (P : Program) → IsFlowOf P set.flow → root < length set.flow.methods → MeetsConditions P set.timing (bounds_in set) (record { version = 2; root = root; sections = a.sections.items; bound = bound })
     meets P of inside = record {
       values = values_by table h.order;
-      sections = at_none _ h.found.meet P of (h.ready P of).order.first;
+      sections = at_none none _ h.found.meet P of (h.ready P of).order.first;
       coded = (of.coded root).1 inside;
       full = (known_at table root).full;
-      says = says_root P of;
+      says = says_root P of (all_small P set.timing (bounds_in set) table a.least root (root_known inside P of) none);
       right = record { printed = printed.printed P of; small = at_most bound printed.within };
     }
-      where
-        at_most : (o : Option ℕ) → IfSome o (λ b. b < limit) → unwrap_or o 0 ≤ 2 ^ 64 - 1
-        at_most None within = omega arith
-        at_most (Some n) within = omega arith
 
 -- ---- want of memory
 

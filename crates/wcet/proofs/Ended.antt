@@ -1,27 +1,30 @@
 -- What is answered of a method, by what is known of all that may run while it does.
-use Rattle.std.proofs.Common.{◌≡◌, ◌⊎◌, ℕ, ◌<◌, ◌≤◌, ◌^◌, Bool, true, false, List, Option, Some, None, refl, sym, ap, ◌∙◌, subst, inl, inr, arith}
-use Rattle.std.specs.Prelude.{IfSome}
+use Rattle.std.proofs.Common.{◌≡◌, ◌⊎◌, ℕ, ◌<◌, ◌≤◌, ◌^◌, List, Option, Some, None, refl, sym, ap, ◌∙◌, subst, inl, inr, arith}
+use Rattle.std.specs.Prelude.{IfSome, unwrap_or}
+use Rattle.std.proofs.lemmas.Bool.{false_from_ne_true}
 use Rattle.lists.specs.Lemmas.{map_some, if_at}
 use Rattle.section_check.specs.Least.{IsLeast, lesser_of}
 use Rattle.section_check.specs.LeastLemmas.{least_either}
 use Rattle.bytecode_model.specs.Program.{Program}
 use Rattle.method_flow.specs.Flow.{IsFlowOf}
 use Rattle.method_flow.specs.Keeping.{BoundOf}
-use Rattle.method_flow.specs.Regions.{IsWithin}
 use Rattle.method_flow.specs.Regions.IsWithin.{itself}
 use Rattle.method_flow.specs.Costs.{IsPrintedOf}
 use Rattle.method_flow.specs.declared.timing.Timing.{Timing}
 use Rattle.bound_rules.specs.Bounding.{ExceedsSize, IsTooLarge, IsFirstTooLarge}
 use Rattle.bound_rules.specs.Bounding.ExceedsSize.{full as size_full, printed as size_printed, inside as size_inside, loops as size_loops}
+use Rattle.bound_rules.specs.Conditions.{IsRight}
 use Rattle.bound_rules.specs.Laws.{PrintedIsTold}
 use Rattle.bound_rules.specs.Numbers.{Numbers, AreNumbers, IsPrinted}
+use Rattle.bound_rules.specs.Told.{most_cycles}
 use Rattle.compact_walks.specs.Limited.{limit, limited, limited_of}
 use Rattle.wcet.specs.declared.known.Known.{Known}
 use Rattle.wcet.specs.declared.ending.MethodBound.TheVariants.{Printed}
 use Rattle.wcet.specs.Known.{Setting, known_at, ExceedsBeside}
 use Rattle.wcet.specs.Known.ExceedsBeside.{full as beside_full, inside as beside_inside, loops as beside_loops}
 use Rattle.wcet.specs.Laws.{numbers_by}
-use Rattle.wcet.specs.Ending.{IsPastLimit, IsLargeWithin, AreKnownWithin, IsMethodBound}
+use Rattle.wcet.specs.Certified.{IsCertified}
+use Rattle.wcet.specs.Ending.{IsPastLimit, IsLargeWithin, AreSmallWithin, HasSections, AreKnownWithin, IsMethodBound}
 use Rattle.wcet.specs.Ending.IsPastLimit.{number as beyond_number, printed as beyond_printed}
 use Rattle.wcet.proofs.Limiting.{small_is, large_is as large_number}
 
@@ -39,6 +42,11 @@ past_number o full n e is past =
     let m = map_some limited o n (sym e ∙ is) in
     let P : ℕ → Type 0 = λ k. limit ≤ k in
     (m.0, m.1, large_number m.0 (subst P (sym m.2) past))
+
+-- a number below the limit can be held
+pub at_most : (o : Option ℕ) → IfSome o (λ n. n < limit) → unwrap_or o 0 ≤ most_cycles
+at_most None within = omega arith
+at_most (Some n) within = omega arith
 
 -- ---- one family of numbers
 
@@ -91,24 +99,30 @@ module _ (P : Program) (t : Timing) (bound_of : BoundOf) (table : List Known) (l
   none_large : least ≡ None → (x : ℕ) → IsLargeWithin P table m x → ⊥
   none_large e = let L : Option ℕ → Type 0 = λ o. IsLeast (IsLargeWithin P table m) o in subst L e h.is_least
 
-  pub all_small : least ≡ None → (x : ℕ) → IsWithin P m x → (known_at table x).too_large ≡ false
-  all_small e x within = by (known_at table x).too_large refl
-    where
-      by : (b : Bool) → (known_at table x).too_large ≡ b → (known_at table x).too_large ≡ false
-      by true large = absurd (none_large e x (within, large))
-      by false small = small
+  pub all_small : least ≡ None → AreSmallWithin P table m
+  all_small e x within = false_from_ne_true (known_at table x).too_large (λ large. none_large e x (within, large))
+
+  certified : (bound : Option ℕ) → HasSections P t bound_of table m → IsRight P t (known_at table m).full bound → IsCertified P t bound_of m bound
+  certified bound s right = record {
+    certificate = record { version = 2; root = m; sections = s.sections; bound = bound };
+    meets = record { values = s.values; sections = s.meet; coded = s.coded; full = (known_at table m).full; says = s.says; right = right };
+    of_method = refl;
+    says = refl;
+  }
 
   module _ (told : PrintedIsTold) (full : Option ℕ) (is : full ≡ (known_at table m).full) where
     pub printed_bound : (bound : Option ℕ) → least ≡ None → IfSome full (λ n. n < limit) → IfSome bound (λ n. n < limit) → IsPrintedOf P t full bound → IsMethodBound P t bound_of m (Printed bound)
     printed_bound bound none small within printed =
         let O : Option ℕ → Type 0 = λ o. IsPrintedOf P t o bound in
-        let one : IsPrinted P t bound_of m bound = record { numbers = numbers_by table; are = h.known (all_small none); of_root = subst O is printed } in (
+        let of_root : IsPrintedOf P t (known_at table m).full bound = subst O is printed in
+        let one : IsPrinted P t bound_of m bound = record { numbers = numbers_by table; are = h.known (all_small none); of_root = of_root } in (
           one,
           λ N are x large.
               elim (large_cases N are x large) [
                 | inl known ↦ none_large none x known
                 | inr other ↦ not_printed N are told full is bound small within printed other.1.0 other.1.1 other.1.2
               ],
+          certified bound (h.sections (all_small none)) (record { printed = of_root; small = at_most bound within }),
         )
 
     pub least_bound : (x : ℕ) (bound : Option ℕ) → least ≡ Some x → IfSome full (λ n. n < limit) → IfSome bound (λ n. n < limit) → IsPrintedOf P t full bound → IsFirstTooLarge P t bound_of m x

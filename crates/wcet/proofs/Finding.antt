@@ -43,6 +43,7 @@ none_found st n a table least sections long =
       long = ap length table ∙ (length-replicate n unknown ∙ long);
       limited = subst T (sym table) (all_unknown n);
       known = λ P of behind m has. absurd (nil_contains m has);
+      shown = λ P of behind m has. absurd (nil_contains m has);
       least = subst O (sym least) (λ u large. nil_contains u large.0);
       in_text = subst S (sym sections) (λ i d lt. absurd (omega arith));
       methods = subst N (sym least) (subst M (sym sections) refl);

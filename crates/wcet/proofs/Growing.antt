@@ -9,9 +9,10 @@ use Rattle.bytecode_model.specs.Program.{Program}
 use Rattle.method_flow.specs.Keeping.{BoundOf}
 use Rattle.method_flow.specs.Recursion.{MayCall}
 use Rattle.method_flow.specs.declared.timing.Timing.{Timing}
-use Rattle.bound_rules.specs.Told.{Valued}
+use Rattle.bound_rules.specs.Told.{Valued, value_in}
 use Rattle.wcet.specs.declared.known.Known.{Known}
 use Rattle.wcet.specs.Known.{unknown, known_at, IsKnownOf, Agrees, HasNumbers}
+use Rattle.wcet.specs.Found.{HasSection}
 use Rattle.wcet.specs.Methods.{values_by}
 use Rattle.wcet.specs.Ready.{AreBehindCalls}
 
@@ -31,6 +32,15 @@ known_stays P t bound_of table other m k same h = record {
   agrees = λ N agree are. h.agrees N (λ x call. let A : Known → Type 0 = λ o. Agrees P t N x o in subst A (same x call) (agree x call)) are;
   exceeds = λ N agree are. h.exceeds N (λ x call. let A : Known → Type 0 = λ o. Agrees P t N x o in subst A (same x call) (agree x call)) are;
   found = λ small N has here. h.found small N (λ x call. let A : Known → Type 0 = λ o. HasNumbers P t N x o in subst A (same x call) (has x call)) here;
+}
+
+-- and so does its section
+pub section_stays : (P : Program) (t : Timing) (bound_of : BoundOf) (table other : List Known) (m : ℕ) (k : Known) → ((x : ℕ) → MayCall P m x → known_at other x ≡ known_at table x) → HasSection P t bound_of table m k
+    → HasSection P t bound_of other m k
+section_stays P t bound_of table other m k same h = record {
+  section = h.section;
+  of_method = h.of_method;
+  shows = λ earlier cover. h.shows earlier (λ x call. let C : Known → Type 0 = λ o. value_in o.fits x earlier ≡ Some o.asked in subst C (same x call) (cover x call));
 }
 
 abbrev value_of_known : List Known → ℕ → Valued

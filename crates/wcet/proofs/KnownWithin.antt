@@ -22,14 +22,14 @@ within_call P m x y (calls {m = a} {t = t} {x = b} p start invoke target rest) c
 
 module _ (P : Program) (t : Timing) (bound_of : BoundOf) (order : List ℕ) (table : List Known) (behind : AreBehindCalls P order) (known : (x : ℕ) → Contains order x → IsKnownOf P t bound_of table x (known_at table x)) where
   -- where a method stands
-  at : (x : ℕ) → Contains order x → (i : ℕ) × (i < length order) × (slice_get order i ≡ Some x)
+  pub at : (x : ℕ) → Contains order x → (i : ℕ) × (i < length order) × (slice_get order i ≡ Some x)
   at x has = (has.0, has.1, slice_get-get_or order has.0 x has.1 ∙ ap (λ (y : ℕ). Some y) has.2)
 
-  among : (i x : ℕ) → slice_get order i ≡ Some x → Contains order x
+  pub among : (i x : ℕ) → slice_get order i ≡ Some x → Contains order x
   among i x is = (i, slice_get_within order i x is, get_or_from_slice_get order i x x is)
 
   -- what it may call stands before it
-  before : (i x y : ℕ) → slice_get order i ≡ Some x → MayCall P x y → (j : ℕ) × (j < i) × (slice_get order j ≡ Some y)
+  pub before : (i x y : ℕ) → slice_get order i ≡ Some x → MayCall P x y → (j : ℕ) × (j < i) × (slice_get order j ≡ Some y)
   before i x y is call =
       let inside = slice_get_within order i x is in
       let has = behind i x y is call in

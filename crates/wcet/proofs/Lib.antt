@@ -44,6 +44,7 @@ mod MoreFound
 mod Finding
 mod KnownWithin
 mod Ended
+mod Gathering
 pub mod Ordering
 mod Certifying
 mod Besides

@@ -1,7 +1,7 @@
 -- What is found of methods, with one more behind them.
 use Rattle.std.proofs.Common.{◌≡◌, ◌⊎◌, ℕ, ◌<◌, Bool, true, false, ◌&&◌, ◌==◌, List, [], ◌∷◌, ◌++◌, map, length, set, Contains, Option, Some, None, refl, sym, ap, ◌∙◌, subst, inl, inr, arith}
 use Rattle.std.specs.Prelude.{All, IfNone, if◌then◌else◌}
-use Rattle.std.proofs.lemmas.Bool.{cases_eq, eq-eqb, ne_eqb, cond-true, cond-false}
+use Rattle.std.proofs.lemmas.Bool.{cases_eq, eq-eqb, ne_eqb, cond-true, cond-false, false≢true}
 use Rattle.std.proofs.lemmas.List.{length-set, map-append}
 use Rattle.std.proofs.lemmas.List.Elements.{All-set, All-push, Contains-push, Contains-push_cases, Contains-append_left}
 use Rattle.std.specs.Cmp.Derive.{both_true}
@@ -21,10 +21,10 @@ use Rattle.wcet.specs.declared.known.Known.{Known}
 use Rattle.wcet.specs.declared.found.Found.{Found}
 use Rattle.wcet.specs.declared.methods.Methods.{Methods}
 use Rattle.wcet.specs.Known.{Setting, bounds_in, ForEach, known_at, IsLimited, AreTold, IsKnownOf}
-use Rattle.wcet.specs.Found.{kind_of, Cover, ShowsNumber, IsSectionOf, IsFoundOf}
+use Rattle.wcet.specs.Found.{kind_of, Cover, ShowsNumber, IsSectionOf, HasSection, IsFoundOf}
 use Rattle.wcet.specs.Methods.{values_by, IsLargeAmong, AreMethodsFound, AddsMethod}
 use Rattle.wcet.specs.Ready.{AreBehindCalls}
-use Rattle.wcet.proofs.Growing.{known_same, known_new, known_stays, values_same, front_behind, last_behind, called_before}
+use Rattle.wcet.proofs.Growing.{known_same, known_new, known_stays, section_stays, values_same, front_behind, last_behind, called_before}
 
 -- ---- the values of sections
 
@@ -55,14 +55,19 @@ kind_is_inside true = refl
 kind_is_inside false = refl
 
 -- the value of a section, by what is known of the method
+pub section_says : (m : ℕ) (k : Known) (s : CertSection) → IsSectionOf m k s → record { method = m; inside = k.fits; value = k.asked } ≡ section_value s k.asked
+section_says m k s h =
+    let W : ℕ → Valued = λ x. record { method = x; inside = k.fits; value = k.asked } in
+    let U : Bool → Valued = λ b. record { method = s.method; inside = b; value = k.asked } in
+    let kind : is_inside s.kind ≡ k.fits = ap is_inside h.kind ∙ kind_is_inside k.fits in
+    ap W (sym h.method) ∙ ap U (sym kind)
+
+-- and behind others, by what is found of it
 pub value_is : (table : List Known) (m : ℕ) (k : Known) (s : CertSection) → m < length table → IsSectionOf m k s
     → values_by (set table m k) (m ∷ []) ≡ section_value s k.asked ∷ []
 value_is table m k s inside h =
     let V : Known → List Valued = λ o. record { method = m; inside = o.fits; value = o.asked } ∷ [] in
-    let W : ℕ → List Valued = λ x. record { method = x; inside = k.fits; value = k.asked } ∷ [] in
-    let U : Bool → List Valued = λ b. record { method = s.method; inside = b; value = k.asked } ∷ [] in
-    let kind : is_inside s.kind ≡ k.fits = ap is_inside h.kind ∙ kind_is_inside k.fits in
-    ap V (known_new table m k inside) ∙ (ap W (sym h.method) ∙ ap U (sym kind))
+    ap V (known_new table m k inside) ∙ ap (λ (v : Valued). v ∷ []) (section_says m k s h)
 
 -- ---- the least with a number that is too large
 
@@ -177,6 +182,39 @@ module _ (one_more : OneMoreMeets) (st : Setting) (done : List ℕ) (m : ℕ) (o
         map-append (λ (x : CertSection). x.method) old.sections.items (s ∷ [])
         ∙ (ap (λ (xs : List ℕ). xs ++ s.method ∷ []) e ∙ ap (λ (x : ℕ). done ++ x ∷ []) section_is.method)
 
+  -- the section of an earlier one
+  shown_before : (P : Program) → IsFlowOf P st.flow → AreBehindCalls P (done ++ m ∷ []) → (x : ℕ) → Contains done x → (known_at (set table m k) x).too_large ≡ false
+      → HasSection P st.timing (bounds_in st) (set table m k) x (known_at (set table m k) x)
+  shown_before P of behind x before =
+      let front = front_behind P done m behind in
+      let H : Known → Type 0 = λ o. o.too_large ≡ false → HasSection P st.timing (bounds_in st) (set table m k) x o in
+      subst H (sym (known_same table m x k (unmet x before)))
+      (λ small. section_stays P st.timing (bounds_in st) table (set table m k) x (known_at table x) (λ y call. known_same table m y k (unmet y (called_before P done m behind x y before call))) (h.shown P of front x before small))
+
+  -- and that of the method m
+  section_here : (P : Program) → IsFlowOf P st.flow → AreBehindCalls P (done ++ m ∷ []) → k.too_large ≡ false → HasSection P st.timing (bounds_in st) table m k
+  section_here P of behind small =
+      elim (section_cases m k found.section is.none is.some) [
+        | inl x ↦ absurd (false≢true (sym small ∙ x.0))
+        | inr x ↦ record { section = x.1.0; of_method = section_is x.1.0 x.1.1; shows = shows x.1.0 x.1.1 P of behind }
+      ]
+
+  shown_here : (P : Program) → IsFlowOf P st.flow → AreBehindCalls P (done ++ m ∷ []) → (known_at (set table m k) m).too_large ≡ false → HasSection P st.timing (bounds_in st) (set table m k) m (known_at (set table m k) m)
+  shown_here P of behind =
+      let H : Known → Type 0 = λ o. o.too_large ≡ false → HasSection P st.timing (bounds_in st) (set table m k) m o in
+      subst H (sym (known_new table m k inside))
+      (λ small. section_stays P st.timing (bounds_in st) table (set table m k) m k (λ y call. known_same table m y k (unmet y (last_behind P done m behind y call))) (section_here P of behind small))
+
+  shown_all : (P : Program) → IsFlowOf P st.flow → AreBehindCalls P (done ++ m ∷ []) → (x : ℕ) → Contains (done ++ m ∷ []) x → (known_at (set table m k) x).too_large ≡ false
+      → HasSection P st.timing (bounds_in st) (set table m k) x (known_at (set table m k) x)
+  shown_all P of behind x has =
+      elim (Contains-push_cases done m x has) [
+        | inl before ↦ shown_before P of behind x before
+        | inr same ↦
+            let H : ℕ → Type 0 = λ y. (known_at (set table m k) y).too_large ≡ false → HasSection P st.timing (bounds_in st) (set table m k) y (known_at (set table m k) y) in
+            subst H same (shown_here P of behind)
+      ]
+
   -- with the sections as they are then
   abbrev With : (tb : List Known) (o : Option ℕ) (ss : List CertSection) → Type 0
   With tb o ss = IsLeast (IsLargeAmong tb (done ++ m ∷ [])) o
@@ -215,10 +253,13 @@ module _ (one_more : OneMoreMeets) (st : Setting) (done : List ℕ) (m : ℕ) (o
   found_more =
       let w = all_with in
       let K : List Known → Type 0 = λ tb. (P : Program) → IsFlowOf P st.flow → AreBehindCalls P (done ++ m ∷ []) → (x : ℕ) → Contains (done ++ m ∷ []) x → IsKnownOf P st.timing (bounds_in st) tb x (known_at tb x) in
+      let H : List Known → Type 0 = λ tb. (P : Program) → IsFlowOf P st.flow → AreBehindCalls P (done ++ m ∷ []) → (x : ℕ) → Contains (done ++ m ∷ []) x → (known_at tb x).too_large ≡ false
+      → HasSection P st.timing (bounds_in st) tb x (known_at tb x) in
       record {
         long = ap length adds.table ∙ (length-set table m k ∙ h.long);
         limited = (let L : List Known → Type 0 = λ tb. All IsLimited tb in subst L (sym adds.table) (All-set IsLimited table m k is.limited h.limited));
         known = subst K (sym adds.table) known_all;
+        shown = subst H (sym adds.table) shown_all;
         least = w.0;
         in_text = w.1;
         methods = w.2;

@@ -1,14 +1,17 @@
 -- What is answered of a method, once what may run while it does is known.
-use Rattle.std.specs.Prelude.{◌≡◌, ◌↔◌, ℕ, ◌<◌, ◌≤◌, true, false, List, Option, Some, None, IfSome, IsTrue}
+use Rattle.std.specs.Prelude.{◌≡◌, ◌↔◌, ℕ, ◌<◌, ◌≤◌, true, false, List, [], Option, Some, None, IfSome, IsSome, IsTrue}
 use Rattle.cache_regions.specs.Region.{AreDistinct}
 use Rattle.section_check.specs.Least.{IsLeast}
-use Rattle.bytecode_model.specs.Program.{Program}
+use Rattle.bytecode_model.specs.Program.{Program, body_of}
+use Rattle.bound_cert.specs.declared.cert.CertSection.{CertSection}
 use Rattle.method_flow.specs.Keeping.{BoundOf}
 use Rattle.method_flow.specs.Regions.{IsWithin}
 use Rattle.method_flow.specs.Costs.{IsPrintedOf}
 use Rattle.method_flow.specs.declared.timing.Timing.{Timing}
 use Rattle.bound_rules.specs.Bounding.{IsFirstTooLarge, KeepSize}
+use Rattle.bound_rules.specs.Conditions.{MeetAll}
 use Rattle.bound_rules.specs.Numbers.{Numbers, AreNumbers, IsPrinted}
+use Rattle.bound_rules.specs.Told.{Valued, SaysFull}
 use Rattle.compact_walks.specs.Limited.{limit}
 use Rattle.wcet.specs.declared.known.Known.{Known}
 use Rattle.wcet.specs.declared.ending.MethodBound.{MethodBound}
@@ -18,6 +21,7 @@ use Rattle.wcet.specs.Known.{Setting, bounds_in, ForEach, known_at, Agrees, Exce
 use Rattle.wcet.specs.Laws.{numbers_by}
 use Rattle.wcet.specs.Methods.{AreMethodsFound}
 use Rattle.wcet.specs.Ready.{IsReady}
+pub use Rattle.wcet.specs.Certified.{IsCertified}
 
 -- ---- what is printed
 
@@ -38,19 +42,34 @@ pub record IsPrintedSmall (set : Setting) (full bound : Option ℕ) : Type 0 whe
 abbrev pub IsLargeWithin : Program → List Known → (m large : ℕ) → Type 0
 IsLargeWithin P table m x = IsWithin P m x × ((known_at table x).too_large ≡ true)
 
+-- none of all that may run while m does has one
+abbrev pub AreSmallWithin : Program → List Known → (m : ℕ) → Type 0
+AreSmallWithin P table m = (x : ℕ) → IsWithin P m x → (known_at table x).too_large ≡ false
+
+-- sections that meet their conditions one behind the other say of the method m, with all its loads, what is known of it
+pub record HasSections (P : Program) (t : Timing) (bound_of : BoundOf) (table : List Known) (m : ℕ) : Type 0 where
+  pub sections : List CertSection
+  pub values : List Valued
+  pub meet : MeetAll P t bound_of [] sections values
+  pub coded : IsSome (body_of P m)
+  pub says : SaysFull P t values m (Some (known_at table m).full)
+
 -- Of all that may run while m does: every family of numbers of m agrees with what is known, and has a number that is too large just where that is
--- known; and where none is too large, the numbers that are known are those of m. The least of those with one that is too large is `least`.
+-- known; and where none is too large, the numbers that are known are those of m, and there are sections that say so. The least of those with one that
+-- is too large is `least`.
 pub record AreKnownWithin (P : Program) (t : Timing) (bound_of : BoundOf) (table : List Known) (least : Option ℕ) (m : ℕ) : Type 0 where
   pub agree : (N : Numbers) → AreNumbers P t bound_of m N → (x : ℕ) → IsWithin P m x
       → Agrees P t N x (known_at table x) × (IsTrue (known_at table x).too_large ↔ ExceedsBeside P t bound_of N x)
-  pub known : ((x : ℕ) → IsWithin P m x → (known_at table x).too_large ≡ false) → AreNumbers P t bound_of m (numbers_by table)
+  pub known : AreSmallWithin P table m → AreNumbers P t bound_of m (numbers_by table)
+  pub sections : AreSmallWithin P table m → HasSections P t bound_of table m
   pub is_least : IsLeast (IsLargeWithin P table m) least
 
 -- ---- the answer
 
--- what `bound` answers of a method: what is printed of it, where no number of all that may run is too large; or the least method with one that is
+-- what `bound` answers of a method: what is printed of it, where no number of all that may run is too large, which a certificate says; or the least
+-- method with one that is
 abbrev pub IsMethodBound : Program → Timing → BoundOf → (method : ℕ) → MethodBound → Type 0
-IsMethodBound P t bound_of m (Printed bound) = IsPrinted P t bound_of m bound × KeepSize P t bound_of m
+IsMethodBound P t bound_of m (Printed bound) = IsPrinted P t bound_of m bound × KeepSize P t bound_of m × IsCertified P t bound_of m bound
 IsMethodBound P t bound_of m (TooLarge x) = IsFirstTooLarge P t bound_of m x
 
 -- where something is printed, no number is known to be too large, and it is told by the number with all loads

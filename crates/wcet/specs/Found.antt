@@ -120,6 +120,12 @@ pub record IsSectionOf (m : ℕ) (k : Known) (s : CertSection) : Type 0 where
 abbrev pub ShowsNumber : Program → Timing → BoundOf → (table : List Known) → (method : ℕ) → Known → CertSection → Type 0
 ShowsNumber P t bound_of table m k s = (earlier : List Valued) → Cover P table earlier m → MeetsSection P t bound_of earlier s k.asked
 
+-- a section of the method m shows what is known of it
+pub record HasSection (P : Program) (t : Timing) (bound_of : BoundOf) (table : List Known) (m : ℕ) (k : Known) : Type 0 where
+  pub section : CertSection
+  pub of_method : IsSectionOf m k section
+  pub shows : ShowsNumber P t bound_of table m k section
+
 -- What is found of the method m: for each program of the table, where the numbers of all that it may call are known, what is known of it; and where
 -- none of its numbers is too large, its section.
 pub record IsFoundOf (set : Setting) (table : List Known) (m : ℕ) (f : Found) : Type 0 where

@@ -7,5 +7,6 @@ pub mod Laws
 pub mod Ready
 pub mod ShowLaws
 pub mod FoundLaws
+pub mod Certified
 pub mod Ending
 pub mod Sharing

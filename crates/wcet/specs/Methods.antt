@@ -1,7 +1,6 @@
 -- What is found of all methods that may run, targets first, and what is answered then.
-use Rattle.std.specs.Prelude.{◌≡◌, ℕ, true, List, [], ◌∷◌, length, map, All, Contains, Some, IfNone, IfSome, ◌++◌, slice_set}
+use Rattle.std.specs.Prelude.{◌≡◌, ℕ, true, false, List, [], ◌∷◌, length, map, All, Contains, Some, IfNone, IfSome, ◌++◌, slice_set}
 use Rattle.section_check.specs.Least.{IsLeast, lesser_of}
-use Rattle.bytecode_model.specs.Program.{Program}
 use Rattle.bound_cert.specs.Certificate.{IsSectionInText}
 use Rattle.bound_rules.specs.declared.faults.BoundRefusal.{BoundRefusal}
 use Rattle.bound_rules.specs.Told.{Valued}
@@ -11,7 +10,7 @@ use Rattle.wcet.specs.declared.found.Found.{Found}
 use Rattle.wcet.specs.declared.methods.Methods.{Methods}
 use Rattle.wcet.specs.Known.{Setting, bounds_in, ForEach, known_at, IsLimited, AreTold, IsKnownOf}
 use Rattle.wcet.specs.Prepared.{IsNotPrepared}
-use Rattle.wcet.specs.Found.{IsFoundOf}
+use Rattle.wcet.specs.Found.{HasSection, IsFoundOf}
 use Rattle.wcet.specs.Ready.{AreBehindCalls}
 
 -- what sections of these methods say, by what is known of them
@@ -22,13 +21,15 @@ values_by table ms = map (λ m. record { method = m; inside = (known_at table m)
 abbrev pub IsLargeAmong : List Known → List ℕ → ℕ → Type 0
 IsLargeAmong table ms m = Contains ms m × ((known_at table m).too_large ≡ true)
 
--- Of the methods that were looked at: what is known of each, the least with a number that is too large, and where there is none the sections of all,
--- which meet their conditions one behind the other.
+-- Of the methods that were looked at: what is known of each, and that each with no number that is too large has a section; the least with one that is,
+-- and where there is none the sections of all, which meet their conditions one behind the other.
 pub record AreMethodsFound (set : Setting) (done : List ℕ) (a : Methods) : Type 0 where
   pub long : length a.table.items ≡ length set.flow.methods
   pub limited : All IsLimited a.table.items
   pub known : ForEach set (λ P. AreBehindCalls P done → (m : ℕ) → Contains done m
       → IsKnownOf P set.timing (bounds_in set) a.table.items m (known_at a.table.items m))
+  pub shown : ForEach set (λ P. AreBehindCalls P done → (m : ℕ) → Contains done m → (known_at a.table.items m).too_large ≡ false
+      → HasSection P set.timing (bounds_in set) a.table.items m (known_at a.table.items m))
   pub least : IsLeast (IsLargeAmong a.table.items done) a.least
   pub in_text : All (IsSectionInText 2) a.sections.items
   pub methods : IfNone a.least (map (λ s. s.method) a.sections.items ≡ done)

@@ -128,6 +128,7 @@ pub fn shared(
     requires found { AreFoundFor task.now order.now found.now }
     ensures { IfOk result (λ bounds. AreMethodBounds task.now order.now bounds.items) }
 {
+    bound_rules::laws::one_more_meets();
     let table = found.table.as_slice();
     let least = least_of_all(alloc, task, order, table)?;
     bounds(alloc, task, order, table, &least)

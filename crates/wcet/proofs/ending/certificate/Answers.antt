@@ -13,7 +13,7 @@ method_bound-requires-clause-known c =
     let root = c.args.root in
     let all = c.args.all in
     let K : List Known → Type 0 = λ tb. ForEach set (λ P. AreKnownWithin P set.timing (bounds_in set) tb all.least root) in
-    subst K (sym c.deref.ensures.value) (root_known set root all c.requires.found)
+    subst K (sym c.deref.ensures.value) (root_known set root all c.requires.found c.requires.root)
 
 pub returns-in-Printed-clause-grammar : goal.returns-in-Printed-clause-grammar
 returns-in-Printed-clause-grammar c =

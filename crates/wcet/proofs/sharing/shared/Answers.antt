@@ -18,4 +18,4 @@ bounds-requires-clause-within c =
     let L : List (Option ℕ) → Type 0 = λ os. ForEach set (λ P. AreKnownWithin P set.timing (bounds_in set) c.args.found.now.table.items (get_or os m None) m) in
     let has : Contains order m = (k, lt, get_or_default order k m d lt) in
     subst K (sym c.as_slice-table.ensures.value)
-    (subst L (sym c.deref.ensures.value) (each_known set order c.args.found.now c.in_ok-least.least.items c.requires.found (subst T c.as_slice-table.ensures.value c.in_ok-least.ensures) m has))
+    (subst L (sym c.deref.ensures.value) (each_known c.one_more_meets.ensures set order c.args.found.now c.in_ok-least.least.items c.requires.found (subst T c.as_slice-table.ensures.value c.in_ok-least.ensures) m has))
