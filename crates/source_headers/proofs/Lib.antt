@@ -5,3 +5,5 @@ mod GatherLemmas
 mod FileLemmas
 mod StrayLemmas
 mod HeaderLemmas
+mod LawLemmas
+mod ReadLemmas

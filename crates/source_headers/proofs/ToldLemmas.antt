@@ -103,7 +103,7 @@ map_nil f [] e = refl
 map_nil f (x ∷ xs) e = let bad : ⊥ = cc in absurd bad
 
 -- the reduction of a method's graph doesn't leave nodes and none
-not_both : GraphsAreMoved → PartsAreSound → EndsAreOne → GraphsAreOne → (P : Program) (m : ℕ) (nodes : List ℕ) → IsLeftWith P m nodes → nodes ≢ [] → IsLeftWith P m [] → ⊥
+pub not_both : GraphsAreMoved → PartsAreSound → EndsAreOne → GraphsAreOne → (P : Program) (m : ℕ) (nodes : List ℕ) → IsLeftWith P m nodes → nodes ≢ [] → IsLeftWith P m [] → ⊥
 not_both moves sound ends one P m nodes h some k =
     let same : k.graph ≡ h.graph = one P m k.graph h.graph k.is_graph h.is_graph in
     let compact : IsCompact h.graph k.compact k.node = subst (λ (g : Digraph). IsCompact g k.compact k.node) same k.is_compact in

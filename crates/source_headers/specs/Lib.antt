@@ -8,3 +8,5 @@ pub mod Told
 pub mod Gathered
 pub mod Faults
 pub mod Lacking
+pub mod Laws
+pub mod Reading

@@ -6,6 +6,7 @@ mod fault;
 mod found;
 mod gathering;
 mod known;
+pub mod laws;
 mod methods;
 mod notes;
 mod site;
