@@ -1,7 +1,7 @@
 -- The states of bare images have one frame of ints.
-use Rattle.std.proofs.Common.{◌≡◌, ℕ, zero, suc, Bool, true, false, ◌==◌, List, [], ◌∷◌, length, Option, Some, None, refl, sym, ◌∙◌, ap, subst, ◌⊎◌, inl, inr, ⊎_elim, replicate}
+use Rattle.std.proofs.Common.{◌≡◌, ℕ, zero, suc, Bool, true, false, ◌==◌, List, [], ◌∷◌, Some, refl, sym, ◌∙◌, ap, subst, ◌⊎◌, inl, inr, replicate}
 use Rattle.std.specs.Prelude.{IfSome, IsSomeAnd, slice_get, if◌then◌else◌}
-use Rattle.image_file.specs.Bare.{Image, IsImage}
+use Rattle.image_file.specs.Bare.{Image}
 use Rattle.opcodes.specs.Start.{starts_of}
 use Rattle.bytecode_model.specs.declared.Value.{Value}
 use Rattle.bytecode_model.specs.declared.Value.TheVariants.{Int, Long, Ref, Null, Unset}
@@ -16,11 +16,11 @@ use Rattle.bytecode_typing.specs.Tests.{AllTwo}
 use Rattle.bytecode_typing.specs.Types.{Integer, TypeFrame}
 use Rattle.bytecode_typing.specs.Typed.{Typing, Typed, IsQuiet}
 use Rattle.bytecode_typing.specs.Typings.{frame_among}
-use Rattle.bytecode_typing.specs.Bare.{bare_method, bare_program, bare_typing, int_frame, int_frames, depth_after}
-use Rattle.bytecode_typing.specs.Fits.{Fits, IsGoing, FramesFit, TopFits, TopFitsMode, CallersFit, Waits, MayCall, Has, HasItem, HasDeclared, ObjectFits, numbers_of}
+use Rattle.bytecode_typing.specs.Bare.{bare_program, bare_typing, int_frame, int_frames, depth_after}
+use Rattle.bytecode_typing.specs.Fits.{Fits, IsGoing, FramesFit, TopFits, CallersFit, MayCall, Has, HasItem, HasDeclared, ObjectFits, numbers_of}
 use Rattle.bytecode_typing.specs.Laws.{TypedProgramsKeep, FittingStatesAreWellFormed}
 use Rattle.machine_stands.specs.Bare as bare
-use Rattle.boundary.specs.Setting.{limits, bare_setting, IsSetting}
+use Rattle.boundary.specs.Setting.{limits, bare_setting}
 use Rattle.boundary.specs.Laws.{BareImagesArePrograms}
 use Rattle.boundary.specs.BareStates.{AreInts, IsBareState, HaveBareStates}
 use Rattle.boundary.proofs.BareStepping.{images_step, not_raising}

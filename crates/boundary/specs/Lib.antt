@@ -14,3 +14,4 @@ pub mod Runs
 pub mod Traces
 pub mod BareStates
 pub mod Start
+pub mod Followed

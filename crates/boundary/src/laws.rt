@@ -5,6 +5,7 @@ ghost use Rattle.boundary.specs.Families.{is_built};
 ghost use Rattle.boundary.specs.Activations.{ActivationsTakeCycles};
 ghost use Rattle.boundary.specs.BareLaws.{BareOpcodes, BareImagesStep};
 ghost use Rattle.boundary.specs.BareStates.{HaveBareStates};
+ghost use Rattle.boundary.specs.Followed.{RunsAreInARow};
 ghost use Rattle.boundary.specs.Laws.{BareImagesArePrograms, BareRunsBegin};
 ghost use Rattle.boundary.specs.Linked.{LinkedRunsBegin};
 ghost use Rattle.boundary.specs.StageLaws.{StagesAdvance, StagesAgree, StagesEndSoon};
@@ -122,3 +123,8 @@ pub fn activations_take_cycles()
 {
     jop_core::laws::cycles_keep();
 }
+
+/// The boundaries of a run, of which what is seen of it is seen, follow one another, and the program goes on at each but the last.
+pub fn runs_are_in_a_row()
+    ensures { RunsAreInARow }
+{}

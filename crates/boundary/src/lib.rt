@@ -3,6 +3,7 @@
 #![tactic(auto)]
 
 mod answer;
+mod followed;
 /// Laws of the definitions in `specs/`. Each is a function without a body, whose contract says it.
 pub mod laws;
 mod methods;
@@ -12,6 +13,7 @@ mod start;
 mod traces;
 
 pub use answer::Boundary;
+pub use followed::run_followed;
 pub use image_facts::CodedMethod;
 pub use running::Running;
 pub use runs::{RunEnd, run};

@@ -6,10 +6,12 @@
 mod device;
 mod devices;
 mod lines;
+mod no_sink;
 mod no_source;
 mod pieces;
 
 pub use device::TraceDevice;
 pub use devices::RunDevice;
 pub use lines::{AtBoundary, put_boundary, put_cycle, put_write};
+pub use no_sink::NoSink;
 pub use no_source::NoSource;

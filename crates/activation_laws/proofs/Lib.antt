@@ -1,0 +1,5 @@
+mod Depths
+mod Searching
+mod Once
+mod Within
+mod Kept

@@ -1,0 +1,92 @@
+//! A whole run of the machine, with a follower that is handed what is seen at each boundary.
+ghost use Rattle.std.specs.Prelude.{◌≡◌, ◌<◌, ◌^◌};
+ghost use Rattle.bytecode_model.specs.State.{State};
+ghost use Rattle.boundary.specs.Answers.{IsGoing, IsUnbroken};
+ghost use Rattle.boundary.specs.Followed.{FollowsAll, HasSmallCounts, here_of};
+ghost use Rattle.boundary.specs.Runs.{RunsAll};
+ghost use Rattle.boundary.specs.Session.{IsStateOf};
+ghost use Rattle.boundary.specs.Setting.{Setting};
+
+use crate::answer::Boundary;
+use crate::running::Running;
+use crate::runs::RunEnd;
+use jop_core::Devices;
+use jop_core::laws::cycles_keep;
+use micro_sketch::laws::runs_add_up;
+use run_follower::{Follower, Here};
+
+/// The same as [`run`](crate::run), with a follower, which is handed what is seen at each boundary at which the program goes on, the
+/// last one included.
+pub fn run_followed<const N: usize, D: Devices, F: Follower>(
+    running: &mut Running<'_, N>,
+    device: &mut D,
+    limit: u64,
+    follower: &mut F,
+) -> RunEnd
+    requires unbroken { IsUnbroken running.old.mode }
+    requires few { limit < 2 ^ 63 }
+    ensures runs { RunsAll limit running.old.machine running.new.machine (D.told device.old) (D.told device.new) result }
+    ensures follows { FollowsAll F.after limit running.old running.new.machine (D.told device.old) (D.told device.new) follower.old follower.new result }
+    ensures methods { running.new.methods ≡ running.old.methods }
+    ensures names { D.names device.new ≡ D.names device.old }
+{
+    // The laws are for the proof.
+    runs_add_up();
+    cycles_keep();
+    match running.mode() {
+        Boundary::Bytecode | Boundary::Raise => follow_to_end(running, device, limit, follower),
+        Boundary::Halted => RunEnd::Ended,
+        Boundary::Uncaught(class) => RunEnd::Uncaught(class),
+        Boundary::ReadFault | Boundary::WriteFault | Boundary::SeenFault | Boundary::Stopped =>
+            unreachable!(),
+    }
+}
+
+/// The same from a machine that goes on.
+fn follow_to_end<const N: usize, D: Devices, F: Follower>(
+    running: &mut Running<'_, N>,
+    device: &mut D,
+    limit: u64,
+    follower: &mut F,
+) -> RunEnd
+    requires going { IsGoing running.old.mode }
+    requires few { limit < 2 ^ 63 }
+    ensures runs { RunsAll limit running.old.machine running.new.machine (D.told device.old) (D.told device.new) result }
+    ensures follows { FollowsAll F.after limit running.old running.new.machine (D.told device.old) (D.told device.new) follower.old follower.new result }
+    ensures methods { running.new.methods ≡ running.old.methods }
+    ensures names { D.names device.new ≡ D.names device.old }
+{
+    // The laws are for the proof.
+    runs_add_up();
+    cycles_keep();
+    let _mode = running.mode();
+    follower.at(here(running));
+    while running.machine().clock() < limit {
+        match running.bytecode(device) {
+            Boundary::Bytecode | Boundary::Raise => follower.at(here(running)),
+            Boundary::Halted => return RunEnd::Ended,
+            Boundary::Uncaught(class) => return RunEnd::Uncaught(class),
+            Boundary::ReadFault => return RunEnd::ReadFault,
+            Boundary::WriteFault => return RunEnd::WriteFault,
+            Boundary::SeenFault => return RunEnd::SeenFault,
+            Boundary::Stopped => unreachable!(),
+        }
+    }
+    RunEnd::Spent
+}
+
+/// What is seen at the boundary at which a run stands.
+fn here<const N: usize>(running: &Running<'_, N>) -> Here
+    requires { IsGoing running.now.mode }
+    ensures state { (g : Setting) (s : State) → IsStateOf g running.now.methods running.now.machine s
+        → result ≡ here_of (record { machine = running.now.machine; state = s }) }
+    ensures small { HasSmallCounts result }
+{
+    Here {
+        clock: running.machine().clock(),
+        misses: running.machine().misses(),
+        frames: running.frames(),
+        method: running.method(),
+        pc: running.pc(),
+    }
+}
