@@ -2,7 +2,7 @@
 """runs.py [CYCLES] [RUNS]: how many cycles of the machine a second of user time takes, by the least of RUNS runs of CYCLES cycles each.
 
 The loops, where `javac` is found, are `ints`, numbers in local variables; `calls`, a static method that is called; `arrays`, the elements of an array of int;
-and Loop.java, calls and elements. Where `gcc` is, the plain simulator of tests/expected runs them too, and its cycles, hits and misses
+and Loop.java, calls and elements. Each is also profiled, by no bounds. Where `gcc` is, the plain simulator of tests/expected runs them too, and its cycles, hits and misses
 are compared. `nops` is the longest bare image, 4,096 cycles, from the start of the process to its end.
 """
 import os
@@ -51,7 +51,7 @@ def rate(timed, start):
 
 
 def measure(room, name, main, data, plain, cycles, runs):
-    """runs a loop by the program, and by the plain simulator"""
+    """runs a loop by the program, with and without a profile, and by the plain simulator"""
     linked = link(room, main, [data], 1)
     if linked.status != 0:
         print('%s: %s' % (name, linked.line))
@@ -59,6 +59,10 @@ def measure(room, name, main, data, plain, cycles, runs):
     words = [JOP, 'run', '--cycles', str(cycles), 'image']
     timed, start = least(words, room, runs), least([JOP, 'run', '--cycles', '0', 'image'], room, runs)
     print('%s jop cycles_per_second=%d (%s)' % (name, rate(timed, start), timed.line))
+    put(room, 'bounds', b'')
+    words = [JOP, 'profile', '--cycles', str(cycles), 'image', 'bounds']
+    followed, start = least(words, room, runs), least([JOP, 'profile', '--cycles', '0', 'image', 'bounds'], room, runs)
+    print('%s jop profile cycles_per_second=%d (%s)' % (name, rate(followed, start), followed.line))
     if plain:
         settings = ['1024', '262144', '16', '64', '1', '2']
         other = least([plain, MICROCODE, 'image', *settings, str(cycles)], room, runs)

@@ -2,11 +2,12 @@
  * It was written from the table of microinstructions and the format of linked images (docs/formats.md), and shares no code with `jop`.
  *
  *     cc -O2 -o plain plain.c
- *     plain [--trace | --micro] MICROCODE IMAGE [stack memory blocks block_words read write cycles]
+ *     plain [--trace | --micro | --misses] MICROCODE IMAGE [stack memory blocks block_words read write cycles]
  *
  * MICROCODE is a text of microcode, IMAGE a linked or a bare image. Input is standard input, output standard output; how the run ended
  * stands on standard error, as `jop run` writes it, but for the name of an exception, in whose place stands the number of its type.
- * With --trace the lines of a trace stand on standard output, as `jop trace` writes them, and with --micro those of its cycles too. */
+ * With --trace the lines of a trace stand on standard output, as `jop trace` writes them, and with --micro those of its cycles too. With
+ * --misses each line of a step has the misses at its end, and the boundary at which the cycles are spent has a line, too. */
 #include <stdint.h>
 #include <stdio.h>
 #include <stdlib.h>
@@ -89,7 +90,7 @@ static unsigned char *file_of(const char *name, size_t *length) {
 static u32 size = 1024, words = 262144, blocks = 16, block_words = 64, read_waits = 1, write_waits = 2;
 static u32 chip[1024], *memory, a, b, sp, vp, ar, jpc, mpc, operand, opcode, method, read_value, write_at, port, stall;
 static u64 clock_count, hits, misses;
-static int traces, shows_cycles;
+static int traces, shows_cycles, shows_misses;
 /* the cache: methods, newest first, with their blocks */
 static struct { u32 method, blocks; } cache[256];
 static u32 cached;
@@ -345,7 +346,9 @@ static void show_boundary(void) {
         below = stack_word(saved + 2);
         saved = below + (memory[caller] >> 16);
     }
-    printf("%llu %s %u %s frames=%u operands=%u\n", (unsigned long long)clock_count, name_at[top], at, raises ? "raise" : mnemonic(opcode), frames, operands);
+    printf("%llu %s %u %s frames=%u operands=%u", (unsigned long long)clock_count, name_at[top], at, raises ? "raise" : mnemonic(opcode), frames, operands);
+    if (shows_misses) printf(" misses=%llu", (unsigned long long)misses);
+    printf("\n");
 }
 
 static void show_cycle(void) { printf("%llu %03x %08x %08x %03x %03x\n", (unsigned long long)clock_count, mpc, a, b, sp, vp); }
@@ -400,8 +403,9 @@ static int run(u64 limit) {
     int end = 0;
     while (!end) {
         if (stall == 0 && (mpc == entries[opcode] || mpc == raise_entry)) {
-            if (clock_count >= limit) return 0;
-            if (traces) show_boundary();
+            int is_last = clock_count >= limit;
+            if (is_last ? shows_misses : traces) show_boundary();
+            if (is_last) return 0;
         }
         if (shows_cycles) show_cycle();
         clock_count++;
@@ -416,11 +420,12 @@ int main(int count, char **given) {
     if (count > 1 && given[1][0] == '-') {
         traces = 1;
         shows_cycles = !strcmp(given[1], "--micro");
-        if (!shows_cycles && strcmp(given[1], "--trace")) die("no option", given[1]);
+        shows_misses = !strcmp(given[1], "--misses");
+        if (!shows_cycles && !shows_misses && strcmp(given[1], "--trace")) die("no option", given[1]);
         given++;
         count--;
     }
-    if (count < 3) die("plain [--trace | --micro] MICROCODE IMAGE", "[stack memory blocks block_words read write cycles]");
+    if (count < 3) die("plain [--trace | --micro | --misses] MICROCODE IMAGE", "[stack memory blocks block_words read write cycles]");
     size_t length;
     char *text = (char *)file_of(given[1], &length), *again = strdup(text);
     assemble(text, 0);

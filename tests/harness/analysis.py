@@ -139,6 +139,26 @@ class AllBounded(Listed):
         return caller.call(['bound', '--all', *options.split(), 'image', 'bounds'])
 
 
+def by_block_words(lines):
+    """lines of shapes, those of one size of blocks as one line with what is found for 1, 2, 4 and so on to 256 blocks; or lines that aren't of all shapes in order, as they are"""
+    fronts = ['blocks=%d block-words=%d bound=' % (2 ** k, 2 ** j) for j in range(11) for k in range(9)]
+    if len(lines) != len(fronts) or not all(line.startswith(front) for line, front in zip(lines, fronts)):
+        return lines
+    found = [line[len(front):] for line, front in zip(lines, fronts)]
+    return ['block-words=%d: %s' % (2 ** j, ' '.join(found[9 * j:9 * j + 9])) for j in range(11)]
+
+
+class Shaped(Listed):
+    """what `bound --shapes` puts: rows are `program`; then `shapes`, a title, options, a method and bounds"""
+
+    def shown(self, lines):
+        return by_block_words(lines)
+
+    def asked(self, caller, options, method, bounds):
+        caller.put('bounds', text_of(bounds))
+        return caller.call(['bound', '--shapes', *options.split(), '--method', method, 'image', 'bounds'])
+
+
 class Counted(Asked):
     """what `loops` says: a row is `program`"""
 

@@ -7,6 +7,7 @@ import class_files
 import damage
 import images
 import opcodes
+import profiled
 import ran
 
 KINDS = {
@@ -24,7 +25,9 @@ KINDS = {
     'checked': analysis.Checked(),
     'bounded': analysis.Bounded(),
     'all_bounded': analysis.AllBounded(),
+    'shaped': analysis.Shaped(),
     'headed': analysis.Headed(),
     'counted': analysis.Counted(),
+    'profiled': profiled.Profiled(),
     'needed': analysis.Needed(),
 }

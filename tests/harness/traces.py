@@ -29,3 +29,21 @@ def activations(trace):
             found.append(frames[-1])
         frames[-1].walk.append((int(words[2]), words[3] == 'raise'))
     return found[1:]
+
+
+def greatest_stay(walk, header, members):
+    """the greatest number of back edges that a walk takes in one stay in a loop"""
+    greatest, count = 0, None
+    for node in walk:
+        count = None if node not in members else 0 if count is None else count + (node == header)
+        greatest = max(greatest, count or 0)
+    return greatest
+
+
+def kept_bounds(loops, runs):
+    """the least bounds that the activations of runs keep, by method and place, of the loops of each method, by their headers"""
+    found = {(name, header[0]): 0 for name in loops for header in loops[name] or {}}
+    for method, walk in {(each.method, tuple(each.walk)) for run in runs for each in run}:
+        for header, members in (loops[method] or {}).items():
+            found[method, header[0]] = max(found[method, header[0]], greatest_stay(walk, header, set(members)))
+    return found

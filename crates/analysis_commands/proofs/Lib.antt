@@ -2,3 +2,4 @@ pub mod Lifting
 mod Bounding
 mod LoopLines
 mod Needs
+mod Shaping

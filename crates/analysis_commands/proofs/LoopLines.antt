@@ -1,5 +1,5 @@
 -- The lines of loops by the table of a program are those of the program.
-use Rattle.std.proofs.Common.{◌≡◌, ℕ, ℤ, List, Option, Some, sym, ◌∙◌, ap, ap₂, subst}
+use Rattle.std.proofs.Common.{◌≡◌, ℕ, ℤ, List, Option, Some, ◌∙◌, ap, ap₂}
 use Rattle.std.specs.Prelude.{flat_map, slice_get, Result, Ok, Err, IfOk, Vec}
 use Rattle.std.specs.declared.alloc.Global.{Global}
 use Rattle.std.proofs.Math.Path.{fun_ext}
@@ -10,7 +10,7 @@ use Rattle.loop_rules.specs.declared.found.FoundLoop.{FoundLoop}
 use Rattle.loop_rules.specs.Finding.{AreCountedLoops}
 use Rattle.loop_rules.specs.Sites.{int_at}
 use Rattle.int_sites.specs.Constants.{AreConstants}
-use Rattle.analysis_commands.specs.Analysis.{name_of, named_or_number}
+use Rattle.analysis_commands.specs.Analysis.{name_of}
 use Rattle.analysis_commands.specs.Answers.{table_name}
 use Rattle.analysis_commands.specs.Loops.{found_line, AreLoopLines, AreLoopLinesBy}
 use Rattle.analysis_commands.proofs.Lifting.{named}

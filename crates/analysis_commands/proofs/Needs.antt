@@ -1,7 +1,6 @@
 -- What is found of memory by the table of a program holds of the program.
-use Rattle.std.proofs.Common.{◌≡◌, ℕ, List, Some, sym, ◌∙◌, ap, subst}
-use Rattle.std.specs.Prelude.{slice_get, Result, Ok, Err, IfOk, IfErr, Vec}
-use Rattle.std.specs.declared.alloc.Global.{Global}
+use Rattle.std.proofs.Common.{◌≡◌, ℕ, List, Some, sym, subst}
+use Rattle.std.specs.Prelude.{slice_get, Result, Ok, Err, IfOk, IfErr}
 use Rattle.std.proofs.Math.Path.{fun_ext}
 use Rattle.class_pool.specs.declared.class.ClassFile.{ClassFile}
 use Rattle.program_tables.specs.Resolved.{resolved}
@@ -13,10 +12,6 @@ use Rattle.method_flow.specs.Keeping.{BoundOf}
 use Rattle.node_costs.specs.Costs as table
 use Rattle.memory_rules.specs.declared.needs.Need.{Need}
 use Rattle.memory_rules.specs.declared.causes.NeedFault.{NeedFault}
-use Rattle.memory_rules.specs.Sites.{AreSitesOf}
-use Rattle.memory_rules.specs.Stack.{IsStackNeed}
-use Rattle.memory_rules.specs.Heap.{IsHeapNeed}
-use Rattle.memory_rules.specs.Given.{HaveLengths, HaveMakingLines}
 use Rattle.memory_bound.specs.Causes.{IsNeedFault}
 use Rattle.analysis_commands.specs.declared.memory.Given.{Given}
 use Rattle.analysis_commands.specs.declared.memory.MemoryRefusal.{MemoryRefusal}

@@ -5,3 +5,4 @@ pub mod Bounding
 pub mod BoundAnswers
 pub mod Loops
 pub mod Memory
+pub mod Shapes

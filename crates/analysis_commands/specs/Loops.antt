@@ -1,6 +1,5 @@
 -- What `loops` finds of a program: the lines that bound its loops that count.
-use Rattle.std.specs.Prelude.{◌≡◌, ℕ, ◌==◌, ◌&&◌, Bool, false, not, ℤ, List, [], ◌∷◌, ◌++◌, Option, codes, decimal, flat_map, if◌then◌else◌}
-use Rattle.std.specs.List.{list_all}
+use Rattle.std.specs.Prelude.{◌≡◌, ℕ, ◌==◌, ◌&&◌, Bool, not, ℤ, List, [], Option, flat_map, if◌then◌else◌}
 use Rattle.class_pool.specs.declared.class.ClassFile.{ClassFile}
 use Rattle.program_tables.specs.Resolved.{resolved}
 use Rattle.method_flow.specs.Flow.{Flow, IsFlowOf}

@@ -41,7 +41,7 @@ pub enum AnalysisFault {
 }
 
 /// The timing of the machine that these settings give.
-fn timing_of(settings: &Settings) -> Timing
+pub fn timing_of(settings: &Settings) -> Timing
     ensures { result ≡ timing_of settings.now }
 {
     Timing {

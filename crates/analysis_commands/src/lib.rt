@@ -10,10 +10,12 @@ mod conditions;
 mod loops;
 mod memory;
 mod names;
+mod shapes;
 mod subjects;
 
-pub use analysis::{Analysis, AnalysisFault, analysis_of, bounds_in, table_of};
+pub use analysis::{Analysis, AnalysisFault, analysis_of, bounds_in, table_of, timing_of};
 pub use bound::{NotBounded, bound_bare, bound_number, bound_program};
 pub use check::{CheckRefusal, Held, check_bare, check_program};
 pub use loops::loop_lines;
 pub use memory::{Given, MemoryRefusal, given_by, memory_need};
+pub use shapes::bound_shapes;

@@ -22,7 +22,7 @@ pub use check::{say_fault, say_held};
 pub use line::{AsmLine, Counts, Line, LinkLine, Named, Place, Sizes};
 pub use loop_line::{is_nameable, is_unbroken, put_loop_line};
 pub use memory::memory_line;
-pub use pieces::Piece;
+pub use pieces::{Piece, put_pieces};
 pub use put::{put_line, say, say_pieces};
 pub use summary::work_line;
 pub use texts::{

@@ -19,7 +19,7 @@ pub enum Piece<'a> {
 }
 
 /// Puts the pieces one after another.
-pub(crate) fn put_pieces<O: Sink>(sink: &mut O, pieces: &[Piece<'_>]) -> Result<(), Failed>
+pub fn put_pieces<O: Sink>(sink: &mut O, pieces: &[Piece<'_>]) -> Result<(), Failed>
     ensures put { PutLine (O.held sink.old) (O.held sink.new) (joined pieces.now) result }
     ensures cause { HasCause (O.faults sink.old) (O.faults sink.new) result }
 {

@@ -2,7 +2,7 @@
 use Rattle.std.specs.Prelude.{ℕ, Bool, ◌||◌, if◌then◌else◌, List, [], ◌∷◌, Some, None, codes, bytes_eq}
 use Rattle.std.specs.declared.option.Option.{Option}
 use Rattle.jop.specs.declared.help.Question.{Question}
-use Rattle.jop.specs.declared.help.Question.TheVariants.{Version, Commands, Link, Run, Trace, Bound, Check, Loops, Headers, Memory, Work, Asm}
+use Rattle.jop.specs.declared.help.Question.TheVariants.{Version, Commands, Link, Run, Trace, Profile, Bound, Check, Loops, Headers, Memory, Work, Asm}
 
 abbrev pub is_help : (word : List ℕ) → Bool
 is_help word = bytes_eq word (codes "--help") || bytes_eq word (codes "-h")
@@ -21,6 +21,7 @@ commands =
     record { word = codes "link"; question = Link }
     ∷ record { word = codes "run"; question = Run }
     ∷ record { word = codes "trace"; question = Trace }
+    ∷ record { word = codes "profile"; question = Profile }
     ∷ record { word = codes "bound"; question = Bound }
     ∷ record { word = codes "check"; question = Check }
     ∷ record { word = codes "loops"; question = Loops }

@@ -16,10 +16,13 @@ usage:
   jop link --main NAME CLASSFILE..           links class files to an image
   jop run [OPTION VALUE].. IMAGE             runs an image
   jop trace [--micro] [OPTION VALUE].. IMAGE runs it, and puts a line for each step
+  jop profile [OPTION VALUE].. IMAGE BOUNDS  runs it, and puts what the calls of each method took, and its bound
   jop bound --method NAME [OPTION VALUE].. IMAGE BOUNDS
                                              puts a certificate of what a method takes at most
   jop bound --all [OPTION VALUE].. IMAGE BOUNDS
                                              puts a line for each method, with its bound or why it has none
+  jop bound --shapes --method NAME [OPTION VALUE].. IMAGE BOUNDS
+                                             puts the bound of a method in each of 99 shapes of the method cache
   jop check [OPTION VALUE].. IMAGE BOUNDS CERTIFICATE
                                              says whether a certificate shows what a method takes at most
   jop loops IMAGE                            puts the bounds of the loops that count
@@ -98,16 +101,43 @@ example:
   $ jop trace controller.jopi < examples/controller/samples > controller.trace
 ";
 
+const PROFILE: &str = "\
+jop profile [OPTION VALUE].. IMAGE BOUNDS
+
+Runs an image as `run` does. On standard output stands a line for each method of which a call has ended in place of the
+bytes that the program puts out: `NAME count=C greatest=G total=T misses=X bound=B`: how many calls have ended, the most
+cycles that one took, the cycles and the misses of all, callees included, and what `bound` says of it, or `none`.
+
+  --cycles N         stops at the first boundary whose clock is at least N, 0 to 2^63 - 1 (1000000000)
+  --stack N          words on chip: 256, 512 or 1024 (1024)
+  --memory N         words of memory, 16 to 16777216 (262144)
+  --blocks N         blocks of the method cache, 1 to 256 (16)
+  --block-words N    words of a block, 1 to 1024 (64)
+  --read N           cycles that a read waits, 0 to 63 (1)
+  --write N          cycles that a write waits, 0 to 63 (2)
+  BOUNDS             a text of lines `NAME PC loop<=N`, a line for each loop
+
+answers: those of run, and
+  bad bounds line=N, twice bound line=N    status 2
+
+example:
+  $ jop profile controller.jopi examples/controller/controller.bounds < examples/controller/samples
+";
+
 const BOUND: &str = "\
 jop bound --method NAME [OPTION VALUE].. IMAGE BOUNDS
 jop bound --all [OPTION VALUE].. IMAGE BOUNDS
+jop bound --shapes --method NAME [OPTION VALUE].. IMAGE BOUNDS
 
 Bounds what a method takes, in cycles, whatever the method cache holds, and puts a certificate of it on standard output.
 Its last line is the number. With --all it puts a line for each method with code in place of a certificate:
-`NAME bound=N`, `NAME bound=never` where it never returns, or `NAME bound=none` and why there is none.
+`NAME bound=N`, `NAME bound=never` where it never returns, or `NAME bound=none` and why there is none. With --shapes it
+puts 99 lines `blocks=M block-words=B bound=W`, one for each shape of the cache whose numbers are powers of two: W is a
+number, `never`, `too-long` where some code doesn't fit, or `too-large` where a number passes 64 bits.
 
   --method NAME      the method: its class, a dot, its name and its descriptor, as `app/Main.step(I)I`
   --all              all methods; this or --method must be given
+  --shapes           in each shape of the method cache; not with --all, --blocks or --block-words
   --blocks N         blocks of the method cache, 1 to 256 (16)
   --block-words N    words of a block, 1 to 1024 (64)
   --read N           cycles that a read waits, 0 to 63 (1)
@@ -130,6 +160,7 @@ answers:
 example:
   $ jop bound --method 'Mean.step(I)I' controller.jopi examples/controller/controller.bounds > mean.cert
   $ jop bound --all controller.jopi examples/controller/controller.bounds
+  $ jop bound --shapes --method 'Mean.step(I)I' controller.jopi examples/controller/controller.bounds
 ";
 
 const CHECK: &str = "\
@@ -275,6 +306,7 @@ pub enum Question {
     Link,
     Run,
     Trace,
+    Profile,
     Bound,
     Check,
     Loops,
@@ -314,6 +346,8 @@ fn command_named(word: &str) -> Option<Question>
         Some(Question::Run)
     } else if word == "trace" {
         Some(Question::Trace)
+    } else if word == "profile" {
+        Some(Question::Profile)
     } else if word == "bound" {
         Some(Question::Bound)
     } else if word == "check" {
@@ -361,6 +395,7 @@ fn text_of(question: Question) -> &'static str {
         Question::Link => LINK,
         Question::Run => RUN,
         Question::Trace => TRACE,
+        Question::Profile => PROFILE,
         Question::Bound => BOUND,
         Question::Check => CHECK,
         Question::Loops => LOOPS,

@@ -20,7 +20,7 @@ use Rattle.boundary.specs.Traces.{OutputFails, AtBoundary, AtWrite, AtCycle, Tra
 use Rattle.jop_cli.specs.declared.show.NamedShow.{NamedShow}
 use Rattle.jop_cli.specs.declared.show.NamedShow.TheVariants as shows
 use Rattle.jop_cli.specs.Show.{Shown, Output, Trace, shown_by}
-use Rattle.jop_cli.specs.Run.{AreCounts, Started, HasStarted, RunsAsAll, RunsTo, RunsCounted, Ran}
+use Rattle.jop_cli.specs.Run.{AreCounts, program_end, Started, HasStarted, RunsAsAll, RunsTo, RunsCounted, Ran}
 use Rattle.jop_cli.specs.LinkedRun.{HasClass, linked_setting}
 use Rattle.jop_cli.specs.declared.program_end.ProgramEnd.{ProgramEnd}
 use Rattle.jop_cli.specs.declared.program_end.ProgramEnd.TheVariants as ways
@@ -103,6 +103,34 @@ shows_not (Trace cycles names) g reset limit old new r = r.runs.traces
 
 pub never_shows : (shown : Shown) (r : Session) (now : machine.State) (limit : ℕ) (old new : Lent) → HasStarted r → RunsAsAll shown limit r now old new ends.SeenFault → ⊥
 never_shows shown r now limit old new (g, s) all = shows_not shown g r.machine limit old new (runs_to shown g r now limit old new ends.SeenFault s all)
+
+pub shows_none : (shown : Shown) (r : Session) (now : machine.State) (limit : ℕ) (old new : Lent) (end : RunEnd) → HasStarted r → RunsAsAll shown limit r now old new end → end ≡ ends.SeenFault → ⊥
+shows_none shown r now limit old new end s all is = never_shows shown r now limit old new s (subst (λ (e : RunEnd). RunsAsAll shown limit r now old new e) is all)
+
+-- ---- how the program ended
+
+pub ran_so : (shown : Shown) (g : Setting) (r : Session) (now read : machine.State) (limit : ℕ) (old new : Lent) (end : RunEnd) (counts : Counts) → (end ≡ ends.SeenFault → ⊥) → Started g r.machine r → RunsAsAll shown limit r now old new end
+    → read ≡ now → AreCounts counts read → Ran shown g r.machine limit old new (program_end end counts)
+ran_so shown g r now read limit old new ends.Ended counts none s all same are = counted shown g r now read limit old new ends.Ended counts s all same are
+ran_so shown g r now read limit old new (ends.Uncaught class) counts none s all same are = counted shown g r now read limit old new (ends.Uncaught class) counts s all same are
+ran_so shown g r now read limit old new ends.Spent counts none s all same are =
+    let runs = counted shown g r now read limit old new ends.Spent counts s all same are in
+    (runs, late shown g r.machine limit old new counts runs)
+ran_so shown g r now read limit old new ends.ReadFault counts none s all same are =
+    let runs = runs_to shown g r now limit old new ends.ReadFault s all in
+    (runs, reads_rose shown g r.machine limit old new runs)
+ran_so shown g r now read limit old new ends.WriteFault counts none s all same are =
+    let runs = runs_to shown g r now limit old new ends.WriteFault s all in
+    (runs, writes_rose shown g r.machine limit old new runs)
+ran_so shown g r now read limit old new ends.SeenFault counts none s all same are = absurd (none refl)
+
+pub end_made : (end : RunEnd) (counts : Counts) → program_end end counts ≡ ways.NoMemory → ⊥
+end_made ends.Ended counts is = absurd (cc)
+end_made (ends.Uncaught class) counts is = absurd (cc)
+end_made ends.Spent counts is = absurd (cc)
+end_made ends.ReadFault counts is = absurd (cc)
+end_made ends.WriteFault counts is = absurd (cc)
+end_made ends.SeenFault counts is = absurd (cc)
 
 -- ---- the class that isn't caught
 

@@ -32,7 +32,7 @@ use Rattle.jop_cli.specs.World.{World, IsUntaken, Reads}
 use Rattle.jop_cli.specs.declared.task.Task.{Task}
 use Rattle.jop_cli.specs.declared.task.Task.TheVariants as tasks
 use Rattle.jop_cli.specs.Tasks.{task_of}
-use Rattle.jop_cli.specs.Answer.{DoesTask, Does, RunsFile, ShowsOutput, RunsWord, RunsImage, RunsProgram, lent_of, lent_without_input}
+use Rattle.jop_cli.specs.Answer.{DoesTask, Does, RunsFile, ShowsOutput, TakesFor, TakesInput, RunsProgram, lent_of, lent_without_input}
 use Rattle.jop_cli.proofs.Refusing.{IsRefusing, Says, refuses, holds, bytes_refuse, image_refuses, linked_says, bare_refuses}
 
 pub with_settings : (settings : Settings) (show : Show) (n : ℕ) (image : Image) (plan : Plan) (old new : Lent) (ending : Ending) → settings.stack ≡ n → blocks_of_code settings image ≤ settings.blocks → HasSettings settings plan.config
@@ -70,7 +70,9 @@ run_shows (commands.Run settings image) shows = (settings, image, refl)
 run_shows (commands.Trace settings micro image) shows = absurd shows
 run_shows (commands.Link main first) shows = absurd shows
 run_shows (commands.Bound settings method image bounds) shows = absurd shows
+run_shows (commands.Profile settings image bounds) shows = absurd shows
 run_shows (commands.BoundAll settings image bounds) shows = absurd shows
+run_shows (commands.BoundShapes settings method image bounds) shows = absurd shows
 run_shows (commands.Check settings image bounds certificate) shows = absurd shows
 run_shows (commands.Loops image) shows = absurd shows
 run_shows (commands.Headers image operands) shows = absurd shows
@@ -88,30 +90,10 @@ pub traces_else : (settings : Settings) (show : Show) (image : ℕ) → (ShowsOu
 traces_else settings shows.Output image none = none tt
 traces_else settings (shows.Trace cycles) image none = tt
 
--- one that runs an image is `run` or `trace`
-run_or_trace : (command : Command) (image : ℕ) → RunsWord (task_of command) image
-    → (settings : Settings) × ((command ≡ commands.Run settings image) ⊎ ((micro : Bool) × (command ≡ commands.Trace settings micro image)))
-run_or_trace (commands.Run settings word) image runs = (settings, inl (ap (commands.Run settings) (sym runs)))
-run_or_trace (commands.Trace settings micro word) image runs = (settings, inr (micro, ap (commands.Trace settings micro) (sym runs)))
-run_or_trace (commands.Link main first) image runs = absurd runs
-run_or_trace (commands.Bound settings method word bounds) image runs = absurd runs
-run_or_trace (commands.BoundAll settings word bounds) image runs = absurd runs
-run_or_trace (commands.Check settings word bounds certificate) image runs = absurd runs
-run_or_trace (commands.Loops word) image runs = absurd runs
-run_or_trace (commands.Headers word operands) image runs = absurd runs
-run_or_trace (commands.Memory word bounds sizes) image runs = absurd runs
-run_or_trace (commands.Asm text) image runs = absurd runs
-run_or_trace (commands.Work n) image runs = absurd runs
-
-pub runs_word : (words : List (List ℕ)) (command : Command) (task : Task) (image : ℕ) → command_of words ≡ Ok command → task ≡ task_of command → RunsWord task image → RunsImage words image
-runs_word words command task image is same runs =
-    let r = run_or_trace command image (subst (λ (t : Task). RunsWord t image) same runs) in (
-      r.0,
-      ⊎_elim
-          (λ run. inl (is ∙ ap (λ (x : Command). Ok x) run))
-          (λ trace. inr (trace.0, is ∙ ap (λ (x : Command). Ok x) trace.1))
-          r.1,
-    )
+-- the words say a command that takes from the input
+pub takes_input : (words : List (List ℕ)) (command : Command) (task : Task) (old new : World) → command_of words ≡ Ok command → task ≡ task_of command
+    → TakesFor task old new → TakesInput words old new
+takes_input words command task old new is same takes = (command, is, subst (λ (t : Task). TakesFor t old new) same takes)
 
 -- ---- only a run takes input
 

@@ -9,6 +9,9 @@ mod Held
 mod Endings
 mod Named
 mod Watched
+mod Followed
+mod InRuns
+mod Profiled
 mod Calling
 mod Wholly
 mod Coming
@@ -21,6 +24,7 @@ mod BoundingLaw
 mod KeptLaw
 mod AnsweringLaw
 mod HoldingLaw
+mod ProfilingLaw
 mod LoopsLaw
 mod CountedLaw
 mod NeedAnswers

@@ -139,6 +139,7 @@ pub linked_says : (words : List (List ℕ)) (question : Question) (l : Parts) (o
 linked_says words (questions.Check s) l operands e checks = checks_say e checks
 linked_says words (questions.Bound s method) l operands e ends = refuses (refusing_by e (cause_ending s ends.cause) ends.says (cause_refuses s ends.cause))
 linked_says words (questions.Bounds s) l operands e ends = refuses (refusing_by e (fault_ending s ends.fault) ends.says (fault_refuses s ends.fault))
+linked_says words (questions.Shapes s method) l operands e ends = refuses (refusing_by e (cause_ending s ends.cause) ends.says (cause_refuses s ends.cause))
 linked_says words questions.Loops l operands e is = refuses (refusing_by e endings.NoMemory is tt)
 linked_says words questions.Headers l operands e ends = refuses (refusing_by e (header_ending ends.fault) ends.says (header_refuses ends.fault))
 linked_says words questions.Memory l operands e ends = refuses (refusing_by e (memory_ending ends.refusal) ends.says (need_refuses ends.refusal))
@@ -150,6 +151,7 @@ pub bare_refuses : (question : Question) (image : Image) (operands : List (List 
 bare_refuses (questions.Check s) image operands e ends = ⊎_elim (too_long_refuses s image e) (λ r. refusing_by e (refusal_ending s r.refusal) r.says (refusal_refuses s r.refusal)) ends
 bare_refuses (questions.Bound s method) image operands e ends = ⊎_elim (too_long_refuses s image e) (λ r. refusing_by e (cause_ending s r.cause) r.says (cause_refuses s r.cause)) ends
 bare_refuses (questions.Bounds s) image operands e ends = ⊎_elim (too_long_refuses s image e) (λ r. refusing_by e (fault_ending s r.fault) r.says (fault_refuses s r.fault)) ends
+bare_refuses (questions.Shapes s method) image operands e ends = refusing_by e (cause_ending s ends.cause) ends.says (cause_refuses s ends.cause)
 bare_refuses questions.Loops image operands e ends = absurd ends
 bare_refuses questions.Headers image operands e ends = refusing_by e (header_ending ends.fault) ends.says (header_refuses ends.fault)
 bare_refuses questions.Memory image operands e ends = refusing_by e (memory_ending ends.refusal) ends.says (need_refuses ends.refusal)

@@ -72,7 +72,7 @@ not_more (Some b) blocks block_words count is fits more = omega (arith, is, fits
 module _ (c : Call) (settings : Settings) (show : Show) (n : NothingFailed c) (l : Parts) (codes : CodesFit settings l) (memory : length l.laid.words ≤ settings.memory) where
   linked_ends : (ending : Ending) → IsWholly c ending → EndsAs settings show l (lent_of c.old) (lent_of c.new) ending → RanLinked c settings show l ⊎ LacksMemory c
   linked_ends (endings.TooLong method name blocks limit) w h = absurd (not_more (body_of (resolved l.classes) method) settings.blocks settings.block_words blocks h.0.0.code (codes method) h.0.0.more)
-  linked_ends (endings.Refused (refusals.MemoryTooSmall words given)) w h = absurd (omega (arith, memory, h.0.count, h.0.more))
+  linked_ends (endings.Refused (refusals.MemoryTooSmall words given)) w h = absurd (omega (arith, memory, h.0.0.count, h.0.0.more))
   linked_ends (endings.Ended counts) w h =
       inl (record { config = h.config; has = h.has; ran = ended c l.classes (linked_setting l.classes settings.stack h.config.memory) (linked_reset settings.stack l.laid.words h.config) settings.cycles (lent_of c.old) (lent_of c.new) (linked_shown l.classes show) counts h.ran w })
   linked_ends (endings.Uncaught class name counts) w (h, names) =

@@ -1,11 +1,12 @@
 -- What the top call answers.
-use Rattle.std.specs.Prelude.{◌≡◌, ℕ, ◌≤◌, Bool, true, false, ◌⊎◌, List, [], Some, Ok, Err}
+use Rattle.std.specs.Prelude.{◌≡◌, ℕ, ◌+◌, ◌≤◌, true, false, ◌⊎◌, List, [], Some, Ok, Err}
 use Rattle.std.specs.declared.option.Option.{Option}
 use Rattle.std.specs.declared.result.Result.{Result}
 use Rattle.outside.specs.Outside.{Grew, Rose}
+use Rattle.outside.specs.Files.{AreFiles}
 use Rattle.command_line.specs.declared.command.Settings.{Settings}
 use Rattle.command_line.specs.declared.command.Command.{Command}
-use Rattle.command_line.specs.declared.command.Command.TheVariants.{Run, Trace}
+use Rattle.command_line.specs.declared.command.Command.TheVariants.{Run}
 use Rattle.command_line.specs.Command.{command_of}
 use Rattle.answer_lines.specs.Said.{SaidLess}
 use Rattle.answer_lines.specs.declared.unanswered.Cause.{Cause}
@@ -29,6 +30,7 @@ use Rattle.jop_cli.specs.World.{World, IsQuiet, IsUntaken, FilesStayBut, IsUncha
 use Rattle.jop_cli.specs.Assembling.{Assembles}
 use Rattle.jop_cli.specs.Linking.{LinksFiles}
 use Rattle.jop_cli.specs.Asking.{AsksFiles}
+use Rattle.jop_cli.specs.Profiling.{ProfilesFiles}
 use Rattle.jop_cli.specs.declared.task.Task.{Task}
 use Rattle.jop_cli.specs.declared.task.Task.TheVariants as tasks
 use Rattle.jop_cli.specs.Tasks.{task_of}
@@ -80,6 +82,7 @@ RunsFile settings show word old new ending = (FileFault word old new ending × I
 -- how what a command does ends
 abbrev pub DoesTask : (words : List (List ℕ)) → Task → World → World → Ending → Type 0
 DoesTask words (tasks.Run settings show image) old new ending = RunsFile settings show image old new ending
+DoesTask words (tasks.Profile settings image) old new ending = ProfilesFiles settings image old new ending
 DoesTask words (tasks.Assemble text) old new ending = Assembles text old new ending
 DoesTask words (tasks.Link main first) old new ending = LinksFiles (text_at words main) first old new ending
 DoesTask words (tasks.Ask asked) old new ending = AsksFiles words asked old new ending
@@ -139,26 +142,20 @@ abbrev pub ShowsOutput : Task → Type 0
 ShowsOutput (tasks.Run settings shows.Output image) = Unit {0}
 ShowsOutput task = ⊥
 
--- it runs the image of this word
-abbrev pub RunsWord : Task → (image : ℕ) → Type 0
-RunsWord (tasks.Run settings show word) image = image ≡ word
-RunsWord task image = ⊥
+-- it runs a linked image, whose bytes begin as those of one, and so takes from the input
+abbrev pub TakesFor : Task → World → World → Type 0
+TakesFor (tasks.Run settings show word) old new = (bytes : List ℕ) × ReadsLinked word bytes old new
+TakesFor (tasks.Profile settings word) old new =
+    (operands : List (List ℕ)) × AreFiles old.files word (word + 2) operands × (is_linked (text_at operands 0) ≡ true)
+TakesFor task old new = ⊥
 
--- the words say `run` or `trace` of an image
-abbrev pub RunsImage : (words : List (List ℕ)) → (image : ℕ) → Type 0
-RunsImage words image = (settings : Settings) × ((command_of words ≡ Ok (Run settings image))
-    ⊎ ((micro : Bool) × (command_of words ≡ Ok (Trace settings micro image))))
+-- the words say such a command
+abbrev pub TakesInput : (words : List (List ℕ)) → World → World → Type 0
+TakesInput words old new = (command : Command) × (command_of words ≡ Ok command) × TakesFor (task_of command) old new
 
 -- the words say `run` of an image
 abbrev pub RunsProgram : (words : List (List ℕ)) → Type 0
 RunsProgram words = (settings : Settings) × (image : ℕ) × (command_of words ≡ Ok (Run settings image))
-
--- the words say `run` or `trace` of an image, and its bytes begin as those of a linked one
-pub record RunsLinkedFile (words : List (List ℕ)) (old new : World) : Type 0 where
-  pub image : ℕ
-  pub command : RunsImage words image
-  pub bytes : List ℕ
-  pub reads : ReadsLinked image bytes old new
 
 -- what err was given of an ending, and the outcome: the whole line, or less where err failed
 pub record Said (words : List (List ℕ)) (ending : Ending) (old new : Option (List ℕ)) (before now : ℕ) (outcome : Outcome) : Type 0 where

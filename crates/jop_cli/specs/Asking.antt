@@ -1,15 +1,14 @@
 -- What is asked of an image, and how it is answered: by a text that is put out, or by the line of an ending.
-use Rattle.std.specs.Prelude.{◌≡◌, ℕ, ◌+◌, ◌<◌, ◌≤◌, true, false, ◌⊎◌, List, length, take, Some, None}
+use Rattle.std.specs.Prelude.{◌≡◌, ℕ, ◌+◌, ◌<◌, ◌≤◌, true, false, ◌⊎◌, List, length, take}
 use Rattle.std.specs.declared.option.Option.{Option}
 use Rattle.outside.specs.Outside.{Grew, Rose}
 use Rattle.outside.specs.Files.{OnlyWords, AreFiles}
 use Rattle.image_file.specs.Bare.{Image, IsBare}
 use Rattle.image_file.specs.Linked as file
-use Rattle.command_line.specs.declared.command.Settings.{Settings}
 use Rattle.command_line.specs.Range.{AreSettings}
 use Rattle.jopizer.specs.Linked.{Parts, IsLinked, image_of}
 use Rattle.jop_cli.specs.declared.asking.Question.{Question}
-use Rattle.jop_cli.specs.declared.asking.Question.TheVariants.{Check, Bound, Bounds, Loops, Headers, Memory}
+use Rattle.jop_cli.specs.declared.asking.Question.TheVariants.{Check, Bound, Bounds, Shapes, Loops, Headers, Memory}
 use Rattle.jop_cli.specs.declared.asking.Asked.{Asked}
 use Rattle.jop_cli.specs.declared.outcome.Answer.{Answer}
 use Rattle.jop_cli.specs.declared.outcome.Answer.TheVariants.{Text, Ends}
@@ -25,7 +24,7 @@ use Rattle.jop_cli.specs.LinkedFile.{BytesFault}
 use Rattle.jop_cli.specs.World.{World, IsQuiet, IsUntaken}
 use Rattle.jop_cli.specs.Linking.{files_of, OperandsFault}
 use Rattle.jop_cli.specs.Checking.{Checks, ChecksBare}
-use Rattle.jop_cli.specs.Bounding.{AnswersBound, BoundsBare}
+use Rattle.jop_cli.specs.Bounding.{AnswersBound, BoundsBare, AnswersShapes, EndsNoMethod}
 use Rattle.jop_cli.specs.AllBounds.{AnswersBounds, AnswersBareBounds}
 use Rattle.jop_cli.specs.Headers.{AnswersHeaders, AnswersBareHeaders}
 use Rattle.jop_cli.specs.Needs.{AnswersLoops, AnswersNothing, AnswersNeed, AnswersBareNeed}
@@ -42,6 +41,7 @@ abbrev pub HasSettings : Question → Type 0
 HasSettings (Check s) = AreSettings s
 HasSettings (Bound s method) = AreSettings s
 HasSettings (Bounds s) = AreSettings s
+HasSettings (Shapes s method) = AreSettings s
 HasSettings Loops = Unit {0}
 HasSettings Headers = Unit {0}
 HasSettings Memory = Unit {0}
@@ -51,6 +51,7 @@ abbrev pub IsAnswer : (words : List (List ℕ)) → Question → Parts → (oper
 IsAnswer words (Check s) l operands answer = EndsBy (Checks l.classes s (text_at operands 1) (text_at operands 2)) answer
 IsAnswer words (Bound s method) l operands answer = AnswersBound l.classes s (text_at operands 1) (text_at words method) answer
 IsAnswer words (Bounds s) l operands answer = AnswersBounds l.classes s (text_at operands 1) answer
+IsAnswer words (Shapes s method) l operands answer = AnswersShapes l.classes s (text_at operands 1) (text_at words method) answer
 IsAnswer words Loops l operands answer = AnswersLoops l.classes answer
 IsAnswer words Headers l operands answer = AnswersHeaders l.classes (text_at operands 1) answer
 IsAnswer words Memory l operands answer = AnswersNeed l (text_at operands 1) (text_at operands 2) answer
@@ -60,6 +61,7 @@ abbrev pub IsBareAnswer : Question → Image → (operands : List (List ℕ)) �
 IsBareAnswer (Check s) image operands answer = EndsBy (ChecksBare s image (text_at operands 1) (text_at operands 2)) answer
 IsBareAnswer (Bound s method) image operands answer = EndsBy (BoundsBare s image (text_at operands 1)) answer
 IsBareAnswer (Bounds s) image operands answer = AnswersBareBounds s image (text_at operands 1) answer
+IsBareAnswer (Shapes s method) image operands answer = EndsBy (EndsNoMethod s (text_at operands 1)) answer
 IsBareAnswer Loops image operands answer = AnswersNothing answer
 IsBareAnswer Headers image operands answer = AnswersBareHeaders (text_at operands 1) answer
 IsBareAnswer Memory image operands answer = AnswersBareNeed image (text_at operands 1) (text_at operands 2) answer

@@ -1,4 +1,5 @@
--- What `bound` does: a certificate of a method's bound is put, by an image and the bounds of its loops, which is the operand behind it.
+-- What `bound` does: a certificate of a method's bound is put, by an image and the bounds of its loops, which is the operand behind it; or a line for each
+-- shape of the method cache.
 use Rattle.std.specs.Prelude.{◌≡◌, ℕ, ◌≤◌, ◌⊎◌, List}
 use Rattle.class_pool.specs.declared.class.ClassFile.{ClassFile}
 use Rattle.image_file.specs.Bare.{Image}
@@ -9,6 +10,7 @@ use Rattle.analysis_commands.specs.declared.bound.NotBounded.{NotBounded as Caus
 use Rattle.analysis_commands.specs.declared.bound.NotBounded.TheVariants as causes
 use Rattle.analysis_commands.specs.Analysis.{timing_of, bounds_of}
 use Rattle.analysis_commands.specs.Bounding.{IsBound, IsNotBounded, IsBareNotBounded}
+use Rattle.analysis_commands.specs.Shapes.{AreShapeLines, IsShapeRefusal}
 use Rattle.answer_lines.specs.declared.unanswered.Cause.TheVariants.{Bound}
 use Rattle.jop_cli.specs.declared.outcome.Ending.{Ending}
 use Rattle.jop_cli.specs.declared.outcome.Ending.TheVariants.{NotAnswered, NoMemory}
@@ -54,3 +56,22 @@ pub record EndsUnnamed (s : Settings) (image : Image) (bounds_text : List ℕ) (
 -- how the bounding of a method of a bare image ends
 abbrev pub BoundsBare : Settings → Image → (bounds_text : List ℕ) → Ending → Type 0
 BoundsBare s image bounds_text ending = EndsTooLong s image ending ⊎ EndsUnnamed s image bounds_text ending
+
+-- ---- in each shape of the method cache
+
+-- this refuses the bounds, or forbids a bound whatever the shape, and the ending says it
+pub record EndsShapeless (cs : List ClassFile) (s : Settings) (bounds_text name : List ℕ) (ending : Ending) : Type 0 where
+  pub cause : Cause
+  pub is : IsShapeRefusal cs s bounds_text name cause
+  pub says : ending ≡ cause_ending s cause
+
+-- the lines answer, or such an ending
+abbrev pub AnswersShapes : List ClassFile → Settings → (bounds_text name : List ℕ) → Answer → Type 0
+AnswersShapes cs s bounds_text name (Text text) = AreShapeLines cs s bounds_text name text.items
+AnswersShapes cs s bounds_text name (Ends ending) = EndsShapeless cs s bounds_text name ending
+
+-- of a bare image: this refuses the bounds, or else no method has the name
+pub record EndsNoMethod (s : Settings) (bounds_text : List ℕ) (ending : Ending) : Type 0 where
+  pub cause : Cause
+  pub is : IsBareNotBounded bounds_text cause
+  pub says : ending ≡ cause_ending s cause

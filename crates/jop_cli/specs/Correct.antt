@@ -7,7 +7,7 @@
 --   (the same of a bare image and of a microprogram), command_line Command (what words say), and of this crate Tasks (what commands do), World,
 --   Linking, LinkedSettings, Calls and Courses.
 use Rattle.std.specs.Prelude.{◌≡◌, ℕ, suc, ◌+◌, ◌≤◌, ◌⊎◌, ℤ, Bool, List, [], ◌∷◌, length, Contains, Option, Some, IsSome, Ok, MatchOption}
-use Rattle.std.specs.Prelude.{Vec}
+use Rattle.std.specs.Prelude.{Vec, slice_get}
 use Rattle.std.specs.declared.alloc.Global.{Global}
 use Rattle.std.specs.List.{concat}
 use Rattle.image_file.specs.Bare.{Image, IsBare}
@@ -17,13 +17,16 @@ use Rattle.microcode_asm.specs.Roms.{IsAssembled}
 use Rattle.microcode_asm.specs.Listing.{listing_of}
 use Rattle.command_line.specs.declared.command.Settings.{Settings}
 use Rattle.command_line.specs.declared.command.Command.{Command}
-use Rattle.command_line.specs.declared.command.Command.TheVariants.{Run, Trace, Bound, Check, Loops, Asm as Assemble, Link as LinkTo, Work}
+use Rattle.command_line.specs.declared.command.Command.TheVariants.{Run, Trace, Profile as ToProfile, Bound, Check, Loops}
+use Rattle.command_line.specs.declared.command.Command.TheVariants.{Asm as Assemble, Link as LinkTo, Work}
 use Rattle.command_line.specs.Command.{command_of}
+use Rattle.command_line.specs.Range.{AreSettings}
 use Rattle.jopizer.specs.declared.refusal.LinkRefusal.{LinkRefusal}
 use Rattle.jopizer.specs.Linked.{Parts, IsLinked, image_of}
 use Rattle.answer_lines.specs.declared.line.Sizes.{Sizes}
 use Rattle.memory_timing.specs.declared.Config.{Config}
 use Rattle.jop_core.specs.Reset.{linked_reset}
+use Rattle.run_devices.specs.Lent.{Lent, wired}
 use Rattle.class_pool.specs.declared.class.ClassFile.{ClassFile}
 use Rattle.bytecode_model.specs.declared.Ending.TheVariants.{Raising}
 use Rattle.bytecode_model.specs.State.{State}
@@ -38,6 +41,10 @@ use Rattle.activations.specs.Setting.{IsSetting}
 use Rattle.activations.specs.Activations.{Stage, IsActivation, cycles_of}
 use Rattle.activations.specs.Keeping.{Keeps}
 use Rattle.activations.specs.Warrant.{BoundsActivations}
+use Rattle.activation_watch.specs.declared.profile.Profile.{Profile}
+use Rattle.activation_laws.specs.Profiled.{EachKeeps, IsKept}
+use Rattle.method_bounds.specs.declared.answer.BoundAnswer.{BoundAnswer}
+use Rattle.method_bounds.specs.Profiles.{profile_lines}
 use Rattle.boundary.specs.Runs.{Goes}
 use Rattle.jop_cli.specs.declared.outcome.Ending.{Ending}
 use Rattle.jop_cli.specs.declared.outcome.Ending.TheVariants as endings
@@ -84,6 +91,8 @@ use Rattle.jop_cli.specs.World.{IsQuiet}
 use Rattle.jop_cli.specs.Calls.{Call, NothingFailed, LacksMemory, Puts, IsTold, AreTold}
 use Rattle.jop_cli.specs.Working.{IsWorkLine, NotWorked}
 use Rattle.jop_cli.specs.Courses.{RanLinked, RanBare}
+use Rattle.jop_cli.specs.Following.{run_stages}
+use Rattle.jop_cli.specs.Profiling.{RanProfile, EndsRun, input_of, unwatched, bound_told}
 use Rattle.jop_cli.specs.declared.task.Task.TheVariants.{Ask}
 use Rattle.jop_cli.specs.Asking.{IsAnswer}
 use Rattle.jop_cli.specs.Tasks.{task_of}
@@ -336,6 +345,53 @@ BoundsHoldInRuns =
     → BoundsActivations (resolved l.classes) (timing_of settings) bound_of m bound → IsBoundary settings l r.config a
     → (h : IsActivation (linked_setting l.classes settings.stack r.config.memory) m a b) → Keeps bound_of h
     → MatchOption bound ⊥ (λ most. cycles_of a b ≤ most)
+
+-- ---- `profile`
+
+-- The words say `profile` of two files: the image of what is linked, which a machine with the settings holds, and a text of bounds.
+pub record ProfilesTexts (c : Call) (settings : Settings) (image : ℕ) (l : Parts) (bounds_text : List ℕ) : Type 0 where
+  pub bounds : ℕ
+  pub command : command_of c.words ≡ Ok (ToProfile settings image bounds)
+  pub bytes : List ℕ
+  pub told : AreTold c image (bytes ∷ bounds_text ∷ [])
+  pub is_linked : IsLinked l
+  pub is_file : file.IsLinked bytes (image_of l)
+  pub codes : CodesFit settings l
+  pub memory : length l.laid.words ≤ settings.memory
+  pub lines : List LoopBound
+  pub read : IsRead bounds_text lines
+
+-- What was linked was run, with the input and nothing that keeps its output. All lines of its profile were put: of each method of which an activation has
+-- ended among the run's boundaries what its activations come to, beside what `bound --all` says of it. The line on err says how the run ended.
+pub record IsProfiled (c : Call) (settings : Settings) (l : Parts) (bounds_text : List ℕ) : Type 0 where
+  pub ending : Ending
+  pub ran : RanProfile settings l bounds_text (unwatched c.old) (unwatched c.new) ending
+  pub ends : EndsRun ending
+  pub outcome : c.outcome ≡ outcome_of ending
+  pub puts : Puts c (profile_lines (named_or_number l.classes) 0 ran.rows ran.answers) (line_of c.words ending)
+
+-- So it is where nothing fails; or there is no memory.
+abbrev pub ProfilesAreComplete : Type 0
+ProfilesAreComplete =
+    (c : Call) (settings : Settings) (image : ℕ) (l : Parts) (bounds_text : List ℕ) → ProfilesTexts c settings image l bounds_text → NothingFailed c
+    → IsProfiled c settings l bounds_text ⊎ LacksMemory c
+
+-- The boundaries of the run of a profile.
+abbrev pub boundaries_of : (settings : Settings) → (l : Parts) → (bounds_text : List ℕ) → (old new : Lent) → (ending : Ending)
+    → RanProfile settings l bounds_text old new ending → List Stage
+boundaries_of settings l bounds_text old new ending r =
+    run_stages (linked_setting l.classes settings.stack r.ran.config.memory) (linked_reset settings.stack l.laid.words r.ran.config) settings.cycles
+    (wired (input_of old)) (wired (input_of new)) r.followed r.ran.profiles.ran
+
+-- The bound in a line is kept by the greatest number of cycles beside it, where each ended activation of the method in the run keeps the bounds of loops.
+abbrev pub ProfilesAreKept : Type 0
+ProfilesAreKept =
+    (settings : Settings) (l : Parts) (bounds_text : List ℕ) (old new : Lent) (ending : Ending) (r : RanProfile settings l bounds_text old new ending)
+    (m : ℕ) (row : Profile) (answer : BoundAnswer) (bound : Option ℕ)
+    → AreSettings settings → slice_get r.rows m ≡ Some row → slice_get r.answers m ≡ Some answer → bound_told answer ≡ Some bound
+    → EachKeeps (linked_setting l.classes settings.stack r.ran.config.memory) (boundaries_of settings l bounds_text old new ending r)
+    (bounds_of l.classes r.bounds) m
+    → IsKept row bound
 
 -- ---- `loops`
 

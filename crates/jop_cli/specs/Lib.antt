@@ -17,6 +17,9 @@ pub mod Headers
 pub mod AllBounds
 pub mod Opening
 pub mod Asking
+pub mod Following
+pub mod Preparing
+pub mod Profiling
 pub mod Tasks
 pub mod Working
 pub mod Answer

@@ -12,14 +12,13 @@ use Rattle.jopizer.specs.Linked.{Parts, IsLinked, image_of}
 use Rattle.jopizer.specs.Images.{DiffersFirst}
 use Rattle.jop_cli.specs.declared.program_end.ProgramEnd.{ProgramEnd}
 use Rattle.jop_cli.specs.declared.program_end.ProgramEnd.TheVariants as runs
-use Rattle.jop_cli.specs.declared.program_end.ImageEnd.TheVariants as ends
 use Rattle.jop_cli.specs.declared.outcome.Refusal.TheVariants.{BadImage, Differs, MemoryTooSmall}
 use Rattle.jop_cli.specs.declared.outcome.Ending.{Ending}
 use Rattle.jop_cli.specs.declared.outcome.Ending.TheVariants.{Ended, Uncaught, Refused, TooLong, NotLinked, Spent, InputFault, WriteFault, NoMemory}
 use Rattle.jop_cli.specs.declared.show.Show.{Show}
 use Rattle.jop_cli.specs.Linking.{Refuses, HasName}
 use Rattle.run_devices.specs.Lent.{Lent}
-use Rattle.jop_cli.specs.LinkedSettings.{RunsLinked}
+use Rattle.jop_cli.specs.LinkedSettings.{RanWith, IsTooLarge, IsTooLong}
 
 -- ---- the bytes
 
@@ -58,18 +57,24 @@ SaysEnd cs runs.ReadFault ending = ending ≡ InputFault
 SaysEnd cs runs.WriteFault ending = ending ≡ WriteFault
 SaysEnd cs runs.NoMemory ending = ending ≡ NoMemory
 
+-- why a machine with the settings doesn't hold what was linked: the first method whose code doesn't fit, or else that the words pass the memory
+abbrev pub IsUnheld : Settings → Parts → Ending → Type 0
+IsUnheld settings l (TooLong method name blocks limit) =
+    IsTooLong settings l method blocks × (limit ≡ settings.blocks) × NamesMethod l.classes method name.items
+IsUnheld settings l (Refused (MemoryTooSmall words given)) = IsTooLarge settings l words × (given ≡ settings.memory)
+IsUnheld settings l NoMemory = Unit {0}
+IsUnheld settings l ending = ⊥
+
 -- how the run of what was linked ends, with what its line shows
 abbrev pub EndsAs : Settings → Show → Parts → (old new : Lent) → Ending → Type 0
-EndsAs settings show l old new (TooLong method name blocks limit) = RunsLinked settings show l old new (ends.MethodTooLong method blocks)
-    × (limit ≡ settings.blocks) × NamesMethod l.classes method name.items
-EndsAs settings show l old new (Refused (MemoryTooSmall words given)) = RunsLinked settings show l old new (ends.MemoryTooSmall words)
-    × (given ≡ settings.memory)
-EndsAs settings show l old new (Ended counts) = RunsLinked settings show l old new (ends.Ran (runs.Ended counts))
-EndsAs settings show l old new (Uncaught class name counts) = RunsLinked settings show l old new (ends.Ran (runs.Uncaught class counts))
-    × NamesClass l.classes class name.items
-EndsAs settings show l old new (Spent counts) = RunsLinked settings show l old new (ends.Ran (runs.Spent counts))
-EndsAs settings show l old new InputFault = RunsLinked settings show l old new (ends.Ran runs.ReadFault)
-EndsAs settings show l old new WriteFault = RunsLinked settings show l old new (ends.Ran runs.WriteFault)
+EndsAs settings show l old new (TooLong method name blocks limit) = IsUnheld settings l (TooLong method name blocks limit) × (new ≡ old)
+EndsAs settings show l old new (Refused (MemoryTooSmall words given)) = IsUnheld settings l (Refused (MemoryTooSmall words given)) × (new ≡ old)
+EndsAs settings show l old new (Ended counts) = RanWith settings show l old new (runs.Ended counts)
+EndsAs settings show l old new (Uncaught class name counts) =
+    RanWith settings show l old new (runs.Uncaught class counts) × NamesClass l.classes class name.items
+EndsAs settings show l old new (Spent counts) = RanWith settings show l old new (runs.Spent counts)
+EndsAs settings show l old new InputFault = RanWith settings show l old new runs.ReadFault
+EndsAs settings show l old new WriteFault = RanWith settings show l old new runs.WriteFault
 EndsAs settings show l old new NoMemory = new ≡ old
 EndsAs settings show l old new ending = ⊥
 

@@ -8,8 +8,6 @@ use Rattle.jopizer.specs.Linked.{Parts}
 use Rattle.linked_methods.specs.Fitting.{MethodFits, IsFirst}
 use Rattle.jop_cli.specs.declared.program_end.ProgramEnd.{ProgramEnd}
 use Rattle.jop_cli.specs.declared.program_end.ProgramEnd.TheVariants as runs
-use Rattle.jop_cli.specs.declared.program_end.ImageEnd.{ImageEnd}
-use Rattle.jop_cli.specs.declared.program_end.ImageEnd.TheVariants.{MethodTooLong, MemoryTooSmall, Ran}
 use Rattle.jop_cli.specs.declared.show.Show.{Show}
 use Rattle.jop_cli.specs.Show.{linked_shown}
 use Rattle.jop_cli.specs.Phase.{HasSettings}
@@ -31,23 +29,17 @@ pub record RanWith (settings : Settings) (show : Show) (l : Parts) (old new : Le
       (linked_reset settings.stack l.laid.words config) settings.cycles old new end
   pub class : HasClass l.classes end
 
--- The words of the image pass the memory, and each code fits the method cache; nothing was done.
-pub record IsTooLarge (settings : Settings) (l : Parts) (old new : Lent) (words : ℕ) : Type 0 where
+-- The words of the image pass the memory, and each code fits the method cache.
+pub record IsTooLarge (settings : Settings) (l : Parts) (words : ℕ) : Type 0 where
   pub codes : CodesFit settings l
   pub count : words ≡ length l.laid.words
   pub more : settings.memory < words
-  pub same : new ≡ old
 
--- how the run ends
-abbrev pub RunsLinked : Settings → Show → Parts → (old new : Lent) → ImageEnd → Type 0
-RunsLinked settings show l old new (MethodTooLong method blocks) = IsFirst (resolved l.classes) settings.blocks settings.block_words
-    (record { method = method; blocks = blocks }) × (new ≡ old)
-RunsLinked settings show l old new (MemoryTooSmall words) = IsTooLarge settings l old new words
-RunsLinked settings show l old new (Ran end) = RanWith settings show l old new end
+-- the method of this number is the first whose code takes more blocks than the method cache has: so many
+abbrev pub IsTooLong : Settings → Parts → (method blocks : ℕ) → Type 0
+IsTooLong settings l method blocks = IsFirst (resolved l.classes) settings.blocks settings.block_words (record { method = method; blocks = blocks })
 
 -- the endings after which nothing was done
-abbrev pub LeavesDevices : ImageEnd → Type 0
-LeavesDevices (MethodTooLong method blocks) = Unit {0}
-LeavesDevices (MemoryTooSmall words) = Unit {0}
-LeavesDevices (Ran runs.NoMemory) = Unit {0}
-LeavesDevices (Ran end) = ⊥
+abbrev pub LeavesDevices : ProgramEnd → Type 0
+LeavesDevices runs.NoMemory = Unit {0}
+LeavesDevices end = ⊥

@@ -67,6 +67,15 @@ pub record AreCounts (counts : Counts) (s : machine.State) : Type 0 where
   pub hits : counts.hits ≡ s.hits
   pub misses : counts.misses ≡ s.misses
 
+-- how a program ended whose run came to this end; no watch fails
+abbrev pub program_end : RunEnd → Counts → ProgramEnd
+program_end ends.Ended counts = Ended counts
+program_end (ends.Uncaught class) counts = Uncaught class counts
+program_end ends.Spent counts = Spent counts
+program_end ends.ReadFault counts = ReadFault
+program_end ends.WriteFault counts = WriteFault
+program_end ends.SeenFault counts = WriteFault
+
 -- From reset, and from the boot state, the machine and the program ran to this end, and the machine is at `now`.
 pub record RunsTo (shown : Shown) (g : Setting) (reset : machine.State) (limit : ℕ) (end : RunEnd) (old new : Lent) : Type 0 where
   pub is_setting : IsSetting g

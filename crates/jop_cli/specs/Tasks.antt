@@ -4,11 +4,11 @@ use Rattle.command_line.specs.declared.command.Settings.{Settings}
 use Rattle.command_line.specs.declared.command.Command.{Command}
 use Rattle.command_line.specs.declared.command.Command.TheVariants as commands
 use Rattle.command_line.specs.Range.{AreSettings}
-use Rattle.jop_cli.specs.declared.asking.Question.TheVariants.{Check, Bound, Bounds, Loops, Headers, Memory}
+use Rattle.jop_cli.specs.declared.asking.Question.TheVariants.{Check, Bound, Bounds, Shapes, Loops, Headers, Memory}
 use Rattle.jop_cli.specs.declared.asking.Asked.{Asked}
 use Rattle.jop_cli.specs.declared.show.Show.TheVariants as shows
 use Rattle.jop_cli.specs.declared.task.Task.{Task}
-use Rattle.jop_cli.specs.declared.task.Task.TheVariants.{Run, Assemble, Link, Ask, Work}
+use Rattle.jop_cli.specs.declared.task.Task.TheVariants.{Run, Profile, Assemble, Link, Ask, Work}
 use Rattle.jop_cli.specs.Asking.{HasSettings}
 
 -- ---- the questions
@@ -21,6 +21,9 @@ bounding s method image = record { question = Bound s method; image = image; ope
 
 abbrev pub bounding_all : Settings → (image : ℕ) → Asked
 bounding_all s image = record { question = Bounds s; image = image; operands = 2 }
+
+abbrev pub bounding_shapes : Settings → (method image : ℕ) → Asked
+bounding_shapes s method image = record { question = Shapes s method; image = image; operands = 2 }
 
 abbrev pub finding_loops : (image : ℕ) → Asked
 finding_loops image = record { question = Loops; image = image; operands = 1 }
@@ -38,8 +41,10 @@ abbrev pub task_of : Command → Task
 task_of (commands.Link main first) = Link main first
 task_of (commands.Run s image) = Run s shows.Output image
 task_of (commands.Trace s micro image) = Run s (shows.Trace micro) image
+task_of (commands.Profile s image bounds) = Profile s image
 task_of (commands.Bound s method image bounds) = Ask (bounding s method image)
 task_of (commands.BoundAll s image bounds) = Ask (bounding_all s image)
+task_of (commands.BoundShapes s method image bounds) = Ask (bounding_shapes s method image)
 task_of (commands.Check s image bounds certificate) = Ask (checking s image)
 task_of (commands.Loops image) = Ask (finding_loops image)
 task_of (commands.Headers image operands) = Ask (heading image operands)
@@ -50,6 +55,7 @@ task_of (commands.Work n) = Work n
 -- the words that it means are among so many, and its settings and its count are in their ranges
 abbrev pub IsAmong : (words : ℕ) → Task → Type 0
 IsAmong n (Run s show image) = AreSettings s × (image < n)
+IsAmong n (Profile s image) = AreSettings s × (image + 2 ≤ n)
 IsAmong n (Assemble text) = text < n
 IsAmong n (Link main first) = (main < n) × (first < n)
 IsAmong n (Ask asked) = HasSettings asked.question × (asked.image + asked.operands ≤ n)

@@ -21,7 +21,6 @@ use Rattle.work_gen.specs.Work.{class_name, work}
 use Rattle.work_gen.specs.Bounds.{main_text, adder_bounds}
 use Rattle.answer_lines.specs.WorkLines.{work_line}
 use Rattle.jop_cli.specs.declared.program_end.ProgramEnd.TheVariants as runs
-use Rattle.jop_cli.specs.declared.program_end.ImageEnd.TheVariants as ends
 use Rattle.jop_cli.specs.declared.show.Show.TheVariants as shows
 use Rattle.jop_cli.specs.declared.outcome.Refusal.TheVariants.{MemoryTooSmall}
 use Rattle.answer_lines.specs.declared.unanswered.Cause.TheVariants.{Bound}
@@ -29,7 +28,7 @@ use Rattle.jop_cli.specs.declared.outcome.Ending.{Ending}
 use Rattle.jop_cli.specs.declared.outcome.Ending.TheVariants.{Written, Uncaught, Refused, TooLong, NotAnswered, Spent, WriteFault, NoMemory}
 use Rattle.jop_cli.specs.World.{World, IsUntaken}
 use Rattle.jop_cli.specs.Linking.{LinkFault}
-use Rattle.jop_cli.specs.LinkedSettings.{RunsLinked}
+use Rattle.jop_cli.specs.LinkedSettings.{RanWith}
 use Rattle.jop_cli.specs.LinkedFile.{EndsAs}
 
 -- ---- what is linked, and how it is run
@@ -57,7 +56,7 @@ fresh = lent (Some []) 0 (Some []) 0 None
 -- The run of what was linked ended by returning, with these counts, and put these bytes out.
 pub record Returned (l : Parts) (output : List ℕ) (counts : Counts) : Type 0 where
   pub after : Lent
-  pub ran : RunsLinked usual_settings shows.Output l fresh after (ends.Ran (runs.Ended counts))
+  pub ran : RanWith usual_settings shows.Output l fresh after (runs.Ended counts)
   pub held : after.held ≡ Some output
 
 -- it ended so, as `run` of its image with nothing to read does

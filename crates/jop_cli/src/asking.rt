@@ -11,7 +11,7 @@ ghost use Rattle.jop_cli.specs.Opening.{Opens};
 ghost use Rattle.jop_cli.specs.Asking.{HasSettings, IsAnswer, IsBareAnswer, Answers, PutsText, PutsAnswer, AsksFiles};
 
 use crate::all_bounds::{bounds_bare, bounds_linked};
-use crate::bounding::{bound_bare_image, bound_linked};
+use crate::bounding::{bound_bare_image, bound_linked, shapes_bare, shapes_linked};
 use crate::checking::{check_bare_image, check_linked};
 use crate::headers::{headers_bare, headers_linked};
 use crate::image::{Image, open_image};
@@ -34,6 +34,8 @@ pub(crate) enum Question {
     Bound { settings: Settings, method: u32 },
     /// The bounds of all methods. Its operands are an image and bounds of loops.
     Bounds { settings: Settings },
+    /// The bound of the method that the word names in each shape of the method cache. Its operands are an image and bounds of loops.
+    Shapes { settings: Settings, method: u32 },
     /// The loops that count. Its operand is an image.
     Loops,
     /// The loops as a text of bounds. Its operands are an image, and bounds by lines of sources where they are given.
@@ -53,7 +55,7 @@ pub(crate) struct Asked {
 }
 
 /// The text of the operand of this number; that of the image is number 0.
-fn operand(operands: &[Vec<u8>], number: usize) -> &[u8]
+pub(crate) fn operand(operands: &[Vec<u8>], number: usize) -> &[u8]
     requires { All (λ text. length text.items ≤ longest_file) operands.now }
     ensures text { result.now ≡ text_at (contents operands.now) number }
     ensures short { length result.now ≤ longest_file }
@@ -86,6 +88,9 @@ fn answer_linked(
             bound_linked(alloc, linked, &settings, text_of(words, method), bounds)
         }
         Question::Bounds { settings } => bounds_linked(alloc, linked, &settings, bounds),
+        Question::Shapes { settings, method } => {
+            shapes_linked(alloc, linked, &settings, text_of(words, method), bounds)
+        }
         Question::Loops => loops_linked(alloc, linked),
         Question::Headers => headers_linked(alloc, linked, bounds),
         Question::Memory => memory_linked(alloc, linked, bounds, operand(operands, 2)),
@@ -108,6 +113,7 @@ fn answer_bare(alloc: Global, question: Question, image: &Bare, operands: &[Vec<
             Answer::Ends(bound_bare_image(alloc, image, &settings, bounds))
         }
         Question::Bounds { settings } => bounds_bare(alloc, image, &settings, bounds),
+        Question::Shapes { settings, .. } => Answer::Ends(shapes_bare(alloc, &settings, bounds)),
         Question::Loops => Answer::Text(Vec::new(alloc)),
         Question::Headers => headers_bare(alloc, bounds),
         Question::Memory => memory_bare(alloc, image, bounds, operand(operands, 2)),

@@ -139,7 +139,7 @@ fn run_bare<const N: usize, O: Sink, V: Watch>(
 }
 
 /// Runs an image with settings, where its code fits the method cache.
-fn run_with<O: Sink, V: Watch>(
+pub(crate) fn run_with<O: Sink, V: Watch>(
     alloc: Global,
     bare: &Bare,
     settings: &Settings,

@@ -1,12 +1,12 @@
-//! Bounding a method of an image, by the bounds of its loops.
+//! Bounding a method of an image, by the bounds of its loops, in the shape of the method cache that is asked for or in each.
 ghost use Rattle.std.specs.Prelude.{◌≡◌, ◌≤◌, length};
 ghost use Rattle.base.specs.Sizes.{longest_file};
 ghost use Rattle.command_line.specs.Range.{AreSettings};
-ghost use Rattle.jop_cli.specs.Bounding.{cause_ending, AnswersBound, BoundsBare};
+ghost use Rattle.jop_cli.specs.Bounding.{cause_ending, AnswersBound, BoundsBare, AnswersShapes, EndsNoMethod};
 
 use crate::checking::{fault_ending, too_long_ending};
 use crate::outcome::{Answer, Ending};
-use analysis_commands::{NotBounded, bound_bare, bound_program};
+use analysis_commands::{NotBounded, bound_bare, bound_program, bound_shapes};
 use answer_lines::Cause;
 use command_line::Settings;
 use jop_core::Bare;
@@ -61,4 +61,30 @@ pub(crate) fn bound_bare_image(
         Some(ending) => ending,
         None => cause_ending(settings, bound_bare(alloc, bounds)),
     }
+}
+
+/// The lines of the bounds of the method of this name of what was linked in each shape of the method cache, or why none is given.
+pub(crate) fn shapes_linked(
+    alloc: Global,
+    linked: &Linked,
+    settings: &Settings,
+    name: &[u8],
+    bounds: &[u8],
+) -> Answer
+    requires settings { AreSettings settings.now }
+    requires short { length bounds.now ≤ longest_file }
+    ensures { AnswersShapes linked.now.classes settings.now bounds.now name.now result }
+{
+    match bound_shapes(alloc, linked.program(), settings, name, bounds) {
+        Ok(text) => Answer::Text(text),
+        Err(cause) => Answer::Ends(cause_ending(settings, cause)),
+    }
+}
+
+/// Why no bound of a method of a bare image is given in any shape.
+pub(crate) fn shapes_bare(alloc: Global, settings: &Settings, bounds: &[u8]) -> Ending
+    requires { length bounds.now ≤ longest_file }
+    ensures { EndsNoMethod settings.now bounds.now result }
+{
+    cause_ending(settings, bound_bare(alloc, bounds))
 }

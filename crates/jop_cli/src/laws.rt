@@ -4,11 +4,14 @@
 ghost use Rattle.jop_cli.specs.Correct.{LinkingIsComplete, RunsAreTheBytecodes, TracesAreTheRuns, OneBareImage, BareRunsAreTheBytecodes, BareTracesAreTheRuns};
 ghost use Rattle.jop_cli.specs.Correct.{AssemblingIsComplete, BoundsAreKept, CheckingIsComplete, FaultsAreAnswered, BoundingIsComplete, BoundRefusalsAreCaused};
 ghost use Rattle.jop_cli.specs.Correct.{BoundsHoldInRuns, WrittenLoopsCount, CountedLoopsAreKept, QuestionsAreAnswered, NeedsSuffice};
-ghost use Rattle.jop_cli.specs.Correct.{NamesTellMethods, WorkingIsComplete, WorkLinesAreTrue};
+ghost use Rattle.jop_cli.specs.Correct.{NamesTellMethods, ProfilesAreComplete, ProfilesAreKept, WorkingIsComplete, WorkLinesAreTrue};
 
+use activation_laws::profiles_keep_bounds;
 use activations::laws::{places_tell_words, steps_are_told};
 use bound_cert::has_one_certificate;
 use bound_rules::laws::{faults_are_one, refused_is_not_met};
+use bound_sound::certificates_are_sound;
+use boundary::laws::runs_are_in_a_row;
 use counted_activations::laws::{counted_loops_of_runs, found_loops_count};
 use jopizer::laws::{linked_images_are_read, one_linked};
 use loop_bounds::laws::{gives_one, read_is_not_refused};
@@ -124,6 +127,24 @@ pub fn bounds_hold_in_runs()
 {
     places_tell_words();
     steps_are_told();
+}
+
+/// A profile of what is linked is that of its run.
+pub fn profiles_are_complete()
+    ensures { ProfilesAreComplete }
+{
+    one_linked();
+    linked_images_are_read();
+    read_is_not_refused();
+}
+
+/// The bounds in the lines of a profile are kept by the numbers beside them.
+pub fn profiles_are_kept()
+    ensures { ProfilesAreKept }
+{
+    certificates_are_sound();
+    runs_are_in_a_row();
+    profiles_keep_bounds();
 }
 
 /// Where the answer is that the lines of loops are written, the loops count to their numbers.

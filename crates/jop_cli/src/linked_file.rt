@@ -1,5 +1,5 @@
 //! The run of a linked image, of whose file these are the bytes.
-ghost use Rattle.std.specs.Prelude.{◌≡◌, ◌<◌, ◌≤◌, ℕ, [], length, vec_capacity, IfOk, IfErr};
+ghost use Rattle.std.specs.Prelude.{◌≡◌, ◌<◌, ◌≤◌, ℕ, [], length, vec_capacity, IfOk, IfErr, IfNone, IfSome};
 ghost use Rattle.program_tables.specs.Numbers.{methods_by_number};
 ghost use Rattle.image_file.specs.Linked as file;
 ghost use Rattle.image_file.specs.Linked.{Image, contents};
@@ -9,22 +9,23 @@ ghost use Rattle.jopizer.specs.Images.{IsWrong};
 ghost use Rattle.jopizer.specs.Refused.{IsRefusal};
 ghost use Rattle.refusal_lines.specs.Room.{HasRoom};
 ghost use Rattle.command_line.specs.Range.{AreSettings};
-ghost use Rattle.jop_cli.specs.declared.program_end.ImageEnd.TheVariants as ends;
 ghost use Rattle.run_devices.specs.Lent.{lent};
 ghost use Rattle.jop_cli.specs.Show.{IsTrace};
 ghost use Rattle.jop_cli.specs.Leaving.{Leaves, FailsRisen};
 ghost use Rattle.jop_cli.specs.LinkedRun.{HasClass};
-ghost use Rattle.jop_cli.specs.LinkedFile.{BytesFault, IsTooLongAs, SaysEnd, EndsAs};
+ghost use Rattle.jop_cli.specs.LinkedSettings.{CodesFit};
+ghost use Rattle.jop_cli.specs.LinkedFile.{BytesFault, IsTooLongAs, SaysEnd, IsUnheld, EndsAs};
 
-use crate::linked_settings::run_with_settings;
+use crate::linked_settings::{run_held, words_of};
 use crate::linking::not_linked;
 use crate::outcome::{Ending, Refusal};
-use crate::program_end::{ImageEnd, ProgramEnd};
+use crate::program_end::ProgramEnd;
 use crate::show::Show;
 use command_line::Settings;
 use image_file::{one_image, read_linked};
 use jop_core::Watch;
 use jopizer::{ImageFault, LinkRefusal, Linked, read_image};
+use linked_methods::first_too_long;
 use outside::{Sink, Source};
 use program_tables::laws::methods_stand_by_number;
 use refusal_lines::{name_room, tell_name};
@@ -84,7 +85,7 @@ fn too_long(alloc: Global, program: &Program, method: u32, blocks: u32, limit: u
 }
 
 /// The ending where the program ended so, with room for the name of any class.
-fn said(program: &Program, room: Vec<u8>, end: ProgramEnd) -> Ending
+pub(crate) fn said(program: &Program, room: Vec<u8>, end: ProgramEnd) -> Ending
     requires empty { room.items ≡ [] }
     requires room { HasRoom program.now (vec_capacity room) }
     requires class { HasClass program.now end }
@@ -104,6 +105,29 @@ fn said(program: &Program, room: Vec<u8>, end: ProgramEnd) -> Ending
     }
 }
 
+/// The ending where a machine with these settings doesn't hold what was linked. The first method whose code doesn't fit the method cache
+/// is told before the memory is looked at.
+pub(crate) fn unheld(alloc: Global, linked: &Linked, settings: &Settings) -> Option<Ending>
+    requires { AreSettings settings.now }
+    ensures codes { IfNone result (CodesFit settings.now linked.now) }
+    ensures memory { IfNone result (length linked.now.laid.words ≤ settings.now.memory) }
+    ensures ending { IfSome result (IsUnheld settings.now linked.now) }
+{
+    // The law is for the proof.
+    methods_stand_by_number();
+    let program = linked.program().program();
+    if let Some(long) = first_too_long(program, settings.blocks, settings.block_words) {
+        let ending = too_long(alloc, program, long.method, long.blocks, settings.blocks);
+        return Some(ending);
+    }
+    let words = words_of(linked);
+    if words > settings.memory {
+        let refusal = Refusal::MemoryTooSmall(words, settings.memory);
+        return Some(Ending::Refused(refusal));
+    }
+    None
+}
+
 /// Runs what was linked with settings.
 pub(crate) fn run_program<S: Source, O: Sink, V: Watch>(
     alloc: Global,
@@ -121,20 +145,14 @@ pub(crate) fn run_program<S: Source, O: Sink, V: Watch>(
     ensures leaves { Leaves result → (input.new ≡ input.old) × (out.new ≡ out.old) × (watch.new ≡ watch.old) }
     ensures watch { IsTrace show → watch.new ≡ watch.old }
 {
-    // The law is for the proof.
-    methods_stand_by_number();
-    let program = linked.program().program();
+    if let Some(ending) = unheld(alloc, linked, settings) {
+        return ending;
+    }
     // After the machine is made no memory is asked for.
+    let program = linked.program().program();
     let Ok(room) = name_room(alloc, program) else {
         return Ending::NoMemory;
     };
-    match run_with_settings(alloc, linked, settings, show, input, out, watch) {
-        ImageEnd::MethodTooLong(method, blocks) => {
-            too_long(alloc, program, method, blocks, settings.blocks)
-        }
-        ImageEnd::MemoryTooSmall(words) => {
-            Ending::Refused(Refusal::MemoryTooSmall(words, settings.memory))
-        }
-        ImageEnd::Ran(end) => said(program, room, end),
-    }
+    let end = run_held(alloc, linked, settings, show, input, out, watch);
+    said(program, room, end)
 }

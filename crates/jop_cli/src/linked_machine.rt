@@ -30,7 +30,7 @@ use std::alloc::Global;
 
 /// A machine at reset over the image of a verified program that is laid out, with these methods. The only error is that there
 /// was no memory.
-fn start_linked<'a, const N: usize>(
+pub(crate) fn start_linked<'a, const N: usize>(
     alloc: Global,
     program: &Verified,
     layout: &Layout,

@@ -3,20 +3,18 @@ ghost use Rattle.std.specs.Prelude.{◌≡◌, ◌≤◌, ℕ, length};
 ghost use Rattle.command_line.specs.Range.{AreSettings};
 ghost use Rattle.program_tables.specs.Resolved.{resolved};
 ghost use Rattle.linked_methods.specs.Fitting.{MethodFits};
-ghost use Rattle.jop_cli.specs.declared.program_end.ImageEnd.TheVariants as ends;
 ghost use Rattle.run_devices.specs.Lent.{lent};
 ghost use Rattle.jop_cli.specs.Show.{IsTrace};
-ghost use Rattle.jop_cli.specs.LinkedSettings.{LeavesDevices, RanWith, RunsLinked};
+ghost use Rattle.jop_cli.specs.LinkedSettings.{LeavesDevices, RanWith};
 
 use crate::linked_machine::run_linked;
-use crate::program_end::{ImageEnd, ProgramEnd};
+use crate::program_end::ProgramEnd;
 use crate::settings::plan_of;
 use crate::show::Show;
 use boundary::verified_programs_are_told;
 use command_line::Settings;
 use jop_core::Watch;
 use jopizer::Linked;
-use linked_methods::first_too_long;
 use outside::{Sink, Source};
 use std::alloc::Global;
 
@@ -32,8 +30,9 @@ pub(crate) fn words_of(linked: &Linked) -> u32
     linked.layout().words().len() as u32
 }
 
-/// Runs what a machine with these settings holds.
-fn run_held<S: Source, O: Sink, V: Watch>(
+/// Runs what was linked from reset, where a machine with these settings holds it: each code fits its method cache, and the words its
+/// memory.
+pub(crate) fn run_held<S: Source, O: Sink, V: Watch>(
     alloc: Global,
     linked: &Linked,
     settings: &Settings,
@@ -48,7 +47,7 @@ fn run_held<S: Source, O: Sink, V: Watch>(
     ensures ran { RanWith settings.now show linked.now
         (lent (S.left input.old) (S.faults input.old) (O.held out.old) (O.faults out.old) (V.held watch.old))
         (lent (S.left input.new) (S.faults input.new) (O.held out.new) (O.faults out.new) (V.held watch.new)) result }
-    ensures leaves { LeavesDevices (ends.Ran result) → (input.new ≡ input.old) × (out.new ≡ out.old) × (watch.new ≡ watch.old) }
+    ensures leaves { LeavesDevices result → (input.new ≡ input.old) × (out.new ≡ out.old) × (watch.new ≡ watch.old) }
     ensures watch { IsTrace show → watch.new ≡ watch.old }
 {
     let program = linked.program();
@@ -59,33 +58,4 @@ fn run_held<S: Source, O: Sink, V: Watch>(
         512 => run_linked::<512, S, O, V>(alloc, program, layout, plan, input, out, watch),
         _ => run_linked::<1024, S, O, V>(alloc, program, layout, plan, input, out, watch),
     }
-}
-
-/// Runs what was linked from reset, where a machine with these settings holds it: each code fits its method cache, and the
-/// words its memory. The first method whose code doesn't fit is told before the memory is looked at.
-pub(crate) fn run_with_settings<S: Source, O: Sink, V: Watch>(
-    alloc: Global,
-    linked: &Linked,
-    settings: &Settings,
-    show: Show,
-    input: &mut S,
-    out: &mut O,
-    watch: &mut V,
-) -> ImageEnd
-    requires { AreSettings settings.now }
-    ensures runs { RunsLinked settings.now show linked.now
-        (lent (S.left input.old) (S.faults input.old) (O.held out.old) (O.faults out.old) (V.held watch.old))
-        (lent (S.left input.new) (S.faults input.new) (O.held out.new) (O.faults out.new) (V.held watch.new)) result }
-    ensures leaves { LeavesDevices result → (input.new ≡ input.old) × (out.new ≡ out.old) × (watch.new ≡ watch.old) }
-    ensures watch { IsTrace show → watch.new ≡ watch.old }
-{
-    let program = linked.program().program();
-    if let Some(long) = first_too_long(program, settings.blocks, settings.block_words) {
-        return ImageEnd::MethodTooLong(long.method, long.blocks);
-    }
-    let words = words_of(linked);
-    if words > settings.memory {
-        return ImageEnd::MemoryTooSmall(words);
-    }
-    ImageEnd::Ran(run_held(alloc, linked, settings, show, input, out, watch))
 }

@@ -1,6 +1,11 @@
 //! How a run ends.
+ghost use Rattle.std.specs.Prelude.{◌≡◌, ◌≢◌};
+ghost use Rattle.boundary.specs.declared.runs.RunEnd.TheVariants as ends;
+ghost use Rattle.jop_cli.specs.Run.{AreCounts, program_end};
 
 use answer_lines::Counts;
+use boundary::RunEnd;
+use jop_core::Machine;
 
 /// How the run of a program ends.
 #[derive(Clone, Copy)]
@@ -19,13 +24,28 @@ pub(crate) enum ProgramEnd {
     NoMemory,
 }
 
-/// How the run of what was linked ends, with settings.
-#[derive(Clone, Copy)]
-pub(crate) enum ImageEnd {
-    /// The code of this method, the first by number, takes so many blocks of the method cache, and there are fewer.
-    MethodTooLong(u32, u32),
-    /// The image has so many words, and the memory has fewer.
-    MemoryTooSmall(u32),
-    /// It was run.
-    Ran(ProgramEnd),
+/// The counts of a machine.
+pub(crate) fn counts_of<const N: usize>(machine: &Machine<N>) -> Counts
+    ensures { AreCounts result machine.now }
+{
+    Counts {
+        clock: machine.clock(),
+        hits: machine.hits(),
+        misses: machine.misses(),
+    }
+}
+
+/// How a program ended whose run came to this end, with the counts of the machine there. No watch fails.
+pub(crate) fn program_end(end: RunEnd, counts: Counts) -> ProgramEnd
+    requires { end ≢ ends.SeenFault }
+    ensures { result ≡ program_end end counts }
+{
+    match end {
+        RunEnd::Ended => ProgramEnd::Ended(counts),
+        RunEnd::Uncaught(class) => ProgramEnd::Uncaught(class, counts),
+        RunEnd::Spent => ProgramEnd::Spent(counts),
+        RunEnd::ReadFault => ProgramEnd::ReadFault,
+        RunEnd::WriteFault => ProgramEnd::WriteFault,
+        RunEnd::SeenFault => unreachable!(),
+    }
 }

@@ -8,13 +8,12 @@ ghost use Rattle.boundary.specs.Runs.{RunsAll};
 ghost use Rattle.boundary.specs.Traces.{texts};
 ghost use Rattle.jop_cli.specs.declared.program_end.ProgramEnd.TheVariants as ends;
 ghost use Rattle.jop_cli.specs.Show.{Trace, shown_by, AreNamed, IsTraced};
-ghost use Rattle.jop_cli.specs.Run.{AreCounts, Started, HasStarted, RunsAsAll, Ran};
+ghost use Rattle.jop_cli.specs.Run.{Started, HasStarted, RunsAsAll, Ran};
 
-use crate::program_end::ProgramEnd;
+use crate::program_end::{ProgramEnd, counts_of, program_end};
 use crate::show::NamedShow;
-use answer_lines::Counts;
 use boundary::{RunEnd, Running, trace};
-use jop_core::{Machine, Watch};
+use jop_core::Watch;
 use outside::{Sink, Source};
 use run_devices::{RunDevice, TraceDevice};
 
@@ -83,17 +82,6 @@ fn run_shown<const N: usize, S: Source, O: Sink, V: Watch>(
     }
 }
 
-/// The counts of a machine.
-fn counts_of<const N: usize>(machine: &Machine<N>) -> Counts
-    ensures { AreCounts result machine.now }
-{
-    Counts {
-        clock: machine.clock(),
-        hits: machine.hits(),
-        misses: machine.misses(),
-    }
-}
-
 /// Runs a machine from reset to its end, and tells how its program ended.
 pub(crate) fn run_to_end<const N: usize, S: Source, O: Sink, V: Watch>(
     running: &mut Running<'_, N>,
@@ -112,12 +100,6 @@ pub(crate) fn run_to_end<const N: usize, S: Source, O: Sink, V: Watch>(
     ensures made { result ≢ ends.NoMemory }
     ensures watch { IsTraced (shown_by shown.now) → watch.new ≡ watch.old }
 {
-    match run_shown(running, shown, input, out, watch, limit) {
-        RunEnd::Ended => ProgramEnd::Ended(counts_of(running.machine())),
-        RunEnd::Uncaught(class) => ProgramEnd::Uncaught(class, counts_of(running.machine())),
-        RunEnd::Spent => ProgramEnd::Spent(counts_of(running.machine())),
-        RunEnd::ReadFault => ProgramEnd::ReadFault,
-        RunEnd::WriteFault => ProgramEnd::WriteFault,
-        RunEnd::SeenFault => unreachable!(),
-    }
+    let end = run_shown(running, shown, input, out, watch, limit);
+    program_end(end, counts_of(running.machine()))
 }

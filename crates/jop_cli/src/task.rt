@@ -16,6 +16,11 @@ pub(crate) enum Task {
         show: Show,
         image: u32,
     },
+    /// Runs the image of a word, and tells what the activations of its methods took beside their bounds, by the text behind it.
+    Profile {
+        settings: Settings,
+        image: u32,
+    },
     /// Assembles the text of a word.
     Assemble {
         text: u32,
@@ -31,6 +36,17 @@ pub(crate) enum Task {
     Work {
         count: u32,
     },
+}
+
+/// The run of the image of a word.
+fn run(settings: Settings, show: Show, image: u32) -> Task
+    ensures { result ≡ Task.Run settings show image }
+{
+    Task::Run {
+        settings,
+        show,
+        image,
+    }
 }
 
 /// A question about the image of a word, with so many operands.
@@ -51,20 +67,17 @@ pub(crate) fn task_of(command: Command) -> Task
 {
     match command {
         Command::Link { main, first } => Task::Link { main, first },
-        Command::Run { settings, image } => Task::Run {
-            settings,
-            show: Show::Output,
-            image,
-        },
+        Command::Run { settings, image } => run(settings, Show::Output, image),
         Command::Trace {
             settings,
             micro,
             image,
-        } => Task::Run {
+        } => run(settings, Show::Trace { cycles: micro }, image),
+        Command::Profile {
             settings,
-            show: Show::Trace { cycles: micro },
             image,
-        },
+            ..
+        } => Task::Profile { settings, image },
         Command::Bound {
             settings,
             method,
@@ -76,6 +89,12 @@ pub(crate) fn task_of(command: Command) -> Task
             image,
             ..
         } => ask(Question::Bounds { settings }, image, 2),
+        Command::BoundShapes {
+            settings,
+            method,
+            image,
+            ..
+        } => ask(Question::Shapes { settings, method }, image, 2),
         Command::Check {
             settings,
             image,

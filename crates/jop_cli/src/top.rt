@@ -10,7 +10,7 @@ ghost use Rattle.jop_cli.specs.World.{world};
 ghost use Rattle.jop_cli.specs.Show.{IsTrace};
 ghost use Rattle.jop_cli.specs.Leaving.{Leaves, LeavesAll, FailsRisen};
 ghost use Rattle.jop_cli.specs.Tasks.{IsAmong};
-ghost use Rattle.jop_cli.specs.Answer.{ReadsLinked, RunsFile, DoesTask, ShowsOutput, RunsWord, RunsLinkedFile, RunsProgram, Executed, Answered, Said};
+ghost use Rattle.jop_cli.specs.Answer.{ReadsLinked, RunsFile, DoesTask, ShowsOutput, TakesFor, TakesInput, RunsProgram, Executed, Answered, Said};
 ghost use Rattle.jop_cli.specs.Answer.{refusal_of, outcome_of, outcome_unsaid};
 
 use crate::asking::ask_files;
@@ -22,6 +22,7 @@ use crate::linked_file::run_program;
 use crate::linking::link_files;
 use crate::load::load;
 use crate::outcome::{Ending, Outcome, Refusal};
+use crate::profiling::profile_files;
 use crate::show::Show;
 use crate::task::{Task, task_of};
 use crate::working::work;
@@ -118,7 +119,7 @@ fn perform<F: Files, S: Source, O: Sink, V: Watch>(
         (V.held watch.new)) result }
     ensures leaves { Leaves result → (input.new ≡ input.old) × (out.new ≡ out.old) × (watch.new ≡ watch.old) }
     ensures watch { (ShowsOutput task → ⊥) → watch.new ≡ watch.old }
-    ensures input { ((image : ℕ) (bytes : List ℕ) → RunsWord task image → ReadsLinked image bytes
+    ensures input { (TakesFor task
         (world (F.words files.old) (F.told files.old) (F.faults files.old) (S.left input.old) (S.faults input.old) (O.held out.old) (O.faults out.old)
         (V.held watch.old))
         (world (F.words files.new) (F.told files.new) (F.faults files.new) (S.left input.new) (S.faults input.new) (O.held out.new) (O.faults out.new)
@@ -131,6 +132,9 @@ fn perform<F: Files, S: Source, O: Sink, V: Watch>(
             show,
             image,
         } => run_file(alloc, &settings, show, image, files, input, out, watch),
+        Task::Profile { settings, image } => {
+            profile_files(alloc, &settings, image, files, input, out)
+        }
         Task::Assemble { text } => assemble_file(alloc, text, files, out),
         Task::Link { main, first } => link_files(alloc, words, main, first, files, out),
         Task::Ask(asked) => ask_files(alloc, words, &asked, files, out),
@@ -156,7 +160,7 @@ fn execute<F: Files, S: Source, O: Sink, V: Watch>(
         (V.held watch.new)) result }
     ensures leaves { Leaves result → (input.new ≡ input.old) × (out.new ≡ out.old) × (watch.new ≡ watch.old) }
     ensures watch { (RunsProgram (texts words.now) → ⊥) → watch.new ≡ watch.old }
-    ensures input { (RunsLinkedFile (texts words.now)
+    ensures input { (TakesInput (texts words.now)
         (world (F.words files.old) (F.told files.old) (F.faults files.old) (S.left input.old) (S.faults input.old) (O.held out.old) (O.faults out.old)
         (V.held watch.old))
         (world (F.words files.new) (F.told files.new) (F.faults files.new) (S.left input.new) (S.faults input.new) (O.held out.new) (O.faults out.new)
@@ -239,12 +243,13 @@ fn outcome_for(ending: &Ending) -> Outcome
 ///
 /// Word k names file k. `run` of an image takes the program's input from `input`, puts its output into `out`, and hands the
 /// registers of each state of the machine, from reset on, from which a cycle was done or tried to `watch`. `trace` is the same
-/// run, and puts its lines into `out`, and hands `watch` nothing: one before each step, one for each byte of the output and, if asked to, one before each
-/// cycle. `asm` puts the words of the text's microprogram into `out`, a line for each, and `link` the file of the image of the
-/// class files. `bound` puts the text of a certificate of the method that is asked for, and `work` the line of the class that it makes,
-/// links, runs and bounds. `loops` puts a line of bounds for each loop that counts, `headers` a text of bounds with the
-/// lines of their sources, `bound --all` a line for each method, and `memory` the line of what a run needs.
-/// `check` puts nothing there: it says whether a certificate meets its conditions.
+/// run, and puts its lines into `out`, and hands `watch` nothing: one before each step, one for each byte of the output and, if asked to,
+/// one before each cycle. `profile` is the same run, too, and puts in place of the output a line for each method, of what its
+/// activations took beside its bound. `asm` puts the words of the text's microprogram into `out`, a line for each, and `link` the file
+/// of the image of the class files. `bound` puts the text of a certificate of the method that is asked for, and `work` the line of the
+/// class that it makes, links, runs and bounds. `loops` puts a line of bounds for each loop that counts, `headers` a text of bounds with
+/// the lines of their sources, `bound --all` a line for each method, `bound --shapes` one for each shape of the method cache, and
+/// `memory` the line of what a run needs. `check` puts nothing there: it says whether a certificate meets its conditions.
 pub fn jop<F: Files, S: Source, O: Sink, E: Sink, V: Watch>(
     alloc: Global,
     words: &[&str],
@@ -264,7 +269,7 @@ pub fn jop<F: Files, S: Source, O: Sink, E: Sink, V: Watch>(
         (E.held err.old) (E.held err.new) (E.faults err.old) (E.faults err.new) result }
     ensures leaves { LeavesAll result (S.faults input.old) (S.faults input.new) → (input.new ≡ input.old) × (out.new ≡ out.old) × (watch.new ≡ watch.old) }
     ensures watch { (RunsProgram (texts words.now) → ⊥) → watch.new ≡ watch.old }
-    ensures input { (RunsLinkedFile (texts words.now)
+    ensures input { (TakesInput (texts words.now)
         (world (F.words files.old) (F.told files.old) (F.faults files.old) (S.left input.old) (S.faults input.old) (O.held out.old) (O.faults out.old)
         (V.held watch.old))
         (world (F.words files.new) (F.told files.new) (F.faults files.new) (S.left input.new) (S.faults input.new) (O.held out.new) (O.faults out.new)

@@ -5,3 +5,4 @@ mod Placed
 mod Sorts
 mod Written
 mod Texts
+mod Profiles

@@ -4,3 +4,4 @@ pub mod Placing
 pub mod Sorting
 pub mod Answering
 pub mod Lines
+pub mod Profiles

@@ -16,6 +16,7 @@ mod causes;
 mod lines;
 mod loops;
 mod placing;
+mod profile;
 mod sorting;
 
 pub use answer::BoundAnswer;
@@ -25,6 +26,7 @@ use lines::lines_of;
 use loop_bounds::Bounds;
 use loops::all_loops;
 use method_flow::{FlowProgram, Timing};
+pub use profile::put_profile;
 use sorting::sort_all;
 use std::alloc::Global;
 

@@ -2,7 +2,7 @@ use Rattle.std.proofs.Common.{◌≡◌, Ok, sym, ◌∙◌}
 use Rattle.std.specs.declared.result.Result.{Result}
 use Rattle.command_line.specs.declared.command.Command.{Command}
 use Rattle.command_line.specs.Command.{texts, command_of}
-use Rattle.jop_cli.proofs.Executing.{does_task, shows_output, runs_word}
+use Rattle.jop_cli.proofs.Executing.{does_task, shows_output, takes_input}
 use Rattle.jop_cli.proofs.top.execute.Goals as goal
 
 pub returns-in-Ok-clause-executed : goal.returns-in-Ok-clause-executed
@@ -18,4 +18,4 @@ returns-in-Ok-clause-watch g c none =
 pub returns-in-Ok-clause-input : goal.returns-in-Ok-clause-input
 returns-in-Ok-clause-input g c none =
     let is = sym c.read_words.ensures.exact ∙ c.in-Ok.is in
-    c.perform.ensures.input (λ image bytes runs reads. none (record { image = image; command = runs_word (texts c.args.words.now) c.in-Ok.command c.task_of.result image is c.task_of.ensures.task runs; bytes = bytes; reads = reads }))
+    c.perform.ensures.input (λ takes. none (takes_input (texts c.args.words.now) c.in-Ok.command c.task_of.result _ _ is c.task_of.ensures.task takes))

@@ -2,7 +2,7 @@ use Rattle.std.proofs.Common.{◌≡◌, ℕ, sym, subst, refl}
 use Rattle.command_line.specs.Command.{texts}
 use Rattle.jop_cli.specs.declared.task.Task.{Task}
 use Rattle.jop_cli.specs.World.{world}
-use Rattle.jop_cli.specs.Answer.{DoesTask, ShowsOutput}
+use Rattle.jop_cli.specs.Answer.{DoesTask, ShowsOutput, TakesFor}
 use Rattle.jop_cli.proofs.Executing.{traces_else, assembles_risen, links_risen, asks_risen}
 use Rattle.jop_cli.proofs.Worked.{works_risen}
 use Rattle.jop_cli.proofs.top.perform.Goals as goal
@@ -38,6 +38,28 @@ returns-in-Work-clause-does g c =
     (world (g.F.Files.words c.args.files.now) (g.F.Files.told c.args.files.now) (g.F.Files.faults c.args.files.now) (g.S.Source.left c.args.input.now) (g.S.Source.faults c.args.input.now) (g.O.Sink.held c.work.new.out) (g.O.Sink.faults c.work.new.out) (g.V.Watch.held c.args.watch.now))
     c.work.result in
     subst D (sym c.in-Work.is) (c.work.ensures.works (g.F.Files.words c.args.files.now) (g.F.Files.told c.args.files.now) (g.F.Files.faults c.args.files.now) (g.S.Source.left c.args.input.now) (g.S.Source.faults c.args.input.now) (g.V.Watch.held c.args.watch.now))
+
+pub returns-in-Profile-clause-does : goal.returns-in-Profile-clause-does
+returns-in-Profile-clause-does g c =
+    let D : Task → Type 0 = λ task. DoesTask (texts c.args.words.now) task
+    (world (g.F.Files.words c.args.files.now) (g.F.Files.told c.args.files.now) (g.F.Files.faults c.args.files.now) (g.S.Source.left c.args.input.now) (g.S.Source.faults c.args.input.now) (g.O.Sink.held c.args.out.now) (g.O.Sink.faults c.args.out.now) (g.V.Watch.held c.args.watch.now))
+    (world (g.F.Files.words c.profile_files.new.files) (g.F.Files.told c.profile_files.new.files) (g.F.Files.faults c.profile_files.new.files) (g.S.Source.left c.profile_files.new.input) (g.S.Source.faults c.profile_files.new.input) (g.O.Sink.held c.profile_files.new.out) (g.O.Sink.faults c.profile_files.new.out) (g.V.Watch.held c.args.watch.now))
+    c.profile_files.result in
+    subst D (sym c.in-Profile.is) (c.profile_files.ensures.profiles (g.V.Watch.held c.args.watch.now))
+
+pub returns-in-Run-clause-input : goal.returns-in-Run-clause-input
+returns-in-Run-clause-input g c none =
+    let T : Task → Type 0 = λ task. TakesFor task
+    (world (g.F.Files.words c.args.files.now) (g.F.Files.told c.args.files.now) (g.F.Files.faults c.args.files.now) (g.S.Source.left c.args.input.now) (g.S.Source.faults c.args.input.now) (g.O.Sink.held c.args.out.now) (g.O.Sink.faults c.args.out.now) (g.V.Watch.held c.args.watch.now))
+    (world (g.F.Files.words c.run_file.new.files) (g.F.Files.told c.run_file.new.files) (g.F.Files.faults c.run_file.new.files) (g.S.Source.left c.run_file.new.input) (g.S.Source.faults c.run_file.new.input) (g.O.Sink.held c.run_file.new.out) (g.O.Sink.faults c.run_file.new.out) (g.V.Watch.held c.run_file.new.watch)) in
+    c.run_file.ensures.input (λ bytes reads. none (subst T (sym c.in-Run.is) (bytes, reads)))
+
+pub returns-in-Profile-clause-input : goal.returns-in-Profile-clause-input
+returns-in-Profile-clause-input g c none =
+    let T : Task → Type 0 = λ task. TakesFor task
+    (world (g.F.Files.words c.args.files.now) (g.F.Files.told c.args.files.now) (g.F.Files.faults c.args.files.now) (g.S.Source.left c.args.input.now) (g.S.Source.faults c.args.input.now) (g.O.Sink.held c.args.out.now) (g.O.Sink.faults c.args.out.now) (g.V.Watch.held c.args.watch.now))
+    (world (g.F.Files.words c.profile_files.new.files) (g.F.Files.told c.profile_files.new.files) (g.F.Files.faults c.profile_files.new.files) (g.S.Source.left c.profile_files.new.input) (g.S.Source.faults c.profile_files.new.input) (g.O.Sink.held c.profile_files.new.out) (g.O.Sink.faults c.profile_files.new.out) (g.V.Watch.held c.args.watch.now)) in
+    c.profile_files.ensures.input (λ operands are linked. none (subst T (sym c.in-Profile.is) (operands, are, linked)))
 
 pub returns-in-Run-clause-watch : goal.returns-in-Run-clause-watch
 returns-in-Run-clause-watch g c none =

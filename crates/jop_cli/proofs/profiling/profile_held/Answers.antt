@@ -1,0 +1,42 @@
+use Rattle.std.proofs.Common.{List, length, None, sym, ◌∙◌, subst, inr}
+use Rattle.class_pool.specs.declared.class.ClassFile.{ClassFile}
+use Rattle.jop_core.specs.Reset.{linked_reset}
+use Rattle.run_devices.specs.Lent.{lent}
+use Rattle.jop_cli.specs.Run.{program_end}
+use Rattle.jop_cli.specs.LinkedRun.{HasClass, linked_setting}
+use Rattle.jop_cli.proofs.Followed.{class_of, sees_none, reads_rose}
+use Rattle.jop_cli.proofs.Profiled.{ran_profile}
+use Rattle.jop_cli.proofs.profiling.profile_held.Goals as goal
+
+pub conclude-requires-clause-class : goal.conclude-requires-clause-class
+conclude-requires-clause-class g c =
+    let p = c.in-Ok-run_totals.ensures.profiles (length c.args.prepared.flow.methods) c.requires.fresh in
+    let H : List ClassFile → Type 0 = λ cs. HasClass cs (program_end c.in-Ok-run_totals.followed.end c.in-Ok-run_totals.followed.counts) in
+    subst H (sym (c.program-program.ensures.program ∙ c.program.ensures.program))
+    (class_of c.uncaught_classes_are_there.ensures c.args.linked.now.classes c.args.settings.now.stack p.config.memory (linked_reset c.args.settings.now.stack c.args.linked.now.laid.words p.config) c.args.settings.now.cycles _ _
+    c.in-Ok-run_totals.followed p.profiles.ran)
+
+pub conclude-requires-clause-end : goal.conclude-requires-clause-end
+conclude-requires-clause-end g c = λ is.
+    let p = c.in-Ok-run_totals.ensures.profiles (length c.args.prepared.flow.methods) c.requires.fresh in
+    sees_none (linked_setting c.args.linked.now.classes c.args.settings.now.stack p.config.memory) (linked_reset c.args.settings.now.stack c.args.linked.now.laid.words p.config) c.args.settings.now.cycles
+    (lent (g.S.Source.left c.args.input.now) (g.S.Source.faults c.args.input.now) None 0 None) (lent (g.S.Source.left c.run_totals.new.input) (g.S.Source.faults c.run_totals.new.input) None 0 None) c.in-Ok-run_totals.followed p.profiles.ran is
+
+pub conclude-requires-clause-rows : goal.conclude-requires-clause-rows
+conclude-requires-clause-rows g c = (c.in-Ok-run_totals.ensures.profiles (length c.args.prepared.flow.methods) c.requires.fresh).profiles.rows_are.long
+
+pub returns-in-Ok-run_totals-clause-profiles : goal.returns-in-Ok-run_totals-clause-profiles
+returns-in-Ok-run_totals-clause-profiles g c = λ bounds_text is.
+    inr
+    (ran_profile c.args.settings.now c.args.linked.now bounds_text
+    (lent (g.S.Source.left c.args.input.now) (g.S.Source.faults c.args.input.now) (g.O.Sink.held c.args.out.now) (g.O.Sink.faults c.args.out.now) None)
+    (lent (g.S.Source.left c.run_totals.new.input) (g.S.Source.faults c.run_totals.new.input) (g.O.Sink.held c.conclude.new.out) (g.O.Sink.faults c.conclude.new.out) None)
+    c.args.prepared c.program-program.result.now c.run_totals.new.totals.rows c.in-Ok-run_totals.followed c.conclude.result (c.program-program.ensures.program ∙ c.program.ensures.program) c.requires.codes c.requires.memory is
+    (c.in-Ok-run_totals.ensures.profiles (length c.args.prepared.flow.methods) c.requires.fresh) c.conclude.ensures.puts)
+
+pub returns-in-Ok-run_totals-clause-rose : goal.returns-in-Ok-run_totals-clause-rose
+returns-in-Ok-run_totals-clause-rose g c =
+    let p = c.in-Ok-run_totals.ensures.profiles (length c.args.prepared.flow.methods) c.requires.fresh in
+    c.conclude.ensures.rose (g.S.Source.faults c.args.input.now) (g.S.Source.faults c.run_totals.new.input)
+    (reads_rose (linked_setting c.args.linked.now.classes c.args.settings.now.stack p.config.memory) (linked_reset c.args.settings.now.stack c.args.linked.now.laid.words p.config) c.args.settings.now.cycles
+    (lent (g.S.Source.left c.args.input.now) (g.S.Source.faults c.args.input.now) None 0 None) (lent (g.S.Source.left c.run_totals.new.input) (g.S.Source.faults c.run_totals.new.input) None 0 None) c.in-Ok-run_totals.followed p.profiles.ran)
