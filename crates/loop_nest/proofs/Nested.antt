@@ -4,12 +4,13 @@ use Rattle.std.specs.List.{range_with_len}
 use Rattle.std.specs.List.Sorted.{IsStrictlyIncreasing}
 use Rattle.std.proofs.lemmas.Bool.{cases_eq}
 use Rattle.std.proofs.lemmas.List.Elements.{All-get_or, Contains-get_or}
-use Rattle.lists.specs.Members.{rising_pair}
+use Rattle.lists.specs.Members.{rising_pair, nil_contains}
 use Rattle.loop_nest.specs.Digraph.{Digraph, IsDigraph}
 use Rattle.loop_nest.specs.Walks.{Dominates, IsMember, IsReachable}
 use Rattle.loop_nest.specs.Reduction.{Leaves}
 use Rattle.loop_nest.specs.Classes.{NoneCanMerge}
-use Rattle.loop_nest.specs.Entered.{class_of, names, edge_at, IsClassList, AreReached, AreBackEdgesMarked, AreBackEdgesTold}
+use Rattle.loop_nest.specs.Entered.{class_of, names, edge_at, IsClassList, AreReached, AreBackEdgesMarked, AreBackEdgesTold, AreBackEdges}
+use Rattle.loop_nest.specs.Nest.{IsNest}
 use Rattle.loop_nest.proofs.Around.{not_around}
 use Rattle.loop_nest.proofs.Nesting.{first_of}
 use Rattle.loop_nest.proofs.Classes.{start_visited}
@@ -68,3 +69,12 @@ pub leaves_names : (g : Digraph) (class left : List ℕ) → IsClassList g class
 leaves_names g class left h none is =
     let P : ℕ → Type 0 = λ n. filter (λ a. eqb (class_of class a) a) (range_with_len 0 n) ≡ 0 ∷ left in
     leaves_of left h.merged none (subst P h.long is)
+
+-- a graph without back edges has no loops
+pub no_loops : (g : Digraph) → AreBackEdges g [] → IsNest g []
+no_loops g none = record {
+  rising = λ i lt. absurd (omega arith);
+  loops = λ i d lt. absurd (omega arith);
+  complete = λ h header. absurd (nil_contains (header.0, h) ((none header.0 h).1 header.1));
+  outer = λ i lt. absurd (omega arith);
+}

@@ -208,7 +208,7 @@ fn starts(alloc: Global, nodes: usize, edges: &[(u32, u32)]) -> Result<Vec<usize
     ensures { IfOk result (λ starts. AreStarts edges.now nodes starts.items) }
 {
     let counts = arrivals(alloc, nodes, edges)?;
-    let mut starts = Vec::new(alloc);
+    let mut starts = Vec::with_capacity(alloc, nodes + 1)?;
     let mut next = 0;
     for v in 0..nodes {
         starts.push(next)?;

@@ -20,7 +20,7 @@ fn outwards(
     requires unseen { (u : ℕ) → slice_index_or seen.old u false ≡ false }
     ensures { IfOk result (λ order. AreDominatorsFirst g.now order.items) }
 {
-    let mut order = Vec::new(alloc);
+    let mut order = Vec::with_capacity(alloc, g.nodes() as usize)?;
     let mut stack = Vec::new(alloc);
     stack.push(0)?;
     while let Some(u) = stack.pop() {

@@ -8,7 +8,7 @@ ghost use Rattle.loop_nest.specs.Nesting.{AreHeadersBelow, AreHeaderFlags, IsInn
 
 use super::digraph::{Graph, Sources};
 use super::dominance::dominators_first;
-use super::loops::Loop;
+use super::loops::{Loop, Nest};
 use super::members::mark;
 use std::alloc::{AllocError, Global};
 
@@ -52,7 +52,7 @@ fn headers(alloc: Global, g: &Graph, flags: &[bool]) -> Result<(Vec<Loop>, Vec<u
     ensures { IfOk result (λ r. AreHeadersBelow g.now g.now.nodes r.0.items r.1.items) }
 {
     let mut loops = Vec::new(alloc);
-    let mut numbers = Vec::new(alloc);
+    let mut numbers = Vec::with_capacity(alloc, g.nodes() as usize)?;
     for h in 0..g.nodes() {
         numbers.push(loops.len() as u32)?;
         if flags[h as usize] {
@@ -96,7 +96,7 @@ fn innermost_loops(
 
 /// The loops with these back edges, headers rising, with their outer loops and without members; and
 /// for each node the number of the innermost loop that has it.
-pub fn nesting(
+fn nesting(
     alloc: Global,
     g: &Graph,
     back_edges: &[(u32, u32)],
@@ -137,11 +137,7 @@ fn add_to_loops(
 }
 
 /// Adds to each loop its members, rising.
-pub fn add_members(
-    g: &Graph,
-    innermost: &[Option<u32>],
-    loops: &mut [Loop],
-) -> Result<(), AllocError>
+fn add_members(g: &Graph, innermost: &[Option<u32>], loops: &mut [Loop]) -> Result<(), AllocError>
     requires valid { IsDigraph g.now }
     requires reached { AreReached g.now }
     requires nesting { IsNesting g.now loops.old innermost.now }
@@ -151,4 +147,19 @@ pub fn add_members(
         add_to_loops(g, x, innermost[x as usize], loops)?;
     }
     Ok(())
+}
+
+/// The loops with these back edges. A graph without back edges has none.
+pub fn nest_by(alloc: Global, g: &Graph, back_edges: &[(u32, u32)]) -> Result<Nest, AllocError>
+    requires valid { IsDigraph g.now }
+    requires back_edges { AreBackEdges g.now back_edges.now }
+    requires reached { AreReached g.now }
+    ensures { IfOk result (IsNest g.now) }
+{
+    if back_edges.is_empty() {
+        return Ok(Nest::new(Vec::new(alloc)));
+    }
+    let (mut loops, innermost) = nesting(alloc, g, back_edges)?;
+    add_members(g, &innermost, &mut loops)?;
+    Ok(Nest::new(loops))
 }

@@ -11,7 +11,7 @@ ghost use Rattle.loop_nest.specs.Chains.{AreBlocks};
 use base::NoMemory;
 use chains::{Blocks, chains};
 pub use digraph::{Graph, is_graph};
-use finding::{add_members, back_edges, nesting};
+use finding::{back_edges, nest_by};
 use loops::{Nest, NestFault};
 use merging::nodes_left;
 use passes::reduced;
@@ -40,9 +40,7 @@ pub fn nest(alloc: Global, g: &Graph) -> Result<Nest, NestFault>
         return Err(NestFault::Irreducible(left));
     }
     let back_edges = back_edges(alloc, g, &back)?;
-    let (mut loops, innermost) = nesting(alloc, g, &back_edges)?;
-    add_members(g, &innermost, &mut loops)?;
-    Ok(Nest::new(loops))
+    Ok(nest_by(alloc, g, &back_edges)?)
 }
 
 /// The basic blocks of a graph: the longest chains of nodes in which each node but the last has one

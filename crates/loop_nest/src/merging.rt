@@ -36,7 +36,7 @@ pub fn single_nodes(alloc: Global, g: &Graph) -> Result<Vec<u32>, AllocError>
     ensures classes { IfOk result (λ class. IsClassList g.now class.items) }
     ensures alone { IfOk result (λ class. class.items ≡ range_with_len 0 g.now.nodes) }
 {
-    let mut class = Vec::new(alloc);
+    let mut class = Vec::with_capacity(alloc, g.nodes() as usize)?;
     for u in 0..g.nodes() {
         class.push(u)?;
     }

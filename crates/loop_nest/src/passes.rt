@@ -47,7 +47,7 @@ fn names(alloc: Global, into: &[u32]) -> Result<Vec<u32>, AllocError>
     requires ends { DoEnd into.now }
     ensures { IfOk result (λ class. AreNames into.now class.items) }
 {
-    let mut class = Vec::new(alloc);
+    let mut class = Vec::with_capacity(alloc, into.len())?;
     for u in 0..into.len() {
         class.push(look(into, u as u32))?;
     }
@@ -98,7 +98,7 @@ fn numbered(alloc: Global, edges: &[(u32, u32)]) -> Result<Vec<(u32, u32)>, Allo
     requires { length edges.now < 2 ^ 32 }
     ensures { IfOk result (λ numbered. AreNumbered edges.now numbered.items) }
 {
-    let mut numbered = Vec::new(alloc);
+    let mut numbered = Vec::with_capacity(alloc, edges.len())?;
     for i in 0..edges.len() {
         numbered.push((i as u32, edges[i].1))?;
     }

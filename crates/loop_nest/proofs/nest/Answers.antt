@@ -1,9 +1,7 @@
-use Rattle.std.proofs.Common.{◌≡◌, ℕ, Option, Bool, List, [], ◌∷◌, length, drop, sym, ap, ◌∙◌, subst, arith}
+use Rattle.std.proofs.Common.{◌≡◌, ℕ, Bool, List, [], ◌∷◌, length, sym, ap, ◌∙◌, subst, arith}
 use Rattle.std.proofs.lemmas.Bool.{eqb-true, eqb-false}
-use Rattle.std.proofs.lemmas.List.{take_at, nil_from_length}
+use Rattle.std.proofs.lemmas.List.{nil_from_length}
 use Rattle.loop_nest.specs.Entered.{names, AreBackEdgesTold, AreBackEdges}
-use Rattle.loop_nest.specs.Nest.{NaturalLoop, IsNest}
-use Rattle.loop_nest.specs.Nesting.{IsNesting}
 use Rattle.loop_nest.proofs.Ends.{reducible_is_reached}
 use Rattle.loop_nest.proofs.Nested.{leaves_names, told_of}
 use Rattle.loop_nest.proofs.nest.Goals as goal
@@ -32,13 +30,13 @@ back_edges-requires c =
     let alone = subst P is (c.in_ok-left.ensures ∙ ap (λ ls. 0 ∷ ls) none) in
     subst Q (sym c.deref-2.ensures.value) (told_of g new' c.in_ok-class.back.items c.in_ok-class.ensures.valid c.in_ok-class.ensures.classes c.in_ok-class.ensures.none alone c.in_ok-class.ensures.marked)
 
-pub nesting-requires-clause-back_edges : goal.nesting-requires-clause-back_edges
-nesting-requires-clause-back_edges c =
+pub nest_by-requires-clause-back_edges : goal.nest_by-requires-clause-back_edges
+nest_by-requires-clause-back_edges c =
     let P : List (ℕ × ℕ) → Type 0 = λ es. AreBackEdges c.args.g.now es in
     subst P (sym c.deref-3.ensures.value) c.in_ok-back_edges.ensures
 
-pub nesting-requires-clause-reached : goal.nesting-requires-clause-reached
-nesting-requires-clause-reached c =
+pub nest_by-requires-clause-reached : goal.nest_by-requires-clause-reached
+nest_by-requires-clause-reached c =
     let g = c.args.g.now in
     let wf = c.in_ok-class.ensures.valid in
     let new' = c.in_ok-class.class.items in
@@ -50,27 +48,6 @@ nesting-requires-clause-reached c =
     let alone = subst P is (c.in_ok-left.ensures ∙ ap (λ ls. 0 ∷ ls) none) in
     let leaves = leaves_names g new' [] c.in_ok-class.ensures.classes c.in_ok-class.ensures.none alone in
     reducible_is_reached g wf leaves
-
-pub add_members-requires-clause-reached : goal.add_members-requires-clause-reached
-add_members-requires-clause-reached c =
-    let g = c.args.g.now in
-    let wf = c.in_ok-class.ensures.valid in
-    let new' = c.in_ok-class.class.items in
-    let is : c.deref.result.now ≡ new' = c.deref.ensures.value in
-    let ok = c.in_ok-left.left.ok in
-    let none : c.in_ok-left.left.items ≡ [] =
-    nil_from_length c.in_ok-left.left.items (omega (arith, ok.0, eqb-true c.in_ok-left.left.len 0 (sym c.if-not-is_empty.ensures))) in
-    let P : List ℕ → Type 0 = λ ls. names ls ≡ 0 ∷ [] in
-    let alone = subst P is (c.in_ok-left.ensures ∙ ap (λ ls. 0 ∷ ls) none) in
-    let leaves = leaves_names g new' [] c.in_ok-class.ensures.classes c.in_ok-class.ensures.none alone in
-    reducible_is_reached g wf leaves
-
-pub add_members-requires-clause-nesting : goal.add_members-requires-clause-nesting
-add_members-requires-clause-nesting c =
-    let g = c.args.g.now in
-    let P : List NaturalLoop → Type 0 = λ ls. IsNesting g ls c.deref-4.result.now in
-    let Q : List (Option ℕ) → Type 0 = λ os. IsNesting g c.in_ok-loops.loops.items os in
-    subst P (sym c.deref_mut.ensures.value) (subst Q (sym c.deref-4.ensures.value) c.in_ok-loops.ensures)
 
 pub returns-clause-reducible : goal.returns-clause-reducible
 returns-clause-reducible c =
@@ -83,12 +60,3 @@ returns-clause-reducible c =
     let P : List ℕ → Type 0 = λ ls. names ls ≡ 0 ∷ [] in
     let alone = subst P is (c.in_ok-left.ensures ∙ ap (λ ls. 0 ∷ ls) none) in
     leaves_names g new' [] c.in_ok-class.ensures.classes c.in_ok-class.ensures.none alone
-
-pub returns-clause-nest : goal.returns-clause-nest
-returns-clause-nest c =
-    let old = c.in_ok-loops.loops.items in
-    let new' = c.add_members.new.loops in
-    let is : c.new.result ≡ new' =
-    c.new.ensures ∙ take_at new' (drop (length new') old) c.in_ok-loops.loops.len (omega arith) in
-    let Q : List NaturalLoop → Type 0 = λ ls. IsNest c.args.g.now ls in
-    subst Q (sym is) c.in_ok-add_members.ensures

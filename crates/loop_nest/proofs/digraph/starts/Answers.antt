@@ -22,7 +22,7 @@ more es v next starts long is each w lt =
 
 pub loop-v-init : goal.loop-v-init
 loop-v-init c = record {
-  long = ap length c.new-starts.ensures.items;
+  long = ap length c.in_ok-starts.ensures.items;
   each = λ w lt. absurd (omega arith);
   next = sym (none_below c.args.edges.now);
 }

@@ -28,7 +28,7 @@ loop-u-init c =
     let stack : c.push.new.self.items ≡ 0 ∷ [] = c.in_ok-push.ensures.items ∙ ap (λ ls. ls ++ 0 ∷ []) c.new-stack.ensures.items in
     let P : List ℕ → Type 0 = λ ls. IsOutward g [] ls seen in
     let Q : List ℕ → Type 0 = λ ls. IsOutward g ls c.push.new.self.items seen in
-    subst Q (sym c.new-order.ensures.items) (subst P (sym stack) (outward_start g seen c.requires.valid.entry c.requires.long c.requires.unseen))
+    subst Q (sym c.in_ok-order.ensures.items) (subst P (sym stack) (outward_start g seen c.requires.valid.entry c.requires.long c.requires.unseen))
 
 pub of-requires : goal.of-requires
 of-requires c =
@@ -37,8 +37,8 @@ of-requires c =
     let long = c.requires.targets.long in
     omega arith
 
-pub loop-u-smaller-in-Continue-branch-3 : goal.loop-u-smaller-in-Continue-branch-3
-loop-u-smaller-in-Continue-branch-3 c =
+pub loop-u-smaller-in-Continue-branch-4 : goal.loop-u-smaller-in-Continue-branch-4
+loop-u-smaller-in-Continue-branch-4 c =
     let g = c.args.g.now in
     let u = c.in-Some.u in
     let seen = c.loop-u.seen in
@@ -53,8 +53,8 @@ loop-u-smaller-in-Continue-branch-3 c =
     let more : c.extend_from_slice.new.self.items ≡ left ++ targets_of g.edges u = c.in_ok-extend_from_slice.ensures.items ∙ ap (λ ls. left ++ ls) next in
     smaller u (length g.edges) seen c.loop-u.stack.items left c.extend_from_slice.new.self.items (targets_of g.edges u) inside fresh (few_targets g.edges u) c.in-Some.ensures.items more
 
-pub loop-u-preserved-in-Continue-branch-3 : goal.loop-u-preserved-in-Continue-branch-3
-loop-u-preserved-in-Continue-branch-3 c =
+pub loop-u-preserved-in-Continue-branch-4 : goal.loop-u-preserved-in-Continue-branch-4
+loop-u-preserved-in-Continue-branch-4 c =
     let g = c.args.g.now in
     let u = c.in-Some.u in
     let seen = c.loop-u.seen in
