@@ -1,20 +1,19 @@
 -- The files of classes, and the lines of a method among them.
-use Rattle.std.proofs.Common.{◌≡◌, ◌↔◌, ℕ, ◌+◌, ◌<◌, List, [], ◌∷◌, ◌++◌, length, take, get_or, append-nil, Contains, refl, sym, ◌∙◌, ap, ap₂, subst, Option, Some, None, inl, inr}
+use Rattle.std.proofs.Common.{◌≡◌, ◌↔◌, ℕ, ◌+◌, List, [], length, Contains, refl, sym, ◌∙◌, ap, subst, Some, inl, inr}
 use Rattle.std.specs.Prelude.{slice_get, Result, Ok, Err, OnOk}
-use Rattle.std.specs.List.{filter_map, cons_option}
-use Rattle.std.proofs.lemmas.Grind.{take_at_read}
+use Rattle.std.specs.List.{filter_map}
 use Rattle.std.specs.Option.{option_map}
 use Rattle.std.proofs.lemmas.Option.{slice_get-get_or, slice_get_within}
 use Rattle.lists.specs.Lemmas.{some_same, map_some}
 use Rattle.lists.specs.Members.{nil_contains}
 use Rattle.class_pool.specs.declared.class.ClassFile.{ClassFile}
-use Rattle.source_headers.specs.declared.sources.MethodSource.{MethodSource}
-use Rattle.source_headers.specs.Sources.{file_of, IsFileOf}
+use Rattle.method_sources.specs.declared.sources.MethodSource.{MethodSource}
+use Rattle.method_sources.specs.Sources.{file_of, IsFileOf}
+use Rattle.method_sources.specs.Told.{line_at}
 use Rattle.source_headers.specs.Known.{KnownSites, IsWith}
-use Rattle.source_headers.specs.Told.{line_at}
 use Rattle.source_headers.specs.Gathered.{AreBelow, AreFiles, IsFileAt, IsLineBy, AddsLines}
 use Rattle.source_headers.proofs.ToldLemmas.{contains_got}
-use Rattle.source_headers.proofs.GatherLemmas.{all_below, more_below, mapped_contains, mapped_more}
+use Rattle.source_headers.proofs.GatherLemmas.{all_below, more_below, mapped_contains}
 
 -- ---- what comes to a list
 
@@ -81,15 +80,3 @@ lines_added (Ok _) old new source places lines file file_is lines_are names site
       with_case old.sites new.sites (λ s. (s.0 ≡ source.file.items) × Contains (filter_map (line_at source.lines.items) places) s.1) (IsLineBy (Some source) places) (lines_same source places) w;
 }
 lines_added (Err _) old new source places lines file file_is lines_are names sites = tt
-
-pub one_line : (lines : List (Option ℕ)) (places : List ℕ) (i : ℕ) (found new : List ℕ) (line : ℕ) → i < length places → found ≡ filter_map (line_at lines) (take i places) → new ≡ found ++ line ∷ []
-    → line_at lines (get_or places i 0) ≡ Some line → new ≡ filter_map (line_at lines) (take (i + 1) places)
-one_line lines places i found new line lt before put is =
-    put ∙ ap₂ (λ (a : List ℕ) (o : Option ℕ). a ++ cons_option o []) before (sym is)
-    ∙ sym (mapped_more (line_at lines) (take i places) (get_or places i 0)) ∙ ap (filter_map (line_at lines)) (sym (take_at_read places i 0 lt).1)
-
-pub no_line : (lines : List (Option ℕ)) (places : List ℕ) (i : ℕ) (found new : List ℕ) → i < length places → found ≡ filter_map (line_at lines) (take i places) → new ≡ found
-    → line_at lines (get_or places i 0) ≡ None → new ≡ filter_map (line_at lines) (take (i + 1) places)
-no_line lines places i found new lt before put is =
-    put ∙ before ∙ sym (append-nil (filter_map (line_at lines) (take i places))) ∙ ap (λ (o : Option ℕ). filter_map (line_at lines) (take i places) ++ cons_option o []) (sym is)
-    ∙ sym (mapped_more (line_at lines) (take i places) (get_or places i 0)) ∙ ap (filter_map (line_at lines)) (sym (take_at_read places i 0 lt).1)

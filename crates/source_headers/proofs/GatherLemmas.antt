@@ -18,15 +18,16 @@ use Rattle.bound_causes.specs.Shapes.{IsShape}
 use Rattle.bound_causes.specs.declared.shapes.Shape.{Shape}
 use Rattle.bound_causes.specs.declared.shapes.Shape.TheVariants.{Irreducible, Reducible}
 use Rattle.answer_lines.specs.LoopLine.{is_nameable}
-use Rattle.source_headers.specs.declared.sources.MethodSource.{MethodSource}
+use Rattle.method_sources.specs.declared.sources.MethodSource.{MethodSource}
 use Rattle.source_headers.specs.declared.methods.MethodLoops.{MethodLoops}
 use Rattle.source_headers.specs.declared.gathering.Gathered.{Gathered}
-use Rattle.source_headers.specs.Sources.{source_at, IsFileOf}
+use Rattle.method_sources.specs.Sources.{source_at, IsFileOf}
 use Rattle.source_headers.specs.Headers.{found_at, header_at, header_lines, named_lines, unnamed_lines, method_lines, IsMethodText}
 use Rattle.source_headers.specs.Straying.{IsBounded, IsHeaderAt, IsStray}
 use Rattle.source_headers.specs.Files.{name_of, AreMethodTexts}
 use Rattle.source_headers.specs.Known.{KnownSites, IsWith}
-use Rattle.source_headers.specs.Told.{headed_places, source_by, header_by, named_by, lines_by, IsToldOf}
+use Rattle.method_sources.specs.Told.{source_by}
+use Rattle.source_headers.specs.Told.{headed_places, header_by, named_by, lines_by, IsToldOf}
 use Rattle.source_headers.specs.Gathered.{IsNameOf, IsPlaceOf, IsLineOf, AreBelow, AreFiles, AreGathered, IsLineBy, AddsLines, AddsMethod, IsLacking, AreKnown}
 
 -- ---- lists
@@ -73,10 +74,6 @@ mapped_case {X} {Y} f x xs y (Some z) e more = (
 pub mapped_contains : {X Y : Type 0} (f : X → Option Y) (xs : List X) (y : Y) → Contains (filter_map f xs) y ↔ ((x : X) × Contains xs x × (f x ≡ Some y))
 mapped_contains f [] y = (λ c. absurd (nil_contains y c), λ h. absurd (nil_contains h.0 h.1))
 mapped_contains f (x ∷ xs) y = mapped_case f x xs y (f x) refl (mapped_contains f xs y)
-
--- one item more
-pub mapped_more : {X Y : Type 0} (f : X → Option Y) (xs : List X) (x : X) → filter_map f (xs ++ x ∷ []) ≡ filter_map f xs ++ cons_option (f x) []
-mapped_more f xs x = filter_map-append f xs (x ∷ [])
 
 -- ---- below a number
 

@@ -8,10 +8,11 @@ use Rattle.lists.specs.Members.{rising_pair}
 use Rattle.loop_nest.specs.Digraph.{IsBefore}
 use Rattle.loop_rules.specs.declared.found.FoundLoop.{FoundLoop}
 use Rattle.source_bounds.specs.Notes.{Note}
-use Rattle.source_headers.specs.declared.sources.MethodSource.{MethodSource}
+use Rattle.method_sources.specs.declared.sources.MethodSource.{MethodSource}
 use Rattle.source_headers.specs.Found.{IsLeftFrom}
 use Rattle.source_headers.specs.Headers.{found_at, header_lines}
-use Rattle.source_headers.specs.Told.{source_by, header_by, headers_by}
+use Rattle.method_sources.specs.Told.{source_by}
+use Rattle.source_headers.specs.Told.{header_by, headers_by}
 use Rattle.source_headers.proofs.FoundLemmas.{before_itself}
 
 -- the numbers from one of the places on are those of all that are found

@@ -21,7 +21,7 @@ use Rattle.bound_causes.specs.declared.shapes.Shape.{Shape}
 use Rattle.bound_causes.specs.declared.shapes.Shape.TheVariants.{Irreducible, Reducible}
 use Rattle.answer_lines.specs.LoopLine.{is_nameable}
 use Rattle.source_headers.specs.Headers.{lesser, found_at, header_at, said, said_of_line, written}
-use Rattle.source_headers.specs.Sources.{source_at}
+use Rattle.method_sources.specs.Sources.{source_at}
 use Rattle.source_headers.specs.Straying.{IsBounded}
 use Rattle.source_headers.specs.Files.{name_of, AreMethodTexts}
 use Rattle.source_headers.specs.Laws.{written_of, HasNumbers, HeaderFilesHaveLines, KeptNotesAreKept, WrittenKeepsNotes}

@@ -13,7 +13,8 @@ use Rattle.ascii_text.specs.Line.{lines_of, without_empty_last}
 use Rattle.ascii_text.proofs.NumberLemmas.{HasOneSpelling-decimal}
 use Rattle.loop_bounds.specs.Bounds.{LoopBound}
 use Rattle.loop_bounds.specs.Grammar.{IsNumber, IsSilent, Says, Give}
-use Rattle.answer_lines.specs.LoopLine.{is_unbroken, is_nameable}
+use Rattle.answer_lines.specs.LoopLine.{is_nameable}
+use Rattle.source_bounds.specs.Unbroken.{is_unbroken}
 use Rattle.source_headers.specs.Headers.{written, source_line, number_line, header_lines}
 use Rattle.source_headers.specs.Reading.{bound_written, HeadersAreRead}
 

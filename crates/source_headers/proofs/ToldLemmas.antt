@@ -25,44 +25,17 @@ use Rattle.bound_causes.specs.Headers.{HeadsLoop}
 use Rattle.bound_causes.specs.Shapes.{IsShape}
 use Rattle.bound_causes.specs.declared.shapes.Shape.{Shape}
 use Rattle.bound_causes.specs.declared.shapes.Shape.TheVariants.{Irreducible, Reducible}
-use Rattle.source_headers.specs.declared.sources.MethodSource.{MethodSource}
-use Rattle.source_headers.specs.Sources.{code_in, source_at}
+use Rattle.method_sources.specs.declared.sources.MethodSource.{MethodSource}
+use Rattle.method_sources.specs.Sources.{code_in, source_at}
+use Rattle.method_sources.specs.Told.{source_by, IsSourceOf}
+use Rattle.method_sources.proofs.BodyLemmas.{body_is}
 use Rattle.source_headers.specs.Straying.{IsHeaderAt}
-use Rattle.source_headers.specs.Told.{headed_places, source_by, IsSourceOf}
+use Rattle.source_headers.specs.Told.{headed_places}
 
 pub contains_got : {X : Type 0} (xs : List X) (i : ℕ) (x : X) → slice_get xs i ≡ Some x → Contains xs x
 contains_got xs i x h = (i, slice_get_within xs i x h, get_or_from_slice_get xs i x x h)
 
 -- ---- the method with a code
-
--- a body is that of a code
-pub record IsBodyOf (cs : List ClassFile) (m : ℕ) (b : Body) : Type 0 where
-  pub numbered : m < length (methods_by_number cs)
-  pub code : Code
-  pub code_is : code_in cs m ≡ Some code
-  pub same : b.code ≡ code.code
-
-pub body_is : MethodsStandByNumber → (cs : List ClassFile) (m : ℕ) (b : Body) → body_of (resolved cs) m ≡ Some b → IsBodyOf cs m b
-body_is by_number cs m b h =
-    let r = onto_some (slice_get (resolved_methods cs) m) (λ (x : Method). x.body) b h in
-    let p = onto_some (slice_get (methods_by_number cs) m) (resolved_method cs) r.0 (sym (by_number cs m) ∙ r.1) in
-    let c = onto_some (slice_get cs p.0.0) (λ c. option_map (method_in cs p.0.0 c) (method_at cs p.0)) r.0 p.2 in
-    let k = map_some (method_in cs p.0.0 c.0) (method_at cs p.0) r.0 c.2 in
-    let body : option_map (body_in cs c.0) (code_of k.0) ≡ Some b = ap (λ (x : Method). x.body) k.2 ∙ r.2 in
-    let code = map_some (body_in cs c.0) (code_of k.0) b body in
-    record {
-      numbered = slice_get_within (methods_by_number cs) m p.0 p.1;
-      code = code.0;
-      code_is = ap (λ (o : Option Place). option_map_or (λ q. onto (method_at cs q) code_of) o None) p.1 ∙ ap (λ o. onto o code_of) k.1 ∙ code.1;
-      same = sym (ap (λ (x : Body). x.code) code.2);
-    }
-
-pub coded_is : MethodsStandByNumber → (cs : List ClassFile) (m : ℕ) → IsSome (body_of (resolved cs) m) → m < length (methods_by_number cs)
-coded_is by_number cs m h = by (body_of (resolved cs) m) refl h
-  where
-    by : (o : Option Body) → body_of (resolved cs) m ≡ o → IsSome o → m < length (methods_by_number cs)
-    by None e h = absurd (let f : false ≡ true = h in cc)
-    by (Some b) e h = (body_is by_number cs m b e).numbered
 
 -- the header of a loop is within the code
 header_within : MethodsStandByNumber → (cs : List ClassFile) (m p : ℕ) → HeadsLoop (resolved cs) m p → (k : Code) → code_in cs m ≡ Some k → p < length k.code

@@ -5,15 +5,16 @@ use Rattle.class_pool.specs.declared.class.ClassFile.{ClassFile}
 use Rattle.program_tables.specs.Resolved.{resolved}
 use Rattle.loop_rules.specs.declared.found.FoundLoop.{FoundLoop}
 use Rattle.source_bounds.specs.Notes.{Subject, AtLine, AtPlace, Note}
-use Rattle.source_headers.specs.declared.sources.MethodSource.{MethodSource}
+use Rattle.method_sources.specs.declared.sources.MethodSource.{MethodSource}
 use Rattle.source_headers.specs.declared.methods.MethodLoops.{MethodLoops}
 use Rattle.source_headers.specs.declared.gathering.Gathered.{Gathered}
-use Rattle.source_headers.specs.Sources.{file_of, source_at, IsFileOf}
+use Rattle.method_sources.specs.Sources.{file_of, source_at, IsFileOf}
 use Rattle.source_headers.specs.Headers.{IsMethodText}
 use Rattle.source_headers.specs.Straying.{IsBounded, IsHeaderAt}
 use Rattle.source_headers.specs.Files.{name_of}
 use Rattle.source_headers.specs.Known.{KnownSites, IsWith, LacksSite}
-use Rattle.source_headers.specs.Told.{headed_places, source_by, lines_by}
+use Rattle.method_sources.specs.Told.{source_by}
+use Rattle.source_headers.specs.Told.{headed_places, lines_by}
 
 -- ---- what is of a method
 

@@ -9,7 +9,7 @@ use Rattle.bound_causes.specs.Shapes.{IsShape}
 use Rattle.bound_causes.specs.declared.shapes.Shape.{Shape}
 use Rattle.bound_causes.specs.declared.shapes.Shape.TheVariants.{Irreducible, Reducible}
 use Rattle.answer_lines.specs.LoopLine.{is_nameable, loop_line}
-use Rattle.source_headers.specs.Sources.{source_at}
+use Rattle.method_sources.specs.Sources.{source_at}
 
 -- ---- one header
 

@@ -11,7 +11,7 @@ use Rattle.bound_causes.specs.Shapes.{IsShape}
 use Rattle.bound_causes.specs.declared.shapes.Shape.{Shape}
 use Rattle.bound_causes.specs.declared.shapes.Shape.TheVariants.{Irreducible, Reducible}
 use Rattle.answer_lines.specs.LoopLine.{is_nameable}
-use Rattle.source_headers.specs.Sources.{source_at}
+use Rattle.method_sources.specs.Sources.{source_at}
 use Rattle.source_headers.specs.Headers.{found_at, header_at, said_of_line, written}
 use Rattle.source_headers.specs.Straying.{IsBounded}
 use Rattle.source_headers.specs.Files.{name_of, AreMethodTexts}

@@ -1,4 +1,3 @@
-pub mod Sources
 pub mod Headers
 pub mod Straying
 pub mod Files

@@ -5,7 +5,8 @@ use Rattle.ascii_text.specs.Line.{lines_of}
 use Rattle.loop_bounds.specs.Bounds.{LoopBound}
 use Rattle.loop_bounds.specs.Grammar.{Give}
 use Rattle.source_bounds.specs.Notes.{Note}
-use Rattle.answer_lines.specs.LoopLine.{is_unbroken, is_nameable}
+use Rattle.answer_lines.specs.LoopLine.{is_nameable}
+use Rattle.source_bounds.specs.Unbroken.{is_unbroken}
 use Rattle.source_headers.specs.Headers.{Header, written, header_lines}
 
 -- the bound that is written for a header of the method of this name

@@ -6,7 +6,7 @@ use Rattle.bytecode_model.specs.Program.{Program, body_of}
 use Rattle.bound_causes.specs.Headers.{AreHeaderPlaces}
 use Rattle.bound_rules.specs.Bounding.{IsLeftWith}
 use Rattle.source_bounds.specs.Notes.{Subject, AtLine, AtPlace, Note}
-use Rattle.source_headers.specs.Sources.{IsFileOf, source_at}
+use Rattle.method_sources.specs.Sources.{IsFileOf, source_at}
 
 -- the method has code, and isn't the one that is run first
 abbrev pub IsBounded : Program → (method : ℕ) → Type 0

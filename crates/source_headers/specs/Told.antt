@@ -1,7 +1,6 @@
 -- What is told of a method as the methods are gone through: the lines of its source, and its loops.
-use Rattle.std.specs.Prelude.{◌≡◌, ℕ, ◌<◌, List, [], length, Contains, Option, Some, None, option_map, flat_map, if◌then◌else◌, slice_index_or}
+use Rattle.std.specs.Prelude.{◌≡◌, ℕ, List, [], Contains, Option, Some, flat_map, if◌then◌else◌}
 use Rattle.class_pool.specs.declared.class.ClassFile.{ClassFile}
-use Rattle.class_pool.specs.declared.class.Code.{Code}
 use Rattle.program_tables.specs.Resolved.{resolved}
 use Rattle.loop_rules.specs.declared.found.FoundLoop.{FoundLoop}
 use Rattle.source_bounds.specs.Notes.{Note}
@@ -9,29 +8,12 @@ use Rattle.bound_causes.specs.Shapes.{IsShape}
 use Rattle.bound_causes.specs.declared.shapes.Shape.{Shape}
 use Rattle.bound_causes.specs.declared.shapes.Shape.TheVariants.{Irreducible, Reducible}
 use Rattle.answer_lines.specs.LoopLine.{is_nameable}
-use Rattle.source_headers.specs.declared.sources.MethodSource.{MethodSource}
+use Rattle.method_sources.specs.declared.sources.MethodSource.{MethodSource}
+use Rattle.method_sources.specs.Sources.{source_at, IsFileOf}
+use Rattle.method_sources.specs.Told.{source_by}
 use Rattle.source_headers.specs.declared.methods.MethodLoops.{MethodLoops}
-use Rattle.source_headers.specs.Sources.{code_in, source_at, IsFileOf}
 use Rattle.source_headers.specs.Straying.{IsHeaderAt}
 use Rattle.source_headers.specs.Headers.{Header, found_at, header_lines, irreducible_line, unnamed_lines}
-
--- ---- its source
-
--- the line of a place, where these are the lines of all
-abbrev pub line_at : List (Option ℕ) → (place : ℕ) → Option ℕ
-line_at lines p = slice_index_or lines p None
-
--- the file and the line of a place
-abbrev pub source_by : Option MethodSource → (place : ℕ) → Option (List ℕ × ℕ)
-source_by None p = None
-source_by (Some s) p = option_map (λ line. (s.file.items, line)) (line_at s.lines.items p)
-
--- the file is one of the program's, and at a place within the code both are those of the method
-pub record IsSourceOf (cs : List ClassFile) (m : ℕ) (source : Option MethodSource) : Type 0 where
-  pub file : (s : MethodSource) → source ≡ Some s → IsFileOf cs s.file.items
-  pub lines : (k : Code) → code_in cs m ≡ Some k → (p : ℕ) → p < length k.code → source_by source p ≡ source_at cs m p
-
--- ---- its loops
 
 abbrev pub headed_places : Shape → List ℕ
 headed_places (Irreducible nodes) = []

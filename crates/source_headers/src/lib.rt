@@ -10,7 +10,6 @@ pub mod laws;
 mod methods;
 mod notes;
 mod site;
-mod sources;
 mod straying;
 mod texts;
 mod writing;

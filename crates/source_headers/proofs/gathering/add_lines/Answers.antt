@@ -1,8 +1,8 @@
 use Rattle.std.proofs.Common.{◌≡◌, List, ℕ, Option, sym, ap, ◌∙◌, subst}
 use Rattle.std.specs.Prelude.{OnOk}
 use Rattle.std.specs.List.{filter_map}
-use Rattle.source_headers.specs.declared.sources.MethodSource.{MethodSource}
-use Rattle.source_headers.specs.Told.{line_at}
+use Rattle.method_sources.specs.declared.sources.MethodSource.{MethodSource}
+use Rattle.method_sources.specs.Told.{line_at}
 use Rattle.source_headers.specs.Gathered.{AddsLines}
 use Rattle.source_headers.proofs.FileLemmas.{lines_added}
 use Rattle.source_headers.proofs.gathering.add_lines.Goals as goal

@@ -1,5 +1,6 @@
 use Rattle.program_tables.specs.Resolved.{resolved}
-use Rattle.source_headers.proofs.ToldLemmas.{coded_is, all_headed}
+use Rattle.method_sources.proofs.BodyLemmas.{coded_is}
+use Rattle.source_headers.proofs.ToldLemmas.{all_headed}
 use Rattle.source_headers.proofs.methods.loops_of.Goals as goal
 
 pub source_where-requires-clause-number : goal.source_where-requires-clause-number

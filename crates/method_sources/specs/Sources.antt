@@ -8,7 +8,7 @@ use Rattle.program_tables.specs.Resolved.{at_method}
 use Rattle.bytecode_model.specs.Lists.{onto}
 use Rattle.line_tables.specs.Lines.{line_of}
 use Rattle.line_tables.specs.Source.{source_file_of}
-use Rattle.answer_lines.specs.LoopLine.{is_unbroken}
+use Rattle.source_bounds.specs.Unbroken.{is_unbroken}
 
 -- a file whose name holds no space and no line feed
 abbrev pub unbroken : List ℕ → Option (List ℕ)

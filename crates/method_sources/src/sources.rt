@@ -6,14 +6,14 @@ ghost use Rattle.class_lookup.specs.Lookup.{method_at};
 ghost use Rattle.bytecode_model.specs.Lists.{onto};
 ghost use Rattle.line_tables.specs.Lines.{line_of};
 ghost use Rattle.program_tables.specs.Numbers.{methods_by_number};
-ghost use Rattle.source_headers.specs.Sources.{class_of, file_of};
-ghost use Rattle.source_headers.specs.Told.{line_at, source_by, IsSourceOf};
+ghost use Rattle.method_sources.specs.Sources.{class_of, file_of};
+ghost use Rattle.method_sources.specs.Told.{line_at, source_by, IsSourceOf};
 
-use answer_lines::is_unbroken;
 use base::NoMemory;
 use class_pool::{ClassFile, Code};
 use line_tables::{lines_of, source_file};
 use resolved_program::Program;
+use source_bounds::is_unbroken;
 use std::alloc::Global;
 
 /// The file of a method's class, where a line can name it, and the lines of the places of its code.
@@ -24,7 +24,7 @@ pub struct MethodSource {
 }
 
 /// The file of a class, where a line can name it.
-pub(crate) fn file_of(alloc: Global, class: &ClassFile) -> Result<Option<Vec<u8>>, NoMemory>
+pub fn file_of(alloc: Global, class: &ClassFile) -> Result<Option<Vec<u8>>, NoMemory>
     ensures { IfOk result (λ file. option_map (λ bytes. bytes.items) file ≡ file_of class.now) }
 {
     match source_file(alloc, class)? {
@@ -70,7 +70,7 @@ fn source_in(
 }
 
 /// The file of a method's class, and the lines of its code.
-pub(crate) fn source_of(
+pub fn source_of(
     alloc: Global,
     program: &Program,
     number: u32,
@@ -100,7 +100,7 @@ fn line_at(lines: &[Option<u16>], place: u32) -> Option<u32>
 }
 
 /// The file and the line of a place.
-pub(crate) fn source_at(source: &Option<MethodSource>, place: u32) -> Option<(&[u8], u32)>
+pub fn source_at(source: &Option<MethodSource>, place: u32) -> Option<(&[u8], u32)>
     ensures { option_map (λ s. (s.0.now, s.1)) result ≡ source_by source.now place }
 {
     match source {
@@ -113,11 +113,7 @@ pub(crate) fn source_at(source: &Option<MethodSource>, place: u32) -> Option<(&[
 }
 
 /// The lines of these places, of those that have one.
-pub(crate) fn lines_at(
-    alloc: Global,
-    lines: &[Option<u16>],
-    places: &[u32],
-) -> Result<Vec<u32>, NoMemory>
+pub fn lines_at(alloc: Global, lines: &[Option<u16>], places: &[u32]) -> Result<Vec<u32>, NoMemory>
     ensures { IfOk result (λ found. found.items ≡ filter_map (line_at lines.now) places.now) }
 {
     let mut found = Vec::new(alloc);

@@ -1,7 +1,7 @@
 use Rattle.std.proofs.Common.{ℕ, Vec, Global, sym, ap, ◌∙◌}
-use Rattle.source_headers.proofs.FileLemmas.{one_line, no_line}
-use Rattle.source_headers.proofs.sources.lines_at.Goals as goal
-use Rattle.source_headers.proofs.sources.lines_at.Goals.{in-Some+in_ok-push, in_default}
+use Rattle.method_sources.proofs.LineLemmas.{one_line, no_line}
+use Rattle.method_sources.proofs.sources.lines_at.Goals as goal
+use Rattle.method_sources.proofs.sources.lines_at.Goals.{in-Some+in_ok-push, in_default}
 
 pub loop-place-preserved : goal.loop-place-preserved
 loop-place-preserved c =
