@@ -6,21 +6,21 @@ mod Within
 mod Charging
 mod Bounding
 mod CandidateLists
-mod Limiting
-mod SmallCosts
-mod Reached
+pub mod Limiting
+pub mod SmallCosts
+pub mod Reached
 mod Raising
-mod Measuring
-mod Valuing
+pub mod Measuring
+pub mod Valuing
 mod Exceeding
 mod Parts
-mod Alike
-mod Costing
-mod OneValue
-mod Knowing
-mod OneAgrees
-mod FoundNumbers
-mod KnownIs
+pub mod Alike
+pub mod Costing
+pub mod OneValue
+pub mod Knowing
+pub mod OneAgrees
+pub mod FoundNumbers
+pub mod KnownIs
 mod ShowTold
 mod ShowSaid
 mod ShowMoved
@@ -29,23 +29,23 @@ mod ShowNever
 mod ShowNodes
 mod Showing
 mod ShowText
-mod Greater
+pub mod Greater
 pub mod Pushed
-mod Added
-mod Told
-mod Coding
-mod Shapes
-mod Held
-mod Preparing
-mod Readying
+pub mod Added
+pub mod Told
+pub mod Coding
+pub mod Shapes
+pub mod Held
+pub mod Preparing
+pub mod Readying
 mod Examining
 pub mod Growing
 mod MoreFound
-mod Finding
-mod KnownWithin
-mod Ended
+pub mod Finding
+pub mod KnownWithin
+pub mod Ended
 mod Gathering
 pub mod Ordering
-mod Certifying
+pub mod Certifying
 mod Besides
 mod Bounded

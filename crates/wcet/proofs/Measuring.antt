@@ -99,7 +99,7 @@ module _ (laws : AreWalkLaws) (P : Program) (t : Timing) (bound_of : BoundOf) (t
       let long = h.shape.long in
       contains_at p.shape.nodes r.0 (number_of u) (omega arith) r.2
 
-  from_nodes : (x : ℕ) → Contains p.shape.nodes x → (u : Node) × IsReached (IsLiveEdge P m) u × (x ≡ number_of u)
+  pub from_nodes : (x : ℕ) → Contains p.shape.nodes x → (u : Node) × IsReached (IsLiveEdge P m) u × (x ≡ number_of u)
   from_nodes x has =
       let at = place_of p.shape.nodes x has in
       let below = at.1 in

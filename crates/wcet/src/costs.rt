@@ -53,7 +53,7 @@ fn add(costs: &mut [u128], calls: &[Call], told: &[Told], without_loads: &[bool]
 }
 
 /// For each node whether a call there costs nothing for loads: everything fits the cache together, or it is in a charged loop.
-fn without_loads(
+pub fn without_loads(
     alloc: Global,
     s: &Shape,
     fits: bool,

@@ -16,19 +16,19 @@ ghost use Rattle.wcet.specs.Ending.{IsMethodBound};
 ghost use Rattle.wcet.specs.Ready.{AreReady, IsReady, IsSizeCause};
 
 mod charges;
-mod costs;
-mod ending;
+pub mod costs;
+pub mod ending;
 mod fit;
 mod found;
-mod found_laws;
-mod known;
+pub mod found_laws;
+pub mod known;
 pub mod laws;
-mod methods;
-mod prepared;
+pub mod methods;
+pub mod prepared;
 mod shape;
 mod sharing;
 pub mod show_laws;
-mod task;
+pub mod task;
 mod telling;
 
 use base::NoMemory;

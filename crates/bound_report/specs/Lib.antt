@@ -1,0 +1,10 @@
+pub mod Counts
+pub mod Times
+pub mod Report
+pub mod Rows
+pub mod Walks
+pub mod Callees
+pub mod Nodes
+pub mod Settled
+pub mod Adding
+pub mod Laws

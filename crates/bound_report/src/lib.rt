@@ -1,0 +1,66 @@
+//! Where the bound of a method's execution time comes from: the visits of one greatest walk of each method that may run, times how often
+//! the method's number counts, and what is paid for loads (JOP Reference Handbook, "Method Cache").
+#![tactic(auto)]
+
+ghost use Rattle.std.specs.Prelude.{◌≡◌, ◌≤◌, ◌<◌, ℕ, length, All, Some, None, IfOk, IfErr, IfSome, IfNone};
+ghost use Rattle.bytecode_model.specs.Program.{Program};
+ghost use Rattle.cache_regions.specs.Region.{AreDistinct};
+ghost use Rattle.method_flow.specs.Flow.{IsFlowOf};
+ghost use Rattle.node_costs.specs.Costs.{bounds_of};
+ghost use Rattle.wcet.specs.declared.ending.MethodBound.TheVariants.{Printed};
+ghost use Rattle.wcet.specs.Ending.{IsMethodBound};
+ghost use Rattle.wcet.specs.Ready.{IsReady, IsSizeCause};
+ghost use Rattle.bound_report.specs.Report.{IsReportOf};
+
+mod callees;
+mod counts;
+pub mod laws;
+mod methods;
+mod nodes;
+mod parts;
+mod reports;
+mod rows;
+mod times;
+mod walks;
+
+use bound_rules::BoundRefusal;
+use call_regions::Order;
+use loop_bounds::Bounds;
+use method_flow::{FlowProgram, Timing};
+pub use reports::Report;
+use reports::report_of;
+use std::alloc::Global;
+use wcet::methods::examine_all;
+use wcet::task::Task;
+
+/// Where the bound of the method `root` comes from, or `None` where it can't end. The arguments, what they must be and the time that it
+/// takes are those of `wcet::certify`. Callers stand before what they call, and the nodes of a method rise.
+///
+/// # Errors
+///
+/// `TooLarge` for the least method with a number, or iterations of its loops together, past 64 bits.
+pub fn report(
+    alloc: Global,
+    f: &FlowProgram,
+    b: &Bounds,
+    t: Timing,
+    root: u32,
+    order: &Order,
+) -> Result<Option<Report>, BoundRefusal>
+    requires read { t.read ≤ 63 }
+    requires write { t.write ≤ 63 }
+    requires sizes { 0 < t.block_words }
+    requires root { root < length f.now.methods }
+    requires known { All (λ m. m < length f.now.methods) order.now.methods }
+    requires distinct { AreDistinct order.now.methods }
+    requires ready { (P : Program) → IsFlowOf P f.now → IsReady P (bounds_of f.now b.now) root order.now.methods }
+    ensures never { IfOk result (λ o. IfNone o ((P : Program) → IsFlowOf P f.now → IsMethodBound P t (bounds_of f.now b.now) root (Printed None))) }
+    ensures printed { IfOk result (λ o. IfSome o (λ r. (P : Program) → IsFlowOf P f.now
+        → IsMethodBound P t (bounds_of f.now b.now) root (Printed (Some r.totals.bound)))) }
+    ensures parts { IfOk result (λ o. IfSome o (λ r. (P : Program) → IsFlowOf P f.now → IsReportOf P t (bounds_of f.now b.now) root r)) }
+    ensures cause { IfErr result (λ e. (P : Program) → IsFlowOf P f.now → IsSizeCause P t (bounds_of f.now b.now) root e) }
+{
+    let task = Task::new(f, b, t);
+    let found = examine_all(alloc, &task, order.methods.as_slice())?;
+    report_of(alloc, &task, root, order.methods.as_slice(), &found)
+}
