@@ -1,0 +1,6 @@
+mod KeyLemmas
+mod JoinLemmas
+mod OrderLemmas
+mod SumLemmas
+mod OneLemmas
+mod TellLemmas

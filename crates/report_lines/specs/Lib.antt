@@ -1,0 +1,6 @@
+pub mod Entries
+pub mod Text
+pub mod Laws
+pub mod Report
+pub mod Joining
+pub mod Told
