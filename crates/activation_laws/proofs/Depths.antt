@@ -24,7 +24,7 @@ pub data DepthStep (a b : Stage) : Type 0 where
   back : depth a ≡ depth b + 1 → IsGoing b.state.mode → DepthStep a b
   over : depth a ≡ 1 → (IsGoing b.state.mode → ⊥) → DepthStep a b
 
-going_on : (mode : Ending) → IsGoing mode → IsGoingOn mode
+pub going_on : (mode : Ending) → IsGoing mode → IsGoingOn mode
 going_on Running going = tt
 going_on (Raising p) going = tt
 going_on Ended going = absurd going
@@ -58,7 +58,7 @@ module _ (tell : PlacesTellWords) (told : StepsAreTold) (g : Setting) (is : IsSe
   abbrev timing_of : Stage → Timing
   timing_of a = record { read = a.machine.port.read; write = a.machine.port.write; blocks = a.machine.cache.blocks; block_words = a.machine.cache.block_words }
 
-  facts_of : (a b : Stage) → Follows g a b → StepFacts g (timing_of a) (tell g is).0 a b
+  pub facts_of : (a b : Stage) → Follows g a b → StepFacts g (timing_of a) (tell g is).0 a b
   facts_of a b f = told g (timing_of a) (tell g is).0 a b is (tell g is).1 (record { read = refl; write = refl; blocks = refl; block_words = refl }) f
 
   pub step_goes : (a b : Stage) → Follows g a b → IsGoing a.state.mode

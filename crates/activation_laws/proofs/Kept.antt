@@ -21,7 +21,7 @@ module _ (tell : PlacesTellWords) (told : StepsAreTold) (g : Setting) (is : IsSe
   timing_next : (a b : Stage) → Follows g a b → HasTiming t a.machine → HasTiming t b.machine
   timing_next a b follows has = (told g t (tell g is).0 a b is (tell g is).1 has follows).timing
 
-  timing_at : (earlier rest : List Stage) (a : Stage) (heres : List Here) → AreSeen g (earlier ++ (a ∷ rest)) heres → FirstHasTiming t (earlier ++ (a ∷ rest))
+  pub timing_at : (earlier rest : List Stage) (a : Stage) (heres : List Here) → AreSeen g (earlier ++ (a ∷ rest)) heres → FirstHasTiming t (earlier ++ (a ∷ rest))
       → HasTiming t a.machine
   timing_at [] rest a heres seen has = has
   timing_at (x ∷ []) rest a [] seen has = absurd seen
@@ -77,7 +77,7 @@ module _ (m : ℕ) where
 -- ---- the bounds
 
 -- by the clocks of the boundaries
-by_clocks : (bound : Option ℕ) (n k : ℕ) → n ≡ k → MatchOption bound ⊥ (λ most. n ≤ most) → MatchOption bound ⊥ (λ most. k ≤ most)
+pub by_clocks : (bound : Option ℕ) (n k : ℕ) → n ≡ k → MatchOption bound ⊥ (λ most. n ≤ most) → MatchOption bound ⊥ (λ most. k ≤ most)
 by_clocks bound n k same within = subst (λ (c : ℕ). MatchOption bound ⊥ (λ most. c ≤ most)) same within
 
 pub profiles_keep_bounds : PlacesTellWords → StepsAreTold → ActivationsAreSeen → ProfilesKeepBounds

@@ -3,3 +3,4 @@ mod Searching
 mod Once
 mod Within
 mod Kept
+mod Called

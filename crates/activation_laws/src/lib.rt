@@ -4,6 +4,7 @@
 
 ghost use Rattle.activation_laws.specs.Seen.{ActivationsAreSeen, ActivationsAreSeenOnce};
 ghost use Rattle.activation_laws.specs.Profiled.{SeenAreWithin, ProfilesKeepBounds};
+ghost use Rattle.activation_laws.specs.Called.{CalledKeepBounds};
 
 /// The activations among what is seen of a run are exactly the ended activations of methods in it.
 pub fn activations_are_seen()
@@ -41,4 +42,13 @@ pub fn profiles_keep_bounds()
     activations::laws::places_tell_words();
     activations::laws::steps_are_told();
     activations_are_seen();
+}
+
+/// An activation that a call of one method alone begins takes at most the bound of that method, where it keeps the bounds of loops.
+pub fn called_keep_bounds()
+    ensures { CalledKeepBounds }
+{
+    // The laws are for the proof.
+    activations::laws::places_tell_words();
+    activations::laws::steps_are_told();
 }

@@ -1,5 +1,5 @@
 -- What is answered of a method that is asked for, by the table of a program, holds of the program.
-use Rattle.std.proofs.Common.{◌≡◌, ℕ, List, Option, Some, sym, ◌∙◌, ap, subst}
+use Rattle.std.proofs.Common.{◌≡◌, ℕ, ◌<◌, List, length, Option, Some, refl, sym, ◌∙◌, ap, subst}
 use Rattle.std.specs.Prelude.{IsSome, IsSomeAnd, slice_get, Result, Ok, Err, IfOk, IfErr, Vec}
 use Rattle.std.specs.declared.alloc.Global.{Global}
 use Rattle.std.proofs.Math.Path.{fun_ext}
@@ -20,6 +20,7 @@ use Rattle.bound_rules.specs.declared.faults.BoundRefusal.TheVariants.{NoMethod,
 use Rattle.bound_rules.specs.Bounding.{IsAsked, HasNoRecursion, AreReducible, HaveLines, KeepSize, HasNoCause, IsCause}
 use Rattle.bound_causes.specs.declared.causes.Asked.{Asked}
 use Rattle.bound_causes.specs.Naming.{IsNamedBy}
+use Rattle.bound_causes.specs.Causes.{IsRootCause}
 use Rattle.wcet.specs.Ready.{IsSizeCause}
 use Rattle.answer_lines.specs.declared.bound.BoundCause.{BoundCause}
 use Rattle.analysis_commands.specs.declared.analysis.Analysis.{Analysis}
@@ -27,29 +28,35 @@ use Rattle.analysis_commands.specs.declared.bound.NotBounded.{NotBounded}
 use Rattle.analysis_commands.specs.declared.bound.NotBounded.TheVariants as refusals
 use Rattle.analysis_commands.specs.Analysis.{name_of, IsAnalysisOf}
 use Rattle.analysis_commands.specs.Bounding.{IsNamed, IsBoundBy, IsBound, IsBoundNumber, subject_of, IsForbidden, IsNotBounded}
-use Rattle.analysis_commands.specs.BoundAnswers.{IsAskedOf, IsCertificateOf, IsCauseOf, IsBoundText, IsBoundNumberOf, IsForbiddenBy, IsNotBoundedBy}
+use Rattle.analysis_commands.specs.BoundAnswers.{IsAskedOf, IsCertificateOf, IsCauseOf, IsCertificateFor, IsSizeCauseOf, IsBoundText, IsBoundNumberOf, IsForbiddenBy, IsNotBoundedBy}
 use Rattle.analysis_commands.proofs.Lifting.{AreAlike, none, some, are_alike, named, moved}
 
 -- ---- the certificate, by the table
 
 -- the method that is asked for is of the certificate, and nothing forbids its bound
-pub certified : (a : Analysis) (name : List ℕ) (found : Asked) (r : Result Certificate BoundRefusal) → IsAskedOf a name found → IfOk r (λ c. IsInGrammar c × (c.version ≡ 2) × (c.root ≡ found.root))
-    → IfOk r (λ c. (P : Program) → IsFlowOf P a.flow → MeetsConditions P a.timing (table.bounds_of a.flow a.bounds) c)
-    → IfOk r (λ c. (P : Program) → IsFlowOf P a.flow → IsPrinted P a.timing (table.bounds_of a.flow a.bounds) found.root c.bound)
-    → IfOk r (λ _. (P : Program) → IsFlowOf P a.flow → KeepSize P a.timing (table.bounds_of a.flow a.bounds) found.root)
-    → IfOk r (IsCertificateOf a name)
-certified a name found (Err refusal) is grammar meets printed kept = tt
-certified a name found (Ok c) is grammar meets printed kept =
+pub certified : (a : Analysis) (named : ℕ → Type 0) (found : Asked) (r : Result Certificate BoundRefusal) → IsAskedOf a named found → IfOk r (IsCertificateFor a found.root)
+    → IfOk r (IsCertificateOf a named)
+certified a named found (Err refusal) is h = tt
+certified a named found (Ok c) is h =
     λ P of.
     let ready = is.ready P of in
-    let no_cause : HasNoCause P a.timing (table.bounds_of a.flow a.bounds) found.root = record { calls = ready.calls; reducible = ready.reducible; lines = ready.lines; size = kept P of } in
+    let no_cause : HasNoCause P a.timing (table.bounds_of a.flow a.bounds) found.root = record { calls = ready.calls; reducible = ready.reducible; lines = ready.lines; size = h.kept P of } in
     record {
-      asked = subst (λ (m : ℕ). IsAsked P (IsNamedBy a.flow name) m) (sym grammar.2) (is.asked P of);
-      no_cause = subst (λ (m : ℕ). HasNoCause P a.timing (table.bounds_of a.flow a.bounds) m) (sym grammar.2) no_cause;
-      version = grammar.1;
-      meets = meets P of;
-      printed = subst (λ (m : ℕ). IsPrinted P a.timing (table.bounds_of a.flow a.bounds) m c.bound) (sym grammar.2) (printed P of);
+      asked = subst (λ (m : ℕ). IsAsked P named m) (sym h.root_is) (is.asked P of);
+      no_cause = subst (λ (m : ℕ). HasNoCause P a.timing (table.bounds_of a.flow a.bounds) m) (sym h.root_is) no_cause;
+      version = h.version;
+      meets = h.meets P of;
+      printed = subst (λ (m : ℕ). IsPrinted P a.timing (table.bounds_of a.flow a.bounds) m c.bound) (sym h.root_is) (h.printed P of);
     }
+
+-- the certificate of a method for which all is ready
+pub certified_for : (a : Analysis) (root : ℕ) (r : Result Certificate BoundRefusal) → IfOk r (λ c. IsInGrammar c × (c.version ≡ 2) × (c.root ≡ root))
+    → IfOk r (λ c. (P : Program) → IsFlowOf P a.flow → MeetsConditions P a.timing (table.bounds_of a.flow a.bounds) c)
+    → IfOk r (λ c. (P : Program) → IsFlowOf P a.flow → IsPrinted P a.timing (table.bounds_of a.flow a.bounds) root c.bound)
+    → IfOk r (λ _. (P : Program) → IsFlowOf P a.flow → KeepSize P a.timing (table.bounds_of a.flow a.bounds) root)
+    → IfOk r (IsCertificateFor a root)
+certified_for a root (Err refusal) grammar meets printed kept = tt
+certified_for a root (Ok c) grammar meets printed kept = record { version = grammar.1; root_is = grammar.2; meets = meets; printed = printed; kept = kept }
 
 size_cause : (P : Program) (t : Timing) (b : BoundOf) (asked : ℕ → Type 0) (root : ℕ) (e : BoundRefusal) → IsAsked P asked root → HasNoRecursion P root → AreReducible P root → HaveLines P b root → IsSizeCause P t b root e
     → IsCause P t b asked e
@@ -61,13 +68,31 @@ size_cause P t b asked root (TooLarge m) is calls reducible lines h = (root, is,
 size_cause P t b asked root NoMemory is calls reducible lines h = tt
 
 -- its size forbids one
-pub too_large : (a : Analysis) (name : List ℕ) (found : Asked) (r : Result Certificate BoundRefusal) → IsAskedOf a name found
-    → IfErr r (λ e. (P : Program) → IsFlowOf P a.flow → IsSizeCause P a.timing (table.bounds_of a.flow a.bounds) found.root e) → IfErr r (IsCauseOf a name)
-too_large a name found (Ok c) is h = tt
-too_large a name found (Err e) is h =
+pub too_large : {T : Type 0} (a : Analysis) (named : ℕ → Type 0) (found : Asked) (r : Result T BoundRefusal) → IsAskedOf a named found → IfErr r (IsSizeCauseOf a found.root) → IfErr r (IsCauseOf a named)
+too_large a named found (Ok c) is h = tt
+too_large a named found (Err e) is h =
     λ P of.
     let ready = is.ready P of in
-    size_cause P a.timing (table.bounds_of a.flow a.bounds) (IsNamedBy a.flow name) found.root e (is.asked P of) ready.calls ready.reducible ready.lines (h P of)
+    size_cause P a.timing (table.bounds_of a.flow a.bounds) named found.root e (is.asked P of) ready.calls ready.reducible ready.lines (h P of)
+
+-- ---- a method that is asked for by its number
+
+root_cause : (P : Program) (t : Timing) (b : BoundOf) (asked : ℕ → Type 0) (root : ℕ) (e : BoundRefusal) → IsAsked P asked root → IsRootCause P b root e → IsCause P t b asked e
+root_cause P t b asked root NoMethod is h = absurd h
+root_cause P t b asked root (Recursion cycle) is h = (root, is, h)
+root_cause P t b asked root (Irreducible m nodes) is h = (root, is, h.0, h.1)
+root_cause P t b asked root (MissingBound m p) is h = (root, is, h.0, h.1, h.2)
+root_cause P t b asked root (TooLarge m) is h = absurd h
+root_cause P t b asked root NoMemory is h = tt
+
+-- this forbids its bound
+pub asked_number_err : (a : Analysis) (method : ℕ) (r : Result Asked BoundRefusal) → method < length a.flow.methods → (method ≡ a.flow.boot → ⊥)
+    → IfErr r (λ e. (P : Program) → IsFlowOf P a.flow → IsRootCause P (table.bounds_of a.flow a.bounds) method e) → IfErr r (IsCauseOf a (λ m. m ≡ method))
+asked_number_err a method (Ok found) below other h = tt
+asked_number_err a method (Err e) below other h =
+    λ P of.
+    let asked : IsAsked P (λ m. m ≡ method) method = record { coded = (of.coded method).1 below; not_boot = λ same. other (same ∙ sym of.boot); is_named = refl } in
+    root_cause P a.timing (table.bounds_of a.flow a.bounds) (λ m. m ≡ method) method e asked (h P of)
 
 -- ---- names of the table, and of the program
 
@@ -80,7 +105,7 @@ named_in name have o q (none e f) coded h = absurd (true≢false (sym (subst (λ
 named_in name have o q (some k b e f is) coded h = subst (λ (x : Option Coded). IsSomeAnd x (λ k. k.name ≡ name)) (sym e) (is ∙ h)
 
 module _ (cs : List ClassFile) (f : Flow) (flow : IsFlowOf (resolved cs) f) (names : (m : ℕ) (k : Coded) → slice_get f.methods m ≡ Some k → k.name ≡ name_of cs m) (name : List ℕ) where
-  asked_out : (root : ℕ) → IsAsked (resolved cs) (IsNamedBy f name) root → IsAsked (resolved cs) (IsNamed cs name) root
+  pub asked_out : (root : ℕ) → IsAsked (resolved cs) (IsNamedBy f name) root → IsAsked (resolved cs) (IsNamed cs name) root
   asked_out root h = record {
     coded = h.coded;
     not_boot = h.not_boot;

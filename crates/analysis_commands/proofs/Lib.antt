@@ -1,5 +1,7 @@
 pub mod Lifting
-mod Bounding
+pub mod Bounding
 mod LoopLines
 mod Needs
+mod Planning
+mod Slotting
 mod Shaping

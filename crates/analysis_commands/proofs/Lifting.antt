@@ -43,7 +43,7 @@ pub data AreAlike (name : List ℕ) (o : Option Coded) (q : Option Body) : Type 
   none : o ≡ None → q ≡ None → AreAlike name o q
   some : (k : Coded) (b : Body) → o ≡ Some k → q ≡ Some b → k.name ≡ name → AreAlike name o q
 
-there : (xs : List Coded) (m : ℕ) → slice_get xs m ≡ None → m < length xs → ⊥
+pub there : (xs : List Coded) (m : ℕ) → slice_get xs m ≡ None → m < length xs → ⊥
 there xs m is h = ⊎_elim (λ found. none≢some found.0 (sym is ∙ found.2)) (λ past. omega (arith, h, past.0)) (slice_get_cases xs m).1
 
 alike : (xs : List Coded) (m : ℕ) (name : List ℕ) (o : Option Coded) (q : Option Body) → slice_get xs m ≡ o → IsSome q ↔ (m < length xs) → ((k : Coded) → o ≡ Some k → k.name ≡ name) → AreAlike name o q

@@ -6,3 +6,5 @@ pub mod BoundAnswers
 pub mod Loops
 pub mod Memory
 pub mod Shapes
+pub mod Plan
+pub mod PlanAnswers

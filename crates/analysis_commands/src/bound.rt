@@ -2,6 +2,7 @@
 ghost use Rattle.std.specs.Prelude.{◌≡◌, ◌≤◌, ◌<◌, length, IfOk, IfErr};
 ghost use Rattle.base.specs.Sizes.{longest_file};
 ghost use Rattle.command_line.specs.Range.{AreSettings};
+ghost use Rattle.bound_causes.specs.Naming.{IsNamedBy};
 ghost use Rattle.analysis_commands.specs.Bounding.{IsBound, IsBoundNumber, IsNotBounded, IsBareNotBounded};
 ghost use Rattle.analysis_commands.specs.BoundAnswers.{IsOfProgram, IsBoundText, IsBoundNumberOf, IsCauseOf, IsNotBoundedBy};
 
@@ -26,14 +27,14 @@ pub enum NotBounded {
     NoMemory,
 }
 
-/// The answer where this forbids a bound.
-fn not_bounded(
+/// The answer where this forbids a bound of the method that has this name.
+pub fn not_bounded(
     alloc: Global,
     analysis: &Analysis,
     name: &[u8],
     refusal: &BoundRefusal,
 ) -> NotBounded
-    requires { IsCauseOf analysis.now name.now refusal.now }
+    requires { IsCauseOf analysis.now (IsNamedBy analysis.now.flow name.now) refusal.now }
     ensures { IsNotBoundedBy analysis.now name.now result }
 {
     let Some(cause) = cause_of(refusal) else {

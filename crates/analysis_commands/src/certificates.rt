@@ -1,41 +1,54 @@
 //! The certificate of a method that is asked for, by the table of a program.
-ghost use Rattle.std.specs.Prelude.{◌≡◌, ◌≤◌, ◌<◌, ℕ, List, IfOk, IfErr};
+ghost use Rattle.std.specs.Prelude.{◌≡◌, ◌≤◌, ◌<◌, ℕ, List, length, IfOk, IfErr};
 ghost use Rattle.ascii_text.specs.Line.{lines_of as text_lines};
 ghost use Rattle.bound_cert.specs.Certificate.{IsInGrammar};
 ghost use Rattle.bound_cert.specs.Texts.{AreLinesOf, text_of};
+ghost use Rattle.bound_causes.specs.Naming.{IsNamedBy};
 ghost use Rattle.analysis_commands.specs.declared.analysis.Analysis.{Analysis};
 ghost use Rattle.analysis_commands.specs.BoundAnswers.{IsOfProgram, IsAskedOf, IsCertificateOf, IsCauseOf, IsNotBoundedBy};
+ghost use Rattle.analysis_commands.specs.BoundAnswers.{IsReadyOf, IsCertificateFor, IsSizeCauseOf};
 
 use crate::analysis::Analysis;
 use crate::bound::NotBounded;
-use bound_causes::{Asked, cause_before_size};
+use bound_causes::{Asked, cause_before_size, cause_of_root};
 use bound_cert::{Cert, is_read_back, write_cert};
 use bound_rules::BoundRefusal;
 use std::alloc::Global;
 use wcet::certify;
 
-/// The method of this name, where nothing but its size forbids a bound.
-fn asked(alloc: Global, analysis: &Analysis, name: &[u8]) -> Result<Asked, BoundRefusal>
-    ensures asked { IfOk result (IsAskedOf analysis.now name.now) }
-    ensures cause { IfErr result (IsCauseOf analysis.now name.now) }
+/// The method that has this name, and what may run while it does, where nothing but its size forbids a bound of it; or what does.
+pub fn asked(alloc: Global, analysis: &Analysis, name: &[u8]) -> Result<Asked, BoundRefusal>
+    ensures asked { IfOk result (IsAskedOf analysis.now (IsNamedBy analysis.now.flow name.now)) }
+    ensures cause { IfErr result (IsCauseOf analysis.now (IsNamedBy analysis.now.flow name.now)) }
 {
     cause_before_size(alloc, &analysis.flow, &analysis.bounds, name)
 }
 
-/// Its certificate.
+/// The method of this number, where nothing but its size forbids a bound. The one that starts the program isn't asked for.
+fn asked_by_number(alloc: Global, analysis: &Analysis, method: u32) -> Result<Asked, BoundRefusal>
+    requires { method < length analysis.now.flow.methods }
+    ensures asked { IfOk result (IsAskedOf analysis.now (λ m. m ≡ method)) }
+    ensures cause { IfErr result (IsCauseOf analysis.now (λ m. m ≡ method)) }
+{
+    if method == analysis.flow.boot() {
+        return Err(BoundRefusal::NoMethod);
+    }
+    cause_of_root(alloc, &analysis.flow, &analysis.bounds, method)
+}
+
+/// The certificate of a method for which all is ready.
 fn certificate_of_asked(
     alloc: Global,
     analysis: &Analysis,
-    name: &[u8],
     found: &Asked,
 ) -> Result<Cert, BoundRefusal>
     requires program { IsOfProgram analysis.now }
-    requires asked { IsAskedOf analysis.now name.now found.now }
+    requires ready { IsReadyOf analysis.now found.now }
     requires waits { (analysis.now.timing.read ≤ 63) × (analysis.now.timing.write ≤ 63) }
     requires sizes { 0 < analysis.now.timing.block_words }
-    ensures certificate { IfOk result (IsCertificateOf analysis.now name.now) }
+    ensures certificate { IfOk result (IsCertificateFor analysis.now found.now.root) }
     ensures grammar { IfOk result IsInGrammar }
-    ensures cause { IfErr result (IsCauseOf analysis.now name.now) }
+    ensures cause { IfErr result (IsSizeCauseOf analysis.now found.now.root) }
 {
     let Analysis {
         flow,
@@ -54,12 +67,32 @@ pub(crate) fn certificate_of(
     requires program { IsOfProgram analysis.now }
     requires waits { (analysis.now.timing.read ≤ 63) × (analysis.now.timing.write ≤ 63) }
     requires sizes { 0 < analysis.now.timing.block_words }
-    ensures certificate { IfOk result (IsCertificateOf analysis.now name.now) }
+    ensures certificate { IfOk result (IsCertificateOf analysis.now (IsNamedBy analysis.now.flow name.now)) }
     ensures grammar { IfOk result IsInGrammar }
-    ensures cause { IfErr result (IsCauseOf analysis.now name.now) }
+    ensures cause { IfErr result (IsCauseOf analysis.now (IsNamedBy analysis.now.flow name.now)) }
 {
     match asked(alloc, analysis, name) {
-        Ok(found) => certificate_of_asked(alloc, analysis, name, &found),
+        Ok(found) => certificate_of_asked(alloc, analysis, &found),
+        Err(refusal) => Err(refusal),
+    }
+}
+
+/// The certificate of the method of this number.
+pub(crate) fn certificate_by_number(
+    alloc: Global,
+    analysis: &Analysis,
+    method: u32,
+) -> Result<Cert, BoundRefusal>
+    requires program { IsOfProgram analysis.now }
+    requires known { method < length analysis.now.flow.methods }
+    requires waits { (analysis.now.timing.read ≤ 63) × (analysis.now.timing.write ≤ 63) }
+    requires sizes { 0 < analysis.now.timing.block_words }
+    ensures certificate { IfOk result (IsCertificateOf analysis.now (λ m. m ≡ method)) }
+    ensures grammar { IfOk result IsInGrammar }
+    ensures cause { IfErr result (IsCauseOf analysis.now (λ m. m ≡ method)) }
+{
+    match asked_by_number(alloc, analysis, method) {
+        Ok(found) => certificate_of_asked(alloc, analysis, &found),
         Err(refusal) => Err(refusal),
     }
 }

@@ -33,6 +33,14 @@ bad_lines_parts line = codes "bad lines line=" ∷ decimal line ∷ codes "\n" �
 abbrev pub twice_lines_parts : (line : ℕ) → List (List ℕ)
 twice_lines_parts line = codes "twice lines line=" ∷ decimal line ∷ codes "\n" ∷ []
 
+-- a line of the table of slots is none of its grammar
+abbrev pub bad_table_parts : (line : ℕ) → List (List ℕ)
+bad_table_parts line = codes "bad table line=" ∷ decimal line ∷ codes "\n" ∷ []
+
+-- the table has so many slots, which are too few or too many
+abbrev pub slot_count_parts : (count : ℕ) → List (List ℕ)
+slot_count_parts count = codes "slots " ∷ decimal count ∷ codes "\n" ∷ []
+
 -- with this line no certificate begins
 abbrev pub bad_cert_parts : (line : ℕ) → List (List ℕ)
 bad_cert_parts line = codes "bad cert line=" ∷ decimal line ∷ codes "\n" ∷ []
@@ -47,12 +55,15 @@ fault_parts (Region m) name = codes "check: region " ∷ name ∷ codes "\n" ∷
 fault_parts NoMemory name = []
 
 -- why no bound of a method is given, with what the line names: the methods of a cycle, or a method, with the places of its nodes where it is irreducible
+abbrev pub cause_tail : BoundCause → (subject : List ℕ) → List (List ℕ)
+cause_tail causes.NoMethod subject = codes " no method\n" ∷ []
+cause_tail causes.Recursion subject = codes " recursion" ∷ subject ∷ codes "\n" ∷ []
+cause_tail (causes.Irreducible m) subject = codes " irreducible " ∷ subject ∷ codes "\n" ∷ []
+cause_tail (causes.MissingBound m p) subject = codes " missing bound " ∷ subject ∷ codes " " ∷ decimal p ∷ codes "\n" ∷ []
+cause_tail (causes.TooLarge m) subject = codes " too large " ∷ subject ∷ codes "\n" ∷ []
+
 abbrev pub cause_parts : BoundCause → (subject : List ℕ) → List (List ℕ)
-cause_parts causes.NoMethod subject = codes "bound: no method\n" ∷ []
-cause_parts causes.Recursion subject = codes "bound: recursion" ∷ subject ∷ codes "\n" ∷ []
-cause_parts (causes.Irreducible m) subject = codes "bound: irreducible " ∷ subject ∷ codes "\n" ∷ []
-cause_parts (causes.MissingBound m p) subject = codes "bound: missing bound " ∷ subject ∷ codes " " ∷ decimal p ∷ codes "\n" ∷ []
-cause_parts (causes.TooLarge m) subject = codes "bound: too large " ∷ subject ∷ codes "\n" ∷ []
+cause_parts cause subject = codes "bound:" ∷ cause_tail cause subject
 
 -- so a line names methods behind one another, and nodes of one
 abbrev pub names_text : (names : List (List ℕ)) → List ℕ

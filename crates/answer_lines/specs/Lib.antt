@@ -5,5 +5,7 @@ pub mod AnalysisLines
 pub mod WorkLines
 pub mod MemoryLines
 pub mod LoopLine
+pub mod PlanLines
 pub mod Unanswered
 pub mod WorkRows
+pub mod PlanRows

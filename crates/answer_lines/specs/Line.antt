@@ -3,8 +3,10 @@ use Rattle.std.specs.Prelude.{ℕ, ◌+◌, ◌*◌, ◌/◌, ◌%◌, ◌^◌, 
 use Rattle.std.specs.List.{concat}
 use Rattle.std.specs.declared.option.Option.{Option}
 use Rattle.answer_lines.specs.declared.line.Counts.{Counts}
+use Rattle.answer_lines.specs.declared.line.SlotCounts.{SlotCounts}
 use Rattle.answer_lines.specs.declared.line.Line.{Line}
 use Rattle.answer_lines.specs.declared.line.Line.TheVariants.{Ended, Uncaught, Spent, Linked, Usage, TooBig, BadImage, Differs, MethodTooLong, MemoryTooSmall}
+use Rattle.answer_lines.specs.declared.line.Line.TheVariants.{CycleEnded, CycleUncaught, CycleSpent}
 use Rattle.answer_lines.specs.declared.line.Line.TheVariants.{Link, Asm, ReadFault, WriteFault, NoMemory}
 use Rattle.answer_lines.specs.declared.line.LinkLine.{LinkLine}
 use Rattle.answer_lines.specs.declared.line.LinkLine.TheVariants.{BadClass, UnsupportedVersion, Duplicate, Unsupported, Unresolved, BadHierarchy, NoMain}
@@ -40,6 +42,12 @@ word_text (Some n) = hexadecimal n
 -- the end of a line of a run
 abbrev pub counts_parts : Counts → List (List ℕ)
 counts_parts c = codes " cycles=" ∷ decimal c.clock ∷ codes " hits=" ∷ decimal c.hits ∷ codes " misses=" ∷ decimal c.misses ∷ codes "\n" ∷ []
+
+-- the end of a line of a run of a cyclic executive
+abbrev pub slot_counts_parts : SlotCounts → List (List ℕ)
+slot_counts_parts c =
+    codes " slots=" ∷ decimal c.slots ∷ codes " late=" ∷ decimal c.late ∷ codes " idle=" ∷ decimal c.idle ∷ codes " cycles=" ∷ decimal c.clock
+    ∷ codes "\n" ∷ []
 
 -- ---- refusals of linking
 
@@ -83,6 +91,9 @@ abbrev pub parts_of : Line → List (List ℕ)
 parts_of (Ended counts) = codes "ended" ∷ counts_parts counts
 parts_of (Uncaught class counts) = codes "uncaught " ∷ class.now ∷ counts_parts counts
 parts_of (Spent counts) = codes "spent" ∷ counts_parts counts
+parts_of (CycleEnded counts) = codes "ended" ∷ slot_counts_parts counts
+parts_of (CycleUncaught class counts) = codes "uncaught " ∷ class.now ∷ slot_counts_parts counts
+parts_of (CycleSpent counts) = codes "spent" ∷ slot_counts_parts counts
 parts_of (Linked sizes) =
     codes "linked classes=" ∷ decimal sizes.classes ∷ codes " methods=" ∷ decimal sizes.methods ∷ codes " words=" ∷ decimal sizes.words ∷ codes " bytes="
     ∷ decimal sizes.bytes ∷ codes "\n" ∷ []

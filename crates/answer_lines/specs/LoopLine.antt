@@ -1,10 +1,6 @@
 -- The line of a text of bounds that bounds a loop.
 use Rattle.std.specs.Prelude.{ℕ, ◌==◌, ◌&&◌, Bool, false, not, List, [], ◌∷◌, ◌++◌, codes, decimal}
-use Rattle.std.specs.List.{list_all}
-
--- the name holds no space and no line feed
-abbrev pub is_unbroken : (name : List ℕ) → Bool
-is_unbroken name = list_all (λ byte. not (byte == 32) && not (byte == 10)) name
+use Rattle.source_bounds.specs.Unbroken.{is_unbroken}
 
 -- a line of bounds can begin with the name: it begins with no #, and is unbroken
 abbrev pub is_nameable : (name : List ℕ) → Bool

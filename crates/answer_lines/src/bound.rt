@@ -1,9 +1,10 @@
 //! The lines of bounds that aren't given.
-ghost use Rattle.std.specs.Prelude.{◌≡◌, [], ◌∷◌, codes, decimal, false};
+ghost use Rattle.std.specs.Prelude.{◌≡◌, [], ◌∷◌, ◌++◌, codes, decimal, false};
 ghost use Rattle.std.specs.List.{concat};
 ghost use Rattle.outside.specs.Outside.{HasCause};
 ghost use Rattle.answer_lines.specs.Said.{Said};
-ghost use Rattle.answer_lines.specs.AnalysisLines.{cause_parts};
+ghost use Rattle.answer_lines.specs.Put.{piece_text};
+ghost use Rattle.answer_lines.specs.AnalysisLines.{cause_tail, cause_parts};
 
 use crate::{Piece, say_pieces};
 use outside::{Failed, Sink};
@@ -72,13 +73,54 @@ pub(crate) fn say_cause<O: Sink>(
     ensures said { Said false (concat (cause_parts cause subject.now)) (O.held sink.old) (O.held sink.new) (O.faults sink.old) (O.faults sink.new) result }
     ensures cause { HasCause (O.faults sink.old) (O.faults sink.new) result }
 {
+    say_behind(
+        sink,
+        Piece::Text(b"bound:"),
+        Piece::Text(b""),
+        cause,
+        subject,
+    )
+}
+
+/// Puts two pieces and, behind them, a cause and what the line names.
+pub(crate) fn say_behind<'a, O: Sink>(
+    sink: &mut O,
+    first: Piece<'a>,
+    second: Piece<'a>,
+    cause: BoundCause,
+    subject: &'a [u8],
+) -> Result<(), Failed>
+    ensures said { Said false (piece_text first.entry ++ (piece_text second.entry ++ concat (cause_tail cause subject.now))) (O.held sink.old) (O.held sink.new)
+        (O.faults sink.old) (O.faults sink.new) result }
+    ensures cause { HasCause (O.faults sink.old) (O.faults sink.new) result }
+{
+    let end = Piece::Text(b"\n");
+    let subject = Piece::Text(subject);
     match cause {
-        BoundCause::NoMethod => say_pieces(sink, &[Piece::Text(b"bound: no method\n")]),
-        BoundCause::Recursion => say_subject(sink, b"bound: recursion", subject),
-        BoundCause::Irreducible(_) => say_subject(sink, b"bound: irreducible ", subject),
-        BoundCause::MissingBound(_, place) => {
-            say_place(sink, b"bound: missing bound ", subject, place)
-        }
-        BoundCause::TooLarge(_) => say_subject(sink, b"bound: too large ", subject),
+        BoundCause::NoMethod => { say_pieces(sink, &[first, second, Piece::Text(b" no method\n")]) }
+        BoundCause::Recursion => say_pieces(
+            sink,
+            &[first, second, Piece::Text(b" recursion"), subject, end],
+        ),
+        BoundCause::Irreducible(_) => say_pieces(
+            sink,
+            &[first, second, Piece::Text(b" irreducible "), subject, end],
+        ),
+        BoundCause::MissingBound(_, place) => say_pieces(
+            sink,
+            &[
+                first,
+                second,
+                Piece::Text(b" missing bound "),
+                subject,
+                Piece::Text(b" "),
+                Piece::Number(place as u128),
+                end,
+            ],
+        ),
+        BoundCause::TooLarge(_) => say_pieces(
+            sink,
+            &[first, second, Piece::Text(b" too large "), subject, end],
+        ),
     }
 }

@@ -1,5 +1,5 @@
 //! The lines that say how a command ended: what was written, counted or made; that a certificate holds, or why it, or the texts
-//! with which it comes, is refused; why no bound is given, or no need of memory; what a run needs of memory:
+//! with which it comes, is refused; why no bound is given, no need of memory or no plan; what a run needs of memory:
 //! `memory stack=X image=I heap=Y`; and what came of a program that was made to be run and bounded:
 //! `work n=N output=B cycles=C hits=H misses=M bound=P`. The lines that are put take no memory.
 #![tactic(auto)]
@@ -12,6 +12,7 @@ mod link;
 mod loop_line;
 mod memory;
 mod pieces;
+mod plan;
 mod put;
 mod summary;
 mod texts;
@@ -19,14 +20,15 @@ mod unanswered;
 
 pub use bound::BoundCause;
 pub use check::{say_fault, say_held};
-pub use line::{AsmLine, Counts, Line, LinkLine, Named, Place, Sizes};
-pub use loop_line::{is_nameable, is_unbroken, put_loop_line};
+pub use line::{AsmLine, Counts, Line, LinkLine, Named, Place, Sizes, SlotCounts};
+pub use loop_line::{is_nameable, put_loop_line};
 pub use memory::memory_line;
 pub use pieces::{Piece, put_pieces};
+pub use plan::PlanCause;
 pub use put::{put_line, say, say_pieces};
 pub use summary::work_line;
 pub use texts::{
-    say_bad_bounds, say_bad_cert, say_bad_lines, say_bad_sizes, say_twice_bound, say_twice_lines,
-    say_twice_size,
+    say_bad_bounds, say_bad_cert, say_bad_lines, say_bad_sizes, say_bad_table, say_slot_count,
+    say_twice_bound, say_twice_lines, say_twice_size,
 };
 pub use unanswered::{Cause, say_unanswered};

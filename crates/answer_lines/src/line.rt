@@ -8,6 +8,18 @@ pub struct Counts {
     pub misses: u64,
 }
 
+/// What a run of a cyclic executive counted of the slots' activations that ended, and the cycles of the machine.
+#[derive(Clone, Copy)]
+pub struct SlotCounts {
+    pub slots: u64,
+    /// Those that took more cycles than their length.
+    pub late: u64,
+    /// The cycles by which the others stayed below theirs.
+    pub idle: u128,
+    /// All cycles of the run.
+    pub clock: u64,
+}
+
 /// The sizes of a linked image.
 #[derive(Clone, Copy)]
 pub struct Sizes {
@@ -30,6 +42,12 @@ pub enum Line<'a> {
     Uncaught(&'a [u8], Counts),
     /// The run was stopped at the given count of cycles.
     Spent(Counts),
+    /// The executive returned from boot.
+    CycleEnded(SlotCounts),
+    /// The executive ended with an object of this class that nothing caught.
+    CycleUncaught(&'a [u8], SlotCounts),
+    /// The run of the executive was stopped at the given count of cycles.
+    CycleSpent(SlotCounts),
     /// The files were linked.
     Linked(Sizes),
     /// The words give no command, from the word of this number on.

@@ -1,16 +1,10 @@
 //! The line of a text of bounds that bounds a loop.
 ghost use Rattle.std.specs.Prelude.{◌≡◌, ◌++◌, OnOk};
-ghost use Rattle.answer_lines.specs.LoopLine.{is_unbroken, is_nameable, loop_line};
+ghost use Rattle.answer_lines.specs.LoopLine.{is_nameable, loop_line};
 
 use ascii_text::put_u64;
 use base::NoMemory;
-
-/// Whether the name holds no space and no line feed.
-pub fn is_unbroken(name: &[u8]) -> bool
-    ensures { result ≡ is_unbroken name.now }
-{
-    name.iter().all(|byte| *byte != b' ' && *byte != b'\n')
-}
+use source_bounds::is_unbroken;
 
 /// Whether a line of bounds can begin with the name.
 pub fn is_nameable(name: &[u8]) -> bool

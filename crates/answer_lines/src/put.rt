@@ -2,11 +2,11 @@
 ghost use Rattle.std.specs.Prelude.{◌≡◌, [], ◌∷◌, codes, decimal, false};
 ghost use Rattle.std.specs.List.{concat};
 ghost use Rattle.outside.specs.Outside.{HasCause};
-ghost use Rattle.answer_lines.specs.Line.{line_of, counts_parts, is_fault};
+ghost use Rattle.answer_lines.specs.Line.{line_of, counts_parts, slot_counts_parts, is_fault};
 ghost use Rattle.answer_lines.specs.Put.{PutLine, joined};
 ghost use Rattle.answer_lines.specs.Said.{Said};
 
-use crate::line::{AsmLine, Counts, Line, Sizes};
+use crate::line::{AsmLine, Counts, Line, Sizes, SlotCounts};
 use crate::link::put_link_line;
 use crate::pieces::{Piece, put_pieces};
 use outside::{Failed, Sink};
@@ -20,6 +20,9 @@ pub fn put_line<O: Sink>(sink: &mut O, line: &Line<'_>) -> Result<(), Failed>
         Line::Ended(counts) => put_counts(sink, b"ended", b"", counts),
         Line::Uncaught(class, counts) => put_counts(sink, b"uncaught ", class, counts),
         Line::Spent(counts) => put_counts(sink, b"spent", b"", counts),
+        Line::CycleEnded(counts) => put_slot_counts(sink, b"ended", b"", counts),
+        Line::CycleUncaught(class, counts) => put_slot_counts(sink, b"uncaught ", class, counts),
+        Line::CycleSpent(counts) => put_slot_counts(sink, b"spent", b"", counts),
         Line::Linked(sizes) => put_sizes(sink, sizes),
         Line::Usage(k) => put_pieces(
             sink,
@@ -109,6 +112,34 @@ fn put_counts<'a, O: Sink>(
             Piece::Number(counts.hits as u128),
             Piece::Text(b" misses="),
             Piece::Number(counts.misses as u128),
+            Piece::Text(b"\n"),
+        ],
+    )
+}
+
+/// Puts the line of a run of a cyclic executive with its counts.
+fn put_slot_counts<'a, O: Sink>(
+    sink: &mut O,
+    label: &'a [u8],
+    class: &'a [u8],
+    counts: SlotCounts,
+) -> Result<(), Failed>
+    ensures put { PutLine (O.held sink.old) (O.held sink.new) (concat (label.now ∷ class.now ∷ slot_counts_parts counts)) result }
+    ensures cause { HasCause (O.faults sink.old) (O.faults sink.new) result }
+{
+    put_pieces(
+        sink,
+        &[
+            Piece::Text(label),
+            Piece::Text(class),
+            Piece::Text(b" slots="),
+            Piece::Number(counts.slots as u128),
+            Piece::Text(b" late="),
+            Piece::Number(counts.late as u128),
+            Piece::Text(b" idle="),
+            Piece::Number(counts.idle),
+            Piece::Text(b" cycles="),
+            Piece::Number(counts.clock as u128),
             Piece::Text(b"\n"),
         ],
     )

@@ -4,7 +4,7 @@ ghost use Rattle.std.specs.List.{concat};
 ghost use Rattle.outside.specs.Outside.{HasCause};
 ghost use Rattle.answer_lines.specs.Said.{Said};
 ghost use Rattle.answer_lines.specs.AnalysisLines.{bad_bounds_parts, twice_bound_parts, bad_sizes_parts, twice_size_parts, bad_cert_parts};
-ghost use Rattle.answer_lines.specs.AnalysisLines.{bad_lines_parts, twice_lines_parts};
+ghost use Rattle.answer_lines.specs.AnalysisLines.{bad_lines_parts, twice_lines_parts, bad_table_parts, slot_count_parts};
 
 use crate::{Piece, say_pieces};
 use outside::{Failed, Sink};
@@ -71,6 +71,22 @@ pub fn say_twice_lines<O: Sink>(sink: &mut O, line: u32) -> Result<(), Failed>
     ensures cause { HasCause (O.faults sink.old) (O.faults sink.new) result }
 {
     say_number(sink, b"twice lines line=", line as u64)
+}
+
+/// Puts the line of the first line of a table of slots that is none of its grammar.
+pub fn say_bad_table<O: Sink>(sink: &mut O, line: u32) -> Result<(), Failed>
+    ensures said { Said false (concat (bad_table_parts line)) (O.held sink.old) (O.held sink.new) (O.faults sink.old) (O.faults sink.new) result }
+    ensures cause { HasCause (O.faults sink.old) (O.faults sink.new) result }
+{
+    say_number(sink, b"bad table line=", line as u64)
+}
+
+/// Puts the line of a table that has so many slots, which are too few or too many.
+pub fn say_slot_count<O: Sink>(sink: &mut O, count: u32) -> Result<(), Failed>
+    ensures said { Said false (concat (slot_count_parts count)) (O.held sink.old) (O.held sink.new) (O.faults sink.old) (O.faults sink.new) result }
+    ensures cause { HasCause (O.faults sink.old) (O.faults sink.new) result }
+{
+    say_number(sink, b"slots ", count as u64)
 }
 
 /// Puts the line of the first line with which no certificate begins.

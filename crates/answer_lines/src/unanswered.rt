@@ -7,6 +7,7 @@ ghost use Rattle.answer_lines.specs.Unanswered.{unanswered_parts};
 
 use crate::bound::{BoundCause, say_cause, say_subject};
 use crate::memory::say_need_cause;
+use crate::plan::{PlanCause, say_plan_cause};
 use memory_rules::NeedCause;
 use outside::{Failed, Sink};
 
@@ -17,6 +18,8 @@ pub enum Cause {
     Bound(BoundCause),
     /// No need of memory is given.
     Memory(NeedCause),
+    /// No plan of a cyclic executive is given.
+    Plan(PlanCause),
     /// A bound is said of a line of a file, or of a place of a method, that heads no loop.
     NoLoop,
 }
@@ -29,6 +32,7 @@ pub fn say_unanswered<O: Sink>(sink: &mut O, cause: Cause, subject: &[u8]) -> Re
     match cause {
         Cause::Bound(cause) => say_cause(sink, cause, subject),
         Cause::Memory(cause) => say_need_cause(sink, cause, subject),
+        Cause::Plan(cause) => say_plan_cause(sink, cause, subject),
         Cause::NoLoop => say_subject(sink, b"no loop ", subject),
     }
 }

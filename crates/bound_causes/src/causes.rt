@@ -58,8 +58,15 @@ fn rising(alloc: Global, numbers: &[u32]) -> Result<Vec<u32>, AllocError>
     Ok(rising)
 }
 
-/// What may run while the root does, unless its calls or its loops forbid a bound.
-fn ready(alloc: Global, f: &FlowProgram, b: &Bounds, root: u32) -> Result<Asked, BoundRefusal>
+/// What may run while the method of this number does. The error is the cause for which no bound of it is given, apart from numbers past
+/// 64 bits: methods that may run call each other in a cycle; the reduction of the graph of one leaves nodes; or no bound is given for one
+/// of their loops. A cause is answered only where none before it stands, and of the least method, but where there is no memory.
+pub fn cause_of_root(
+    alloc: Global,
+    f: &FlowProgram,
+    b: &Bounds,
+    root: u32,
+) -> Result<Asked, BoundRefusal>
     requires { root < length f.now.methods }
     ensures root { IfOk result (λ a. a.root ≡ root) }
     ensures ready { IfOk result (λ a. (P : Program) → IsFlowOf P f.now → IsReady P (bounds_of f.now b.now) a) }
@@ -93,7 +100,7 @@ pub fn cause_before_size(
     ensures cause { IfErr result (λ e. (P : Program) (t : Timing) → IsFlowOf P f.now → IsCause P t (bounds_of f.now b.now) (IsNamedBy f.now name.now) e) }
 {
     match asked(f, name) {
-        Some(root) => ready(alloc, f, b, root),
+        Some(root) => cause_of_root(alloc, f, b, root),
         None => Err(BoundRefusal::NoMethod),
     }
 }

@@ -10,6 +10,6 @@ mod lines;
 mod shapes;
 
 pub use asking::asked;
-pub use causes::{Asked, cause_before_size};
+pub use causes::{Asked, cause_before_size, cause_of_root};
 pub use lines::{check_loops, unbounded_in};
 pub use shapes::{Shape, shape_of};

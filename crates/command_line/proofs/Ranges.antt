@@ -1,23 +1,24 @@
 -- The numbers of a command that is read.
 use Rattle.std.proofs.Common.{◌≡◌, ℕ, zero, suc, ◌+◌, ◌<◌, ◌≤◌, ◌^◌, Bool, true, false, List, [], ◌∷◌, length, Some, None, Ok, Err, ◌⊎◌, inl, inr, refl, sym, ap, ◌∙◌, subst, arith, length-append}
-use Rattle.std.specs.Prelude.{is_some, unwrap_or, Contains, IfOk, if◌then◌else◌}
+use Rattle.std.specs.Prelude.{◌&&◌, ◌||◌, is_some, unwrap_or, Contains, IfOk, if◌then◌else◌}
 use Rattle.std.specs.declared.option.Option.{Option}
 use Rattle.std.specs.declared.result.Result.{Result}
 use Rattle.std.specs.List.{flat_map}
 use Rattle.std.specs.Option.{option_to_list}
 use Rattle.std.specs.Borrow.{Bor}
 use Rattle.command_line.specs.declared.table.Verb.{Verb}
-use Rattle.command_line.specs.declared.table.Verb.TheVariants.{Link, Run, Trace, Profile, Bound, Check, Loops, Headers, Need, Asm, Work}
+use Rattle.command_line.specs.declared.table.Verb.TheVariants.{Link, Run, Trace, Profile, Bound, Report, Plan, Cycle, Check, Loops, Headers, Need, Asm, Work}
 use Rattle.command_line.specs.declared.table.Name.{Name}
-use Rattle.command_line.specs.declared.table.Name.TheVariants.{Main, Method, All, Shapes, Cycles, Stack, Memory, Blocks, BlockWords, Read, Write, Micro}
+use Rattle.command_line.specs.declared.table.Name.TheVariants.{Main, Method, All, Shapes, Cycles, Stack, Memory, Blocks, BlockWords, Read, Write, Micro, Rounds}
 use Rattle.command_line.specs.declared.command.Command.{Command}
 use Rattle.command_line.specs.declared.command.Command.TheVariants as commands
 use Rattle.command_line.specs.Table.{name_word, usual, Value, Nothing, AWord, ANumber, OneOf, value_of_name, operands_of}
-use Rattle.command_line.specs.Command.{texts, given, with_value, none_given, value, settings_of, made, command_of}
+use Rattle.command_line.specs.Command.{texts, given, with_value, none_given, has_required, value, settings_of, made, command_of}
 use Rattle.command_line.specs.Grammar.{Chosen, words_chosen, Means, AreChosen, values_from, AreOperands, IsCommand}
 use Rattle.command_line.specs.Range.{AreSettings, AreInRange, AreThere, OperandsFollow}
 use Rattle.command_line.proofs.WordLemmas.{length_texts}
 use Rattle.command_line.proofs.Stored.{IsFull, full_with, given-same, given-other, same_or_other}
+use Rattle.command_line.proofs.Reading.{required_given}
 use Rattle.command_line.proofs.Telling.{commands_told}
 
 -- what the value of an option can mean among n words
@@ -75,6 +76,7 @@ none_kept n BlockWords m h = absurd (cc)
 none_kept n Read m h = absurd (cc)
 none_kept n Write m h = absurd (cc)
 none_kept n Micro m h = absurd (cc)
+none_kept n Rounds m h = absurd (cc)
 
 -- what an option means, given or not
 meant : (o : Option ℕ) (d : ℕ) (P : ℕ → Type 0) → P d → ((m : ℕ) → o ≡ Some m → P m) → P (unwrap_or o d)
@@ -111,27 +113,38 @@ settings_are values n kept =
 named_there : (values : List (Option ℕ)) (name : Name) (n : ℕ) → value_of_name name ≡ AWord → usual name ≡ 0 → 0 < n → AreKept values n → value values name < n
 named_there values name n takes none some kept = meant (given values name) (usual name) (λ m. m < n) (omega (arith, none, some)) (λ m h. let P : Value → Type 0 = λ v. CanMean v n m in subst P takes (kept name m h))
 
+-- an option that is required, and was given
+given_one : (o : Option ℕ) (d : ℕ) (P : ℕ → Type 0) → (is_some o || false) && true ≡ true → ((m : ℕ) → o ≡ Some m → P m) → P (unwrap_or o d)
+given_one None d P required some = absurd (cc)
+given_one (Some m) d P required some = some m refl
+
+rounds_are : (values : List (Option ℕ)) (n : ℕ) → AreKept values n → (is_some (given values Rounds) || false) && true ≡ true → (1 ≤ value values Rounds) × (value values Rounds ≤ 32767)
+rounds_are values n kept required = given_one (given values Rounds) (usual Rounds) (λ m. (1 ≤ m) × (m ≤ 32767)) required (kept Rounds)
+
 -- the bounds of all methods, or the bound of one, in each shape or in one
 bound_by : (P : Command → Type 0) (all shapes : Bool) (every each one : Command) → P every → P each → P one → P (if all then every else if shapes then each else one)
 bound_by P true shapes every each one is_every is_each is_one = is_every
 bound_by P false true every each one is_every is_each is_one = is_each
 bound_by P false false every each one is_every is_each is_one = is_one
 
-made_in_range : (verb : Verb) (values : List (Option ℕ)) (k m n : ℕ) (operands : List (List ℕ)) → AreKept values n → AreOperands (operands_of verb) operands m → AreInRange (made verb values k m)
-made_in_range Link values k m n operands kept are = tt
-made_in_range Run values k m n operands kept are = settings_are values n kept
-made_in_range Trace values k m n operands kept are = settings_are values n kept
-made_in_range Profile values k m n operands kept are = settings_are values n kept
-made_in_range Bound values k m n operands kept are =
+made_in_range : (verb : Verb) (values : List (Option ℕ)) (k m n : ℕ) (operands : List (List ℕ)) → AreKept values n → has_required verb values ≡ true → AreOperands (operands_of verb) operands m → AreInRange (made verb values k m)
+made_in_range Link values k m n operands kept required are = tt
+made_in_range Run values k m n operands kept required are = settings_are values n kept
+made_in_range Trace values k m n operands kept required are = settings_are values n kept
+made_in_range Profile values k m n operands kept required are = settings_are values n kept
+made_in_range Bound values k m n operands kept required are =
     let settings = settings_are values n kept in
     bound_by AreInRange (is_some (given values All)) (is_some (given values Shapes)) (commands.BoundAll (settings_of values) k (k + 1)) (commands.BoundShapes (settings_of values) (value values Method) k (k + 1))
     (commands.Bound (settings_of values) (value values Method) k (k + 1)) settings settings settings
-made_in_range Check values k m n operands kept are = settings_are values n kept
-made_in_range Loops values k m n operands kept are = tt
-made_in_range Headers values k m n operands kept are = let some = are.0 in let few = are.1 in let is = are.3 in (omega (arith, some, is), omega (arith, few, is))
-made_in_range Need values k m n operands kept are = tt
-made_in_range Asm values k m n operands kept are = tt
-made_in_range Work values k m n operands kept are = (are.2.2, are.2.3)
+made_in_range Report values k m n operands kept required are = settings_are values n kept
+made_in_range Plan values k m n operands kept required are = let rounds = rounds_are values n kept required in (settings_are values n kept, rounds.0, rounds.1)
+made_in_range Cycle values k m n operands kept required are = let rounds = rounds_are values n kept required in (settings_are values n kept, rounds.0, rounds.1)
+made_in_range Check values k m n operands kept required are = settings_are values n kept
+made_in_range Loops values k m n operands kept required are = tt
+made_in_range Headers values k m n operands kept required are = let some = are.0 in let few = are.1 in let is = are.3 in (omega (arith, some, is), omega (arith, few, is))
+made_in_range Need values k m n operands kept required are = tt
+made_in_range Asm values k m n operands kept required are = tt
+made_in_range Work values k m n operands kept required are = (are.2.2, are.2.3)
 
 made_there : (verb : Verb) (values : List (Option ℕ)) (k m n : ℕ) (operands : List (List ℕ)) → n ≡ k + length operands → AreKept values n → AreOperands (operands_of verb) operands m → AreThere n (made verb values k m)
 made_there Link values k m n operands all kept are =
@@ -150,6 +163,16 @@ made_there Bound values k m n operands all kept are =
     let named = named_there values Method n refl refl (omega (arith, below)) kept in
     bound_by (AreThere n) (is_some (given values All)) (is_some (given values Shapes)) (commands.BoundAll (settings_of values) k (k + 1)) (commands.BoundShapes (settings_of values) (value values Method) k (k + 1))
     (commands.Bound (settings_of values) (value values Method) k (k + 1)) (first, below) (named, first, below) (named, first, below)
+made_there Report values k m n operands all kept are =
+    let many = are.0 in
+    let below : k + 1 < n = omega (arith, all, many) in
+    (named_there values Method n refl refl (omega (arith, below)) kept, omega (arith, below), below)
+made_there Plan values k m n operands all kept are =
+    let many = are.0 in
+    (omega (arith, all, many), omega (arith, all, many), omega (arith, all, many))
+made_there Cycle values k m n operands all kept are =
+    let many = are.0 in
+    (omega (arith, all, many), omega (arith, all, many))
 made_there Check values k m n operands all kept are =
     let many = are.0 in
     (omega (arith, all, many), omega (arith, all, many), omega (arith, all, many))
@@ -169,6 +192,9 @@ made_follow Profile values k m = refl
 made_follow Bound values k m =
     bound_by OperandsFollow (is_some (given values All)) (is_some (given values Shapes)) (commands.BoundAll (settings_of values) k (k + 1)) (commands.BoundShapes (settings_of values) (value values Method) k (k + 1))
     (commands.Bound (settings_of values) (value values Method) k (k + 1)) refl refl refl
+made_follow Report values k m = refl
+made_follow Plan values k m = (refl, refl)
+made_follow Cycle values k m = refl
 made_follow Check values k m = (refl, refl)
 made_follow Loops values k m = tt
 made_follow Headers values k m = tt
@@ -180,10 +206,11 @@ commands_in_range : (words : List (List ℕ)) (command : Command) → IsCommand 
 commands_in_range words command is =
     let k = 1 + length (flat_map words_chosen is.options) in
     let all : length words ≡ k + length is.operands = ap length is.words_are ∙ omega (arith, length-append (flat_map words_chosen is.options) is.operands) in
+    let required = required_given is.verb is.options is.required in
     let kept = kept_chosen is.verb 1 none_given is.options (length words) refl (omega (arith, all)) is.chosen (none_kept (length words)) in
     let values = values_from none_given is.options in
     let P : Command → Type 0 = λ c. AreInRange c × AreThere (length words) c in
-    subst P (sym is.command_is) (made_in_range is.verb values k is.number (length words) is.operands kept is.are_operands, made_there is.verb values k is.number (length words) is.operands all kept is.are_operands)
+    subst P (sym is.command_is) (made_in_range is.verb values k is.number (length words) is.operands kept required is.are_operands, made_there is.verb values k is.number (length words) is.operands all kept is.are_operands)
 
 read_in_range : (ws : List (Bor (List ℕ))) (command : Command) → Ok command ≡ command_of (texts ws) → AreInRange command × AreThere (length ws) command
 read_in_range ws command is =

@@ -11,11 +11,11 @@ use Rattle.std.proofs.lemmas.List.Sums.{list_all-from_AllPass}
 use Rattle.command_line.specs.declared.table.Verb.{Verb}
 use Rattle.command_line.specs.declared.table.Name.{Name}
 use Rattle.command_line.specs.declared.command.Command.{Command}
-use Rattle.command_line.specs.Table.{name_word, names_of, name_of, required_of, Value, Nothing, AWord, ANumber, OneOf, value_of_name, Operands, Exactly, AtMost, OneOrMore, Number, operands_of}
-use Rattle.command_line.specs.Command.{given, with_value, none_given, is_taken, has_required, is_flag, made, exactly_at, at_most_at, empty_at, past_number, number_from, operands_stop, operand_number, unless_stopped, words_at, command_of}
+use Rattle.command_line.specs.Table.{name_word, names_of, name_of, required_of, Value, Nothing, AWord, ANumber, OneOf, value_of_name, Operands, Exactly, AtMost, AtLeast, Number, operands_of}
+use Rattle.command_line.specs.Command.{given, with_value, none_given, is_taken, has_required, is_flag, made, exactly_at, at_most_at, at_least_at, past_number, number_from, operands_stop, operand_number, unless_stopped, words_at, command_of}
 use Rattle.command_line.specs.Grammar.{Chosen, words_chosen, Means, AreChosen, IsNoneOf, AreOnce, values_from, AreOperands, BeginsWithNoOption, IsCommand}
 use Rattle.command_line.proofs.Numbers.{number-some}
-use Rattle.command_line.proofs.WordLemmas.{if_true, option_word, operand_word, flagged, valued, value_means, exactly_step, at_most_step, empty_step}
+use Rattle.command_line.proofs.WordLemmas.{if_true, option_word, operand_word, flagged, valued, value_means, exactly_step, at_most_step, at_least_step}
 use Rattle.command_line.proofs.Stored.{IsFull, full_with, given-same, given-other, same_or_other, none_taken, untaken_with, option_of_word, named_by_word, verb_of_word}
 use Rattle.command_line.proofs.Meanings.{means-meaning}
 
@@ -118,14 +118,16 @@ at_most_none k n (w ∷ ws) few all =
     let more : (n == 0) ≡ false = grind (arith, nat_tests) in
     sym (at_most_step k n w ws more some.0) ∙ at_most_none (k + 1) (n - 1) ws (omega (arith, few)) some.1
 
-empty_none : (k : ℕ) (ws : List (List ℕ)) → All (λ word. 0 < length word) ws → empty_at k ws ≡ None
-empty_none k [] all = refl
-empty_none k (w ∷ ws) all = let some = some_words w ws all in sym (empty_step k w ws some.0) ∙ empty_none (k + 1) ws some.1
+at_least_none : (k n : ℕ) (ws : List (List ℕ)) → n ≤ length ws → All (λ word. 0 < length word) ws → at_least_at k n ws ≡ None
+at_least_none k n [] many all =
+    let none : n ≡ 0 = omega (arith, many) in
+    ap (λ j. at_least_at k j []) none
+at_least_none k n (w ∷ ws) many all = let some = some_words w ws all in sym (at_least_step k n w ws some.0) ∙ at_least_none (k + 1) (n - 1) ws (omega (arith, many)) some.1
 
 unstopped : (o : Operands) (k : ℕ) (w : List ℕ) (ws : List (List ℕ)) (n : ℕ) → AreOperands o (w ∷ ws) n → (operands_stop o k w ws ≡ None) × (operand_number o w ws ≡ n)
 unstopped (Exactly m) k w ws n h = (exactly_none k m (w ∷ ws) h.0 h.1, sym h.2)
 unstopped (AtMost m) k w ws n h = let many = h.3 in (at_most_none k m (w ∷ ws) h.1 h.2, omega (arith, many))
-unstopped OneOrMore k w ws n h = (empty_none k (w ∷ ws) h.1, sym h.2)
+unstopped (AtLeast m) k w ws n h = (at_least_none k m (w ∷ ws) h.0 h.1, sym h.2)
 unstopped (Number from to) k w ws n h =
     let same : w ≡ h.0 = cc in
     let last : ws ≡ [] = cc in

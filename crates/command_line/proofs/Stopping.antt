@@ -1,21 +1,22 @@
 -- Where words stop: a command can go on before that word, and with it none.
 use Rattle.std.proofs.Common.{◌≡◌, ℕ, zero, suc, ◌+◌, ◌-◌, ◌<◌, Bool, true, false, List, [], ◌∷◌, ◌++◌, length, take, replicate, Some, None, Ok, ◌⊎◌, inl, inr, refl, sym, ap, ◌∙◌, subst, arith, append_assoc, length-append}
 use Rattle.std.proofs.Math.Seq.{take-append_seam, take-append-add}
-use Rattle.std.specs.Prelude.{◌==◌, ◌&&◌, Err, codes, Contains, if◌then◌else◌}
+use Rattle.std.specs.Prelude.{◌==◌, ◌&&◌, ◌||◌, Err, codes, is_some, Contains, if◌then◌else◌}
 use Rattle.std.specs.declared.option.Option.{Option}
 use Rattle.std.specs.declared.result.Result.{Result}
 use Rattle.std.proofs.lemmas.Bool.{cases_Bool}
 use Rattle.std.proofs.lemmas.Bool.Decides.{nat_tests}
 use Rattle.command_line.specs.declared.table.Verb.{Verb}
-use Rattle.command_line.specs.declared.table.Verb.TheVariants.{Link, Run, Trace, Profile, Bound, Check, Loops, Headers, Need, Asm, Work}
+use Rattle.command_line.specs.declared.table.Verb.TheVariants.{Link, Run, Trace, Profile, Bound, Report, Plan, Cycle, Check, Loops, Headers, Need, Asm, Work}
 use Rattle.command_line.specs.declared.table.Name.{Name}
-use Rattle.command_line.specs.declared.table.Name.TheVariants.{Main, Method, All, Shapes, Cycles, Stack, Memory, Blocks, BlockWords, Read, Write, Micro}
+use Rattle.command_line.specs.declared.table.Name.TheVariants.{Main, Method, All, Shapes, Cycles, Stack, Memory, Blocks, BlockWords, Read, Write, Micro, Rounds}
 use Rattle.command_line.specs.declared.command.Command.{Command}
-use Rattle.command_line.specs.Table.{name_word, names_of, verb_named, name_of, Value, AWord, value_of_name, Operands, Exactly, AtMost, OneOrMore, Number, operands_of}
-use Rattle.command_line.specs.Command.{is_option, with_value, none_given, is_taken, has_required, is_flag, meaning, made, exactly_at, at_most_at, empty_at, past_number, number_from, operands_stop, operand_number, unless_stopped, words_at, command_of}
-use Rattle.command_line.specs.Grammar.{Means, IsCommand, StopsAt, Answers, CommandsAreRead}
-use Rattle.command_line.proofs.WordLemmas.{if_true, if_false, option_at, option_word, operand_word, value_by, exactly_step, exactly_past, exactly_empty, at_most_step, at_most_past, at_most_empty, empty_step, empty_here}
-use Rattle.command_line.proofs.Stored.{IsFull, full_with, taken_with}
+use Rattle.command_line.specs.Table.{name_word, rivals, names_of, verb_named, name_of, value_of_name, Operands, Exactly, AtMost, AtLeast, Number, operands_of}
+use Rattle.command_line.specs.Command.{is_option, given, with_value, none_given, is_taken, has_required, is_flag, meaning, made, exactly_at, at_most_at, at_least_at, past_number, number_from, operands_stop, operand_number, unless_stopped, words_at, command_of}
+use Rattle.command_line.specs.Grammar.{IsCommand, StopsAt, Answers, CommandsAreRead}
+use Rattle.command_line.proofs.WordLemmas.{if_true, if_false, option_at, option_word, operand_word, value_by, exactly_step, exactly_past, exactly_empty, at_most_step, at_most_past, at_most_empty, at_least_step, at_least_empty}
+use Rattle.command_line.proofs.Stored.{IsFull, full_with, given-same, given-other, same_or_other, not_given, untaken, in_has, word_of_name}
+use Rattle.command_line.proofs.Meanings.{meaning-means}
 use Rattle.command_line.proofs.Reading.{one_valued, commands_read}
 use Rattle.command_line.proofs.Telling.{commands_told}
 
@@ -96,14 +97,26 @@ at_most_stops k n (w ∷ ws) j h = elim (cases_Bool (n == 0)) [
   ]
 ]
 
-empty_stops : (k : ℕ) (ws : List (List ℕ)) (j : ℕ) → empty_at k ws ≡ Some j → ListStops (empty_at k) k ws j
-empty_stops k [] j h = absurd (cc)
-empty_stops k (w ∷ ws) j h = elim (cases_Bool (length w == 0)) [
-  | inl f ↦
-      let so = empty_here k w ws f in
+enough_least : (k n : ℕ) → at_least_at k n (replicate n (codes "b")) ≡ None
+enough_least k zero = refl
+enough_least k (suc n) =
+    let same : suc n - 1 ≡ n = omega arith in
+    sym (at_least_step k (suc n) (codes "b") (replicate n (codes "b")) refl) ∙ ap (λ m. at_least_at (k + 1) m (replicate n (codes "b"))) same ∙ enough_least (k + 1) n
+
+at_least_stops : (k n : ℕ) (ws : List (List ℕ)) (j : ℕ) → at_least_at k n ws ≡ Some j → ListStops (at_least_at k n) k ws j
+at_least_stops k n [] j h = elim (cases_Bool (n == 0)) [
+  | inl e ↦ let so = if_true (n == 0) None (Some k) e in absurd (cc)
+  | inr e ↦
+      let so = if_false (n == 0) None (Some k) e in
       let is : j ≡ k = cc in
-      here_by (empty_at k) k w ws [] j is refl (λ after. sym (empty_here k w after f))
-  | inr f ↦ list_push (empty_at k) (empty_at (k + 1)) k w ws j (λ r. empty_step k w r f) (empty_stops (k + 1) ws j (empty_step k w ws f ∙ h))
+      list_here (at_least_at k n) k [] (replicate n (codes "b")) j is (enough_least k n) (λ w r none. absurd (cc))
+]
+at_least_stops k n (w ∷ ws) j h = elim (cases_Bool (length w == 0)) [
+  | inl f ↦
+      let so = at_least_empty k n w ws f in
+      let is : j ≡ k = cc in
+      here_by (at_least_at k n) k w ws (replicate n (codes "b")) j is (enough_least k n) (λ after. sym (at_least_empty k n w after f))
+  | inr f ↦ list_push (at_least_at k n) (at_least_at (k + 1) (n - 1)) k w ws j (λ r. at_least_step k n w r f) (at_least_stops (k + 1) (n - 1) ws j (at_least_step k n w ws f ∙ h))
 ]
 
 list_same : (stop other : List (List ℕ) → Option ℕ) (k : ℕ) (ws : List (List ℕ)) (j : ℕ) → ((r : List (List ℕ)) → stop r ≡ other r) → ListStops stop k ws j → ListStops other k ws j
@@ -145,9 +158,9 @@ operand_stops (AtMost n) k w ws j h = elim (cases_Bool (n == 0)) [
     | inr f ↦ inr (list_same (at_most_at (k + 1) (n - 1)) (λ r. at_most_at k n (w ∷ r)) (k + 1) ws j (λ r. at_most_step k n w r e f) (at_most_stops (k + 1) (n - 1) ws j (at_most_step k n w ws e f ∙ h)))
   ]
 ]
-operand_stops OneOrMore k w ws j h = elim (cases_Bool (length w == 0)) [
-  | inl f ↦ let so = empty_here k w ws f in let is : j ≡ k = cc in inl (is, λ after. sym (empty_here k w after f) ∙ ap (λ (i : ℕ). Some i) (sym is))
-  | inr f ↦ inr (list_same (empty_at (k + 1)) (λ r. empty_at k (w ∷ r)) (k + 1) ws j (λ r. empty_step k w r f) (empty_stops (k + 1) ws j (empty_step k w ws f ∙ h)))
+operand_stops (AtLeast n) k w ws j h = elim (cases_Bool (length w == 0)) [
+  | inl f ↦ let so = at_least_empty k n w ws f in let is : j ≡ k = cc in inl (is, λ after. sym (at_least_empty k n w after f) ∙ ap (λ (i : ℕ). Some i) (sym is))
+  | inr f ↦ inr (list_same (at_least_at (k + 1) (n - 1)) (λ r. at_least_at k n (w ∷ r)) (k + 1) ws j (λ r. at_least_step k n w r f) (at_least_stops (k + 1) (n - 1) ws j (at_least_step k n w ws f ∙ h)))
 ]
 operand_stops (Number from to) k w ws j h = number_stops from to k w ws j (number_from from to w) refl h
 
@@ -171,46 +184,21 @@ fault_at named verb k values words = fault (words_at named verb k values words)
 abbrev Finish : Option Name → Verb → ℕ → List (Option ℕ) → Type 0
 Finish named verb k values = (more : List (List ℕ)) × (fault_at named verb k values more ≡ None)
 
-and_true : (b : Bool) → b ≡ true → (b && true) ≡ true
-and_true true h = refl
-and_true false h = h
+-- each option has its place, and those that were given are the command's
+abbrev AreOf : Verb → List (Option ℕ) → Type 0
+AreOf verb values = IsFull values × ((name : Name) → is_some (given values name) ≡ true → Contains (names_of verb) name)
 
-ends_link : (k : ℕ) (values : List (Option ℕ)) → is_taken values Main ≡ true → fault_at None Link k values (codes "b" ∷ []) ≡ None
-ends_link k values h = ap fault (sym (if_true (has_required Link values) (Ok (made Link values k 0)) (Err k) (and_true (is_taken values Main) h)))
+none_of : (verb : Verb) → AreOf verb none_given
+none_of verb = (refl, λ name h. let none = not_given name in absurd (cc))
 
-ends_bound : (k : ℕ) (values : List (Option ℕ)) → is_taken values Method ≡ true → fault_at None Bound k values (codes "b" ∷ codes "b" ∷ []) ≡ None
-ends_bound k values h = ap fault (sym (if_true (has_required Bound values) (Ok (made Bound values k 0)) (Err k) (and_true (is_taken values Method) h)))
-
--- an option that is required and lacks, with a value
-lacking : (verb : Verb) (k : ℕ) (values : List (Option ℕ)) (name : Name) (rest : List (List ℕ)) → Contains (names_of verb) name → value_of_name name ≡ AWord → is_taken values name ≡ false
-    → words_at None verb (k + 2) (with_value values name (k + 1)) rest ≡ words_at None verb k values (name_word name ∷ codes "A" ∷ rest)
-lacking verb k values name rest has takes new =
-    let P : Value → Type 0 = λ v. Means v (k + 1) (Some (codes "A")) (k + 1) in
-    let means : P AWord = (omega arith, refl) in
-    one_valued verb k values name (codes "A") (k + 1) rest has new (subst P (sym takes) means)
-
-finish : (verb : Verb) (k : ℕ) (values : List (Option ℕ)) → IsFull values → Finish None verb k values
-finish Link k values full = elim (cases_Bool (is_taken values Main)) [
-  | inl e ↦ (codes "b" ∷ [], ends_link k values e)
-  | inr e ↦
-      let last = ends_link (k + 2) (with_value values Main (k + 1)) (taken_with values Main (k + 1) full) in
-      (name_word Main ∷ codes "A" ∷ codes "b" ∷ [], ap fault (sym (lacking Link k values Main (codes "b" ∷ []) (0, omega arith, refl) refl e)) ∙ last)
-]
-finish Bound k values full = elim (cases_Bool (is_taken values Method)) [
-  | inl e ↦ (codes "b" ∷ codes "b" ∷ [], ends_bound k values e)
-  | inr e ↦
-      let last = ends_bound (k + 2) (with_value values Method (k + 1)) (taken_with values Method (k + 1) full) in
-      (name_word Method ∷ codes "A" ∷ codes "b" ∷ codes "b" ∷ [], ap fault (sym (lacking Bound k values Method (codes "b" ∷ codes "b" ∷ []) (0, omega arith, refl) refl e)) ∙ last)
-]
-finish Run k values full = (codes "b" ∷ [], refl)
-finish Trace k values full = (codes "b" ∷ [], refl)
-finish Profile k values full = (codes "b" ∷ codes "b" ∷ [], refl)
-finish Check k values full = (codes "b" ∷ codes "b" ∷ codes "b" ∷ [], refl)
-finish Loops k values full = (codes "b" ∷ [], refl)
-finish Headers k values full = (codes "b" ∷ [], refl)
-finish Need k values full = (codes "b" ∷ codes "b" ∷ codes "b" ∷ [], refl)
-finish Asm k values full = (codes "b" ∷ [], refl)
-finish Work k values full = (codes "1" ∷ [], refl)
+of_with : (verb : Verb) (values : List (Option ℕ)) (a : Name) (n : ℕ) → AreOf verb values → Contains (names_of verb) a → AreOf verb (with_value values a n)
+of_with verb values a n are has = (
+  full_with values a n are.0,
+  λ name h. elim (same_or_other a name) [
+    | inl same ↦ subst (λ (x : Name). Contains (names_of verb) x) same has
+    | inr other ↦ are.1 name (ap is_some (sym (given-other values a name n other)) ∙ h)
+  ],
+)
 
 any_value : (name : Name) (k : ℕ) → is_flag (value_of_name name) ≡ false → (word : List ℕ) × (n : ℕ) × (meaning (value_of_name name) k word ≡ Some n)
 any_value Main k h = (codes "A", k, refl)
@@ -225,16 +213,81 @@ any_value BlockWords k h = (codes "1", 1, refl)
 any_value Read k h = (codes "1", 1, refl)
 any_value Write k h = (codes "1", 1, refl)
 any_value Micro k h = absurd (cc)
+any_value Rounds k h = (codes "1", 1, refl)
 
-abbrev IsValued : Option Name → Type 0
-IsValued None = Unit {0}
-IsValued (Some name) = is_flag (value_of_name name) ≡ false
+and_false : (b : Bool) → (b && true) ≡ false → b ≡ false
+and_false true h = h
+and_false false h = h
 
-finish_any : (named : Option Name) (verb : Verb) (k : ℕ) (values : List (Option ℕ)) → IsFull values → IsValued named → Finish named verb k values
-finish_any None verb k values full valued = finish verb k values full
-finish_any (Some name) verb k values full valued =
-    let v = any_value name k valued in
-    let f = finish verb (k + 1) (with_value values name v.1) (full_with values name v.1 full) in
+or_false : (b : Bool) → (b || false) ≡ false → b ≡ false
+or_false true h = h
+or_false false h = h
+
+-- these operands end a command, before them an option with some value where it is required and lacks
+finish_required : (verb : Verb) (k : ℕ) (values : List (Option ℕ)) (name : Name) (operands : List (List ℕ)) → IsFull values → Contains (names_of verb) name → is_flag (value_of_name name) ≡ false
+    → (has_required verb values ≡ false → is_taken values name ≡ false)
+    → ((vs : List (Option ℕ)) → is_some (given vs name) ≡ true → has_required verb vs ≡ true)
+    → ((i : ℕ) (vs : List (Option ℕ)) → has_required verb vs ≡ true → fault_at None verb i vs operands ≡ None)
+    → Finish None verb k values
+finish_required verb k values name operands full has takes new enough ends = elim (cases_Bool (has_required verb values)) [
+  | inl e ↦ (operands, ends k values e)
+  | inr e ↦
+      let v = any_value name (k + 1) takes in
+      let read = one_valued verb k values name v.0 v.1 operands has (new e) (meaning-means (value_of_name name) (k + 1) v.0 v.1 v.2) in
+      let last = ends (k + 2) (with_value values name v.1) (enough (with_value values name v.1) (ap is_some (given-same values name v.1 full))) in
+      (name_word name ∷ v.0 ∷ operands, ap fault (sym read) ∙ last)
+]
+
+-- `--all` isn't an option of `report`
+report_rival : (values : List (Option ℕ)) (other : Name) → AreOf Report values → is_some (given values Method) ≡ false → Contains (rivals Method) other → is_some (given values other) ≡ false
+report_rival values other are none (zero, lt, is) = subst (λ (x : Name). is_some (given values x) ≡ false) is none
+report_rival values other are none (suc zero, lt, is) = elim (cases_Bool (is_some (given values All))) [
+  | inl e ↦ let never = in_has Report All (are.1 All e) in absurd (cc)
+  | inr e ↦ subst (λ (x : Name). is_some (given values x) ≡ false) is e
+]
+report_rival values other are none (suc (suc k), lt, is) = absurd (omega (arith, lt))
+
+report_new : (values : List (Option ℕ)) → AreOf Report values → has_required Report values ≡ false → is_taken values Method ≡ false
+report_new values are lacks =
+    let none : is_some (given values Method) ≡ false = or_false (is_some (given values Method)) (and_false (is_some (given values Method) || false) lacks) in
+    untaken values Method (λ other is. report_rival values other are none is)
+
+finish : (verb : Verb) (k : ℕ) (values : List (Option ℕ)) → AreOf verb values → Finish None verb k values
+finish Link k values are =
+    finish_required Link k values Main (codes "b" ∷ []) are.0 (0, omega arith, refl) refl (λ lacks. and_false (is_taken values Main) lacks) (λ vs h. ap (λ b. (b || false) && true) h)
+    (λ i vs h. ap fault (sym (if_true (has_required Link vs) (Ok (made Link vs i 0)) (Err i) h)))
+finish Bound k values are =
+    finish_required Bound k values Method (codes "b" ∷ codes "b" ∷ []) are.0 (0, omega arith, refl) refl (λ lacks. and_false (is_taken values Method) lacks) (λ vs h. ap (λ b. (b || (is_some (given vs All) || false)) && true) h)
+    (λ i vs h. ap fault (sym (if_true (has_required Bound vs) (Ok (made Bound vs i 0)) (Err i) h)))
+finish Report k values are =
+    finish_required Report k values Method (codes "b" ∷ codes "b" ∷ []) are.0 (0, omega arith, refl) refl (report_new values are) (λ vs h. ap (λ b. (b || false) && true) h)
+    (λ i vs h. ap fault (sym (if_true (has_required Report vs) (Ok (made Report vs i 0)) (Err i) h)))
+finish Plan k values are =
+    finish_required Plan k values Rounds (codes "b" ∷ codes "b" ∷ codes "b" ∷ []) are.0 (0, omega arith, refl) refl (λ lacks. and_false (is_taken values Rounds) lacks) (λ vs h. ap (λ b. (b || false) && true) h)
+    (λ i vs h. ap fault (sym (if_true (has_required Plan vs) (Ok (made Plan vs i 0)) (Err i) h)))
+finish Cycle k values are =
+    finish_required Cycle k values Rounds (codes "b" ∷ codes "b" ∷ []) are.0 (0, omega arith, refl) refl (λ lacks. and_false (is_taken values Rounds) lacks) (λ vs h. ap (λ b. (b || false) && true) h)
+    (λ i vs h. ap fault (sym (if_true (has_required Cycle vs) (Ok (made Cycle vs i 0)) (Err i) h)))
+finish Run k values are = (codes "b" ∷ [], refl)
+finish Trace k values are = (codes "b" ∷ [], refl)
+finish Profile k values are = (codes "b" ∷ codes "b" ∷ [], refl)
+finish Check k values are = (codes "b" ∷ codes "b" ∷ codes "b" ∷ [], refl)
+finish Loops k values are = (codes "b" ∷ [], refl)
+finish Headers k values are = (codes "b" ∷ [], refl)
+finish Need k values are = (codes "b" ∷ codes "b" ∷ codes "b" ∷ [], refl)
+finish Asm k values are = (codes "b" ∷ [], refl)
+finish Work k values are = (codes "1" ∷ [], refl)
+
+-- an option that waits for its value is the command's
+abbrev IsValued : Verb → Option Name → Type 0
+IsValued verb None = Unit {0}
+IsValued verb (Some name) = (is_flag (value_of_name name) ≡ false) × Contains (names_of verb) name
+
+finish_any : (named : Option Name) (verb : Verb) (k : ℕ) (values : List (Option ℕ)) → AreOf verb values → IsValued verb named → Finish named verb k values
+finish_any None verb k values are valued = finish verb k values are
+finish_any (Some name) verb k values are valued =
+    let v = any_value name k valued.0 in
+    let f = finish verb (k + 1) (with_value values name v.1) (of_with verb values name v.1 are valued.1) in
     (v.0 ∷ f.0, ap fault (sym (value_by verb k values name v.0 f.0 (Some v.1) v.2)) ∙ f.1)
 
 -- ---- where words stop
@@ -242,51 +295,53 @@ finish_any (Some name) verb k values full valued =
 abbrev Stops : Option Name → Verb → ℕ → List (Option ℕ) → List (List ℕ) → ℕ → Type 0
 Stops named verb k values words j = ListStops (fault_at named verb k values) k words j
 
-stops_value : (verb : Verb) (k : ℕ) (values : List (Option ℕ)) (name : Name) (w : List ℕ) (ws : List (List ℕ)) (j : ℕ) (o : Option ℕ) → IsFull values → is_flag (value_of_name name) ≡ false → meaning (value_of_name name) k w ≡ o
-    → fault_at (Some name) verb k values (w ∷ ws) ≡ Some j → ((vs : List (Option ℕ)) → IsFull vs → fault_at None verb (k + 1) vs ws ≡ Some j → Stops None verb (k + 1) vs ws j) → Stops (Some name) verb k values (w ∷ ws) j
-stops_value verb k values name w ws j None full valued means h plain =
+stops_value : (verb : Verb) (k : ℕ) (values : List (Option ℕ)) (name : Name) (w : List ℕ) (ws : List (List ℕ)) (j : ℕ) (o : Option ℕ) → AreOf verb values → IsValued verb (Some name) → meaning (value_of_name name) k w ≡ o
+    → fault_at (Some name) verb k values (w ∷ ws) ≡ Some j → ((vs : List (Option ℕ)) → AreOf verb vs → fault_at None verb (k + 1) vs ws ≡ Some j → Stops None verb (k + 1) vs ws j) → Stops (Some name) verb k values (w ∷ ws) j
+stops_value verb k values name w ws j None are valued means h plain =
     let so = ap fault (value_by verb k values name w ws None means) in
     let is : j ≡ k = cc in
-    let f = finish_any (Some name) verb k values full valued in
+    let f = finish_any (Some name) verb k values are valued in
     here_by (fault_at (Some name) verb k values) k w ws f.0 j is f.1 (λ after. ap fault (sym (value_by verb k values name w after None means)))
-stops_value verb k values name w ws j (Some n) full valued means h plain =
+stops_value verb k values name w ws j (Some n) are valued means h plain =
     list_push (fault_at (Some name) verb k values) (fault_at None verb (k + 1) (with_value values name n)) k w ws j (λ r. ap fault (value_by verb k values name w r (Some n) means))
-    (plain (with_value values name n) (full_with values name n full) (ap fault (value_by verb k values name w ws (Some n) means) ∙ h))
+    (plain (with_value values name n) (of_with verb values name n are valued.1) (ap fault (value_by verb k values name w ws (Some n) means) ∙ h))
 
-stops_option : (verb : Verb) (k : ℕ) (values : List (Option ℕ)) (w : List ℕ) (ws : List (List ℕ)) (j : ℕ) (o : Option Name) → IsFull values → ((r : List (List ℕ)) → option_at verb k values o r ≡ words_at None verb k values (w ∷ r))
+stops_option : (verb : Verb) (k : ℕ) (values : List (Option ℕ)) (w : List ℕ) (ws : List (List ℕ)) (j : ℕ) (o : Option Name) → AreOf verb values → name_of verb w ≡ o → ((r : List (List ℕ)) → option_at verb k values o r ≡ words_at None verb k values (w ∷ r))
     → fault_at None verb k values (w ∷ ws) ≡ Some j
-    → ((vs : List (Option ℕ)) → IsFull vs → fault_at None verb (k + 1) vs ws ≡ Some j → Stops None verb (k + 1) vs ws j)
-    → ((name : Name) → is_flag (value_of_name name) ≡ false → fault_at (Some name) verb (k + 1) values ws ≡ Some j → Stops (Some name) verb (k + 1) values ws j)
+    → ((vs : List (Option ℕ)) → AreOf verb vs → fault_at None verb (k + 1) vs ws ≡ Some j → Stops None verb (k + 1) vs ws j)
+    → ((name : Name) → IsValued verb (Some name) → fault_at (Some name) verb (k + 1) values ws ≡ Some j → Stops (Some name) verb (k + 1) values ws j)
     → Stops None verb k values (w ∷ ws) j
-stops_option verb k values w ws j None full step h plain valued =
+stops_option verb k values w ws j None are named step h plain valued =
     let so = ap fault (step ws) in
     let is : j ≡ k = cc in
-    let f = finish verb k values full in
+    let f = finish verb k values are in
     here_by (fault_at None verb k values) k w ws f.0 j is f.1 (λ after. ap fault (sym (step after)))
-stops_option verb k values w ws j (Some name) full step h plain valued = elim (cases_Bool (is_taken values name)) [
-  | inl e ↦
-      let at = λ (r : List (List ℕ)). if_true (is_taken values name) (Err k) (if is_flag (value_of_name name) then words_at None verb (k + 1) (with_value values name 1) r else words_at (Some name) verb (k + 1) values r) e ∙ step r in
-      let so = ap fault (at ws) in
-      let is : j ≡ k = cc in
-      let f = finish verb k values full in
-      here_by (fault_at None verb k values) k w ws f.0 j is f.1 (λ after. ap fault (sym (at after)))
-  | inr e ↦
-      let on = λ (r : List (List ℕ)). if_false (is_taken values name) (Err k) (if is_flag (value_of_name name) then words_at None verb (k + 1) (with_value values name 1) r else words_at (Some name) verb (k + 1) values r) e ∙ step r in
-      elim (cases_Bool (is_flag (value_of_name name))) [
-        | inl f ↦
-            let at = λ (r : List (List ℕ)). ap fault (if_true (is_flag (value_of_name name)) (words_at None verb (k + 1) (with_value values name 1) r) (words_at (Some name) verb (k + 1) values r) f ∙ on r) in
-            list_push (fault_at None verb k values) (fault_at None verb (k + 1) (with_value values name 1)) k w ws j at (plain (with_value values name 1) (full_with values name 1 full) (at ws ∙ h))
-        | inr f ↦
-            let at = λ (r : List (List ℕ)). ap fault (if_false (is_flag (value_of_name name)) (words_at None verb (k + 1) (with_value values name 1) r) (words_at (Some name) verb (k + 1) values r) f ∙ on r) in
-            list_push (fault_at None verb k values) (fault_at (Some name) verb (k + 1) values) k w ws j at (valued name f (at ws ∙ h))
-      ]
-]
+stops_option verb k values w ws j (Some name) are named step h plain valued =
+    let has = (word_of_name verb w name named).1 in
+    elim (cases_Bool (is_taken values name)) [
+      | inl e ↦
+          let at = λ (r : List (List ℕ)). if_true (is_taken values name) (Err k) (if is_flag (value_of_name name) then words_at None verb (k + 1) (with_value values name 1) r else words_at (Some name) verb (k + 1) values r) e ∙ step r in
+          let so = ap fault (at ws) in
+          let is : j ≡ k = cc in
+          let f = finish verb k values are in
+          here_by (fault_at None verb k values) k w ws f.0 j is f.1 (λ after. ap fault (sym (at after)))
+      | inr e ↦
+          let on = λ (r : List (List ℕ)). if_false (is_taken values name) (Err k) (if is_flag (value_of_name name) then words_at None verb (k + 1) (with_value values name 1) r else words_at (Some name) verb (k + 1) values r) e ∙ step r in
+          elim (cases_Bool (is_flag (value_of_name name))) [
+            | inl f ↦
+                let at = λ (r : List (List ℕ)). ap fault (if_true (is_flag (value_of_name name)) (words_at None verb (k + 1) (with_value values name 1) r) (words_at (Some name) verb (k + 1) values r) f ∙ on r) in
+                list_push (fault_at None verb k values) (fault_at None verb (k + 1) (with_value values name 1)) k w ws j at (plain (with_value values name 1) (of_with verb values name 1 are has) (at ws ∙ h))
+            | inr f ↦
+                let at = λ (r : List (List ℕ)). ap fault (if_false (is_flag (value_of_name name)) (words_at None verb (k + 1) (with_value values name 1) r) (words_at (Some name) verb (k + 1) values r) f ∙ on r) in
+                list_push (fault_at None verb k values) (fault_at (Some name) verb (k + 1) values) k w ws j at (valued name (f, has) (at ws ∙ h))
+          ]
+    ]
 
-stops_operands : (verb : Verb) (k : ℕ) (values : List (Option ℕ)) (w : List ℕ) (ws : List (List ℕ)) (j : ℕ) → IsFull values → is_option w ≡ false → fault_at None verb k values (w ∷ ws) ≡ Some j → Stops None verb k values (w ∷ ws) j
-stops_operands verb k values w ws j full none h =
+stops_operands : (verb : Verb) (k : ℕ) (values : List (Option ℕ)) (w : List ℕ) (ws : List (List ℕ)) (j : ℕ) → AreOf verb values → is_option w ≡ false → fault_at None verb k values (w ∷ ws) ≡ Some j → Stops None verb k values (w ∷ ws) j
+stops_operands verb k values w ws j are none h =
     let stop = operands_stop (operands_of verb) k w in
     let command = λ (r : List (List ℕ)). made verb values k (operand_number (operands_of verb) w r) in
-    let f = finish verb k values full in
+    let f = finish verb k values are in
     elim (cases_Bool (has_required verb values)) [
       | inl e ↦
           let at = λ (r : List (List ℕ)). fault_unless (stop r) (command r) ∙ ap fault (if_true (has_required verb values) (unless_stopped (stop r) (command r)) (Err k) e ∙ operand_word verb k values w r none) in
@@ -301,26 +356,26 @@ stops_operands verb k values w ws j full none h =
           here_by (fault_at None verb k values) k w ws f.0 j is f.1 (λ after. ap fault (sym (at after)))
     ]
 
-stops_word : (verb : Verb) (k : ℕ) (values : List (Option ℕ)) (w : List ℕ) (ws : List (List ℕ)) (j : ℕ) → IsFull values → fault_at None verb k values (w ∷ ws) ≡ Some j
-    → ((vs : List (Option ℕ)) → IsFull vs → fault_at None verb (k + 1) vs ws ≡ Some j → Stops None verb (k + 1) vs ws j)
-    → ((name : Name) → is_flag (value_of_name name) ≡ false → fault_at (Some name) verb (k + 1) values ws ≡ Some j → Stops (Some name) verb (k + 1) values ws j)
+stops_word : (verb : Verb) (k : ℕ) (values : List (Option ℕ)) (w : List ℕ) (ws : List (List ℕ)) (j : ℕ) → AreOf verb values → fault_at None verb k values (w ∷ ws) ≡ Some j
+    → ((vs : List (Option ℕ)) → AreOf verb vs → fault_at None verb (k + 1) vs ws ≡ Some j → Stops None verb (k + 1) vs ws j)
+    → ((name : Name) → IsValued verb (Some name) → fault_at (Some name) verb (k + 1) values ws ≡ Some j → Stops (Some name) verb (k + 1) values ws j)
     → Stops None verb k values (w ∷ ws) j
-stops_word verb k values w ws j full h plain valued = elim (cases_Bool (is_option w)) [
-  | inl e ↦ stops_option verb k values w ws j (name_of verb w) full (λ r. option_word verb k values w r e) h plain valued
-  | inr e ↦ stops_operands verb k values w ws j full e h
+stops_word verb k values w ws j are h plain valued = elim (cases_Bool (is_option w)) [
+  | inl e ↦ stops_option verb k values w ws j (name_of verb w) are refl (λ r. option_word verb k values w r e) h plain valued
+  | inr e ↦ stops_operands verb k values w ws j are e h
 ]
 
-stops_end : (named : Option Name) (verb : Verb) (k : ℕ) (values : List (Option ℕ)) (j : ℕ) → IsFull values → IsValued named → Some k ≡ Some j → Stops named verb k values [] j
-stops_end named verb k values j full valued h =
+stops_end : (named : Option Name) (verb : Verb) (k : ℕ) (values : List (Option ℕ)) (j : ℕ) → AreOf verb values → IsValued verb named → Some k ≡ Some j → Stops named verb k values [] j
+stops_end named verb k values j are valued h =
     let is : j ≡ k = cc in
-    let f = finish_any named verb k values full valued in
+    let f = finish_any named verb k values are valued in
     list_here (fault_at named verb k values) k [] f.0 j is f.1 (λ w r none. absurd (cc))
 
-stops : (named : Option Name) (verb : Verb) (k : ℕ) (values : List (Option ℕ)) (words : List (List ℕ)) (j : ℕ) → IsFull values → IsValued named → fault_at named verb k values words ≡ Some j → Stops named verb k values words j
-stops None verb k values [] j full valued h = stops_end None verb k values j full valued h
-stops (Some name) verb k values [] j full valued h = stops_end (Some name) verb k values j full valued h
-stops None verb k values (w ∷ ws) j full valued h = stops_word verb k values w ws j full h (λ vs f e. stops None verb (k + 1) vs ws j f tt e) (λ name f e. stops (Some name) verb (k + 1) values ws j full f e)
-stops (Some name) verb k values (w ∷ ws) j full valued h = stops_value verb k values name w ws j (meaning (value_of_name name) k w) full valued refl h (λ vs f e. stops None verb (k + 1) vs ws j f tt e)
+stops : (named : Option Name) (verb : Verb) (k : ℕ) (values : List (Option ℕ)) (words : List (List ℕ)) (j : ℕ) → AreOf verb values → IsValued verb named → fault_at named verb k values words ≡ Some j → Stops named verb k values words j
+stops None verb k values [] j are valued h = stops_end None verb k values j are valued h
+stops (Some name) verb k values [] j are valued h = stops_end (Some name) verb k values j are valued h
+stops None verb k values (w ∷ ws) j are valued h = stops_word verb k values w ws j are h (λ vs f e. stops None verb (k + 1) vs ws j f tt e) (λ name f e. stops (Some name) verb (k + 1) values ws j are f e)
+stops (Some name) verb k values (w ∷ ws) j are valued h = stops_value verb k values name w ws j (meaning (value_of_name name) k w) are valued refl h (λ vs f e. stops None verb (k + 1) vs ws j f tt e)
 
 -- ---- the whole
 
@@ -341,7 +396,7 @@ stops_verb w ws j None step h =
     let is : j ≡ 0 = cc in
     here_by (λ ws. fault (command_of ws)) 0 w ws (codes "run" ∷ codes "b" ∷ []) j is refl (λ after. ap fault (sym (step after)))
 stops_verb w ws j (Some verb) step h =
-    list_push (λ ws. fault (command_of ws)) (fault_at None verb 1 none_given) 0 w ws j (λ r. ap fault (step r)) (stops None verb 1 none_given ws j refl tt (ap fault (step ws) ∙ h))
+    list_push (λ ws. fault (command_of ws)) (fault_at None verb 1 none_given) 0 w ws j (λ r. ap fault (step r)) (stops None verb 1 none_given ws j (none_of verb) tt (ap fault (step ws) ∙ h))
 
 command_stops : (words : List (List ℕ)) (j : ℕ) → fault (command_of words) ≡ Some j → CommandStops words j
 command_stops [] j h = let is : j ≡ 0 = cc in list_here (λ ws. fault (command_of ws)) 0 [] (codes "run" ∷ codes "b" ∷ []) j is refl (λ w r none. absurd (cc))

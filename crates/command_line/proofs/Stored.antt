@@ -8,9 +8,9 @@ use Rattle.std.proofs.lemmas.List.Folds.{Any-from_list_any, list_any_at}
 use Rattle.std.proofs.lemmas.Bool.{cases_Bool}
 use Rattle.std.proofs.lemmas.Slice.Eq.{bytes_eq-Decides}
 use Rattle.command_line.specs.declared.table.Verb.{Verb}
-use Rattle.command_line.specs.declared.table.Verb.TheVariants.{Link, Run, Trace, Profile, Bound, Check, Loops, Headers, Need, Asm, Work}
+use Rattle.command_line.specs.declared.table.Verb.TheVariants.{Link, Run, Trace, Profile, Bound, Report, Plan, Cycle, Check, Loops, Headers, Need, Asm, Work}
 use Rattle.command_line.specs.declared.table.Name.{Name}
-use Rattle.command_line.specs.declared.table.Name.TheVariants.{Main, Method, All, Shapes, Cycles, Stack, Memory, Blocks, BlockWords, Read, Write, Micro}
+use Rattle.command_line.specs.declared.table.Name.TheVariants.{Main, Method, All, Shapes, Cycles, Stack, Memory, Blocks, BlockWords, Read, Write, Micro, Rounds}
 use Rattle.command_line.specs.Table.{name_word, all_names, place_of, same_name, rivals, names_of, verb_word, all_verbs, verb_named, name_named, has_name, kept_by, name_of}
 use Rattle.command_line.specs.Command.{is_option, none_given, given, with_value, is_taken}
 use Rattle.command_line.proofs.WordLemmas.{if_true}
@@ -30,11 +30,12 @@ name_at BlockWords = refl
 name_at Read = refl
 name_at Write = refl
 name_at Micro = refl
+name_at Rounds = refl
 
 same_place : (a b : Name) → place_of a ≡ place_of b → a ≡ b
 same_place a b e = sym (name_at a) ∙ ap (λ i. get_or all_names i Main) e ∙ name_at b
 
-place_below : (a : Name) → place_of a < 12
+place_below : (a : Name) → place_of a < 13
 place_below Main = omega arith
 place_below Method = omega arith
 place_below All = omega arith
@@ -47,6 +48,7 @@ place_below BlockWords = omega arith
 place_below Read = omega arith
 place_below Write = omega arith
 place_below Micro = omega arith
+place_below Rounds = omega arith
 
 eq_true : (x y : ℕ) → (x == y) ≡ true → x ≡ y
 eq_true x y e = grind arith
@@ -54,7 +56,7 @@ eq_true x y e = grind arith
 -- ---- what is stored
 
 abbrev pub IsFull : List (Option ℕ) → Type 0
-IsFull values = length values ≡ 12
+IsFull values = length values ≡ 13
 
 pub full_with : (values : List (Option ℕ)) (a : Name) (n : ℕ) → IsFull values → IsFull (with_value values a n)
 full_with values a n full = length-set values (place_of a) (Some n) ∙ full
@@ -86,6 +88,7 @@ not_given BlockWords = refl
 not_given Read = refl
 not_given Write = refl
 not_given Micro = refl
+not_given Rounds = refl
 
 own_rival : (a : Name) → Contains (rivals a) a
 own_rival Main = (0, omega arith, refl)
@@ -100,6 +103,7 @@ own_rival BlockWords = (0, omega arith, refl)
 own_rival Read = (0, omega arith, refl)
 own_rival Write = (0, omega arith, refl)
 own_rival Micro = (0, omega arith, refl)
+own_rival Rounds = (0, omega arith, refl)
 
 -- an option that nothing excludes
 alone : (a b : Name) → Contains (a ∷ []) b → Contains (rivals a) a → Contains (rivals b) a
@@ -132,6 +136,7 @@ rival_back Memory b h = alone Memory b h (own_rival Memory)
 rival_back Read b h = alone Read b h (own_rival Read)
 rival_back Write b h = alone Write b h (own_rival Write)
 rival_back Micro b h = alone Micro b h (own_rival Micro)
+rival_back Rounds b h = alone Rounds b h (own_rival Rounds)
 
 not_taken : (values : List (Option ℕ)) (name other : Name) → is_taken values name ≡ false → Contains (rivals name) other → is_some (given values other) ≡ false
 not_taken values name other h is = elim (cases_Bool (is_some (given values other))) [
@@ -141,7 +146,7 @@ not_taken values name other h is = elim (cases_Bool (is_some (given values other
   | inr e ↦ e
 ]
 
-untaken : (values : List (Option ℕ)) (name : Name) → ((other : Name) → Contains (rivals name) other → is_some (given values other) ≡ false) → is_taken values name ≡ false
+pub untaken : (values : List (Option ℕ)) (name : Name) → ((other : Name) → Contains (rivals name) other → is_some (given values other) ≡ false) → is_taken values name ≡ false
 untaken values name none = elim (cases_Bool (is_taken values name)) [
   | inl e ↦
       let some = Any-from_list_any (λ o. is_some (given values o)) (rivals name) e in
@@ -153,12 +158,6 @@ untaken values name none = elim (cases_Bool (is_taken values name)) [
 
 pub none_taken : (name : Name) → is_taken none_given name ≡ false
 none_taken name = untaken none_given name (λ other is. not_given other)
-
-pub taken_with : (values : List (Option ℕ)) (a : Name) (n : ℕ) → IsFull values → is_taken (with_value values a n) a ≡ true
-taken_with values a n full =
-    let own = own_rival a in
-    list_any_at (λ o. is_some (given (with_value values a n) o)) (rivals a) own.0 a own.1
-    (subst (λ (x : Name). is_some (given (with_value values a n) x) ≡ true) (sym own.2) (ap is_some (given-same values a n full)))
 
 -- what is new stays so behind an option that doesn't exclude it
 pub untaken_with : (values : List (Option ℕ)) (a b : Name) (n : ℕ) → is_taken values b ≡ false → (Contains (rivals a) b → ⊥) → is_taken (with_value values a n) b ≡ false
@@ -204,7 +203,7 @@ has_in verb name has =
     let P : Name → Type 0 = λ x. get_or (names_of verb) some.0 x ≡ x in
     (some.0, some.2, subst P same some.3)
 
-in_has : (verb : Verb) (name : Name) → Contains (names_of verb) name → has_name verb name ≡ true
+pub in_has : (verb : Verb) (name : Name) → Contains (names_of verb) name → has_name verb name ≡ true
 in_has verb name is = list_any_at (same_name name) (names_of verb) is.0 name is.1 (eq-eqb (place_of name) (place_of (get_or (names_of verb) is.0 name)) (ap place_of (sym is.2)))
 
 name_of_word : (name : Name) → name_named (name_word name) ≡ Some name
@@ -220,6 +219,7 @@ name_of_word BlockWords = refl
 name_of_word Read = refl
 name_of_word Write = refl
 name_of_word Micro = refl
+name_of_word Rounds = refl
 
 pub option_of_word : (name : Name) → is_option (name_word name) ≡ true
 option_of_word Main = refl
@@ -234,6 +234,7 @@ option_of_word BlockWords = refl
 option_of_word Read = refl
 option_of_word Write = refl
 option_of_word Micro = refl
+option_of_word Rounds = refl
 
 pub named_by_word : (verb : Verb) (name : Name) → Contains (names_of verb) name → name_of verb (name_word name) ≡ Some name
 named_by_word verb name is = ap (kept_by verb) (name_of_word name) ∙ sym (if_true (has_name verb name) (Some name) None (in_has verb name is))
@@ -261,6 +262,9 @@ verb_of_word Run = refl
 verb_of_word Trace = refl
 verb_of_word Profile = refl
 verb_of_word Bound = refl
+verb_of_word Report = refl
+verb_of_word Plan = refl
+verb_of_word Cycle = refl
 verb_of_word Check = refl
 verb_of_word Loops = refl
 verb_of_word Headers = refl

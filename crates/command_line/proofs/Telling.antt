@@ -12,11 +12,11 @@ use Rattle.std.proofs.lemmas.List.Sums.{AllPass-from_list_all}
 use Rattle.command_line.specs.declared.table.Verb.{Verb}
 use Rattle.command_line.specs.declared.table.Name.{Name}
 use Rattle.command_line.specs.declared.command.Command.{Command}
-use Rattle.command_line.specs.Table.{name_word, names_of, verb_word, verb_named, name_of, required_of, Value, Nothing, AWord, ANumber, OneOf, value_of_name, Operands, Exactly, AtMost, OneOrMore, Number, operands_of}
-use Rattle.command_line.specs.Command.{is_option, given, with_value, none_given, is_taken, has_required, is_flag, meaning, made, exactly_at, at_most_at, empty_at, past_number, number_from, operands_stop, operand_number, unless_stopped, operands_at, words_at, command_of}
+use Rattle.command_line.specs.Table.{name_word, names_of, verb_word, verb_named, name_of, required_of, Value, Nothing, AWord, ANumber, OneOf, value_of_name, Operands, Exactly, AtMost, AtLeast, Number, operands_of}
+use Rattle.command_line.specs.Command.{is_option, given, with_value, none_given, is_taken, has_required, is_flag, meaning, made, exactly_at, at_most_at, at_least_at, past_number, number_from, operands_stop, operand_number, unless_stopped, operands_at, words_at, command_of}
 use Rattle.command_line.specs.Grammar.{Chosen, words_chosen, Means, AreChosen, IsNoneOf, AreOnce, values_from, AreOperands, BeginsWithNoOption, IsCommand}
 use Rattle.command_line.proofs.Numbers.{number-means}
-use Rattle.command_line.proofs.WordLemmas.{if_true, if_false, option_at, option_word, operand_word, value_by, exactly_step, exactly_past, exactly_empty, at_most_step, at_most_past, at_most_empty, empty_step, empty_here}
+use Rattle.command_line.proofs.WordLemmas.{if_true, if_false, option_at, option_word, operand_word, value_by, exactly_step, exactly_past, exactly_empty, at_most_step, at_most_past, at_most_empty, at_least_step, at_least_empty}
 use Rattle.command_line.proofs.Stored.{IsFull, full_with, given-other, same_or_other, not_given, untaken_before, word_of_name, word_of_verb}
 use Rattle.command_line.proofs.Meanings.{length_some, meaning-means}
 use Rattle.command_line.proofs.Reading.{AreNew}
@@ -54,11 +54,17 @@ at_most_words k n (w ∷ ws) h = elim (cases_Bool (n == 0)) [
   ]
 ]
 
-empty_words : (k : ℕ) (ws : List (List ℕ)) → empty_at k ws ≡ None → All (λ word. 0 < length word) ws
-empty_words k [] h = All-nil (λ (word : List ℕ). 0 < length word)
-empty_words k (w ∷ ws) h = elim (cases_Bool (length w == 0)) [
-  | inl f ↦ let so = empty_here k w ws f in absurd (cc)
-  | inr f ↦ All-cons (λ (word : List ℕ). 0 < length word) w ws (length_some w f) (empty_words (k + 1) ws (empty_step k w ws f ∙ h))
+at_least_words : (k n : ℕ) (ws : List (List ℕ)) → at_least_at k n ws ≡ None → (n ≤ length ws) × All (λ word. 0 < length word) ws
+at_least_words k n [] h = elim (cases_Bool (n == 0)) [
+  | inl e ↦ (grind (arith, nat_tests), All-nil (λ (word : List ℕ). 0 < length word))
+  | inr e ↦ let so : Some k ≡ at_least_at k n [] = if_false (n == 0) None (Some k) e in absurd (cc)
+]
+at_least_words k n (w ∷ ws) h = elim (cases_Bool (length w == 0)) [
+  | inl f ↦ let so = at_least_empty k n w ws f in absurd (cc)
+  | inr f ↦
+      let later = at_least_words (k + 1) (n - 1) ws (at_least_step k n w ws f ∙ h) in
+      let many = later.0 in
+      (omega (arith, many), All-cons (λ (word : List ℕ). 0 < length word) w ws (length_some w f) later.1)
 ]
 
 number_words : (from to k : ℕ) (w : List ℕ) (ws : List (List ℕ)) (o : Option ℕ) → number_from from to w ≡ o → past_number k o ws ≡ None → AreOperands (Number from to) (w ∷ ws) (unwrap_or o 0)
@@ -69,7 +75,7 @@ number_words from to k w (more ∷ ws) (Some n) read h = absurd (cc)
 operand_words : (o : Operands) (k : ℕ) (w : List ℕ) (ws : List (List ℕ)) → operands_stop o k w ws ≡ None → AreOperands o (w ∷ ws) (operand_number o w ws)
 operand_words (Exactly m) k w ws h = let is = exactly_words k m (w ∷ ws) h in (is.0, is.1, refl)
 operand_words (AtMost m) k w ws h = let is = at_most_words k m (w ∷ ws) h in (omega arith, is.0, is.1, omega arith)
-operand_words OneOrMore k w ws h = (omega arith, empty_words k (w ∷ ws) h, refl)
+operand_words (AtLeast m) k w ws h = let is = at_least_words k m (w ∷ ws) h in (is.0, is.1, refl)
 operand_words (Number from to) k w ws h = number_words from to k w ws (number_from from to w) refl h
 
 -- ---- options and operands behind them

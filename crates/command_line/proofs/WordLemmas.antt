@@ -9,7 +9,7 @@ use Rattle.command_line.specs.declared.command.Command.{Command}
 use Rattle.command_line.specs.declared.table.Verb.{Verb}
 use Rattle.command_line.specs.declared.table.Name.{Name}
 use Rattle.command_line.specs.Table.{value_of_name, name_of, verb_named}
-use Rattle.command_line.specs.Command.{texts, is_option, meaning, with_value, is_taken, is_flag, exactly_at, at_most_at, empty_at, past_number, operands_at, words_at, none_given, command_of}
+use Rattle.command_line.specs.Command.{texts, is_option, meaning, with_value, is_taken, is_flag, exactly_at, at_most_at, at_least_at, past_number, operands_at, words_at, none_given, command_of}
 
 pub if_false : {A : Type 0} (b : Bool) (x y : A) → b ≡ false → y ≡ (if b then x else y)
 if_false true x y h = absurd (false≢true (sym h))
@@ -54,11 +54,11 @@ at_most_past k n w r h = if_true (n == 0) (Some k) (if length w == 0 then Some k
 pub at_most_empty : (k n : ℕ) (w : List ℕ) (r : List (List ℕ)) → (length w == 0) ≡ true → Some k ≡ at_most_at k n (w ∷ r)
 at_most_empty k n w r h = same_both (n == 0) k ∙ ap (λ x. if n == 0 then Some k else x) (if_true (length w == 0) (Some k) (at_most_at (k + 1) (n - 1) r) h)
 
-pub empty_step : (k : ℕ) (w : List ℕ) (r : List (List ℕ)) → (length w == 0) ≡ false → empty_at (k + 1) r ≡ empty_at k (w ∷ r)
-empty_step k w r h = if_false (length w == 0) (Some k) (empty_at (k + 1) r) h
+pub at_least_step : (k n : ℕ) (w : List ℕ) (r : List (List ℕ)) → (length w == 0) ≡ false → at_least_at (k + 1) (n - 1) r ≡ at_least_at k n (w ∷ r)
+at_least_step k n w r h = if_false (length w == 0) (Some k) (at_least_at (k + 1) (n - 1) r) h
 
-pub empty_here : (k : ℕ) (w : List ℕ) (r : List (List ℕ)) → (length w == 0) ≡ true → Some k ≡ empty_at k (w ∷ r)
-empty_here k w r h = if_true (length w == 0) (Some k) (empty_at (k + 1) r) h
+pub at_least_empty : (k n : ℕ) (w : List ℕ) (r : List (List ℕ)) → (length w == 0) ≡ true → Some k ≡ at_least_at k n (w ∷ r)
+at_least_empty k n w r h = if_true (length w == 0) (Some k) (at_least_at (k + 1) (n - 1) r) h
 
 -- ---- options
 

@@ -8,14 +8,14 @@ use Rattle.std.specs.Borrow.{Bor}
 use Rattle.std.specs.List.{list_any, list_all}
 use Rattle.ascii_text.specs.Number.{value_of}
 use Rattle.command_line.specs.declared.table.Verb.{Verb}
-use Rattle.command_line.specs.declared.table.Verb.TheVariants.{Link, Run, Trace, Profile, Bound, Check, Loops, Headers, Need, Asm, Work}
+use Rattle.command_line.specs.declared.table.Verb.TheVariants.{Link, Run, Trace, Profile, Bound, Report, Plan, Cycle, Check, Loops, Headers, Need, Asm, Work}
 use Rattle.command_line.specs.declared.table.Name.{Name}
-use Rattle.command_line.specs.declared.table.Name.TheVariants.{Main, Method, All, Shapes, Cycles, Stack, Memory, Blocks, BlockWords, Read, Write, Micro}
+use Rattle.command_line.specs.declared.table.Name.TheVariants.{Main, Method, All, Shapes, Cycles, Stack, Memory, Blocks, BlockWords, Read, Write, Micro, Rounds}
 use Rattle.command_line.specs.declared.command.Settings.{Settings}
 use Rattle.command_line.specs.declared.command.Command.{Command}
 use Rattle.command_line.specs.declared.command.Command.TheVariants as commands
 use Rattle.command_line.specs.Table.{place_of, Value, Nothing, AWord, ANumber, OneOf, value_of_name, usual, rivals, required_of, Operands, Exactly, AtMost}
-use Rattle.command_line.specs.Table.{OneOrMore, Number, operands_of, verb_named, name_of}
+use Rattle.command_line.specs.Table.{AtLeast, Number, operands_of, verb_named, name_of}
 
 -- the bytes of the words
 abbrev pub texts : List (Bor (List ℕ)) → List (List ℕ)
@@ -47,7 +47,7 @@ meaning (OneOf ns) k word = if is_number word && list_any (λ n. n == value_of w
 
 -- of each option, by its place among all, what it was given to mean
 abbrev pub none_given : List (Option ℕ)
-none_given = None ∷ None ∷ None ∷ None ∷ None ∷ None ∷ None ∷ None ∷ None ∷ None ∷ None ∷ None ∷ []
+none_given = None ∷ None ∷ None ∷ None ∷ None ∷ None ∷ None ∷ None ∷ None ∷ None ∷ None ∷ None ∷ None ∷ []
 
 abbrev pub given : List (Option ℕ) → Name → Option ℕ
 given values name = get_or values (place_of name) None
@@ -87,6 +87,9 @@ made Bound values k n =
     if is_some (given values All) then commands.BoundAll (settings_of values) k (k + 1)
     else if is_some (given values Shapes) then commands.BoundShapes (settings_of values) (value values Method) k (k + 1)
     else commands.Bound (settings_of values) (value values Method) k (k + 1)
+made Report values k n = commands.Report (settings_of values) (value values Method) k (k + 1)
+made Plan values k n = commands.Plan (settings_of values) (value values Rounds) k (k + 1) (k + 2)
+made Cycle values k n = commands.Cycle (settings_of values) (value values Rounds) k (k + 1)
 made Check values k n = commands.Check (settings_of values) k (k + 1) (k + 2)
 made Loops values k n = commands.Loops k
 made Headers values k n = commands.Headers k n
@@ -106,10 +109,10 @@ abbrev pub at_most_at : (k : ℕ) → (n : ℕ) → List (List ℕ) → Option �
 at_most_at k n [] = None
 at_most_at k n (word ∷ rest) = if n == 0 then Some k else if length word == 0 then Some k else at_most_at (k + 1) (n - 1) rest
 
--- the first empty word from word k on
-abbrev pub empty_at : (k : ℕ) → List (List ℕ) → Option ℕ
-empty_at k [] = None
-empty_at k (word ∷ rest) = if length word == 0 then Some k else empty_at (k + 1) rest
+-- so many operands or more from word k on, none empty, which end the words; else the first word that is none of them
+abbrev pub at_least_at : (k : ℕ) → (n : ℕ) → List (List ℕ) → Option ℕ
+at_least_at k n [] = if n == 0 then None else Some k
+at_least_at k n (word ∷ rest) = if length word == 0 then Some k else at_least_at (k + 1) (n - 1) rest
 
 -- a number, which ends the words
 abbrev pub past_number : (k : ℕ) → Option ℕ → (rest : List (List ℕ)) → Option ℕ
@@ -121,7 +124,7 @@ past_number k (Some n) (more ∷ rest) = Some (k + 1)
 abbrev pub operands_stop : Operands → (k : ℕ) → (operand : List ℕ) → (rest : List (List ℕ)) → Option ℕ
 operands_stop (Exactly n) k operand rest = exactly_at k n (operand ∷ rest)
 operands_stop (AtMost n) k operand rest = at_most_at k n (operand ∷ rest)
-operands_stop OneOrMore k operand rest = empty_at k (operand ∷ rest)
+operands_stop (AtLeast n) k operand rest = at_least_at k n (operand ∷ rest)
 operands_stop (Number from to) k operand rest = past_number k (number_from from to operand) rest
 
 -- the number that the operand is, where it is one, and how many operands there are, where the command leaves that open
@@ -143,6 +146,7 @@ operands_at verb values k operand rest =
 -- how many operands there are at least
 abbrev pub least_operands : Operands → ℕ
 least_operands (Exactly n) = n
+least_operands (AtLeast n) = n
 least_operands operands = 1
 
 abbrev pub is_flag : Value → Bool

@@ -9,7 +9,7 @@ use Rattle.command_line.specs.declared.table.Verb.{Verb}
 use Rattle.command_line.specs.declared.table.Name.{Name}
 use Rattle.command_line.specs.declared.command.Command.{Command}
 use Rattle.command_line.specs.Table.{name_word, verb_word, names_of, rivals, required_of, Value, Nothing, AWord, ANumber, OneOf, value_of_name, Operands}
-use Rattle.command_line.specs.Table.{Exactly, AtMost, OneOrMore, Number, operands_of}
+use Rattle.command_line.specs.Table.{Exactly, AtMost, AtLeast, Number, operands_of}
 use Rattle.command_line.specs.Command.{command_of, is_option, none_given, with_value, made}
 
 -- an option that is given: its name, its value if it takes one, and what that means
@@ -58,7 +58,7 @@ values_from values (c ∷ cs) = values_from (with_value values c.name c.means) c
 abbrev pub AreOperands : Operands → List (List ℕ) → ℕ → Type 0
 AreOperands (Exactly many) words n = (length words ≡ many) × All (λ word. 0 < length word) words × (n ≡ 0)
 AreOperands (AtMost many) words n = (0 < length words) × (length words ≤ many) × All (λ word. 0 < length word) words × (n ≡ length words)
-AreOperands OneOrMore words n = (0 < length words) × All (λ word. 0 < length word) words × (n ≡ 0)
+AreOperands (AtLeast many) words n = (many ≤ length words) × All (λ word. 0 < length word) words × (n ≡ 0)
 AreOperands (Number from to) words n = (word : List ℕ) × (words ≡ word ∷ []) × IsNumberFrom from to word n
 
 abbrev pub BeginsWithNoOption : List (List ℕ) → Type 0

@@ -2,8 +2,8 @@
 use Rattle.std.specs.Prelude.{◌≡◌, ℕ, ◌+◌, ◌^◌, ◌<◌, ◌≤◌, ◌⊎◌}
 use Rattle.command_line.specs.declared.command.Settings.{Settings}
 use Rattle.command_line.specs.declared.command.Command.{Command}
-use Rattle.command_line.specs.declared.command.Command.TheVariants.{Link, Run, Trace, Profile, Bound, BoundAll, BoundShapes, Check}
-use Rattle.command_line.specs.declared.command.Command.TheVariants.{Loops, Headers, Memory, Asm, Work}
+use Rattle.command_line.specs.declared.command.Command.TheVariants.{Link, Run, Trace, Profile, Bound, BoundAll, BoundShapes, Report}
+use Rattle.command_line.specs.declared.command.Command.TheVariants.{Plan, Cycle, Check, Loops, Headers, Memory, Asm, Work}
 
 pub record AreSettings (settings : Settings) : Type 0 where
   pub cycles : settings.cycles < 2 ^ 63
@@ -25,6 +25,9 @@ AreInRange (Profile settings image bounds) = AreSettings settings
 AreInRange (Bound settings method image bounds) = AreSettings settings
 AreInRange (BoundAll settings image bounds) = AreSettings settings
 AreInRange (BoundShapes settings method image bounds) = AreSettings settings
+AreInRange (Report settings method image bounds) = AreSettings settings
+AreInRange (Plan settings rounds table bounds first) = AreSettings settings × (1 ≤ rounds) × (rounds ≤ 32767)
+AreInRange (Cycle settings rounds table first) = AreSettings settings × (1 ≤ rounds) × (rounds ≤ 32767)
 AreInRange (Check settings image bounds certificate) = AreSettings settings
 AreInRange (Loops image) = Unit {0}
 AreInRange (Headers image operands) = (1 ≤ operands) × (operands ≤ 2)
@@ -41,6 +44,9 @@ AreThere n (Profile settings image bounds) = (image < n) × (bounds < n)
 AreThere n (Bound settings method image bounds) = (method < n) × (image < n) × (bounds < n)
 AreThere n (BoundAll settings image bounds) = (image < n) × (bounds < n)
 AreThere n (BoundShapes settings method image bounds) = (method < n) × (image < n) × (bounds < n)
+AreThere n (Report settings method image bounds) = (method < n) × (image < n) × (bounds < n)
+AreThere n (Plan settings rounds table bounds first) = (table < n) × (bounds < n) × (first < n)
+AreThere n (Cycle settings rounds table first) = (table < n) × (first < n)
 AreThere n (Check settings image bounds certificate) = (image < n) × (bounds < n) × (certificate < n)
 AreThere n (Loops image) = image < n
 AreThere n (Headers image operands) = image + operands ≤ n
@@ -54,6 +60,9 @@ OperandsFollow (Profile settings image bounds) = bounds ≡ image + 1
 OperandsFollow (Bound settings method image bounds) = bounds ≡ image + 1
 OperandsFollow (BoundAll settings image bounds) = bounds ≡ image + 1
 OperandsFollow (BoundShapes settings method image bounds) = bounds ≡ image + 1
+OperandsFollow (Report settings method image bounds) = bounds ≡ image + 1
+OperandsFollow (Plan settings rounds table bounds first) = (bounds ≡ table + 1) × (first ≡ table + 2)
+OperandsFollow (Cycle settings rounds table first) = first ≡ table + 1
 OperandsFollow (Check settings image bounds certificate) = (bounds ≡ image + 1) × (certificate ≡ image + 2)
 OperandsFollow (Memory image bounds sizes) = (bounds ≡ image + 1) × (sizes ≡ image + 2)
 OperandsFollow command = Unit {0}

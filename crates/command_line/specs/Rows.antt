@@ -1,8 +1,8 @@
 -- Words and what is read of them, worked out by hand.
 use Rattle.std.specs.Prelude.{◌≡◌, true, false, [], ◌∷◌, Ok, Err, codes}
 use Rattle.command_line.specs.declared.command.Settings.{Settings}
-use Rattle.command_line.specs.declared.command.Command.TheVariants.{Link, Run, Trace, Profile, Bound, BoundAll, BoundShapes, Check}
-use Rattle.command_line.specs.declared.command.Command.TheVariants.{Loops, Headers, Memory, Asm, Work}
+use Rattle.command_line.specs.declared.command.Command.TheVariants.{Link, Run, Trace, Profile, Bound, BoundAll, BoundShapes, Report}
+use Rattle.command_line.specs.declared.command.Command.TheVariants.{Plan, Cycle, Check, Loops, Headers, Memory, Asm, Work}
 use Rattle.command_line.specs.Command.{command_of}
 
 abbrev usual : Settings
@@ -40,6 +40,31 @@ CommandRows =
     × (command_of (codes "bound" ∷ codes "--shapes" ∷ codes "i" ∷ codes "b" ∷ []) ≡ Err 2)
     × (command_of (codes "bound" ∷ codes "i" ∷ codes "b" ∷ []) ≡ Err 1)
     × (command_of (codes "bound" ∷ codes "--cycles" ∷ codes "1" ∷ []) ≡ Err 1)
+    × (command_of (codes "report" ∷ codes "--method" ∷ codes "A.a()V" ∷ codes "i" ∷ codes "b" ∷ []) ≡ Ok (Report usual 2 3 4))
+    × (command_of (codes "report" ∷ codes "i" ∷ codes "b" ∷ []) ≡ Err 1)
+    × (command_of (codes "report" ∷ codes "--all" ∷ codes "i" ∷ codes "b" ∷ []) ≡ Err 1)
+    × (command_of (codes "report" ∷ codes "--shapes" ∷ codes "--method" ∷ codes "A.a()V" ∷ []) ≡ Err 1)
+    × (command_of (codes "report" ∷ codes "--cycles" ∷ codes "1" ∷ []) ≡ Err 1)
+    × (command_of (codes "report" ∷ codes "--method" ∷ [] ∷ codes "i" ∷ codes "b" ∷ []) ≡ Err 2)
+    × (command_of (codes "report" ∷ codes "--method" ∷ codes "A.a()V" ∷ codes "i" ∷ []) ≡ Err 4)
+    × (command_of (codes "report" ∷ codes "--method" ∷ codes "A.a()V" ∷ codes "i" ∷ codes "b" ∷ codes "c" ∷ []) ≡ Err 5)
+    × (command_of (codes "plan" ∷ codes "--rounds" ∷ codes "3" ∷ codes "t" ∷ codes "b" ∷ codes "A.class" ∷ []) ≡ Ok (Plan usual 3 3 4 5))
+    × (command_of (codes "plan" ∷ codes "--rounds" ∷ codes "3" ∷ codes "t" ∷ codes "b" ∷ codes "A.class" ∷ codes "B.class" ∷ []) ≡ Ok (Plan usual 3 3 4 5))
+    × (command_of (codes "plan" ∷ codes "t" ∷ codes "b" ∷ codes "A.class" ∷ []) ≡ Err 1)
+    × (command_of (codes "plan" ∷ codes "--rounds" ∷ codes "3" ∷ codes "t" ∷ codes "b" ∷ []) ≡ Err 5)
+    × (command_of (codes "plan" ∷ codes "--rounds" ∷ codes "3" ∷ codes "t" ∷ []) ≡ Err 4)
+    × (command_of (codes "plan" ∷ codes "--rounds" ∷ codes "3" ∷ codes "t" ∷ [] ∷ codes "A.class" ∷ []) ≡ Err 4)
+    × (command_of (codes "plan" ∷ codes "--rounds" ∷ codes "3" ∷ codes "t" ∷ codes "b" ∷ codes "A.class" ∷ [] ∷ []) ≡ Err 6)
+    × (command_of (codes "plan" ∷ codes "--rounds" ∷ codes "3" ∷ codes "--cycles" ∷ codes "1" ∷ []) ≡ Err 3)
+    × (command_of (codes "plan" ∷ codes "--method" ∷ codes "A.a()V" ∷ []) ≡ Err 1)
+    × (command_of (codes "cycle" ∷ codes "--rounds" ∷ codes "3" ∷ codes "t" ∷ codes "A.class" ∷ []) ≡ Ok (Cycle usual 3 3 4))
+    × (command_of (codes "cycle" ∷ codes "--rounds" ∷ codes "3" ∷ codes "t" ∷ codes "A.class" ∷ codes "B.class" ∷ []) ≡ Ok (Cycle usual 3 3 4))
+    × (command_of (codes "cycle" ∷ codes "t" ∷ codes "A.class" ∷ []) ≡ Err 1)
+    × (command_of (codes "cycle" ∷ codes "--rounds" ∷ codes "3" ∷ codes "t" ∷ []) ≡ Err 4)
+    × (command_of (codes "cycle" ∷ codes "--rounds" ∷ codes "3" ∷ []) ≡ Err 3)
+    × (command_of (codes "cycle" ∷ codes "--rounds" ∷ codes "3" ∷ [] ∷ codes "A.class" ∷ []) ≡ Err 3)
+    × (command_of (codes "cycle" ∷ codes "--rounds" ∷ codes "3" ∷ codes "t" ∷ codes "A.class" ∷ [] ∷ [] ∷ []) ≡ Err 5)
+    × (command_of (codes "cycle" ∷ codes "--micro" ∷ []) ≡ Err 1)
     × (command_of (codes "check" ∷ codes "i" ∷ codes "b" ∷ codes "c" ∷ []) ≡ Ok (Check usual 1 2 3))
     × (command_of (codes "check" ∷ codes "i" ∷ codes "b" ∷ []) ≡ Err 3)
     × (command_of (codes "loops" ∷ codes "i" ∷ []) ≡ Ok (Loops 1))
@@ -101,3 +126,21 @@ ValueRows =
     × (command_of (codes "bound" ∷ codes "--shapes" ∷ codes "--block-words" ∷ codes "8" ∷ []) ≡ Err 2)
     × (command_of (codes "bound" ∷ codes "--blocks" ∷ codes "8" ∷ codes "--shapes" ∷ []) ≡ Err 3)
     × (command_of (codes "bound" ∷ codes "--block-words" ∷ codes "8" ∷ codes "--shapes" ∷ []) ≡ Err 3)
+    × (command_of
+    (codes "report" ∷ codes "--read" ∷ codes "0" ∷ codes "--method" ∷ codes "A.a()V" ∷ codes "--blocks" ∷ codes "8" ∷ codes "i" ∷ codes "b" ∷ [])
+    ≡ Ok (Report (record usual { blocks = 8; read = 0 }) 4 7 8))
+    × (command_of (codes "report" ∷ codes "--method" ∷ codes "A.a()V" ∷ codes "--method" ∷ codes "A.a()V" ∷ []) ≡ Err 3)
+    × (command_of (codes "plan" ∷ codes "--rounds" ∷ codes "0" ∷ codes "t" ∷ codes "b" ∷ codes "A.class" ∷ []) ≡ Err 2)
+    × (command_of (codes "plan" ∷ codes "--rounds" ∷ codes "32768" ∷ codes "t" ∷ codes "b" ∷ codes "A.class" ∷ []) ≡ Err 2)
+    × (command_of (codes "plan" ∷ codes "--rounds" ∷ codes "x" ∷ codes "t" ∷ codes "b" ∷ codes "A.class" ∷ []) ≡ Err 2)
+    × (command_of (codes "plan" ∷ codes "--rounds" ∷ codes "1" ∷ codes "--rounds" ∷ codes "1" ∷ []) ≡ Err 3)
+    × (command_of
+    (codes "plan" ∷ codes "--block-words" ∷ codes "8" ∷ codes "--rounds" ∷ codes "32767" ∷ codes "--write" ∷ codes "3" ∷ codes "t" ∷ codes "b" ∷ codes "A.class"
+    ∷ [])
+    ≡ Ok (Plan (record usual { block_words = 8; write = 3 }) 32767 7 8 9))
+    × (command_of
+    (codes "cycle" ∷ codes "--rounds" ∷ codes "1" ∷ codes "--cycles" ∷ codes "5" ∷ codes "--stack" ∷ codes "256" ∷ codes "t" ∷ codes "A.class" ∷ [])
+    ≡ Ok (Cycle (record usual { cycles = 5; stack = 256 }) 1 7 8))
+    × (command_of (codes "cycle" ∷ codes "--rounds" ∷ codes "01" ∷ codes "t" ∷ codes "A.class" ∷ []) ≡ Err 2)
+    × (command_of (codes "cycle" ∷ codes "--rounds" ∷ []) ≡ Err 2)
+    × (command_of (codes "cycle" ∷ codes "--memory" ∷ codes "15" ∷ []) ≡ Err 2)

@@ -3,9 +3,9 @@ use Rattle.std.specs.Prelude.{ℕ, ◌-◌, ◌^◌, Bool, ◌==◌, if◌then�
 use Rattle.std.specs.declared.option.Option.{Option}
 use Rattle.std.specs.List.{find, list_any}
 use Rattle.command_line.specs.declared.table.Verb.{Verb}
-use Rattle.command_line.specs.declared.table.Verb.TheVariants.{Link, Run, Trace, Profile, Bound, Check, Loops, Headers, Need, Asm, Work}
+use Rattle.command_line.specs.declared.table.Verb.TheVariants.{Link, Run, Trace, Profile, Bound, Report, Plan, Cycle, Check, Loops, Headers, Need, Asm, Work}
 use Rattle.command_line.specs.declared.table.Name.{Name}
-use Rattle.command_line.specs.declared.table.Name.TheVariants.{Main, Method, All, Shapes, Cycles, Stack, Memory, Blocks, BlockWords, Read, Write, Micro}
+use Rattle.command_line.specs.declared.table.Name.TheVariants.{Main, Method, All, Shapes, Cycles, Stack, Memory, Blocks, BlockWords, Read, Write, Micro, Rounds}
 
 -- ---- options
 
@@ -22,9 +22,10 @@ name_word BlockWords = codes "--block-words"
 name_word Read = codes "--read"
 name_word Write = codes "--write"
 name_word Micro = codes "--micro"
+name_word Rounds = codes "--rounds"
 
 abbrev pub all_names : List Name
-all_names = Main ∷ Method ∷ All ∷ Shapes ∷ Cycles ∷ Stack ∷ Memory ∷ Blocks ∷ BlockWords ∷ Read ∷ Write ∷ Micro ∷ []
+all_names = Main ∷ Method ∷ All ∷ Shapes ∷ Cycles ∷ Stack ∷ Memory ∷ Blocks ∷ BlockWords ∷ Read ∷ Write ∷ Micro ∷ Rounds ∷ []
 
 -- the place of an option among all
 abbrev pub place_of : Name → ℕ
@@ -40,6 +41,7 @@ place_of BlockWords = 8
 place_of Read = 9
 place_of Write = 10
 place_of Micro = 11
+place_of Rounds = 12
 
 abbrev pub same_name : Name → Name → Bool
 same_name a b = place_of a == place_of b
@@ -73,6 +75,7 @@ value_of_name BlockWords = ANumber 1 1024
 value_of_name Read = ANumber 0 63
 value_of_name Write = ANumber 0 63
 value_of_name Micro = Nothing
+value_of_name Rounds = ANumber 1 32767
 
 -- what is meant where an option isn't given
 abbrev pub usual : Name → ℕ
@@ -93,6 +96,9 @@ verb_word Run = codes "run"
 verb_word Trace = codes "trace"
 verb_word Profile = codes "profile"
 verb_word Bound = codes "bound"
+verb_word Report = codes "report"
+verb_word Plan = codes "plan"
+verb_word Cycle = codes "cycle"
 verb_word Check = codes "check"
 verb_word Loops = codes "loops"
 verb_word Headers = codes "headers"
@@ -101,7 +107,7 @@ verb_word Asm = codes "asm"
 verb_word Work = codes "work"
 
 abbrev pub all_verbs : List Verb
-all_verbs = Link ∷ Run ∷ Trace ∷ Profile ∷ Bound ∷ Check ∷ Loops ∷ Headers ∷ Need ∷ Asm ∷ Work ∷ []
+all_verbs = Link ∷ Run ∷ Trace ∷ Profile ∷ Bound ∷ Report ∷ Plan ∷ Cycle ∷ Check ∷ Loops ∷ Headers ∷ Need ∷ Asm ∷ Work ∷ []
 
 -- the four that a bound depends on
 abbrev pub bound_names : List Name
@@ -116,6 +122,9 @@ names_of Run = run_names
 names_of Trace = Micro ∷ run_names
 names_of Profile = run_names
 names_of Bound = Method ∷ All ∷ Shapes ∷ bound_names
+names_of Report = Method ∷ bound_names
+names_of Plan = Rounds ∷ bound_names
+names_of Cycle = Rounds ∷ run_names
 names_of Check = bound_names
 names_of Loops = []
 names_of Headers = []
@@ -127,21 +136,27 @@ names_of Work = []
 abbrev pub required_of : Verb → List (List Name)
 required_of Link = (Main ∷ []) ∷ []
 required_of Bound = (Method ∷ All ∷ []) ∷ []
+required_of Report = (Method ∷ []) ∷ []
+required_of Plan = (Rounds ∷ []) ∷ []
+required_of Cycle = (Rounds ∷ []) ∷ []
 required_of verb = []
 
--- what operands a command has: so many, one to so many, one or more, or a number from one to another
+-- what operands a command has: so many, one to so many, so many or more, or a number from one to another
 pub data Operands : Type 0 where
   Exactly : ℕ → Operands
   AtMost : ℕ → Operands
-  OneOrMore : Operands
+  AtLeast : ℕ → Operands
   Number : (from to : ℕ) → Operands
 
 abbrev pub operands_of : Verb → Operands
-operands_of Link = OneOrMore
+operands_of Link = AtLeast 1
 operands_of Run = Exactly 1
 operands_of Trace = Exactly 1
 operands_of Profile = Exactly 2
 operands_of Bound = Exactly 2
+operands_of Report = Exactly 2
+operands_of Plan = AtLeast 3
+operands_of Cycle = AtLeast 2
 operands_of Check = Exactly 3
 operands_of Loops = Exactly 1
 operands_of Headers = AtMost 2

@@ -61,6 +61,28 @@ pub enum Command {
         image: u32,
         bounds: u32,
     },
+    /// Where the bound of a method comes from, by lines of the source.
+    Report {
+        settings: Settings,
+        method: u32,
+        image: u32,
+        bounds: u32,
+    },
+    /// Whether the bound of each slot's method fits the slot, of a table of slots; the class files are the words from `first` on.
+    Plan {
+        settings: Settings,
+        rounds: u32,
+        table: u32,
+        bounds: u32,
+        first: u32,
+    },
+    /// So many rounds of a table of slots are run; the class files are the words from `first` on.
+    Cycle {
+        settings: Settings,
+        rounds: u32,
+        table: u32,
+        first: u32,
+    },
     Check {
         settings: Settings,
         image: u32,

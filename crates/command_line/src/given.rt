@@ -23,6 +23,7 @@ pub(crate) struct Given {
     pub(crate) read: Option<u32>,
     pub(crate) write: Option<u32>,
     pub(crate) micro: Option<u32>,
+    pub(crate) rounds: Option<u32>,
 }
 
 /// Where none is given.
@@ -39,6 +40,7 @@ pub(crate) const NONE_GIVEN: Given = Given {
     read: None,
     write: None,
     micro: None,
+    rounds: None,
 };
 
 /// The number from one to another that a word gives.
@@ -85,6 +87,7 @@ pub(crate) fn meaning(name: Name, k: u32, word: &str) -> Option<u64>
         Name::Blocks => number_from(1, 256, word),
         Name::BlockWords => number_from(1, 1024, word),
         Name::Read | Name::Write => number_from(0, 63, word),
+        Name::Rounds => number_from(1, 32_767, word),
         Name::Micro | Name::All | Name::Shapes => None,
     }
 }
@@ -107,6 +110,7 @@ impl Given {
             Name::Read => self.read.is_some(),
             Name::Write => self.write.is_some(),
             Name::Micro => self.micro.is_some(),
+            Name::Rounds => self.rounds.is_some(),
         }
     }
 
@@ -139,6 +143,7 @@ impl Given {
             Name::Read => made.read = Some(n as u32),
             Name::Write => made.write = Some(n as u32),
             Name::Micro => made.micro = Some(n as u32),
+            Name::Rounds => made.rounds = Some(n as u32),
         }
         made
     }
@@ -150,6 +155,8 @@ impl Given {
         match verb {
             Verb::Link => self.main.is_some(),
             Verb::Bound => self.method.is_some() || self.all.is_some(),
+            Verb::Report => self.method.is_some(),
+            Verb::Plan | Verb::Cycle => self.rounds.is_some(),
             Verb::Run
             | Verb::Trace
             | Verb::Profile

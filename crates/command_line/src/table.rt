@@ -11,6 +11,9 @@ pub(crate) enum Verb {
     Trace,
     Profile,
     Bound,
+    Report,
+    Plan,
+    Cycle,
     Check,
     Loops,
     Headers,
@@ -35,6 +38,7 @@ pub(crate) enum Name {
     Read,
     Write,
     Micro,
+    Rounds,
 }
 
 /// The command that a word names.
@@ -51,6 +55,12 @@ pub(crate) fn verb_named(word: &str) -> Option<Verb>
         Some(Verb::Profile)
     } else if word == "bound" {
         Some(Verb::Bound)
+    } else if word == "report" {
+        Some(Verb::Report)
+    } else if word == "plan" {
+        Some(Verb::Plan)
+    } else if word == "cycle" {
+        Some(Verb::Cycle)
     } else if word == "check" {
         Some(Verb::Check)
     } else if word == "loops" {
@@ -96,6 +106,8 @@ fn name_named(word: &str) -> Option<Name>
         Some(Name::Write)
     } else if word == "--micro" {
         Some(Name::Micro)
+    } else if word == "--rounds" {
+        Some(Name::Rounds)
     } else {
         None
     }
@@ -110,6 +122,9 @@ fn has_name(verb: Verb, name: Name) -> bool
         Verb::Run | Verb::Profile => is_of_run(name),
         Verb::Trace => matches!(name, Name::Micro) || is_of_run(name),
         Verb::Bound => matches!(name, Name::Method | Name::All | Name::Shapes) || is_of_bound(name),
+        Verb::Report => matches!(name, Name::Method) || is_of_bound(name),
+        Verb::Plan => matches!(name, Name::Rounds) || is_of_bound(name),
+        Verb::Cycle => matches!(name, Name::Rounds) || is_of_run(name),
         Verb::Check => is_of_bound(name),
         Verb::Loops | Verb::Headers | Verb::Need | Verb::Asm | Verb::Work => false,
     }

@@ -1,10 +1,10 @@
 //! The command that the words give.
 ghost use Rattle.std.specs.Prelude.{◌≡◌, ◌+◌, ◌<◌, ◌≤◌, ◌^◌, ◌∷◌, length, IfOk};
-ghost use Rattle.command_line.specs.Command.{texts, is_option, none_given, exactly_at, at_most_at, empty_at, made, operands_at, operands_stop};
+ghost use Rattle.command_line.specs.Command.{texts, is_option, none_given, exactly_at, at_most_at, at_least_at, made, operands_at, operands_stop};
 ghost use Rattle.command_line.specs.Command.{operand_number, least_operands, words_at, command_of};
 ghost use Rattle.command_line.specs.Given.{values_of};
 ghost use Rattle.command_line.specs.Range.{AreInRange, AreThere, OperandsFollow};
-ghost use Rattle.command_line.specs.Table.{operands_of};
+ghost use Rattle.command_line.specs.Table.{Number, operands_of};
 
 use crate::command::Command;
 use crate::given::{Given, NONE_GIVEN, meaning, number_from};
@@ -100,26 +100,13 @@ fn operands_stop(verb: Verb, k: u32, operand: &str, rest: &[&str]) -> Option<u32
     ensures enough { result ≡ None → least_operands (operands_of verb) ≤ 1 + length rest.now }
 {
     match verb {
-        Verb::Work => match number_from(1, 1000, operand) {
-            Some(_) => { if rest.is_empty() { None } else { Some(k + 1) } }
-            None => Some(k),
-        },
-        Verb::Link => {
-            if operand.is_empty() {
-                Some(k)
-            } else {
-                first_empty(k + 1, rest)
-            }
-        }
+        Verb::Work => one_number(k, operand, rest),
+        Verb::Link => at_least(k, 1, operand, rest),
+        Verb::Cycle => at_least(k, 2, operand, rest),
+        Verb::Plan => at_least(k, 3, operand, rest),
         Verb::Run | Verb::Trace | Verb::Loops | Verb::Asm => exactly(k, 1, operand, rest),
-        Verb::Profile | Verb::Bound => exactly(k, 2, operand, rest),
-        Verb::Headers => {
-            if operand.is_empty() {
-                Some(k)
-            } else {
-                past_most(k + 1, 1, rest)
-            }
-        }
+        Verb::Profile | Verb::Bound | Verb::Report => exactly(k, 2, operand, rest),
+        Verb::Headers => at_most(k, 2, operand, rest),
         Verb::Check | Verb::Need => exactly(k, 3, operand, rest),
     }
 }
@@ -140,10 +127,24 @@ fn operand_number(verb: Verb, operand: &str, rest: &[&str]) -> u32
         | Verb::Trace
         | Verb::Profile
         | Verb::Bound
+        | Verb::Report
+        | Verb::Plan
+        | Verb::Cycle
         | Verb::Check
         | Verb::Loops
         | Verb::Need
         | Verb::Asm => 0,
+    }
+}
+
+/// The first word at which the operands aren't one number from 1 to 1000; word `k` is the first of them.
+fn one_number(k: u32, operand: &str, rest: &[&str]) -> Option<u32>
+    requires { k + 1 + length rest.now < 2 ^ 32 }
+    ensures { result ≡ operands_stop (Number 1 1000) k operand.now (texts rest.now) }
+{
+    match number_from(1, 1000, operand) {
+        Some(_) => { if rest.is_empty() { None } else { Some(k + 1) } }
+        None => Some(k),
     }
 }
 
@@ -179,6 +180,19 @@ fn no_operand(k: u32, count: u32, words: &[&str]) -> Option<u32>
     if left == 0 { None } else { Some(at) }
 }
 
+/// The first word at which the operands aren't so many at most, of which none is empty; word `k` is the first of them.
+fn at_most(k: u32, count: u32, operand: &str, rest: &[&str]) -> Option<u32>
+    requires some { 0 < count }
+    requires few { k + 1 + length rest.now < 2 ^ 32 }
+    ensures { result ≡ at_most_at k count (operand.now ∷ texts rest.now) }
+{
+    if operand.is_empty() {
+        Some(k)
+    } else {
+        past_most(k + 1, count - 1, rest)
+    }
+}
+
 /// The first of these words, from word `k` on, that is one too many, or is empty.
 fn past_most(k: u32, count: u32, words: &[&str]) -> Option<u32>
     requires { k + length words.now < 2 ^ 32 }
@@ -196,19 +210,36 @@ fn past_most(k: u32, count: u32, words: &[&str]) -> Option<u32>
     None
 }
 
-/// The first of these words, from word `k` on, that is empty.
-fn first_empty(k: u32, words: &[&str]) -> Option<u32>
+/// The first word at which the operands aren't so many or more, of which none is empty; word `k` is the first of them.
+fn at_least(k: u32, count: u32, operand: &str, rest: &[&str]) -> Option<u32>
+    requires some { 0 < count }
+    requires few { k + 1 + length rest.now < 2 ^ 32 }
+    ensures exact { result ≡ at_least_at k count (operand.now ∷ texts rest.now) }
+    ensures enough { result ≡ None → count ≤ 1 + length rest.now }
+{
+    if operand.is_empty() {
+        Some(k)
+    } else {
+        too_few(k + 1, count - 1, rest)
+    }
+}
+
+/// The first of these words, from word `k` on, that is empty, or where they end if they are too few.
+fn too_few(k: u32, count: u32, words: &[&str]) -> Option<u32>
     requires { k + length words.now < 2 ^ 32 }
-    ensures { result ≡ empty_at k (texts words.now) }
+    ensures exact { result ≡ at_least_at k count (texts words.now) }
+    ensures enough { result ≡ None → count ≤ length words.now }
 {
     let mut at = k;
+    let mut left = count;
     for word in words {
         if word.is_empty() {
             return Some(at);
         }
         at += 1;
+        left = left.saturating_sub(1);
     }
-    None
+    if left == 0 { None } else { Some(at) }
 }
 
 /// The command whose first operand is word `k`; `count` is the number that it is, or how many operands there are.
@@ -236,12 +267,10 @@ fn made(verb: Verb, given: &Given, k: u32, count: u32) -> Command
             bounds: k + 1,
         },
         Verb::Bound => bound(given, k),
-        Verb::Check => Command::Check {
-            settings: given.settings(),
-            image: k,
-            bounds: k + 1,
-            certificate: k + 2,
-        },
+        Verb::Report => report(given, k),
+        Verb::Plan => plan(given, k),
+        Verb::Cycle => cycle(given, k),
+        Verb::Check => check(given, k),
         Verb::Loops => Command::Loops { image: k },
         Verb::Headers => Command::Headers {
             image: k,
@@ -282,5 +311,58 @@ fn bound(given: &Given, k: u32) -> Command
             image: k,
             bounds: k + 1,
         }
+    }
+}
+
+/// The report of a method's bound; word `k` is the image.
+fn report(given: &Given, k: u32) -> Command
+    requires { k + 1 < 2 ^ 32 }
+    ensures { result ≡ made Verb.Report (values_of given.now) k 0 }
+{
+    Command::Report {
+        settings: given.settings(),
+        method: given.method.unwrap_or(0),
+        image: k,
+        bounds: k + 1,
+    }
+}
+
+/// The plan of a table of slots, which is word `k`.
+fn plan(given: &Given, k: u32) -> Command
+    requires { k + 2 < 2 ^ 32 }
+    ensures { result ≡ made Verb.Plan (values_of given.now) k 0 }
+{
+    Command::Plan {
+        settings: given.settings(),
+        rounds: given.rounds.unwrap_or(0),
+        table: k,
+        bounds: k + 1,
+        first: k + 2,
+    }
+}
+
+/// The rounds of a table of slots, which is word `k`.
+fn cycle(given: &Given, k: u32) -> Command
+    requires { k + 1 < 2 ^ 32 }
+    ensures { result ≡ made Verb.Cycle (values_of given.now) k 0 }
+{
+    Command::Cycle {
+        settings: given.settings(),
+        rounds: given.rounds.unwrap_or(0),
+        table: k,
+        first: k + 1,
+    }
+}
+
+/// The check of a certificate; word `k` is the image.
+fn check(given: &Given, k: u32) -> Command
+    requires { k + 2 < 2 ^ 32 }
+    ensures { result ≡ made Verb.Check (values_of given.now) k 0 }
+{
+    Command::Check {
+        settings: given.settings(),
+        image: k,
+        bounds: k + 1,
+        certificate: k + 2,
     }
 }

@@ -1,10 +1,11 @@
 -- The plan of the executive is right, and its code calls the slots.
-use Rattle.std.proofs.Common.{◌≡◌, ℕ, suc, ◌+◌, ◌-◌, ◌*◌, ◌/◌, ◌%◌, ◌^◌, ◌<◌, ◌≤◌, nat_lt, ◌&&◌, Bool, true, false, cond, List, [], ◌∷◌, ◌++◌, length, map, None, refl, sym, ap, ◌∙◌, subst, arith, lit<, lit≤, inl, inr, append_assoc, append-nil}
-use Rattle.std.specs.Prelude.{codes}
+use Rattle.std.proofs.Common.{◌≡◌, ℕ, zero, suc, ◌+◌, ◌-◌, ◌*◌, ◌/◌, ◌%◌, ◌^◌, ◌<◌, ◌≤◌, nat_lt, ◌&&◌, Bool, true, false, cond, List, [], ◌∷◌, ◌++◌, length, map, take, drop, None, refl, sym, ap, ◌∙◌, subst, arith, lit<, lit≤, inl, inr, append_assoc, append-nil}
+use Rattle.std.specs.Prelude.{codes, slice_get, Some}
 use Rattle.std.specs.List.{list_all, flat_map, AllByRecursion}
 use Rattle.std.proofs.Math.Nat.{mod-lt}
 use Rattle.std.proofs.lemmas.Bool.{ltb-true}
 use Rattle.std.proofs.lemmas.List.{length-append, length-map}
+use Rattle.lists.specs.Lemmas.{none≢some, some_same}
 use Rattle.lists.specs.Tests.{and_left, and_right}
 use Rattle.class_pool.specs.Utf8.{utf8_bytes, AreUnits}
 use Rattle.class_pool.specs.Spelling.{u2}
@@ -22,7 +23,7 @@ use Rattle.class_making.specs.Right.{IsPoolText, IsRightMention, code_length, Is
 use Rattle.class_making.specs.Laws.{PlansAreClasses, ClassesSayPlans, PlansHaveBytes, ItemsAreFew}
 use Rattle.slot_table.specs.declared.slot.Slot.{Slot}
 use Rattle.slot_table.specs.Slots.{IsRightSlot, AreRightSlots, IsTable}
-use Rattle.slot_table.specs.Executive.{front_bytes, back_bytes, bytes_in, method_of, call_of, main_pieces, frames_bytes, main_code, main_method, executive_plan, executive_of}
+use Rattle.slot_table.specs.Executive.{call_place, front_bytes, back_bytes, bytes_in, method_of, call_of, main_pieces, frames_bytes, main_code, main_method, executive_plan, executive_of}
 use Rattle.slot_table.specs.Laws.{ExecutiveIsAClass, call_bytes, ExecutiveCallsSlots}
 
 -- ---- texts
@@ -281,10 +282,30 @@ code_is slots rounds =
     ∙ ap (λ (xs : List ℕ). front_bytes rounds n ++ xs) (spelled_calls slots rounds slots (bytes_in (back_bytes n)) ∙ ap (λ (xs : List ℕ). flat_map (call_bytes slots rounds) slots ++ xs) (only_spelled items (back_bytes n)))
     ∙ sym (append_assoc (front_bytes rounds n) (flat_map (call_bytes slots rounds) slots) (back_bytes n))
 
+-- the call of each slot stands behind those of the slots before it
+calls_at : (table : List Slot) (rounds : ℕ) (slots : List Slot) (k : ℕ) (s : Slot) (rest : List ℕ) → slice_get slots k ≡ Some s
+    → take 3 (drop (3 * k) (flat_map (call_bytes table rounds) slots ++ rest)) ≡ call_bytes table rounds s
+calls_at table rounds [] k s rest there = absurd (none≢some s there)
+calls_at table rounds (x ∷ slots) zero s rest there = ap (call_bytes table rounds) (some_same x s there)
+calls_at table rounds (x ∷ slots) (suc k) s rest there =
+    let behind : 3 * suc k ≡ suc (suc (suc (3 * k))) = omega arith in
+    ap (λ (n : ℕ). take 3 (drop n (call_bytes table rounds x ++ flat_map (call_bytes table rounds) slots ++ rest))) behind
+    ∙ ap (λ (xs : List ℕ). take 3 (drop (suc (suc (suc (3 * k)))) xs)) (append_assoc (call_bytes table rounds x) (flat_map (call_bytes table rounds) slots) rest)
+    ∙ calls_at table rounds slots k s rest there
+
+placed : (slots : List Slot) (rounds k : ℕ) (s : Slot) → slice_get slots k ≡ Some s
+    → take 3 (drop (call_place k) (front_bytes rounds (length slots) ++ flat_map (call_bytes slots rounds) slots ++ back_bytes (length slots))) ≡ call_bytes slots rounds s
+placed slots rounds k s there =
+    let front : List ℕ = front_bytes rounds (length slots) in
+    let calls : List ℕ = flat_map (call_bytes slots rounds) slots in
+    let back : List ℕ = back_bytes (length slots) in
+    let behind : call_place k ≡ suc (suc (suc (suc (suc (suc (suc (suc (suc (3 * k))))))))) = omega arith in
+    ap (λ (xs : List ℕ). take 3 (drop (call_place k) xs)) (append_assoc front calls back) ∙ ap (λ (n : ℕ). take 3 (drop n (front ++ (calls ++ back)))) behind ∙ calls_at slots rounds slots k s back there
+
 methods_are : (slots : List Slot) (rounds : ℕ) → (executive_of slots rounds).methods ≡ method_in (items_in slots rounds) (main_method slots rounds) ∷ []
 unfolding executive_of executive_plan class_of
 methods_are slots rounds = refl
 
 pub calls_slots : ExecutiveCallsSlots
 calls_slots slots rounds =
-    (method_in (items_in slots rounds) (main_method slots rounds), methods_are slots rounds, record { code = code_is slots rounds; max_stack = refl; max_locals = refl; handlers = refl })
+    (method_in (items_in slots rounds) (main_method slots rounds), methods_are slots rounds, record { code = code_is slots rounds; calls = λ k s there. ap (λ (xs : List ℕ). take 3 (drop (call_place k) xs)) (code_is slots rounds) ∙ placed slots rounds k s there; max_stack = refl; max_locals = refl; handlers = refl })

@@ -34,7 +34,10 @@ method_of s = Method s.class s.method (codes "()V")
 abbrev pub call_of : Slot → List Piece
 call_of s = Byte 0xB8 ∷ Index (method_of s) ∷ []
 
--- the call of slot k stands at place 9 + 3 * k
+-- where the call of a slot stands in the code, in bytes
+abbrev pub call_place : (slot : ℕ) → ℕ
+call_place slot = 9 + 3 * slot
+
 abbrev pub main_pieces : List Slot → (rounds : ℕ) → List Piece
 main_pieces slots rounds = bytes_in (front_bytes rounds (length slots)) ++ flat_map call_of slots ++ bytes_in (back_bytes (length slots))
 

@@ -1,5 +1,5 @@
 -- What the laws of tables and executives say.
-use Rattle.std.specs.Prelude.{◌≡◌, ℕ, ◌⊎◌, List, [], ◌∷◌, ◌++◌, length, IsSomeAnd}
+use Rattle.std.specs.Prelude.{◌≡◌, ℕ, ◌⊎◌, List, [], ◌∷◌, ◌++◌, length, take, drop, slice_get, Some, IsSomeAnd}
 use Rattle.std.specs.List.{flat_map}
 use Rattle.class_pool.specs.Spelling.{u2}
 use Rattle.class_pool.specs.declared.class.Code.{Code as CodeParts}
@@ -14,7 +14,7 @@ use Rattle.slot_table.specs.declared.table.TableFault.{TableFault}
 use Rattle.slot_table.specs.declared.table.TableFault.TheVariants.{NoMemory}
 use Rattle.slot_table.specs.Slots.{IsTable}
 use Rattle.slot_table.specs.Grammar.{IsRead, IsRefused}
-use Rattle.slot_table.specs.Executive.{front_bytes, back_bytes, method_of, executive_plan, executive_of}
+use Rattle.slot_table.specs.Executive.{call_place, front_bytes, back_bytes, method_of, executive_plan, executive_of}
 
 -- ---- texts
 
@@ -49,9 +49,10 @@ index_in slots rounds s = index_of (items_of (executive_plan slots rounds)) (met
 abbrev pub call_bytes : List Slot → (rounds : ℕ) → Slot → List ℕ
 call_bytes slots rounds s = 0xB8 ∷ u2 (index_in slots rounds s)
 
--- The code of main, and its one attribute, the table of frames.
+-- The code of main, where the calls of the slots stand in it, and its limits.
 pub record IsMainCode (slots : List Slot) (rounds : ℕ) (k : CodeParts) : Type 0 where
   pub code : k.code ≡ front_bytes rounds (length slots) ++ flat_map (call_bytes slots rounds) slots ++ back_bytes (length slots)
+  pub calls : (number : ℕ) (s : Slot) → slice_get slots number ≡ Some s → take 3 (drop (call_place number) k.code) ≡ call_bytes slots rounds s
   pub max_stack : k.max_stack ≡ 2
   pub max_locals : k.max_locals ≡ 2
   pub handlers : k.handlers ≡ []

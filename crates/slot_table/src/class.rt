@@ -2,9 +2,11 @@
 ghost use Rattle.std.specs.Prelude.{◌≡◌, ◌≤◌, ◌/◌, ◌%◌, ◌^◌, ◌++◌, length, IfOk, OnOk};
 ghost use Rattle.std.specs.List.{flat_map};
 ghost use Rattle.class_making.specs.Plans.{items_of, class_of};
+ghost use Rattle.class_rules.specs.Grammar.{IsClass};
 ghost use Rattle.slot_table.specs.Executive.{front_bytes, back_bytes, frames_bytes, bytes_in, method_of, call_of, main_pieces};
 ghost use Rattle.slot_table.specs.Executive.{main_code, main_method, executive_plan, executive_of};
 
+use crate::laws::executive_is_a_class;
 use crate::slot::Slot;
 use crate::table::SlotTable;
 use base::{Items, NoMemory};
@@ -186,9 +188,12 @@ fn made(alloc: Global, plan: &ClassPlan) -> Result<ClassFile, NoMemory>
 pub fn executive(alloc: Global, table: &SlotTable, rounds: u32) -> Result<ClassFile, NoMemory>
     requires some { 1 ≤ rounds }
     requires few { rounds ≤ 32767 }
-    ensures { IfOk result (λ class. class ≡ executive_of table.now rounds) }
+    ensures class { IfOk result (λ class. class ≡ executive_of table.now rounds) }
+    ensures right { IfOk result IsClass }
 {
+    // The laws are for the proof.
     items_are_few();
+    executive_is_a_class();
     let plan = executive_plan(alloc, table.slots(), rounds as u16)?;
     made(alloc, &plan)
 }

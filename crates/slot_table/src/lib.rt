@@ -6,6 +6,7 @@
 #![tactic(auto)]
 
 mod class;
+mod file;
 pub mod laws;
 mod line;
 mod name;
@@ -14,5 +15,6 @@ mod table;
 mod units;
 
 pub use class::executive;
+pub use file::executive_file;
 pub use slot::Slot;
 pub use table::{SlotTable, TableFault, read_table};

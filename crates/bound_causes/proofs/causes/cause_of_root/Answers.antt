@@ -7,7 +7,7 @@ use Rattle.call_regions.proofs.Sorting.{if_err}
 use Rattle.bound_rules.specs.declared.faults.BoundRefusal.{BoundRefusal}
 use Rattle.bound_causes.specs.Causes.{IsRootCause}
 use Rattle.bound_causes.proofs.Telling.{sorted_methods, no_recursion, of_calls, of_loops}
-use Rattle.bound_causes.proofs.causes.ready.Goals as goal
+use Rattle.bound_causes.proofs.causes.cause_of_root.Goals as goal
 
 pub returns-in_err-order-clause-cause : goal.returns-in_err-order-clause-cause
 returns-in_err-order-clause-cause c =
