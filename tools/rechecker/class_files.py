@@ -3,11 +3,12 @@ import struct
 
 
 class Class:
-    """a class: its pool of entries (tag, ..) by index, flags, names, fields and methods"""
+    """a class: its pool of entries (tag, ..) by index, flags, names, fields, methods, and the names and bytes of its attributes"""
 
     def __init__(self):
         self.pool = [None]
         self.major = 52
+        self.attributes = []
 
 
 def read_class(data):
@@ -71,6 +72,7 @@ def read_class(data):
         return found
     c.fields = members()
     c.methods = members()
+    c.attributes = attributes()
     return c
 
 
@@ -80,7 +82,7 @@ def read_code(b):
     at = 8 + n
     k = int.from_bytes(b[at:at + 2], 'big')
     handlers = [struct.unpack('>HHHH', b[at + 2 + 8 * i:at + 10 + 8 * i]) for i in range(k)]
-    return {'stack': stack, 'locals': local, 'code': code, 'handlers': handlers}
+    return {'stack': stack, 'locals': local, 'code': code, 'handlers': handlers, 'attributes': b[at + 2 + 8 * k:]}
 
 
 def class_name(c, index):

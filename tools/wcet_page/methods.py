@@ -1,0 +1,181 @@
+"""The methods of a program: their bounds, certificates, reports, and why one has no bound. Not proved: a tool."""
+import os
+import re
+
+from rechecker.texts import read_certificate
+
+from . import answers
+from .answers import figure
+from .classes import digest
+
+IMAGE, BOUNDS, FOLDER = "wcet.jopi", "wcet.bounds", "certificates"
+
+
+class Bounded:
+    """what `bound`, `check`, `report` and tools/recheck say of methods; `asked` are those that are asked for, `shown` also all that they may run"""
+
+    def __init__(self, study):
+        self.study, self.jop, self.told, self.methods = study, study.jop, study.told, study.methods
+        self.program = self.methods.program
+        answer = self.jop.call("bound", "--all", IMAGE, BOUNDS)
+        self.said = answers.all_bounds(answer)
+        if answer.status:
+            self.tell_refusal(answer)
+        self.asked = self.those_asked() if self.said else []
+        self.within = set(self.program.within(self.asked))
+        self.shown = sorted(m for m in self.within if self.methods.is_own(m))
+        self.causes = {}
+        if not study.kept:
+            os.makedirs(os.path.join(study.folder, FOLDER), exist_ok=True)
+            clear(os.path.join(study.folder, FOLDER))
+
+    def tell_refusal(self, answer):
+        """tells why nothing is bounded: at the method whose code doesn't fit the cache, where it is that"""
+        long = re.fullmatch(r"method too long (\S+) .*", answer.line)
+        m = self.methods.number.get(long[1]) if long else None
+        self.told.error(f"{answer.command}: {answer.line}", *self.study.shown(None if m is None else self.methods.at(m)))
+
+    def those_asked(self):
+        """the methods that are asked for: those that are named, else those of the class files that may run"""
+        if not self.study.asked.methods:
+            return [m for m in self.program.within([self.methods.boot]) if self.methods.is_own(m)]
+        found = []
+        for name in self.study.asked.methods:
+            if name in self.said:
+                found.append(self.methods.number[name])
+            else:
+                self.told.error(f"no method {name}")
+        return found
+
+    def listed(self):
+        """all methods but the one that starts the program: those of the class files first"""
+        every = [m for m, name in enumerate(self.methods.names) if name in self.said]
+        return sorted(every, key=lambda m: (not self.methods.is_own(m), m))
+
+    # ---- a method
+
+    def method(self, m):
+        """a method as it goes into the record"""
+        name = self.methods.names[m]
+        bound, cause = self.said[name]
+        file, line = self.methods.at(m) or (None, None)
+        found = {"method": name, "number": m, "file": file, "line": line, "lines": self.methods.lines(m), "own": self.methods.is_own(m),
+                 "asked": m in self.asked, "within": m in self.within, "bound": bound, "cause": cause, "seen": [], "checked": False}
+        if m in self.shown:
+            found["calls"] = self.calls(m)
+            if bound["value"] != "none":
+                self.certify(found)
+            elif cause == "recursion":
+                self.causes[m] = self.jop.call("bound", "--method", name, IMAGE, BOUNDS).line
+        return found
+
+    def calls(self, m):
+        """the methods that each invoke may run, with its line"""
+        found = []
+        for place, targets in sorted(self.program.called[m].items()):
+            at = self.methods.at(m, place)
+            found += [{"method": self.methods.names[t], "number": t, "place": place, "line": at[1] if at else None} for t in targets]
+        return found
+
+    def certify(self, found):
+        """a certificate, what both checkers say of it, and where its number comes from"""
+        name, path = found["method"], f"{FOLDER}/{found['number']}.cert"
+        made = self.jop.call("bound", "--method", name, IMAGE, BOUNDS)
+        file = os.path.join(self.study.folder, path)
+        if not self.study.kept:
+            with open(file, "wb") as put:
+                put.write(made.out)
+        elif not os.path.isfile(file):
+            self.told.error(f"{path}: not found")
+            return
+        with open(file, "rb") as kept:
+            text = kept.read()
+        found["certificate"] = {"path": path, "sha256": digest(text), "command": f"{made.command} > {path}", "line": last_line(text)}
+        checks = [self.jop.call("check", IMAGE, BOUNDS, path), self.jop.recheck(IMAGE, BOUNDS, path)]
+        found["checks"] = [{"command": each.command, "line": each.line} for each in checks]
+        self.settle(found, checks)
+        found["turns"] = turns_of(text, found["number"])
+        found["report"] = self.report(name)
+
+    def settle(self, found, checks):
+        """whether the bound is that of a certificate that both checkers hold"""
+        wanted = f"holds {found['method']} {found['bound']['value']}"
+        found["checked"] = all(each.status == 0 and each.line == wanted for each in checks)
+        for each in checks:
+            if each.line != wanted:
+                at = self.study.shown((found["file"], found["line"]) if found["file"] else None)
+                self.told.error(f"{each.command}: `{each.line}`, not `{wanted}`", *at)
+
+    def report(self, name):
+        answer = self.jop.call("report", "--method", name, IMAGE, BOUNDS)
+        if answer.status:
+            self.told.error(f"{answer.command}: {answer.line}")
+        return {"command": answer.command, **answers.report(answer)}
+
+    # ---- what lacks
+
+    def tell(self):
+        """tells why methods have no bound"""
+        for loop in self.study.premises.headers.loops:
+            if loop.key() not in self.study.premises.bounds:
+                self.tell_of(self.methods.number[loop.method], loop.place, f"loop without a bound ({loop.method} {loop.place})")
+        for name, nodes in self.study.premises.headers.irreducible:
+            self.tell_of(self.methods.number[name], int(nodes[0].rstrip("r")), f"loop with several entries ({' '.join([name, *nodes])})")
+        for m in self.study.premises.headers.unnamed:
+            self.tell_of(m, 0, f"no line can bound the loops of method {m}: its name holds a space or begins with #")
+        self.tell_rings()
+        for m in self.shown:
+            if self.said[self.methods.names[m]][1].startswith("too large"):
+                self.tell_of(m, 0, f"its number passes 64 bits ({self.methods.names[m]})")
+
+    def tell_of(self, m, place, text):
+        """tells of a place of a method: an error where a method that is asked for may run it"""
+        (self.told.error if m in self.within else self.told.warn)(text, *self.study.shown(self.methods.at(m, place)))
+
+    def tell_rings(self):
+        """tells of each ring of methods, at the line of the first call"""
+        rings = {}
+        for m in sorted(self.causes):
+            names = self.causes[m].split(" ")[2:]
+            rings.setdefault(frozenset(names), names)
+        for names in rings.values():
+            first = self.methods.number[names[0]]
+            target = self.methods.number[names[1 % len(names)]]
+            self.tell_of(first, self.methods.call_place(first, target), f"recursion ({' calls '.join([*names, names[0]])})")
+
+    # ---- shapes
+
+    def shapes(self):
+        """the bound of a method in all shapes: of the first that is named, of main, or of the dearest"""
+        numbers = [(self.said[self.methods.names[m]][0]["value"], m) for m in self.asked]
+        ending = [(value, m) for value, m in numbers if isinstance(value, int)]
+        main = self.methods.number.get(f"{self.study.asked.main.replace('.', '/')}.main([Ljava/lang/String;)V")
+        first = self.asked[:1] if self.study.asked.methods else [main]
+        chosen = first[0] if any(m == first[0] for _, m in ending) else max(ending, default=(0, None))[1]
+        if chosen is None:
+            return None
+        name = self.methods.names[chosen]
+        answer = self.jop.call("bound", "--shapes", "--method", name, IMAGE, BOUNDS, kind="shapes")
+        return {"method": name, "number": chosen, "command": answer.command, "rows": answers.shapes(answer)}
+
+
+def clear(folder):
+    """takes away certificates of an earlier call"""
+    for name in os.listdir(folder):
+        if name.endswith(".cert"):
+            os.remove(os.path.join(folder, name))
+
+
+def last_line(text):
+    return text.decode("latin-1").rstrip("\n").rpartition("\n")[2]
+
+
+def turns_of(text, m):
+    """what a turn of each loop of a method costs at most, as its certificate says, by the place of the header"""
+    read = read_certificate(text.decode("latin-1"))
+    sections = [] if isinstance(read, str) else [each for each in read.sections if each.method == m]
+    found = {}
+    for section in sections:
+        for word, header, cost, _ in section.loops:
+            found[str(header // 2)] = figure(cost, f"{word} {header // 2} {cost}", f"certificates/{m}.cert")
+    return found
