@@ -32,6 +32,7 @@ COMMANDS = {
     'trace --micro': ['trace', '--micro', '--cycles', '3000', 'image'],
     'asm': ['asm', 'text'],
     'bound': ['bound', *ASKED, 'image', 'bounds'],
+    'report': ['report', *ASKED, 'image', 'bounds'],
     'check': ['check', 'image', 'bounds', 'certificate'],
     'work': ['work', '2'],
     'link, refused': ['link', '--main', 'Echo', 'cut.class'],

@@ -159,6 +159,14 @@ class Shaped(Listed):
         return caller.call(['bound', '--shapes', *options.split(), '--method', method, 'image', 'bounds'])
 
 
+class Reported(Listed):
+    """what `report` puts: rows are `program`; then `report`, a title, options, a method and bounds"""
+
+    def asked(self, caller, options, method, bounds):
+        caller.put('bounds', text_of(bounds))
+        return caller.call(['report', *options.split(), '--method', method, 'image', 'bounds'])
+
+
 class Counted(Asked):
     """what `loops` says: a row is `program`"""
 

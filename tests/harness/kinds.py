@@ -26,6 +26,7 @@ KINDS = {
     'bounded': analysis.Bounded(),
     'all_bounded': analysis.AllBounded(),
     'shaped': analysis.Shaped(),
+    'reported': analysis.Reported(),
     'headed': analysis.Headed(),
     'counted': analysis.Counted(),
     'profiled': profiled.Profiled(),

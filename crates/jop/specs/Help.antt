@@ -2,7 +2,8 @@
 use Rattle.std.specs.Prelude.{ℕ, Bool, ◌||◌, if◌then◌else◌, List, [], ◌∷◌, Some, None, codes, bytes_eq}
 use Rattle.std.specs.declared.option.Option.{Option}
 use Rattle.jop.specs.declared.help.Question.{Question}
-use Rattle.jop.specs.declared.help.Question.TheVariants.{Version, Commands, Link, Run, Trace, Profile, Bound, Check, Loops, Headers, Memory, Work, Asm}
+use Rattle.jop.specs.declared.help.Question.TheVariants.{Version, Commands, Link, Run, Trace, Profile, Bound, Report, Plan, Cycle, Check}
+use Rattle.jop.specs.declared.help.Question.TheVariants.{Loops, Headers, Memory, Work, Asm}
 
 abbrev pub is_help : (word : List ℕ) → Bool
 is_help word = bytes_eq word (codes "--help") || bytes_eq word (codes "-h")
@@ -23,6 +24,9 @@ commands =
     ∷ record { word = codes "trace"; question = Trace }
     ∷ record { word = codes "profile"; question = Profile }
     ∷ record { word = codes "bound"; question = Bound }
+    ∷ record { word = codes "report"; question = Report }
+    ∷ record { word = codes "plan"; question = Plan }
+    ∷ record { word = codes "cycle"; question = Cycle }
     ∷ record { word = codes "check"; question = Check }
     ∷ record { word = codes "loops"; question = Loops }
     ∷ record { word = codes "headers"; question = Headers }

@@ -23,6 +23,12 @@ usage:
                                              puts a line for each method, with its bound or why it has none
   jop bound --shapes --method NAME [OPTION VALUE].. IMAGE BOUNDS
                                              puts the bound of a method in each of 99 shapes of the method cache
+  jop report --method NAME [OPTION VALUE].. IMAGE BOUNDS
+                                             puts where a method's bound comes from, by lines of the source
+  jop plan --rounds R [OPTION VALUE].. TABLE BOUNDS CLASSFILE..
+                                             puts what each slot of a cyclic executive takes at most
+  jop cycle --rounds R [OPTION VALUE].. TABLE CLASSFILE..
+                                             runs a cyclic executive, and says how its slots kept their lengths
   jop check [OPTION VALUE].. IMAGE BOUNDS CERTIFICATE
                                              says whether a certificate shows what a method takes at most
   jop loops IMAGE                            puts the bounds of the loops that count
@@ -161,6 +167,88 @@ example:
   $ jop bound --method 'Mean.step(I)I' controller.jopi examples/controller/controller.bounds > mean.cert
   $ jop bound --all controller.jopi examples/controller/controller.bounds
   $ jop bound --shapes --method 'Mean.step(I)I' controller.jopi examples/controller/controller.bounds
+";
+
+const REPORT: &str = "\
+jop report --method NAME [OPTION VALUE].. IMAGE BOUNDS
+
+Puts where the bound of a method comes from on standard output: `bound=N`; a line for each line of the source on the
+dearest way through the method and all that it calls, `FILE:LINE NAME visits=V cycles=C share=P%`, the most cycles
+first, or `NAME PC ..` where the class file tells no line; and the lines `loads`, `invoke` and `return`. The cycles of
+all lines are the bound. A share is in percent, rounded down. Of a method that never returns it puts `bound=never`.
+
+  --method NAME      the method: its class, a dot, its name and its descriptor; it must be given
+  --blocks N         blocks of the method cache, 1 to 256 (16)
+  --block-words N    words of a block, 1 to 1024 (64)
+  --read N           cycles that a read waits, 0 to 63 (1)
+  --write N          cycles that a write waits, 0 to 63 (2)
+  BOUNDS             a text of lines `NAME PC loop<=N`, a line for each loop
+
+answers: those of bound, with the lines in place of the certificate
+
+example:
+  $ jop report --method 'Mean.step(I)I' controller.jopi examples/controller/controller.bounds
+";
+
+const PLAN: &str = "\
+jop plan --rounds R [OPTION VALUE].. TABLE BOUNDS CLASSFILE..
+
+Links class files with a cyclic executive, a class that calls the methods of slots in turn, R rounds, and puts a line
+for each slot on standard output: `slot I NAME bound=B length=C`, where no bound passes its slot's length.
+
+  --rounds R         how often all slots are called, 1 to 32767; it must be given
+  --blocks N         blocks of the method cache, 1 to 256 (16)
+  --block-words N    words of a block, 1 to 1024 (64)
+  --read N           cycles that a read waits, 0 to 63 (1)
+  --write N          cycles that a write waits, 0 to 63 (2)
+  TABLE              a text of 1 to 64 lines `slot CLASS.METHOD()V LENGTH`: a static method, and its cycles at most
+  BOUNDS             a text of lines `NAME PC loop<=N`, a line for each loop
+
+answers:
+  none, and the lines                      status 0
+  plan: late I bound=B length=C            status 2: the bound of slot I passes its length, or is never
+  plan: slot I ..                          status 2: why slot I has no bound, as bound says it
+  bad table line=N, slots N                status 2: the line is no slot; there are N slots, and not 1 to 64
+  bad bounds line=N, twice bound line=N    status 2
+  link: .., method too long NAME ..        status 2: the executive is the last of the files
+  usage: word K, too big NAME sum=S        status 2
+  read fault, write fault                  status 4
+  no memory                                status 5
+
+example:
+  $ jop plan --rounds 12 examples/executive/slots.{table,bounds} examples/{executive,controller}/classes/*.class
+";
+
+const CYCLE: &str = "\
+jop cycle --rounds R [OPTION VALUE].. TABLE CLASSFILE..
+
+Links class files with a cyclic executive as `plan` does, and runs that as `run` does. In place of hits and misses the
+line on standard error has how many calls of slots have ended, how many of them took more cycles than their slot's
+length, and by how many cycles the others stayed below: `ended slots=N late=L idle=J cycles=C`.
+
+  --rounds R         how often all slots are called, 1 to 32767; it must be given
+  --cycles N         stops at the first boundary whose clock is at least N, 0 to 2^63 - 1 (1000000000)
+  --stack N          words on chip: 256, 512 or 1024 (1024)
+  --memory N         words of memory, 16 to 16777216 (262144)
+  --blocks N         blocks of the method cache, 1 to 256 (16)
+  --block-words N    words of a block, 1 to 1024 (64)
+  --read N           cycles that a read waits, 0 to 63 (1)
+  --write N          cycles that a write waits, 0 to 63 (2)
+  TABLE              a text of 1 to 64 lines `slot CLASS.METHOD()V LENGTH`: a static method, and its cycles at most
+
+answers:
+  ended slots=N ..                         status 0: the executive returned
+  uncaught CLASS slots=N ..                status 1: nothing caught an object of this class
+  spent slots=N ..                         status 3: the cycles were spent
+  bad table line=N, slots N                status 2: the line is no slot; there are N slots, and not 1 to 64
+  link: .., method too long NAME ..        status 2: the executive is the last of the files
+  memory too small words=I given=M         status 2
+  usage: word K, too big NAME sum=S        status 2
+  read fault, write fault                  status 4
+  no memory                                status 5
+
+example:
+  $ jop cycle --rounds 12 examples/executive/slots.table examples/{executive,controller}/classes/*.class < /dev/null
 ";
 
 const CHECK: &str = "\
@@ -308,6 +396,9 @@ pub enum Question {
     Trace,
     Profile,
     Bound,
+    Report,
+    Plan,
+    Cycle,
     Check,
     Loops,
     Headers,
@@ -350,6 +441,12 @@ fn command_named(word: &str) -> Option<Question>
         Some(Question::Profile)
     } else if word == "bound" {
         Some(Question::Bound)
+    } else if word == "report" {
+        Some(Question::Report)
+    } else if word == "plan" {
+        Some(Question::Plan)
+    } else if word == "cycle" {
+        Some(Question::Cycle)
     } else if word == "check" {
         Some(Question::Check)
     } else if word == "loops" {
@@ -397,6 +494,9 @@ fn text_of(question: Question) -> &'static str {
         Question::Trace => TRACE,
         Question::Profile => PROFILE,
         Question::Bound => BOUND,
+        Question::Report => REPORT,
+        Question::Plan => PLAN,
+        Question::Cycle => CYCLE,
         Question::Check => CHECK,
         Question::Loops => LOOPS,
         Question::Headers => HEADERS,

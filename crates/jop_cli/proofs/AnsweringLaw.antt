@@ -1,23 +1,20 @@
 -- Each question about what is linked is answered.
-use Rattle.std.proofs.Common.{◌≡◌, ℕ, ◌+◌, List, Some, sym, ◌∙◌, ap, subst}
-use Rattle.std.specs.Prelude.{length, Ok, Vec}
-use Rattle.std.specs.declared.alloc.Global.{Global}
+use Rattle.std.proofs.Common.{◌≡◌, ℕ, ◌+◌, List, sym, ◌∙◌, ap, subst}
+use Rattle.std.specs.Prelude.{Ok}
 use Rattle.outside.specs.Outside.{Grew}
-use Rattle.image_file.specs.Linked as file
 use Rattle.command_line.specs.declared.command.Command.{Command}
-use Rattle.jopizer.specs.Linked.{Parts, IsLinked, image_of}
+use Rattle.jopizer.specs.Linked.{Parts}
 use Rattle.jopizer.specs.Laws.{OneLinked, LinkedImagesAreRead}
 use Rattle.jop_cli.specs.declared.asking.Asked.{Asked}
 use Rattle.jop_cli.specs.declared.outcome.Ending.{Ending}
-use Rattle.jop_cli.specs.declared.outcome.Ending.TheVariants as endings
-use Rattle.jop_cli.specs.Line.{text_at, line_of}
+use Rattle.jop_cli.specs.Line.{line_of}
 use Rattle.jop_cli.specs.World.{World}
 use Rattle.jop_cli.specs.declared.task.Task.{Task}
 use Rattle.jop_cli.specs.declared.task.Task.TheVariants.{Ask}
 use Rattle.jop_cli.specs.Asking.{AsksFiles}
 use Rattle.jop_cli.specs.Tasks.{task_of}
 use Rattle.jop_cli.specs.Answer.{DoesTask, Does, outcome_of}
-use Rattle.jop_cli.specs.Calls.{Call, NothingFailed, AreTold}
+use Rattle.jop_cli.specs.Calls.{Call}
 use Rattle.jop_cli.specs.Correct.{IsAnswered, puts, says, lacks, QuestionsAreAnswered}
 use Rattle.jop_cli.proofs.Wholly.{IsWholly, wholly, executed}
 use Rattle.jop_cli.proofs.Wholly as whole

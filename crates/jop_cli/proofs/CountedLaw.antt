@@ -1,5 +1,5 @@
 -- In the runs of what was linked a bound of a method asks for the loops alone that don't count.
-use Rattle.std.proofs.Common.{◌≡◌, ℕ, zero, suc, List, [], ◌∷◌, ◌++◌, Option, refl, sym, ap, subst, ◌⊎◌, inl, inr, ⊎_elim}
+use Rattle.std.proofs.Common.{◌≡◌, ℕ, zero, suc, List, [], ◌∷◌, ◌++◌, Option, refl, sym, subst, ◌⊎◌, inl, inr, ⊎_elim}
 use Rattle.bytecode_model.specs.State.{State}
 use Rattle.bytecode_model.specs.WellFormed.{IsAnswer}
 use Rattle.method_runs.specs.Laws.{GivesBytes}

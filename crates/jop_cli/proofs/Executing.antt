@@ -1,5 +1,5 @@
 -- The run of an image, as an answer of the call.
-use Rattle.std.proofs.Common.{◌≡◌, ℕ, ◌≤◌, Bool, true, false, List, Ok, refl, sym, ◌∙◌, ap, subst, ◌⊎◌, inl, inr, ⊎_elim}
+use Rattle.std.proofs.Common.{◌≡◌, ℕ, ◌≤◌, Bool, true, false, List, Ok, refl, sym, ◌∙◌, ap, subst, inl, inr, ⊎_elim}
 use Rattle.std.specs.declared.option.Option.{Option}
 use Rattle.std.specs.declared.result.Result.{Result}
 use Rattle.image_file.specs.Bare.{Image}
@@ -73,6 +73,9 @@ run_shows (commands.Bound settings method image bounds) shows = absurd shows
 run_shows (commands.Profile settings image bounds) shows = absurd shows
 run_shows (commands.BoundAll settings image bounds) shows = absurd shows
 run_shows (commands.BoundShapes settings method image bounds) shows = absurd shows
+run_shows (commands.Report settings method image bounds) shows = absurd shows
+run_shows (commands.Plan settings rounds table bounds first) shows = absurd shows
+run_shows (commands.Cycle settings rounds table first) shows = absurd shows
 run_shows (commands.Check settings image bounds certificate) shows = absurd shows
 run_shows (commands.Loops image) shows = absurd shows
 run_shows (commands.Headers image operands) shows = absurd shows
@@ -97,7 +100,7 @@ takes_input words command task old new is same takes = (command, is, subst (λ (
 
 -- ---- only a run takes input
 
-risen_but : (e : Ending) (before now : ℕ) → (e ≡ endings.InputFault → ⊥) → FailsRisen e before now
+pub risen_but : (e : Ending) (before now : ℕ) → (e ≡ endings.InputFault → ⊥) → FailsRisen e before now
 risen_but (endings.Ended counts) before now other = tt
 risen_but endings.Written before now other = tt
 risen_but (endings.Linked sizes) before now other = tt
@@ -109,6 +112,9 @@ risen_but (endings.NotLinked refusal name) before now other = tt
 risen_but (endings.NotHeld fault name) before now other = tt
 risen_but (endings.NotAnswered cause subject) before now other = tt
 risen_but (endings.Spent counts) before now other = tt
+risen_but (endings.CycleEnded slots) before now other = tt
+risen_but (endings.CycleUncaught class name slots) before now other = tt
+risen_but (endings.CycleSpent slots) before now other = tt
 risen_but endings.ReadFault before now other = tt
 risen_but endings.InputFault before now other = absurd (other refl)
 risen_but endings.WriteFault before now other = tt

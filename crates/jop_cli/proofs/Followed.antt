@@ -85,22 +85,25 @@ module _ (g : Setting) (reset : machine.State) (limit : ℕ) (old new : Lent) wh
   pub sees_none : (f : Followed) → RanSo g reset limit (wired old) (wired new) f → f.end ≡ ends.SeenFault → ⊥
   sees_none f r is = sees f.counts (subst (λ (e : RunEnd). Ran e f.counts) is r)
 
-  -- an output that counts no fault doesn't fail
-  writes : (counts : Counts) → old.write_faults ≡ 0 → new.write_faults ≡ 0 → Ran ends.WriteFault counts → ⊥
-  writes counts none still r =
+  writes : (counts : Counts) → Ran ends.WriteFault counts → Rose old.write_faults new.write_faults
+  writes counts r =
       let x = r.runs in
-      omega (arith, none, still, x.fails.broke.tried.5, x.fails.broke.ran.device.counts.writes, x.run.ran.device.counts.writes)
+      omega (arith, x.fails.broke.tried.5, x.fails.broke.ran.device.counts.writes, x.run.ran.device.counts.writes)
 
-  writes_by : (end : RunEnd) (counts : Counts) → old.write_faults ≡ 0 → new.write_faults ≡ 0 → (end ≡ ends.SeenFault → ⊥) → Ran end counts → program_end end counts ≡ ways.WriteFault → ⊥
-  writes_by ends.Ended counts none still sees r is = absurd (cc)
-  writes_by (ends.Uncaught class) counts none still sees r is = absurd (cc)
-  writes_by ends.Spent counts none still sees r is = absurd (cc)
-  writes_by ends.ReadFault counts none still sees r is = absurd (cc)
-  writes_by ends.WriteFault counts none still sees r is = writes counts none still r
-  writes_by ends.SeenFault counts none still sees r is = sees refl
+  writes_by : (end : RunEnd) (counts : Counts) → (end ≡ ends.SeenFault → ⊥) → Ran end counts → program_end end counts ≡ ways.WriteFault → Rose old.write_faults new.write_faults
+  writes_by ends.Ended counts sees r is = absurd (cc)
+  writes_by (ends.Uncaught class) counts sees r is = absurd (cc)
+  writes_by ends.Spent counts sees r is = absurd (cc)
+  writes_by ends.ReadFault counts sees r is = absurd (cc)
+  writes_by ends.WriteFault counts sees r is = writes counts r
+  writes_by ends.SeenFault counts sees r is = absurd (sees refl)
 
-  pub writes_none : (f : Followed) → RanSo g reset limit (wired old) (wired new) f → old.write_faults ≡ 0 → new.write_faults ≡ 0 → (f.end ≡ ends.SeenFault → ⊥) → program_end f.end f.counts ≡ ways.WriteFault → ⊥
-  writes_none f r none still sees is = writes_by f.end f.counts none still sees r is
+  pub writes_rose : (f : Followed) → RanSo g reset limit (wired old) (wired new) f → program_end f.end f.counts ≡ ways.WriteFault → Rose old.write_faults new.write_faults
+  writes_rose f r is = writes_by f.end f.counts (sees_none f r) r is
+
+  -- an output that counts no fault doesn't fail
+  pub writes_none : (f : Followed) → RanSo g reset limit (wired old) (wired new) f → old.write_faults ≡ 0 → new.write_faults ≡ 0 → program_end f.end f.counts ≡ ways.WriteFault → ⊥
+  writes_none f r none still is = let rose = writes_rose f r is in omega (arith, none, still, rose)
 
 -- a class that isn't caught is one of the program's
 class_by : UncaughtClassesAreThere → (cs : List ClassFile) (n memory : ℕ) (reset : machine.State) (limit : ℕ) (told told' : Told) (end : RunEnd) (counts : Counts)

@@ -1,29 +1,22 @@
 -- A bound of a method holds of the run of what was linked.
-use Rattle.std.proofs.Common.{◌≡◌, ℕ, zero, suc, ◌≤◌, List, Option, refl, sym, subst}
-use Rattle.std.specs.Prelude.{MatchOption}
+use Rattle.std.proofs.Common.{ℕ, zero, suc, List, refl, sym, subst}
 use Rattle.class_pool.specs.declared.class.ClassFile.{ClassFile}
 use Rattle.memory_timing.specs.declared.Config.{Config}
 use Rattle.jop_core.specs.State as machine
 use Rattle.jop_core.specs.Reset.{linked_reset}
 use Rattle.method_flow.specs.declared.timing.Timing.{Timing}
-use Rattle.method_flow.specs.Keeping.{BoundOf}
-use Rattle.program_tables.specs.Resolved.{resolved}
 use Rattle.activations.specs.Setting.{Setting, IsSetting}
-use Rattle.activations.specs.Activations.{Stage, IsActivation, cycles_of}
+use Rattle.activations.specs.Activations.{Stage}
 use Rattle.activations.specs.Steps.{HasTiming, PlacesTellWords, StepsAreTold}
-use Rattle.activations.specs.Keeping.{Keeps}
-use Rattle.activations.specs.Warrant.{BoundsActivations}
 use Rattle.boundary.specs.Runs.{Goes}
 use Rattle.run_devices.specs.Lent.{Lent}
 use Rattle.command_line.specs.declared.command.Settings.{Settings}
 use Rattle.analysis_commands.specs.Analysis.{timing_of}
-use Rattle.jopizer.specs.Linked.{Parts}
-use Rattle.jop_cli.specs.declared.show.Show.{Show}
 use Rattle.jop_cli.specs.Phase.{HasSettings}
 use Rattle.jop_cli.specs.Show.{Shown, Output, Trace, linked_shown}
 use Rattle.jop_cli.specs.LinkedRun.{linked_setting}
 use Rattle.jop_cli.specs.Calls.{Call}
-use Rattle.jop_cli.specs.Courses.{RanShown, RanLinked}
+use Rattle.jop_cli.specs.Courses.{RanShown}
 use Rattle.jop_cli.specs.Answer.{lent_of}
 use Rattle.jop_cli.specs.Correct.{BoundsHoldInRuns}
 

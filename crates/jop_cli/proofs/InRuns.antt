@@ -1,12 +1,11 @@
 -- What is seen of the boundaries of a run, and what is told of its methods.
-use Rattle.std.proofs.Common.{◌≡◌, List, [], ◌∷◌, ◌++◌, length, refl, sym, ap, ◌∙◌, subst, append-nil}
+use Rattle.std.proofs.Common.{◌≡◌, List, [], ◌∷◌, ◌++◌, refl, sym, ap, subst, append-nil}
 use Rattle.std.specs.List.{flat_map}
 use Rattle.bytecode_model.specs.declared.Ending.{Ending}
 use Rattle.bytecode_model.specs.declared.Ending.TheVariants as modes
-use Rattle.bytecode_model.specs.State.{Frame, State}
+use Rattle.bytecode_model.specs.State.{Frame}
 use Rattle.bytecode_typing.specs.Fits.{IsGoing}
 use Rattle.run_follower.specs.declared.here.Here.{Here}
-use Rattle.jop_core.specs.State as machine
 use Rattle.activations.specs.Setting.{Setting}
 use Rattle.activations.specs.Activations.{Stage}
 use Rattle.boundary.specs.Followed.{here_of, seen_at, AreInARow}

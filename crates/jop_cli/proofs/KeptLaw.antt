@@ -10,13 +10,9 @@ use Rattle.command_line.specs.declared.command.Settings.{Settings}
 use Rattle.command_line.specs.declared.command.Command.TheVariants.{Check, Bound}
 use Rattle.answer_lines.specs.AnalysisLines.{held_parts}
 use Rattle.analysis_commands.specs.Analysis.{timing_of, bounds_of, name_of}
-use Rattle.jop_cli.specs.declared.asking.Question.{Question}
-use Rattle.jop_cli.specs.declared.asking.Asked.{Asked}
 use Rattle.jop_cli.specs.declared.outcome.Answer.{Answer}
 use Rattle.jop_cli.specs.declared.outcome.Answer.TheVariants.{Text, Ends}
 use Rattle.jop_cli.specs.declared.outcome.Ending.{Ending}
-use Rattle.jop_cli.specs.declared.outcome.Ending.TheVariants as endings
-use Rattle.jop_cli.specs.declared.outcome.Outcome.{Outcome}
 use Rattle.jop_cli.specs.declared.outcome.Outcome.TheVariants as outcomes
 use Rattle.jop_cli.specs.Line.{text_at, line_of}
 use Rattle.jop_cli.specs.Linking.{files_of}

@@ -1,7 +1,7 @@
 -- The outside is as it was after an outcome, where it is so after its ending.
 use Rattle.std.proofs.Common.{ℕ}
 use Rattle.jop_cli.specs.declared.outcome.Ending.{Ending}
-use Rattle.jop_cli.specs.declared.outcome.Ending.TheVariants.{Ended, Written, Linked, Holds, Uncaught, Refused, TooLong, NotLinked, NotHeld, NotAnswered, Spent, ReadFault, InputFault, WriteFault, NoMemory}
+use Rattle.jop_cli.specs.declared.outcome.Ending.TheVariants.{Ended, Written, Linked, Holds, Uncaught, Refused, TooLong, NotLinked, NotHeld, NotAnswered, Spent, CycleEnded, CycleUncaught, CycleSpent, ReadFault, InputFault, WriteFault, NoMemory}
 use Rattle.jop_cli.specs.Answer.{outcome_of, outcome_unsaid}
 use Rattle.jop_cli.specs.Leaving.{Leaves, FailsRisen, LeavesAll}
 
@@ -17,6 +17,9 @@ leaves_said (NotLinked refusal name) before now risen all = tt
 leaves_said (NotHeld fault name) before now risen all = tt
 leaves_said (NotAnswered cause subject) before now risen all = tt
 leaves_said (Spent counts) before now risen all = all
+leaves_said (CycleEnded slots) before now risen all = all
+leaves_said (CycleUncaught class name slots) before now risen all = all
+leaves_said (CycleSpent slots) before now risen all = all
 leaves_said ReadFault before now risen all = tt
 leaves_said InputFault before now risen all = all risen
 leaves_said WriteFault before now risen all = all
@@ -34,6 +37,9 @@ leaves_unsaid (NotLinked refusal name) before now risen all = tt
 leaves_unsaid (NotHeld fault name) before now risen all = tt
 leaves_unsaid (NotAnswered cause subject) before now risen all = tt
 leaves_unsaid (Spent counts) before now risen all = all
+leaves_unsaid (CycleEnded slots) before now risen all = all
+leaves_unsaid (CycleUncaught class name slots) before now risen all = all
+leaves_unsaid (CycleSpent slots) before now risen all = all
 leaves_unsaid ReadFault before now risen all = tt
 leaves_unsaid InputFault before now risen all = all risen
 leaves_unsaid WriteFault before now risen all = all

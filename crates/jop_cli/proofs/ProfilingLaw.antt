@@ -1,11 +1,8 @@
 -- What `profile` answers of what was linked, where nothing fails; and that the bounds in its lines are kept.
-use Rattle.std.proofs.Common.{◌≡◌, ℕ, ◌+◌, ◌<◌, ◌≤◌, true, false, List, [], ◌∷◌, length, Option, Some, None, refl, sym, ◌∙◌, ap, subst, arith, ⊎_elim, ◌⊎◌, inl, inr}
-use Rattle.std.specs.Prelude.{slice_get}
+use Rattle.std.proofs.Common.{◌≡◌, ℕ, ◌+◌, ◌<◌, true, false, List, [], ◌∷◌, length, Option, Some, None, refl, sym, ◌∙◌, ap, subst, arith, ⊎_elim, ◌⊎◌, inl, inr}
 use Rattle.std.proofs.lemmas.Option.{slice_get_within}
 use Rattle.lists.specs.Lemmas.{some_same}
 use Rattle.class_pool.specs.declared.class.ClassFile.{ClassFile}
-use Rattle.image_file.specs.Linked as file
-use Rattle.outside.specs.Outside.{Grew, Rose}
 use Rattle.outside.specs.Files.{AreFiles}
 use Rattle.bytecode_model.specs.Program.{body_of}
 use Rattle.loop_bounds.specs.Bounds.{LoopBound}
@@ -18,30 +15,27 @@ use Rattle.activations.specs.Activations.{Stage}
 use Rattle.activations.specs.Warrant.{BoundsActivations}
 use Rattle.activation_watch.specs.declared.profile.Profile.{Profile}
 use Rattle.activation_watch.specs.Watched.{activations, of_method, profile_of}
-use Rattle.activation_laws.specs.Profiled.{FirstHasTiming, EachKeeps, IsKept, ProfilesKeepBounds}
+use Rattle.activation_laws.specs.Profiled.{FirstHasTiming, IsKept, ProfilesKeepBounds}
 use Rattle.bound_sound.specs.Laws.{CertificatesAreSound}
 use Rattle.boundary.specs.Followed.{RunsAreInARow}
 use Rattle.method_bounds.specs.declared.answer.BoundAnswer.{BoundAnswer}
 use Rattle.method_bounds.specs.declared.answer.BoundAnswer.TheVariants.{Cycles, Never, Refused}
 use Rattle.method_bounds.specs.Answers.{IsBoundAnswer}
 use Rattle.wcet.specs.Certified.{IsCertified}
-use Rattle.run_devices.specs.Lent.{Lent, lent, wired}
-use Rattle.answer_lines.specs.declared.line.Counts.{Counts}
+use Rattle.run_devices.specs.Lent.{Lent, wired}
 use Rattle.command_line.specs.declared.command.Settings.{Settings}
 use Rattle.command_line.specs.declared.command.Command.TheVariants as commands
 use Rattle.command_line.specs.Range.{AreSettings}
 use Rattle.analysis_commands.specs.declared.analysis.AnalysisFault.{AnalysisFault}
 use Rattle.analysis_commands.specs.declared.analysis.AnalysisFault.TheVariants as analysis
-use Rattle.analysis_commands.specs.Analysis.{timing_of, bounds_of, named_or_number, IsBoundsFault}
-use Rattle.jopizer.specs.Linked.{Parts, IsLinked, image_of}
+use Rattle.analysis_commands.specs.Analysis.{timing_of, bounds_of, IsBoundsFault}
+use Rattle.jopizer.specs.Linked.{Parts, image_of}
 use Rattle.jopizer.specs.Laws.{OneLinked, LinkedImagesAreRead}
-use Rattle.jop_cli.specs.declared.following.Followed.{Followed}
 use Rattle.jop_cli.specs.declared.outcome.Refusal.TheVariants as refusals
 use Rattle.jop_cli.specs.declared.outcome.Ending.{Ending}
 use Rattle.jop_cli.specs.declared.outcome.Ending.TheVariants as endings
 use Rattle.jop_cli.specs.declared.program_end.ProgramEnd.{ProgramEnd}
 use Rattle.jop_cli.specs.declared.program_end.ProgramEnd.TheVariants as ways
-use Rattle.jop_cli.specs.Line.{text_at}
 use Rattle.jop_cli.specs.Phase.{is_linked as is_linked_file}
 use Rattle.jop_cli.specs.World.{World, IsQuiet}
 use Rattle.jop_cli.specs.Run.{program_end}
@@ -49,23 +43,22 @@ use Rattle.jop_cli.specs.LinkedRun.{linked_setting}
 use Rattle.jop_cli.specs.LinkedFile.{SaysEnd, IsUnheld}
 use Rattle.jop_cli.specs.Linking.{files_of, OperandsFault}
 use Rattle.jop_cli.specs.Checking.{fault_ending}
-use Rattle.jop_cli.specs.Answer.{outcome_of}
 use Rattle.jop_cli.specs.Following.{heres_of, run_stages}
-use Rattle.jop_cli.specs.Profiling.{RanProfile, EndsRun, EndsUnbounded, EndsUnprofiled, ProfilesLinked, ProfilesParts, ProfilesImage, ProfilesRead, ProfilesFiles, input_of, unwatched, bound_told}
+use Rattle.jop_cli.specs.Profiling.{RanProfile, EndsRun, ProfilesLinked, ProfilesParts, ProfilesImage, ProfilesFiles, input_of, unwatched, bound_told}
 use Rattle.jop_cli.specs.Calls.{Call, NothingFailed, LacksMemory}
 use Rattle.jop_cli.specs.Correct.{ProfilesTexts, IsProfiled, ProfilesAreComplete, ProfilesAreKept}
 use Rattle.jop_cli.proofs.Wholly.{IsWholly, wholly, executed, lacks, same_files, files_read}
 use Rattle.jop_cli.proofs.RunningLaw.{not_more, begins_linked, is_read}
 use Rattle.jop_cli.proofs.HoldingLaw.{reset_timing}
 use Rattle.jop_cli.proofs.Ended.{end_made}
-use Rattle.jop_cli.proofs.Followed.{reads_rose, writes_none, sees_none}
+use Rattle.jop_cli.proofs.Followed.{reads_rose, writes_none}
 use Rattle.jop_cli.proofs.Profiled.{end_reads}
 use Rattle.jop_cli.proofs.InRuns.{rows_are_seen}
 
 -- ---- what is answered
 
 -- nothing was done with what was lent
-quiet_of : (old new : World) → unwatched new ≡ unwatched old → new.watch ≡ old.watch → IsQuiet old new
+pub quiet_of : (old new : World) → unwatched new ≡ unwatched old → new.watch ≡ old.watch → IsQuiet old new
 quiet_of old new e watch = record {
   input = record { left = ap (λ (x : Lent). x.left) e; read_faults = ap (λ (x : Lent). x.read_faults) e };
   out = ap (λ (x : Lent). x.held) e;
@@ -74,7 +67,7 @@ quiet_of old new e watch = record {
 }
 
 -- a run whose input doesn't fail ends without a fault
-ends_run : (cs : List ClassFile) (end : ProgramEnd) (ending : Ending) → (end ≡ ways.ReadFault → ⊥) → (end ≡ ways.WriteFault → ⊥) → (end ≡ ways.NoMemory → ⊥) → SaysEnd cs end ending → EndsRun ending
+pub ends_run : (cs : List ClassFile) (end : ProgramEnd) (ending : Ending) → (end ≡ ways.ReadFault → ⊥) → (end ≡ ways.WriteFault → ⊥) → (end ≡ ways.NoMemory → ⊥) → SaysEnd cs end ending → EndsRun ending
 ends_run cs (ways.Ended counts) ending reads writes made is = subst EndsRun (sym is) tt
 ends_run cs (ways.Uncaught class counts) (endings.Uncaught number name said) reads writes made is = tt
 ends_run cs (ways.Uncaught class counts) ending reads writes made is = absurd is
@@ -105,7 +98,7 @@ module _ (one : OneLinked) (images : LinkedImagesAreRead) (not_refused : ReadIsN
       let reads : program_end r.followed.end r.followed.counts ≡ ways.ReadFault → ⊥ = λ is.
       n.input (reads_rose g reset s.cycles (input_of old) (input_of new) r.followed x (end_reads r.followed.end r.followed.counts is)) in
       let writes : program_end r.followed.end r.followed.counts ≡ ways.WriteFault → ⊥ = λ is.
-      writes_none g reset s.cycles (input_of old) (input_of new) r.followed x refl refl (sees_none g reset s.cycles (input_of old) (input_of new) r.followed x) is in
+      writes_none g reset s.cycles (input_of old) (input_of new) r.followed x refl refl is in
       ⊎_elim
       (λ whole. inl (record {
         ending = ending;
@@ -179,15 +172,19 @@ profiles_are_complete one images not_refused c s image l bounds_text h n =
 
 -- ---- what is kept
 
+pub certified_of : CertificatesAreSound → (cs : List ClassFile) (s : Settings) (bounds : List LoopBound) (m : ℕ) (bound : Option ℕ) → AreSettings s → IsCertified (resolved cs) (timing_of s) (bounds_of cs bounds) m bound
+    → BoundsActivations (resolved cs) (timing_of s) (bounds_of cs bounds) m bound
+certified_of sound cs s bounds m bound are c =
+    let B : ℕ → Option ℕ → Type 0 = λ k x. BoundsActivations (resolved cs) (timing_of s) (bounds_of cs bounds) k x in
+    let kept = sound (resolved cs) (timing_of s) (bounds_of cs bounds) c.certificate are.read_most are.write_most c.meets in
+    subst (λ (k : ℕ). B k bound) c.of_method (subst (B c.certificate.root) c.says kept)
+
 certified : CertificatesAreSound → (cs : List ClassFile) (s : Settings) (bounds : List LoopBound) (m : ℕ) (answer : BoundAnswer) (bound : Option ℕ) → AreSettings s → bound_told answer ≡ Some bound
     → IsBoundAnswer (resolved cs) (timing_of s) (bounds_of cs bounds) m answer → BoundsActivations (resolved cs) (timing_of s) (bounds_of cs bounds) m bound
 certified sound cs s bounds m answer bound are told is = by answer told is
   where
     of_certificate : (b : Option ℕ) → b ≡ bound → IsCertified (resolved cs) (timing_of s) (bounds_of cs bounds) m b → BoundsActivations (resolved cs) (timing_of s) (bounds_of cs bounds) m bound
-    of_certificate b same c =
-        let B : ℕ → Option ℕ → Type 0 = λ k x. BoundsActivations (resolved cs) (timing_of s) (bounds_of cs bounds) k x in
-        let kept = sound (resolved cs) (timing_of s) (bounds_of cs bounds) c.certificate are.read_most are.write_most c.meets in
-        subst (λ (k : ℕ). B k bound) c.of_method (subst (B c.certificate.root) (c.says ∙ same) kept)
+    of_certificate b same c = certified_of sound cs s bounds m bound are (subst (λ (x : Option ℕ). IsCertified (resolved cs) (timing_of s) (bounds_of cs bounds) m x) same c)
 
     by : (a : BoundAnswer) → bound_told a ≡ Some bound → IsBoundAnswer (resolved cs) (timing_of s) (bounds_of cs bounds) m a → BoundsActivations (resolved cs) (timing_of s) (bounds_of cs bounds) m bound
     by (Cycles k) e a = of_certificate (Some k) (some_same (Some k) bound e) a.2

@@ -1,8 +1,5 @@
 -- Endings that refuse: they neither answer, nor say that the input or out failed.
-use Rattle.std.proofs.Common.{◌≡◌, ℕ, List, refl, sym, subst, inl, inr, ◌⊎◌, ⊎_elim}
-use Rattle.std.specs.Prelude.{Vec}
-use Rattle.std.specs.declared.option.Option.{Option}
-use Rattle.std.specs.declared.alloc.Global.{Global}
+use Rattle.std.proofs.Common.{◌≡◌, ℕ, List, sym, subst, ⊎_elim}
 use Rattle.class_pool.specs.declared.class.ClassFile.{ClassFile}
 use Rattle.image_file.specs.Bare.{Image}
 use Rattle.outside.specs.Files.{FilesTold}
@@ -21,17 +18,15 @@ use Rattle.jopizer.specs.Linked.{Parts}
 use Rattle.command_line.specs.declared.command.Settings.{Settings}
 use Rattle.jop_cli.specs.declared.asking.Question.{Question}
 use Rattle.jop_cli.specs.declared.asking.Question.TheVariants as questions
-use Rattle.jop_cli.specs.declared.outcome.Refusal.TheVariants as refusals
 use Rattle.jop_cli.specs.declared.outcome.Ending.{Ending}
 use Rattle.jop_cli.specs.declared.outcome.Ending.TheVariants as endings
 use Rattle.jop_cli.specs.declared.outcome.Outcome.TheVariants as outcomes
 use Rattle.jop_cli.specs.declared.outcome.Answer.TheVariants.{Ends}
-use Rattle.jop_cli.specs.Line.{text_at}
 use Rattle.jop_cli.specs.BareFile.{ImageFault}
 use Rattle.jop_cli.specs.LinkedFile.{BytesFault}
 use Rattle.jop_cli.specs.Linking.{OperandsFault}
-use Rattle.jop_cli.specs.Checking.{fault_ending, refusal_ending, EndsHeld, Checks, EndsTooLong, ChecksBare}
-use Rattle.jop_cli.specs.Bounding.{cause_ending, BoundsBare}
+use Rattle.jop_cli.specs.Checking.{fault_ending, refusal_ending, Checks, EndsTooLong}
+use Rattle.jop_cli.specs.Bounding.{cause_ending}
 use Rattle.jop_cli.specs.Needs.{memory_ending}
 use Rattle.jop_cli.specs.Headers.{header_ending}
 use Rattle.jop_cli.specs.Asking.{IsAnswer, IsBareAnswer}
@@ -49,6 +44,9 @@ IsRefusing (endings.NotLinked refusal name) = Unit {0}
 IsRefusing (endings.NotHeld fault name) = Unit {0}
 IsRefusing (endings.NotAnswered cause subject) = Unit {0}
 IsRefusing (endings.Spent counts) = ⊥
+IsRefusing (endings.CycleEnded slots) = ⊥
+IsRefusing (endings.CycleUncaught class name slots) = ⊥
+IsRefusing (endings.CycleSpent slots) = ⊥
 IsRefusing endings.ReadFault = Unit {0}
 IsRefusing endings.InputFault = ⊥
 IsRefusing endings.WriteFault = ⊥
@@ -78,7 +76,7 @@ unsaid_holds e is = absurd (cc)
 
 -- ---- which refuse
 
-fault_refuses : (s : Settings) (fault : AnalysisFault) → IsRefusing (fault_ending s fault)
+pub fault_refuses : (s : Settings) (fault : AnalysisFault) → IsRefusing (fault_ending s fault)
 fault_refuses s (analysis.MethodTooLong m name blocks) = tt
 fault_refuses s (analysis.BadBounds line) = tt
 fault_refuses s (analysis.TwiceBound line) = tt
@@ -140,6 +138,7 @@ linked_says words (questions.Check s) l operands e checks = checks_say e checks
 linked_says words (questions.Bound s method) l operands e ends = refuses (refusing_by e (cause_ending s ends.cause) ends.says (cause_refuses s ends.cause))
 linked_says words (questions.Bounds s) l operands e ends = refuses (refusing_by e (fault_ending s ends.fault) ends.says (fault_refuses s ends.fault))
 linked_says words (questions.Shapes s method) l operands e ends = refuses (refusing_by e (cause_ending s ends.cause) ends.says (cause_refuses s ends.cause))
+linked_says words (questions.Report s method) l operands e ends = refuses (refusing_by e (cause_ending s ends.cause) ends.says (cause_refuses s ends.cause))
 linked_says words questions.Loops l operands e is = refuses (refusing_by e endings.NoMemory is tt)
 linked_says words questions.Headers l operands e ends = refuses (refusing_by e (header_ending ends.fault) ends.says (header_refuses ends.fault))
 linked_says words questions.Memory l operands e ends = refuses (refusing_by e (memory_ending ends.refusal) ends.says (need_refuses ends.refusal))
@@ -152,6 +151,7 @@ bare_refuses (questions.Check s) image operands e ends = ⊎_elim (too_long_refu
 bare_refuses (questions.Bound s method) image operands e ends = ⊎_elim (too_long_refuses s image e) (λ r. refusing_by e (cause_ending s r.cause) r.says (cause_refuses s r.cause)) ends
 bare_refuses (questions.Bounds s) image operands e ends = ⊎_elim (too_long_refuses s image e) (λ r. refusing_by e (fault_ending s r.fault) r.says (fault_refuses s r.fault)) ends
 bare_refuses (questions.Shapes s method) image operands e ends = refusing_by e (cause_ending s ends.cause) ends.says (cause_refuses s ends.cause)
+bare_refuses (questions.Report s method) image operands e ends = ⊎_elim (too_long_refuses s image e) (λ r. refusing_by e (cause_ending s r.cause) r.says (cause_refuses s r.cause)) ends
 bare_refuses questions.Loops image operands e ends = absurd ends
 bare_refuses questions.Headers image operands e ends = refusing_by e (header_ending ends.fault) ends.says (header_refuses ends.fault)
 bare_refuses questions.Memory image operands e ends = refusing_by e (memory_ending ends.refusal) ends.says (need_refuses ends.refusal)

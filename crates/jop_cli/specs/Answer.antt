@@ -13,9 +13,10 @@ use Rattle.answer_lines.specs.declared.unanswered.Cause.{Cause}
 use Rattle.answer_lines.specs.declared.unanswered.Cause.TheVariants as causes
 use Rattle.jop_cli.specs.declared.outcome.Refusal.{Refusal}
 use Rattle.jop_cli.specs.declared.outcome.Refusal.TheVariants.{Usage, TooBig, MethodTooLong, Link}
-use Rattle.jop_cli.specs.declared.outcome.Refusal.TheVariants.{Check as NotChecked, Bound as Forbidden, Memory as NotMet, NoLoop}
+use Rattle.jop_cli.specs.declared.outcome.Refusal.TheVariants.{Check as NotChecked, Bound as Forbidden, Memory as NotMet, NoLoop, Plan as NotPlanned}
 use Rattle.jop_cli.specs.declared.outcome.Ending.{Ending}
 use Rattle.jop_cli.specs.declared.outcome.Ending.TheVariants.{Ended, Written, Linked, Holds, Uncaught, Refused, TooLong, NotLinked, NotHeld, NotAnswered, Spent}
+use Rattle.jop_cli.specs.declared.outcome.Ending.TheVariants.{CycleEnded, CycleUncaught, CycleSpent}
 use Rattle.jop_cli.specs.declared.outcome.Ending.TheVariants.{ReadFault, InputFault, WriteFault, NoMemory}
 use Rattle.jop_cli.specs.declared.outcome.Outcome.{Outcome}
 use Rattle.jop_cli.specs.declared.outcome.Outcome.TheVariants as outcomes
@@ -31,6 +32,8 @@ use Rattle.jop_cli.specs.Assembling.{Assembles}
 use Rattle.jop_cli.specs.Linking.{LinksFiles}
 use Rattle.jop_cli.specs.Asking.{AsksFiles}
 use Rattle.jop_cli.specs.Profiling.{ProfilesFiles}
+use Rattle.jop_cli.specs.Planning.{PlansFiles}
+use Rattle.jop_cli.specs.Cycling.{CyclesFiles}
 use Rattle.jop_cli.specs.declared.task.Task.{Task}
 use Rattle.jop_cli.specs.declared.task.Task.TheVariants as tasks
 use Rattle.jop_cli.specs.Tasks.{task_of}
@@ -83,6 +86,8 @@ RunsFile settings show word old new ending = (FileFault word old new ending × I
 abbrev pub DoesTask : (words : List (List ℕ)) → Task → World → World → Ending → Type 0
 DoesTask words (tasks.Run settings show image) old new ending = RunsFile settings show image old new ending
 DoesTask words (tasks.Profile settings image) old new ending = ProfilesFiles settings image old new ending
+DoesTask words (tasks.Plan settings rounds table) old new ending = PlansFiles settings rounds table old new ending
+DoesTask words (tasks.Cycle settings rounds table) old new ending = CyclesFiles settings rounds table old new ending
 DoesTask words (tasks.Assemble text) old new ending = Assembles text old new ending
 DoesTask words (tasks.Link main first) old new ending = LinksFiles (text_at words main) first old new ending
 DoesTask words (tasks.Ask asked) old new ending = AsksFiles words asked old new ending
@@ -101,6 +106,7 @@ abbrev pub refusal_of : Cause → Refusal
 refusal_of (causes.Bound cause) = Forbidden cause
 refusal_of (causes.Memory cause) = NotMet cause
 refusal_of causes.NoLoop = NoLoop
+refusal_of (causes.Plan cause) = NotPlanned cause
 
 abbrev pub outcome_of : Ending → Outcome
 outcome_of (Ended counts) = outcomes.Ended
@@ -114,6 +120,9 @@ outcome_of (NotLinked refusal name) = outcomes.Refused (Link refusal)
 outcome_of (NotHeld fault name) = outcomes.Refused (NotChecked fault)
 outcome_of (NotAnswered cause subject) = outcomes.Refused (refusal_of cause)
 outcome_of (Spent counts) = outcomes.Spent
+outcome_of (CycleEnded slots) = outcomes.Ended
+outcome_of (CycleUncaught class name slots) = outcomes.Uncaught class
+outcome_of (CycleSpent slots) = outcomes.Spent
 outcome_of ReadFault = outcomes.ReadFault
 outcome_of InputFault = outcomes.ReadFault
 outcome_of WriteFault = outcomes.WriteFault
@@ -132,6 +141,9 @@ outcome_unsaid (NotLinked refusal name) = outcomes.WriteFault
 outcome_unsaid (NotHeld fault name) = outcomes.WriteFault
 outcome_unsaid (NotAnswered cause subject) = outcomes.WriteFault
 outcome_unsaid (Spent counts) = outcomes.WriteFault
+outcome_unsaid (CycleEnded slots) = outcomes.WriteFault
+outcome_unsaid (CycleUncaught class name slots) = outcomes.WriteFault
+outcome_unsaid (CycleSpent slots) = outcomes.WriteFault
 outcome_unsaid ReadFault = outcomes.ReadFault
 outcome_unsaid InputFault = outcomes.ReadFault
 outcome_unsaid WriteFault = outcomes.WriteFault
@@ -147,6 +159,7 @@ abbrev pub TakesFor : Task → World → World → Type 0
 TakesFor (tasks.Run settings show word) old new = (bytes : List ℕ) × ReadsLinked word bytes old new
 TakesFor (tasks.Profile settings word) old new =
     (operands : List (List ℕ)) × AreFiles old.files word (word + 2) operands × (is_linked (text_at operands 0) ≡ true)
+TakesFor (tasks.Cycle settings rounds table) old new = (operands : List (List ℕ)) × AreFiles old.files table old.words operands
 TakesFor task old new = ⊥
 
 -- the words say such a command

@@ -8,7 +8,7 @@ use Rattle.image_file.specs.Linked as file
 use Rattle.command_line.specs.Range.{AreSettings}
 use Rattle.jopizer.specs.Linked.{Parts, IsLinked, image_of}
 use Rattle.jop_cli.specs.declared.asking.Question.{Question}
-use Rattle.jop_cli.specs.declared.asking.Question.TheVariants.{Check, Bound, Bounds, Shapes, Loops, Headers, Memory}
+use Rattle.jop_cli.specs.declared.asking.Question.TheVariants.{Check, Bound, Bounds, Shapes, Report, Loops, Headers, Memory}
 use Rattle.jop_cli.specs.declared.asking.Asked.{Asked}
 use Rattle.jop_cli.specs.declared.outcome.Answer.{Answer}
 use Rattle.jop_cli.specs.declared.outcome.Answer.TheVariants.{Text, Ends}
@@ -25,6 +25,7 @@ use Rattle.jop_cli.specs.World.{World, IsQuiet, IsUntaken}
 use Rattle.jop_cli.specs.Linking.{files_of, OperandsFault}
 use Rattle.jop_cli.specs.Checking.{Checks, ChecksBare}
 use Rattle.jop_cli.specs.Bounding.{AnswersBound, BoundsBare, AnswersShapes, EndsNoMethod}
+use Rattle.jop_cli.specs.Reporting.{AnswersReport}
 use Rattle.jop_cli.specs.AllBounds.{AnswersBounds, AnswersBareBounds}
 use Rattle.jop_cli.specs.Headers.{AnswersHeaders, AnswersBareHeaders}
 use Rattle.jop_cli.specs.Needs.{AnswersLoops, AnswersNothing, AnswersNeed, AnswersBareNeed}
@@ -42,6 +43,7 @@ HasSettings (Check s) = AreSettings s
 HasSettings (Bound s method) = AreSettings s
 HasSettings (Bounds s) = AreSettings s
 HasSettings (Shapes s method) = AreSettings s
+HasSettings (Report s method) = AreSettings s
 HasSettings Loops = Unit {0}
 HasSettings Headers = Unit {0}
 HasSettings Memory = Unit {0}
@@ -52,6 +54,7 @@ IsAnswer words (Check s) l operands answer = EndsBy (Checks l.classes s (text_at
 IsAnswer words (Bound s method) l operands answer = AnswersBound l.classes s (text_at operands 1) (text_at words method) answer
 IsAnswer words (Bounds s) l operands answer = AnswersBounds l.classes s (text_at operands 1) answer
 IsAnswer words (Shapes s method) l operands answer = AnswersShapes l.classes s (text_at operands 1) (text_at words method) answer
+IsAnswer words (Report s method) l operands answer = AnswersReport l.classes s (text_at operands 1) (text_at words method) answer
 IsAnswer words Loops l operands answer = AnswersLoops l.classes answer
 IsAnswer words Headers l operands answer = AnswersHeaders l.classes (text_at operands 1) answer
 IsAnswer words Memory l operands answer = AnswersNeed l (text_at operands 1) (text_at operands 2) answer
@@ -62,6 +65,7 @@ IsBareAnswer (Check s) image operands answer = EndsBy (ChecksBare s image (text_
 IsBareAnswer (Bound s method) image operands answer = EndsBy (BoundsBare s image (text_at operands 1)) answer
 IsBareAnswer (Bounds s) image operands answer = AnswersBareBounds s image (text_at operands 1) answer
 IsBareAnswer (Shapes s method) image operands answer = EndsBy (EndsNoMethod s (text_at operands 1)) answer
+IsBareAnswer (Report s method) image operands answer = EndsBy (BoundsBare s image (text_at operands 1)) answer
 IsBareAnswer Loops image operands answer = AnswersNothing answer
 IsBareAnswer Headers image operands answer = AnswersBareHeaders (text_at operands 1) answer
 IsBareAnswer Memory image operands answer = AnswersBareNeed image (text_at operands 1) (text_at operands 2) answer

@@ -6,7 +6,7 @@
 --   boundary Runs (the run of both), image_words Regions and image_file Linked (what an image and its file are), image_file Bare and microcode_asm Roms
 --   (the same of a bare image and of a microprogram), command_line Command (what words say), and of this crate Tasks (what commands do), World,
 --   Linking, LinkedSettings, Calls and Courses.
-use Rattle.std.specs.Prelude.{◌≡◌, ℕ, suc, ◌+◌, ◌≤◌, ◌⊎◌, ℤ, Bool, List, [], ◌∷◌, length, Contains, Option, Some, IsSome, Ok, MatchOption}
+use Rattle.std.specs.Prelude.{◌≡◌, ℕ, suc, ◌+◌, ◌≤◌, ◌⊎◌, ℤ, Bool, true, List, [], ◌∷◌, ◌++◌, length, Contains, Option, Some, IsSome, Ok, MatchOption}
 use Rattle.std.specs.Prelude.{Vec, slice_get}
 use Rattle.std.specs.declared.alloc.Global.{Global}
 use Rattle.std.specs.List.{concat}
@@ -17,7 +17,7 @@ use Rattle.microcode_asm.specs.Roms.{IsAssembled}
 use Rattle.microcode_asm.specs.Listing.{listing_of}
 use Rattle.command_line.specs.declared.command.Settings.{Settings}
 use Rattle.command_line.specs.declared.command.Command.{Command}
-use Rattle.command_line.specs.declared.command.Command.TheVariants.{Run, Trace, Profile as ToProfile, Bound, Check, Loops}
+use Rattle.command_line.specs.declared.command.Command.TheVariants.{Run, Trace, Profile as ToProfile, Bound, Check, Loops, Plan as ToPlan, Cycle as ToCycle}
 use Rattle.command_line.specs.declared.command.Command.TheVariants.{Asm as Assemble, Link as LinkTo, Work}
 use Rattle.command_line.specs.Command.{command_of}
 use Rattle.command_line.specs.Range.{AreSettings}
@@ -37,15 +37,27 @@ use Rattle.bytecode_typing.specs.Typed.{Typing}
 use Rattle.memory_rules.specs.declared.needs.Need.{Need}
 use Rattle.memory_laws.specs.Promises.{RunsFromBoot, StandsAtCall, StandsAtMaking, KeptSoFar}
 use Rattle.method_flow.specs.Keeping.{BoundOf}
+use Rattle.method_flow.specs.declared.timing.Timing.{Timing}
+use Rattle.report_rows.specs.declared.rows.ReportRow.{ReportRow}
+use Rattle.report_rows.specs.Rows.{cycles_of as rows_cycles}
+use Rattle.bound_report.specs.declared.reports.Report.{Report}
+use Rattle.bound_report.specs.Report.{IsReportOf}
+use Rattle.method_sources.specs.Sources.{source_at}
+use Rattle.report_lines.specs.Entries.{AreEntries}
 use Rattle.activations.specs.Setting.{IsSetting}
 use Rattle.activations.specs.Activations.{Stage, IsActivation, cycles_of}
 use Rattle.activations.specs.Keeping.{Keeps}
 use Rattle.activations.specs.Warrant.{BoundsActivations}
+use Rattle.activation_watch.specs.declared.activation.Activation.{Activation}
 use Rattle.activation_watch.specs.declared.profile.Profile.{Profile}
+use Rattle.activation_watch.specs.Watched.{is_slot, cycles_of as used_by}
+use Rattle.activation_laws.specs.Seen.{IsActivationIn}
 use Rattle.activation_laws.specs.Profiled.{EachKeeps, IsKept}
 use Rattle.method_bounds.specs.declared.answer.BoundAnswer.{BoundAnswer}
 use Rattle.method_bounds.specs.Profiles.{profile_lines}
 use Rattle.boundary.specs.Runs.{Goes}
+use Rattle.slot_table.specs.declared.slot.Slot.{Slot}
+use Rattle.slot_table.specs.Grammar as tables
 use Rattle.jop_cli.specs.declared.outcome.Ending.{Ending}
 use Rattle.jop_cli.specs.declared.outcome.Ending.TheVariants as endings
 use Rattle.program_tables.specs.Resolved.{resolved}
@@ -71,6 +83,7 @@ use Rattle.answer_lines.specs.AnalysisLines.{held_parts, fault_parts, cause_part
 use Rattle.analysis_commands.specs.Analysis.{timing_of, bounds_of, name_of, named_or_number}
 use Rattle.analysis_commands.specs.Checking.{fault_name}
 use Rattle.analysis_commands.specs.Memory.{IsNeed}
+use Rattle.analysis_commands.specs.Plan.{IsPlan, IsExecutive}
 use Rattle.analysis_commands.specs.Bounding.{IsNamed, IsBoundBy, cause_of, subject_of}
 use Rattle.jop_cli.specs.declared.outcome.Refusal.TheVariants.{Check as NotChecked, Bound as Forbidden}
 use Rattle.jop_cli.specs.declared.outcome.Answer.TheVariants.{Text, Ends}
@@ -93,6 +106,10 @@ use Rattle.jop_cli.specs.Working.{IsWorkLine, NotWorked}
 use Rattle.jop_cli.specs.Courses.{RanLinked, RanBare}
 use Rattle.jop_cli.specs.Following.{run_stages}
 use Rattle.jop_cli.specs.Profiling.{RanProfile, EndsRun, input_of, unwatched, bound_told}
+use Rattle.jop_cli.specs.LinkedFile.{IsUnheld}
+use Rattle.jop_cli.specs.Executive.{executive_class, with_executive, IsLinkedWith}
+use Rattle.jop_cli.specs.Planning.{AnswersPlan}
+use Rattle.jop_cli.specs.Cycling.{RanCycle, EndsCycle}
 use Rattle.jop_cli.specs.declared.task.Task.TheVariants.{Ask}
 use Rattle.jop_cli.specs.Asking.{IsAnswer}
 use Rattle.jop_cli.specs.Tasks.{task_of}
@@ -392,6 +409,73 @@ ProfilesAreKept =
     → EachKeeps (linked_setting l.classes settings.stack r.ran.config.memory) (boundaries_of settings l bounds_text old new ending r)
     (bounds_of l.classes r.bounds) m
     → IsKept row bound
+
+-- ---- `report`
+
+-- The bound in a report is the sum of what its lines say: the cycles of the lines of the source, the loads, the invoke and the return.
+abbrev pub ReportsAddUp : Type 0
+ReportsAddUp =
+    (cs : List ClassFile) (t : Timing) (bound_of : BoundOf) (root : ℕ) (r : Report) (entries : List ReportRow) → IsReportOf (resolved cs) t bound_of root r
+    → AreEntries (source_at cs) r.rows.items entries → r.totals.bound ≡ r.totals.invoke + rows_cycles entries + r.totals.loads + r.totals.back
+
+-- ---- `plan` and `cycle`
+
+-- The files of the words from one on are told: a table that gives these slots, these texts behind it, and class files that are linked with the executive of
+-- the slots, which nothing refuses.
+pub record AreReadied (c : Call) (table rounds : ℕ) (slots : List Slot) (texts files : List (List ℕ)) : Type 0 where
+  pub table_text : List ℕ
+  pub told : AreTold c table (table_text ∷ (texts ++ files))
+  pub read : tables.IsRead table_text slots
+  pub none : (refusal : LinkRefusal) → ¬ Refuses (with_executive slots rounds files) executive_class refusal
+
+-- What comes of a plan: the lines of all slots were put, and no line; or a line was said that tells why there is no plan, and nothing was put; or there was
+-- no memory.
+pub data IsPlanned (c : Call) (settings : Settings) (rounds : ℕ) (slots : List Slot) (bounds_text : List ℕ) (files : List (List ℕ)) : Type 0 where
+  puts : (l : Parts) (text : Vec ℕ Global) → IsLinkedWith slots rounds files l → AnswersPlan l.classes settings slots bounds_text (Text text)
+      → c.outcome ≡ Written → Puts c text.items [] → IsPlanned c settings rounds slots bounds_text files
+  says : (l : Parts) (ending : Ending) → IsLinkedWith slots rounds files l → AnswersPlan l.classes settings slots bounds_text (Ends ending)
+      → c.outcome ≡ outcome_of ending → Grew c.err_old c.err_new (line_of c.words ending) → IsQuiet c.old c.new
+      → IsPlanned c settings rounds slots bounds_text files
+  lacks : LacksMemory c → IsPlanned c settings rounds slots bounds_text files
+
+abbrev pub PlansAreAnswered : Type 0
+PlansAreAnswered =
+    (c : Call) (settings : Settings) (rounds table bounds first : ℕ) (slots : List Slot) (bounds_text : List ℕ) (files : List (List ℕ))
+    → command_of c.words ≡ Ok (ToPlan settings rounds table bounds first) → AreReadied c table rounds slots (bounds_text ∷ []) files → NothingFailed c
+    → IsPlanned c settings rounds slots bounds_text files
+
+-- What comes of a cycle: what is linked was run, and the line says how the run ended and how the slots kept their lengths; or a machine with the settings
+-- doesn't hold it, and the line says why; or there was no memory.
+pub data IsCycled (c : Call) (settings : Settings) (rounds : ℕ) (slots : List Slot) (files : List (List ℕ)) : Type 0 where
+  ran : (l : Parts) (ending : Ending) → IsLinkedWith slots rounds files l → RanCycle settings l slots (unwatched c.old) (unwatched c.new) ending
+      → EndsCycle ending → c.outcome ≡ outcome_of ending → Grew c.err_old c.err_new (line_of c.words ending) → IsCycled c settings rounds slots files
+  unheld : (l : Parts) (ending : Ending) → IsLinkedWith slots rounds files l → IsUnheld settings l ending → c.outcome ≡ outcome_of ending
+      → Grew c.err_old c.err_new (line_of c.words ending) → IsQuiet c.old c.new → IsCycled c settings rounds slots files
+  lacks : LacksMemory c → IsCycled c settings rounds slots files
+
+abbrev pub CyclesAreRuns : Type 0
+CyclesAreRuns =
+    (c : Call) (settings : Settings) (rounds table first : ℕ) (slots : List Slot) (files : List (List ℕ))
+    → command_of c.words ≡ Ok (ToCycle settings rounds table first) → AreReadied c table rounds slots [] files → NothingFailed c
+    → IsCycled c settings rounds slots files
+
+-- The boundaries of the run of a cycle.
+abbrev pub cycle_boundaries : (settings : Settings) → (l : Parts) → (slots : List Slot) → (old new : Lent) → (ending : Ending)
+    → RanCycle settings l slots old new ending → List Stage
+cycle_boundaries settings l slots old new ending r =
+    run_stages (linked_setting l.classes settings.stack r.ran.config.memory) (linked_reset settings.stack l.laid.words r.ran.config) settings.cycles
+    (wired old) (wired new) r.followed r.ran.cycles.ran
+
+-- Where there is a plan, each activation of a slot in the run of a cycle with the same settings takes at most as many cycles as the slot's length, where it
+-- keeps the bounds of loops.
+abbrev pub SlotsAreKept : Type 0
+SlotsAreKept =
+    (settings : Settings) (l : Parts) (slots : List Slot) (bounds_text text : List ℕ) (plan : IsPlan l.classes settings bounds_text slots text)
+    (old new : Lent) (ending : Ending) (r : RanCycle settings l slots old new ending) (executive number : ℕ) (slot : Slot) (x : Activation)
+    → AreSettings settings → IsExecutive (resolved l.classes) (named_or_number l.classes) executive → slice_get slots number ≡ Some slot
+    → is_slot executive number x.begun ≡ true
+    → (is : IsActivationIn (linked_setting l.classes settings.stack r.ran.config.memory) (cycle_boundaries settings l slots old new ending r) x)
+    → Keeps (bounds_of l.classes plan.bounds) is.is → used_by x ≤ slot.length
 
 -- ---- `loops`
 

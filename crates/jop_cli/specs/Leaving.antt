@@ -3,6 +3,7 @@ use Rattle.std.specs.Prelude.{ℕ}
 use Rattle.outside.specs.Outside.{Rose}
 use Rattle.jop_cli.specs.declared.outcome.Ending.{Ending}
 use Rattle.jop_cli.specs.declared.outcome.Ending.TheVariants.{Ended, Written, Linked, Holds, Uncaught, Refused, TooLong, NotLinked, NotHeld, NotAnswered, Spent}
+use Rattle.jop_cli.specs.declared.outcome.Ending.TheVariants.{CycleEnded, CycleUncaught, CycleSpent}
 use Rattle.jop_cli.specs.declared.outcome.Ending.TheVariants.{ReadFault, InputFault, WriteFault, NoMemory}
 use Rattle.jop_cli.specs.declared.outcome.Outcome.{Outcome}
 use Rattle.jop_cli.specs.declared.outcome.Outcome.TheVariants as outcomes
@@ -20,6 +21,9 @@ Leaves (NotLinked refusal name) = Unit {0}
 Leaves (NotHeld fault name) = Unit {0}
 Leaves (NotAnswered cause subject) = Unit {0}
 Leaves (Spent counts) = ⊥
+Leaves (CycleEnded slots) = ⊥
+Leaves (CycleUncaught class name slots) = ⊥
+Leaves (CycleSpent slots) = ⊥
 Leaves ReadFault = Unit {0}
 Leaves InputFault = ⊥
 Leaves WriteFault = ⊥

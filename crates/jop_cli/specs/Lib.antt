@@ -14,12 +14,16 @@ pub mod Checking
 pub mod Bounding
 pub mod Needs
 pub mod Headers
+pub mod Reporting
 pub mod AllBounds
 pub mod Opening
 pub mod Asking
 pub mod Following
 pub mod Preparing
 pub mod Profiling
+pub mod Executive
+pub mod Planning
+pub mod Cycling
 pub mod Tasks
 pub mod Working
 pub mod Answer

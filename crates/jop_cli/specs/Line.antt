@@ -3,14 +3,16 @@ use Rattle.std.specs.Prelude.{ℕ, Bool, true, false, List, [], ◌∷◌, get_o
 use Rattle.std.specs.List.{concat}
 use Rattle.jop_cli.specs.declared.outcome.Refusal.{Refusal}
 use Rattle.jop_cli.specs.declared.outcome.Refusal.TheVariants.{Usage, TooBig, BadImage, Differs, MethodTooLong, MemoryTooSmall, BadBounds, TwiceBound, BadSizes}
-use Rattle.jop_cli.specs.declared.outcome.Refusal.TheVariants.{TwiceSize, BadLines, TwiceLines, BadCert, Check, Bound, Memory, NoLoop, Asm, Link}
+use Rattle.jop_cli.specs.declared.outcome.Refusal.TheVariants.{TwiceSize, BadLines, TwiceLines, BadTable, SlotCount, BadCert, Check}
+use Rattle.jop_cli.specs.declared.outcome.Refusal.TheVariants.{Bound, Memory, NoLoop, Plan, Asm, Link}
 use Rattle.jop_cli.specs.declared.outcome.AsmRefusal.TheVariants as asm
 use Rattle.jop_cli.specs.declared.outcome.Ending.{Ending}
 use Rattle.jop_cli.specs.declared.outcome.Ending.TheVariants.{Ended, Written, Linked, Holds, Uncaught, Refused, TooLong, NotLinked, NotHeld, NotAnswered, Spent}
+use Rattle.jop_cli.specs.declared.outcome.Ending.TheVariants.{CycleEnded, CycleUncaught, CycleSpent}
 use Rattle.jop_cli.specs.declared.outcome.Ending.TheVariants.{ReadFault, InputFault, WriteFault, NoMemory}
 use Rattle.microcode_asm.specs.declared.AsmKind.{AsmKind}
 use Rattle.microcode_asm.specs.declared.AsmKind.TheVariants.{Form, NoLabel, LabelTwice, EntryTwice, ConstTwice, NoTurns}
-use Rattle.answer_lines.specs.Line.{counts_parts, word_text}
+use Rattle.answer_lines.specs.Line.{counts_parts, slot_counts_parts, word_text}
 use Rattle.jopizer.specs.declared.refusal.LinkRefusal.{LinkRefusal}
 use Rattle.jopizer.specs.declared.refusal.LinkRefusal.TheVariants as links
 use Rattle.answer_lines.specs.AnalysisLines as analysis
@@ -64,11 +66,14 @@ refusal_parts words (BadSizes line) = analysis.bad_sizes_parts line
 refusal_parts words (TwiceSize line) = analysis.twice_size_parts line
 refusal_parts words (BadLines line) = analysis.bad_lines_parts line
 refusal_parts words (TwiceLines line) = analysis.twice_lines_parts line
+refusal_parts words (BadTable line) = analysis.bad_table_parts line
+refusal_parts words (SlotCount count) = analysis.slot_count_parts count
 refusal_parts words (BadCert line) = analysis.bad_cert_parts line
 refusal_parts words (Check fault) = []
 refusal_parts words (Bound cause) = []
 refusal_parts words (Memory cause) = []
 refusal_parts words NoLoop = []
+refusal_parts words (Plan cause) = []
 refusal_parts words (Asm (asm.Line number kind)) = codes "asm: line=" ∷ decimal number ∷ codes " " ∷ kind_name kind ∷ codes "\n" ∷ []
 refusal_parts words (Asm (asm.TooLong count)) = codes "asm: too long words=" ∷ decimal count ∷ codes "\n" ∷ []
 refusal_parts words (Link refusal) = []
@@ -87,6 +92,9 @@ parts_of words (NotLinked refusal name) = link_parts refusal name.items
 parts_of words (NotHeld fault name) = analysis.fault_parts fault name.items
 parts_of words (NotAnswered cause subject) = unanswered_parts cause subject.items
 parts_of words (Spent counts) = codes "spent" ∷ counts_parts counts
+parts_of words (CycleEnded slots) = codes "ended" ∷ slot_counts_parts slots
+parts_of words (CycleUncaught class name slots) = codes "uncaught " ∷ name.items ∷ slot_counts_parts slots
+parts_of words (CycleSpent slots) = codes "spent" ∷ slot_counts_parts slots
 parts_of words ReadFault = codes "read fault\n" ∷ []
 parts_of words InputFault = codes "read fault\n" ∷ []
 parts_of words WriteFault = codes "write fault\n" ∷ []
@@ -109,6 +117,9 @@ is_fault (NotLinked refusal name) = is_memory refusal
 is_fault (NotHeld fault name) = false
 is_fault (NotAnswered cause subject) = false
 is_fault (Spent counts) = false
+is_fault (CycleEnded slots) = false
+is_fault (CycleUncaught class name slots) = false
+is_fault (CycleSpent slots) = false
 is_fault ReadFault = true
 is_fault InputFault = true
 is_fault WriteFault = true

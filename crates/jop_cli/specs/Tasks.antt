@@ -4,11 +4,11 @@ use Rattle.command_line.specs.declared.command.Settings.{Settings}
 use Rattle.command_line.specs.declared.command.Command.{Command}
 use Rattle.command_line.specs.declared.command.Command.TheVariants as commands
 use Rattle.command_line.specs.Range.{AreSettings}
-use Rattle.jop_cli.specs.declared.asking.Question.TheVariants.{Check, Bound, Bounds, Shapes, Loops, Headers, Memory}
+use Rattle.jop_cli.specs.declared.asking.Question.TheVariants.{Check, Bound, Bounds, Shapes, Report, Loops, Headers, Memory}
 use Rattle.jop_cli.specs.declared.asking.Asked.{Asked}
 use Rattle.jop_cli.specs.declared.show.Show.TheVariants as shows
 use Rattle.jop_cli.specs.declared.task.Task.{Task}
-use Rattle.jop_cli.specs.declared.task.Task.TheVariants.{Run, Profile, Assemble, Link, Ask, Work}
+use Rattle.jop_cli.specs.declared.task.Task.TheVariants.{Run, Profile, Plan, Cycle, Assemble, Link, Ask, Work}
 use Rattle.jop_cli.specs.Asking.{HasSettings}
 
 -- ---- the questions
@@ -24,6 +24,9 @@ bounding_all s image = record { question = Bounds s; image = image; operands = 2
 
 abbrev pub bounding_shapes : Settings → (method image : ℕ) → Asked
 bounding_shapes s method image = record { question = Shapes s method; image = image; operands = 2 }
+
+abbrev pub reporting : Settings → (method image : ℕ) → Asked
+reporting s method image = record { question = Report s method; image = image; operands = 2 }
 
 abbrev pub finding_loops : (image : ℕ) → Asked
 finding_loops image = record { question = Loops; image = image; operands = 1 }
@@ -45,10 +48,13 @@ task_of (commands.Profile s image bounds) = Profile s image
 task_of (commands.Bound s method image bounds) = Ask (bounding s method image)
 task_of (commands.BoundAll s image bounds) = Ask (bounding_all s image)
 task_of (commands.BoundShapes s method image bounds) = Ask (bounding_shapes s method image)
+task_of (commands.Report s method image bounds) = Ask (reporting s method image)
 task_of (commands.Check s image bounds certificate) = Ask (checking s image)
 task_of (commands.Loops image) = Ask (finding_loops image)
 task_of (commands.Headers image operands) = Ask (heading image operands)
 task_of (commands.Memory image bounds sizes) = Ask (needing image)
+task_of (commands.Plan s rounds table bounds first) = Plan s rounds table
+task_of (commands.Cycle s rounds table first) = Cycle s rounds table
 task_of (commands.Asm text) = Assemble text
 task_of (commands.Work n) = Work n
 
@@ -56,6 +62,8 @@ task_of (commands.Work n) = Work n
 abbrev pub IsAmong : (words : ℕ) → Task → Type 0
 IsAmong n (Run s show image) = AreSettings s × (image < n)
 IsAmong n (Profile s image) = AreSettings s × (image + 2 ≤ n)
+IsAmong n (Plan s rounds table) = AreSettings s × (1 ≤ rounds) × (rounds ≤ 32767) × (table + 2 ≤ n)
+IsAmong n (Cycle s rounds table) = AreSettings s × (1 ≤ rounds) × (rounds ≤ 32767) × (table + 1 ≤ n)
 IsAmong n (Assemble text) = text < n
 IsAmong n (Link main first) = (main < n) × (first < n)
 IsAmong n (Ask asked) = HasSettings asked.question × (asked.image + asked.operands ≤ n)

@@ -19,6 +19,7 @@ use crate::lines::text_of;
 use crate::linking::read_operands;
 use crate::needs::{loops_linked, memory_bare, memory_linked};
 use crate::outcome::{Answer, Ending};
+use crate::reporting::report_linked;
 use command_line::Settings;
 use jop_core::Bare;
 use jopizer::Linked;
@@ -36,6 +37,8 @@ pub(crate) enum Question {
     Bounds { settings: Settings },
     /// The bound of the method that the word names in each shape of the method cache. Its operands are an image and bounds of loops.
     Shapes { settings: Settings, method: u32 },
+    /// Where the bound of the method that the word names comes from. Its operands are an image and bounds of loops.
+    Report { settings: Settings, method: u32 },
     /// The loops that count. Its operand is an image.
     Loops,
     /// The loops as a text of bounds. Its operands are an image, and bounds by lines of sources where they are given.
@@ -54,16 +57,23 @@ pub(crate) struct Asked {
     pub operands: u32,
 }
 
-/// The text of the operand of this number; that of the image is number 0.
-pub(crate) fn operand(operands: &[Vec<u8>], number: usize) -> &[u8]
-    requires { All (λ text. length text.items ≤ longest_file) operands.now }
-    ensures text { result.now ≡ text_at (contents operands.now) number }
-    ensures short { length result.now ≤ longest_file }
+/// The text of the operand of this number.
+pub(crate) fn operand_text(operands: &[Vec<u8>], number: usize) -> &[u8]
+    ensures { result.now ≡ text_at (contents operands.now) number }
 {
     match operands.get(number) {
         Some(text) => text.as_slice(),
         None => b"",
     }
+}
+
+/// The text of the operand of this number, where none is too long; that of the image is number 0.
+pub(crate) fn operand(operands: &[Vec<u8>], number: usize) -> &[u8]
+    requires { All (λ text. length text.items ≤ longest_file) operands.now }
+    ensures text { result.now ≡ text_at (contents operands.now) number }
+    ensures short { length result.now ≤ longest_file }
+{
+    operand_text(operands, number)
 }
 
 /// The answer of what was linked.
@@ -91,6 +101,9 @@ fn answer_linked(
         Question::Shapes { settings, method } => {
             shapes_linked(alloc, linked, &settings, text_of(words, method), bounds)
         }
+        Question::Report { settings, method } => {
+            report_linked(alloc, linked, &settings, text_of(words, method), bounds)
+        }
         Question::Loops => loops_linked(alloc, linked),
         Question::Headers => headers_linked(alloc, linked, bounds),
         Question::Memory => memory_linked(alloc, linked, bounds, operand(operands, 2)),
@@ -109,7 +122,7 @@ fn answer_bare(alloc: Global, question: Question, image: &Bare, operands: &[Vec<
             let certificate = operand(operands, 2);
             Answer::Ends(check_bare_image(alloc, image, &settings, bounds, certificate))
         }
-        Question::Bound { settings, .. } => {
+        Question::Bound { settings, .. } | Question::Report { settings, .. } => {
             Answer::Ends(bound_bare_image(alloc, image, &settings, bounds))
         }
         Question::Bounds { settings } => bounds_bare(alloc, image, &settings, bounds),
@@ -168,7 +181,7 @@ fn answer_operands(
 }
 
 /// Puts an answer. Nothing is put before the whole text stands.
-fn put_answer<O: Sink>(answer: Answer, out: &mut O) -> Ending
+pub(crate) fn put_answer<O: Sink>(answer: Answer, out: &mut O) -> Ending
     ensures puts { PutsAnswer answer (O.held out.old) (O.held out.new) (O.faults out.old) (O.faults out.new) result }
     ensures leaves { Leaves result → out.new ≡ out.old }
 {

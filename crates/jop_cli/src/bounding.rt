@@ -14,7 +14,7 @@ use jopizer::Linked;
 use std::alloc::Global;
 
 /// The ending that says why no bound is given.
-fn cause_ending(settings: &Settings, cause: NotBounded) -> Ending
+pub(crate) fn cause_ending(settings: &Settings, cause: NotBounded) -> Ending
     ensures { result ≡ cause_ending settings.now cause }
 {
     match cause {

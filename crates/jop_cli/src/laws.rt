@@ -4,11 +4,13 @@
 ghost use Rattle.jop_cli.specs.Correct.{LinkingIsComplete, RunsAreTheBytecodes, TracesAreTheRuns, OneBareImage, BareRunsAreTheBytecodes, BareTracesAreTheRuns};
 ghost use Rattle.jop_cli.specs.Correct.{AssemblingIsComplete, BoundsAreKept, CheckingIsComplete, FaultsAreAnswered, BoundingIsComplete, BoundRefusalsAreCaused};
 ghost use Rattle.jop_cli.specs.Correct.{BoundsHoldInRuns, WrittenLoopsCount, CountedLoopsAreKept, QuestionsAreAnswered, NeedsSuffice};
-ghost use Rattle.jop_cli.specs.Correct.{NamesTellMethods, ProfilesAreComplete, ProfilesAreKept, WorkingIsComplete, WorkLinesAreTrue};
+ghost use Rattle.jop_cli.specs.Correct.{NamesTellMethods, ProfilesAreComplete, ProfilesAreKept, PlansAreAnswered, CyclesAreRuns, SlotsAreKept};
+ghost use Rattle.jop_cli.specs.Correct.{ReportsAddUp, WorkingIsComplete, WorkLinesAreTrue};
 
-use activation_laws::profiles_keep_bounds;
+use activation_laws::{called_keep_bounds, profiles_keep_bounds};
 use activations::laws::{places_tell_words, steps_are_told};
 use bound_cert::has_one_certificate;
+use bound_report::laws::parts_add_up;
 use bound_rules::laws::{faults_are_one, refused_is_not_met};
 use bound_sound::certificates_are_sound;
 use boundary::laws::runs_are_in_a_row;
@@ -17,6 +19,7 @@ use jopizer::laws::{linked_images_are_read, one_linked};
 use loop_bounds::laws::{gives_one, read_is_not_refused};
 use memory_laws::laws::{heap_need_suffices, stack_need_suffices};
 use method_names::names::names_are_one;
+use report_lines::laws::lines_add_up;
 
 /// Class files that nothing refuses are linked.
 pub fn linking_is_complete()
@@ -145,6 +148,39 @@ pub fn profiles_are_kept()
     certificates_are_sound();
     runs_are_in_a_row();
     profiles_keep_bounds();
+}
+
+/// The lines of a report add up to its bound.
+pub fn reports_add_up()
+    ensures { ReportsAddUp }
+{
+    parts_add_up();
+    lines_add_up();
+}
+
+/// A plan of class files that are linked with the executive of a table is answered.
+pub fn plans_are_answered()
+    ensures { PlansAreAnswered }
+{
+    slot_table::laws::gives_one();
+    slot_table::laws::read_is_not_refused();
+}
+
+/// A cycle of class files that are linked with the executive of a table is a run of them.
+pub fn cycles_are_runs()
+    ensures { CyclesAreRuns }
+{
+    slot_table::laws::gives_one();
+    slot_table::laws::read_is_not_refused();
+}
+
+/// Where there is a plan, the slots of a cycle keep their lengths.
+pub fn slots_are_kept()
+    ensures { SlotsAreKept }
+{
+    certificates_are_sound();
+    runs_are_in_a_row();
+    called_keep_bounds();
 }
 
 /// Where the answer is that the lines of loops are written, the loops count to their numbers.

@@ -9,7 +9,8 @@ ghost use Rattle.jop_cli.specs.Line.{text_at, kind_name, link_parts, too_long_pa
 use crate::outcome::{AsmRefusal, Ending, Refusal};
 use answer_lines::{
     AsmLine, Line, LinkLine, say, say_bad_bounds, say_bad_cert, say_bad_lines, say_bad_sizes,
-    say_fault, say_held, say_twice_bound, say_twice_lines, say_twice_size, say_unanswered,
+    say_bad_table, say_fault, say_held, say_slot_count, say_twice_bound, say_twice_lines,
+    say_twice_size, say_unanswered,
 };
 use jopizer::LinkRefusal;
 use microcode_asm::AsmKind;
@@ -43,6 +44,9 @@ pub(crate) fn say_ending<O: Sink>(
         Ending::Holds(held) => say_held(sink, &held.name, held.bound),
         Ending::Spent(counts) => say(sink, &Line::Spent(*counts)),
         Ending::Uncaught(_, name, counts) => say(sink, &Line::Uncaught(name, *counts)),
+        Ending::CycleEnded(slots) => say(sink, &Line::CycleEnded(*slots)),
+        Ending::CycleUncaught(_, name, slots) => say(sink, &Line::CycleUncaught(name, *slots)),
+        Ending::CycleSpent(slots) => say(sink, &Line::CycleSpent(*slots)),
         Ending::Refused(refusal) => say_refusal(sink, words, *refusal),
         Ending::TooLong(_, name, blocks, limit) => say_too_long(sink, name, *blocks, *limit),
         Ending::NotLinked(refusal, name) => say_link_refusal(sink, *refusal, name),
@@ -80,11 +84,14 @@ fn say_refusal<O: Sink>(sink: &mut O, words: &[&str], refusal: Refusal) -> Resul
         Refusal::TwiceSize(line) => say_twice_size(sink, line),
         Refusal::BadLines(line) => say_bad_lines(sink, line),
         Refusal::TwiceLines(line) => say_twice_lines(sink, line),
+        Refusal::BadTable(line) => say_bad_table(sink, line),
+        Refusal::SlotCount(count) => say_slot_count(sink, count),
         Refusal::BadCert(line) => say_bad_cert(sink, line),
         Refusal::Check(_)
         | Refusal::Bound(_)
         | Refusal::Memory(_)
         | Refusal::NoLoop
+        | Refusal::Plan(_)
         | Refusal::Link(_) => Ok(()),
     }
 }

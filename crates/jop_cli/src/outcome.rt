@@ -1,7 +1,7 @@
 //! How a call of the program ends.
 
 use analysis_commands::Held;
-use answer_lines::{BoundCause, Cause, Counts, Sizes};
+use answer_lines::{BoundCause, Cause, Counts, PlanCause, Sizes, SlotCounts};
 use bound_rules::CheckFault;
 use jopizer::LinkRefusal;
 use memory_rules::NeedCause;
@@ -37,6 +37,10 @@ pub enum Refusal {
     BadLines(u32),
     /// The line of this number is the first of them that bounds once more what a line before it bounds.
     TwiceLines(u32),
+    /// The line of this number, counted from 1, is the first of the table of slots that is none of its grammar.
+    BadTable(u32),
+    /// The table has so many slots, and not 1 to 64.
+    SlotCount(u32),
     /// With the line of this number no certificate begins.
     BadCert(u64),
     /// This is the first condition of the certificate that fails.
@@ -47,6 +51,8 @@ pub enum Refusal {
     Memory(NeedCause),
     /// A bound is said of what heads no loop.
     NoLoop,
+    /// This keeps a slot from its length.
+    Plan(PlanCause),
     /// The text isn't assembled.
     Asm(AsmRefusal),
     /// The files aren't linked.
@@ -125,6 +131,12 @@ pub(crate) enum Ending {
     /// Why what is asked isn't answered, and what the line names.
     NotAnswered(Cause, Vec<u8>),
     Spent(Counts),
+    /// The program of an executive returned, and its slots.
+    CycleEnded(SlotCounts),
+    /// An object of the class of this number, whose name has these bytes, wasn't caught in the run of an executive, and its slots.
+    CycleUncaught(u32, Vec<u8>, SlotCounts),
+    /// The run of an executive was stopped, and its slots.
+    CycleSpent(SlotCounts),
     /// A file failed.
     ReadFault,
     /// The input failed.

@@ -21,6 +21,18 @@ pub(crate) enum Task {
         settings: Settings,
         image: u32,
     },
+    /// Tells the bound of each slot of the table of a word, by the bounds and the class files of the words behind it.
+    Plan {
+        settings: Settings,
+        rounds: u32,
+        table: u32,
+    },
+    /// Runs the executive of the table of a word, and of the class files of the words behind it, so many rounds.
+    Cycle {
+        settings: Settings,
+        rounds: u32,
+        table: u32,
+    },
     /// Assembles the text of a word.
     Assemble {
         text: u32,
@@ -95,6 +107,12 @@ pub(crate) fn task_of(command: Command) -> Task
             image,
             ..
         } => ask(Question::Shapes { settings, method }, image, 2),
+        Command::Report {
+            settings,
+            method,
+            image,
+            ..
+        } => ask(Question::Report { settings, method }, image, 2),
         Command::Check {
             settings,
             image,
@@ -103,6 +121,26 @@ pub(crate) fn task_of(command: Command) -> Task
         Command::Loops { image } => ask(Question::Loops, image, 1),
         Command::Headers { image, operands } => ask(Question::Headers, image, operands),
         Command::Memory { image, .. } => ask(Question::Memory, image, 3),
+        Command::Plan {
+            settings,
+            rounds,
+            table,
+            ..
+        } => Task::Plan {
+            settings,
+            rounds,
+            table,
+        },
+        Command::Cycle {
+            settings,
+            rounds,
+            table,
+            ..
+        } => Task::Cycle {
+            settings,
+            rounds,
+            table,
+        },
         Command::Asm { text } => Task::Assemble { text },
         Command::Work { count } => Task::Work { count },
     }

@@ -16,12 +16,14 @@ ghost use Rattle.jop_cli.specs.Answer.{refusal_of, outcome_of, outcome_unsaid};
 use crate::asking::ask_files;
 use crate::assembling::assemble_file;
 use crate::bare_file::run_fitting;
+use crate::cycling::cycle_files;
 use crate::image::{Image, open_image};
 use crate::lines::say_ending;
 use crate::linked_file::run_program;
 use crate::linking::link_files;
 use crate::load::load;
 use crate::outcome::{Ending, Outcome, Refusal};
+use crate::planning::plan_files;
 use crate::profiling::profile_files;
 use crate::show::Show;
 use crate::task::{Task, task_of};
@@ -135,6 +137,16 @@ fn perform<F: Files, S: Source, O: Sink, V: Watch>(
         Task::Profile { settings, image } => {
             profile_files(alloc, &settings, image, files, input, out)
         }
+        Task::Plan {
+            settings,
+            rounds,
+            table,
+        } => plan_files(alloc, &settings, rounds, table, files, out),
+        Task::Cycle {
+            settings,
+            rounds,
+            table,
+        } => cycle_files(alloc, &settings, rounds, table, files, input, out),
         Task::Assemble { text } => assemble_file(alloc, text, files, out),
         Task::Link { main, first } => link_files(alloc, words, main, first, files, out),
         Task::Ask(asked) => ask_files(alloc, words, &asked, files, out),
@@ -201,6 +213,9 @@ fn outcome_unsaid(ending: &Ending) -> Outcome
         | Ending::NotHeld(_, _)
         | Ending::NotAnswered(_, _)
         | Ending::Spent(_)
+        | Ending::CycleEnded(_)
+        | Ending::CycleUncaught(_, _, _)
+        | Ending::CycleSpent(_)
         | Ending::WriteFault => Outcome::WriteFault,
     }
 }
@@ -213,6 +228,7 @@ fn refusal_of(cause: Cause) -> Refusal
         Cause::Bound(cause) => Refusal::Bound(cause),
         Cause::Memory(cause) => Refusal::Memory(cause),
         Cause::NoLoop => Refusal::NoLoop,
+        Cause::Plan(cause) => Refusal::Plan(cause),
     }
 }
 
@@ -220,10 +236,12 @@ fn outcome_for(ending: &Ending) -> Outcome
     ensures { result ≡ outcome_of ending.now }
 {
     match ending {
-        Ending::Ended(_) => Outcome::Ended,
+        Ending::Ended(_) | Ending::CycleEnded(_) => Outcome::Ended,
         Ending::Written | Ending::Linked(_) => Outcome::Written,
         Ending::Holds(_) => Outcome::Holds,
-        Ending::Uncaught(class, _, _) => Outcome::Uncaught(*class),
+        Ending::Uncaught(class, _, _) | Ending::CycleUncaught(class, _, _) => {
+            Outcome::Uncaught(*class)
+        }
         Ending::Refused(refusal) => Outcome::Refused(*refusal),
         Ending::TooLong(method, _, blocks, limit) => {
             Outcome::Refused(Refusal::MethodTooLong(*method, *blocks, *limit))
@@ -231,7 +249,7 @@ fn outcome_for(ending: &Ending) -> Outcome
         Ending::NotLinked(refusal, _) => Outcome::Refused(Refusal::Link(*refusal)),
         Ending::NotHeld(fault, _) => Outcome::Refused(Refusal::Check(*fault)),
         Ending::NotAnswered(cause, _) => Outcome::Refused(refusal_of(*cause)),
-        Ending::Spent(_) => Outcome::Spent,
+        Ending::Spent(_) | Ending::CycleSpent(_) => Outcome::Spent,
         Ending::ReadFault | Ending::InputFault => Outcome::ReadFault,
         Ending::WriteFault => Outcome::WriteFault,
         Ending::NoMemory => Outcome::NoMemory,
@@ -241,15 +259,17 @@ fn outcome_for(ending: &Ending) -> Outcome
 /// Does all that the program does, and puts one line that says how it ended into `err`, unless `asm`, `bound` or `work` have put what
 /// they answer.
 ///
-/// Word k names file k. `run` of an image takes the program's input from `input`, puts its output into `out`, and hands the
-/// registers of each state of the machine, from reset on, from which a cycle was done or tried to `watch`. `trace` is the same
-/// run, and puts its lines into `out`, and hands `watch` nothing: one before each step, one for each byte of the output and, if asked to,
-/// one before each cycle. `profile` is the same run, too, and puts in place of the output a line for each method, of what its
-/// activations took beside its bound. `asm` puts the words of the text's microprogram into `out`, a line for each, and `link` the file
-/// of the image of the class files. `bound` puts the text of a certificate of the method that is asked for, and `work` the line of the
-/// class that it makes, links, runs and bounds. `loops` puts a line of bounds for each loop that counts, `headers` a text of bounds with
-/// the lines of their sources, `bound --all` a line for each method, `bound --shapes` one for each shape of the method cache, and
-/// `memory` the line of what a run needs. `check` puts nothing there: it says whether a certificate meets its conditions.
+/// Word k names file k. `run` of an image takes the program's input from `input`, puts its output into `out`, and hands the registers
+/// of each state of the machine, from reset on, from which a cycle was done or tried to `watch`. `trace` is the same run, and puts its
+/// lines into `out`, and hands `watch` nothing: one before each step, one for each byte of the output and, if asked to, one before each
+/// cycle. `profile` is the same run, too, and puts in place of the output a line for each method, of what its activations took beside
+/// its bound. `cycle` is such a run of an executive that calls slots in turn, whose class stands behind the class files, and says how
+/// the slots kept their lengths; `plan` puts a line for each slot with its bound. `asm` puts the words of the text's microprogram into
+/// `out`, a line for each, and `link` the file of the image of the class files. `bound` puts the text of a certificate of the method
+/// that is asked for, `report` lines that say where its bound comes from, and `work` the line of the class that it makes, links, runs
+/// and bounds. `loops` puts a line of bounds for each loop that counts, `headers` a text of bounds with the lines of their sources,
+/// `bound --all` a line for each method, `bound --shapes` one for each shape of the method cache, and `memory` the line of what a run
+/// needs. `check` puts nothing there: it says whether a certificate meets its conditions.
 pub fn jop<F: Files, S: Source, O: Sink, E: Sink, V: Watch>(
     alloc: Global,
     words: &[&str],

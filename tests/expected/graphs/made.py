@@ -29,7 +29,8 @@ class ClassFile:
         return self.index[data]
 
     def utf8(self, text):
-        return self.entry(struct.pack('>BH', 1, len(text)) + text.encode())
+        data = text.encode()
+        return self.entry(struct.pack('>BH', 1, len(data)) + data)
 
     def cls(self, name):
         return self.entry(struct.pack('>BH', 7, self.utf8(name)))

@@ -11,7 +11,7 @@ sys.path[:0] = [HERE, os.path.join(HERE, '../loops'), os.path.join(HERE, '../gra
 import counted  # noqa: E402
 import flow  # noqa: E402
 from rechecker.texts import MOST_BOUND, NUMBER, lines_of  # noqa: E402
-from sources import Source  # noqa: E402
+from sources import Sources  # noqa: E402
 
 OF_LINE = re.compile(b'([^ \n]+):%b loop<=%b' % (NUMBER.encode(), NUMBER.encode()))
 OF_PLACE = re.compile(b'([^ \n]+) %b loop<=%b' % (NUMBER.encode(), NUMBER.encode()))
@@ -40,7 +40,7 @@ class Headers:
 
     def __init__(self, main, files):
         self.program = counted.Program(main, files)
-        self.sources = [Source(data) for data in files]
+        self.sources = Sources(self.program, files)
         boot = len(self.program.classes) - 1
         self.methods = [m for m in range(len(self.program.coded)) if self.program.coded[m][0] != boot]
         self.graphs = {m: flow.Graph(self.program.body(m)) for m in self.methods}
@@ -51,27 +51,16 @@ class Headers:
         loops = self.graphs[m].loops()
         return None if loops is None else [place for place, _ in sorted(loops)]
 
-    def source_of(self, m):
-        """what is known of the source of a method's class, or none: those of the core classes tell nothing"""
-        number = self.program.coded[m][0] - self.program.first_own
-        return self.sources[number] if 0 <= number < len(self.sources) else None
-
     def source(self, m, place):
         """the file and the line of an instruction, or none"""
-        source = self.source_of(m)
-        file = named(source.file) if source else None
-        line = source.line(self.program.coded[m][1], place) if file is not None else None
-        return None if line is None else (file, line)
-
-    def files(self):
-        return {named(source.file) for source in self.sources} - {None}
+        return self.sources.at(m, place)
 
     def at(self, separator):
         """what notes with this separator may be said of: names that are known, and where loops are headed"""
         sites = {(m, place) for m in self.methods for place in self.headers[m] or []}
         if separator == ' ':
             return {self.program.names[m] for m in self.methods}, {(self.program.names[m], place) for m, place in sites}
-        return self.files(), {self.source(m, place) for m, place in sites}
+        return self.sources.files(), {self.source(m, place) for m, place in sites}
 
     def strays(self, notes):
         """what is bounded at lines of the program's files and at places of its methods, and isn't there, in the order of the notes"""
@@ -115,11 +104,6 @@ class Headers:
             return notes
         stray = next(self.strays(notes), None)
         return list(self.lines(notes)) if stray is None else 'no loop ' + stray
-
-
-def named(file):
-    """a file as a line of notes can name it, or none"""
-    return None if file is None or b' ' in file or b'\n' in file else file.decode('utf-8', 'surrogateescape')
 
 
 def is_nameable(name):

@@ -86,6 +86,33 @@ class Source:
         return found[1] if found else None
 
 
+class Sources:
+    """the files and lines of a program's instructions, as far as a line can name them; those of the core classes tell nothing"""
+
+    def __init__(self, program, files):
+        self.program, self.sources = program, [Source(data) for data in files]
+
+    def of(self, m):
+        """what is known of the source of a method's class, or none"""
+        number = self.program.coded[m][0] - self.program.first_own
+        return self.sources[number] if 0 <= number < len(self.sources) else None
+
+    def at(self, m, place):
+        """the file and the line of an instruction, or none"""
+        source = self.of(m)
+        file = named(source.file) if source else None
+        line = source.line(self.program.coded[m][1], place) if file is not None else None
+        return None if line is None else (file, line)
+
+    def files(self):
+        return {named(source.file) for source in self.sources} - {None}
+
+
+def named(file):
+    """a file as a line can name it, or none"""
+    return None if file is None or b' ' in file or b'\n' in file else file.decode('utf-8', 'surrogateescape')
+
+
 def starts_of(data):
     """the starts of a table, none where the bytes aren't one"""
     left = Bytes(data)

@@ -53,11 +53,12 @@ class Machine(NamedTuple):
 
 
 class Run(NamedTuple):
-    """the status and the line of a run, and what is seen at its boundaries"""
+    """the status and the line of a run, what is seen at its boundaries, and the bytes that it puts"""
 
     status: int
     line: str
     heres: list
+    put: bytes
 
 
 def here_of(line):
@@ -87,11 +88,12 @@ class Simulated:
             file.flush()
             words = [self.plain, '--misses', MICROCODE, file.name, *machine.settings()]
             ran = subprocess.run(words, input=given, capture_output=True, check=False)
-        heres = [here_of(line) for line in ran.stdout.decode().splitlines() if not line.startswith('write ')]
+        lines = ran.stdout.decode().splitlines()
+        heres = [here_of(line) for line in lines if not line.startswith('write ')]
         reads = [place for place, here in enumerate(heres) if here.step == READ and here.clock < machine.cycles]
         if fails is not None and fails < len(reads):
-            return Run(4, 'read fault', heres[:reads[fails] + 1])
-        return Run(ran.returncode, self.with_name(ran.stderr.decode().strip()), heres)
+            return Run(4, 'read fault', heres[:reads[fails] + 1], put_before(lines, reads[fails] + 1))
+        return Run(ran.returncode, self.with_name(ran.stderr.decode().strip()), heres, put_before(lines, len(heres)))
 
     def with_name(self, line):
         """the line, with the name of the class whose number stands in it"""
@@ -99,6 +101,17 @@ class Simulated:
         if words[0] == 'uncaught':
             words[1] = self.program.classes[int(words[1]) - FIRST_CLASS].name.decode()
         return ' '.join(words)
+
+
+def put_before(lines, count):
+    """the bytes that are put in the first steps, so many"""
+    found, steps = bytearray(), 0
+    for line in lines:
+        if line.startswith('write '):
+            found += bytes.fromhex(line.split(' ')[1]) if steps <= count else b''
+        else:
+            steps += 1
+    return bytes(found)
 
 
 def activations(heres):

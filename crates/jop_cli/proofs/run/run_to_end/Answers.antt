@@ -3,7 +3,7 @@ use Rattle.run_devices.specs.Lent.{lent}
 use Rattle.jop_cli.specs.declared.program_end.ProgramEnd.{ProgramEnd}
 use Rattle.jop_cli.specs.Run.{Ran}
 use Rattle.jop_cli.specs.Show.{shown_by}
-use Rattle.jop_cli.proofs.Ended.{unbroken, ran_so, end_made, shows_none}
+use Rattle.jop_cli.proofs.Ended.{unbroken, ran_so, shows_none}
 use Rattle.jop_cli.proofs.run.run_to_end.Goals as goal
 
 pub run_shown-end-requires : goal.run_shown-end-requires
