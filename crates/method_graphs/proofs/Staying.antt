@@ -1,6 +1,6 @@
 -- In a typed program control stays at places that have a frame of types, and these are instructions of the code.
 use Rattle.std.proofs.Common.{◌≡◌, ◌⊎◌, ℕ, Bool, true, false, not, List, [], ◌∷◌, ◌++◌, map, reverse, Contains, Option, Some, None, ℤ, pos, ◌+ℤ◌, refl, sym, subst, inl, inr, le-leb, lt-ltb}
-use Rattle.std.specs.Prelude.{slice_get, nat_le, nat_lt, ◌&&◌, if◌then◌else◌}
+use Rattle.std.specs.Prelude.{IsSome, slice_get, nat_le, nat_lt, ◌&&◌, if◌then◌else◌}
 use Rattle.std.specs.List.{list_all}
 use Rattle.lists.specs.Lemmas.{onto_some, some_is, holds_at, if_at}
 use Rattle.lists.specs.Members.{cons_cases, nil_contains}
@@ -24,7 +24,7 @@ use Rattle.bytecode_typing.specs.Typed.{Typing, IsChecked, GoesOn, IsTypedAt, Is
 use Rattle.bytecode_typing.proofs.Relations.{both_left, both_right}
 use Rattle.method_flow.specs.Nodes.{Node, At, RaiseAt, LeadsTo, IsHandled, IsEdge, IsReached}
 use Rattle.method_flow.specs.Nodes.IsReached.{first, later}
-use Rattle.method_graphs.specs.Laws.{TypedMethodsReachStarts}
+use Rattle.method_graphs.specs.Laws.{TypedMethodsReachStarts, TypedMethodsReachRows}
 
 -- ---- what follows of a check whose rules hold, by what it goes on with
 
@@ -227,6 +227,14 @@ module _ (P : Program) (n : ℕ) (m : Method) (b : Body) (frames : ℕ → Optio
     starts {u} r p (inl is) = let has = subst (λ (v : Node). HasFrame (place_of v)) is (reached r) in (typed_at p has.0 has.1).start
     starts {u} r p (inr is) = let has = subst (λ (v : Node). HasFrame (place_of v)) is (reached r) in (typed_at p has.0 has.1).start
 
+    -- a reached instruction has a row
+    pub row_there : {u : Node} → IsReached (IsEdge P n) u → (p : ℕ) → u ≡ At p → IsSome (row_in P n p)
+    unfolding place_of
+    row_there {u} r p is =
+        let has = subst (λ (v : Node). HasFrame (place_of v)) is (reached r) in
+        let x = some_is (row_in P n p) (λ y. IsChecked (row_check P n m b frames p has.0 y.1) (GoesOn P frames y.0)) (typed_at p has.0 has.1).row in
+        subst (λ (o : Option (ℕ × Row)). IsSome o) (sym x.1) refl
+
 -- a reached instruction, or one at which an object is raised, is one of the code
 pub places_are_starts : (P : Program) (types : Typing) → Typed P types → (m : ℕ) (b : Body) → body_of P m ≡ Some b → {u : Node} → IsReached (IsEdge P m) u → (p : ℕ) → (u ≡ At p) ⊎ (u ≡ RaiseAt p) → IsStart b.code p
 places_are_starts P types typed m b body r p is =
@@ -235,3 +243,8 @@ places_are_starts P types typed m b body r p is =
 
 pub reach_starts : TypedMethodsReachStarts
 reach_starts P types typed m b body p r = places_are_starts P types typed m b body r p (inl refl)
+
+pub reach_rows : TypedMethodsReachRows
+reach_rows P types typed m b body p r =
+    let k = onto_some (slice_get P.methods m) (λ (j : Method). j.body) b body in
+    row_there P m k.0 b (types m) (typed.methods m k.0 b k.1 k.2) body r p refl

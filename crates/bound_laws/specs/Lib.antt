@@ -1,0 +1,3 @@
+pub mod Walking
+pub mod Existing
+pub mod Causes
