@@ -18,20 +18,24 @@ use Rattle.method_runs.specs.Laws.{RunsHaveWalks, UnknownWalksStand}
 use Rattle.program_tables.specs.Resolved.{resolved}
 use Rattle.loop_rules.specs.Sites.{int_at}
 use Rattle.counted_laws.specs.Paths.{HoldConstants}
-use Rattle.counted_laws.proofs.Following.{holds}
+use Rattle.counted_laws.proofs.Following.{constants_hold}
 use Rattle.activations.specs.Setting.{limits}
 use Rattle.program_laws.proofs.Statics.{ReadFields}
 use Rattle.counted_activations.proofs.Starting.{first_is}
 use Rattle.counted_activations.specs.Laws.{CountedActivationsKeep, CountedLoopsNeedNoPremise}
+use Rattle.counted_activations.specs.Further.{FurtherActivationsKeep, FurtherLoopsNeedNoPremise}
 use Rattle.counted_activations.specs.Runs.{BootHoldsConstants, CountedLoopsOfRuns, RunsHoldConstants}
 
 pub need_no_premise : CountedActivationsKeep → CountedLoopsNeedNoPremise
 need_no_premise keep P t constants bound_of m bound bounds g a b is same timing hold h others =
     bounds g a b is same timing h (keep g constants bound_of m a b h is (subst (λ (Q : Program). HoldConstants Q constants a.state) (sym same) hold) others)
 
+pub further_need_no_premise : FurtherActivationsKeep → FurtherLoopsNeedNoPremise
+further_need_no_premise keep P t known bound_of m bound bounds g a b is same timing run h others = bounds g a b is same timing h (keep g known bound_of m a b h is run others)
+
 pub runs_hold : FittingStatesAreWellFormed → RowsAreOfTheirKinds → RunsHaveWalks → UnknownWalksStand → RunsHoldConstants
 runs_hold fitting kinds have_walks unknown P types limits constants input s n lawful typed gives fits hold =
-    (holds fitting kinds have_walks unknown P types limits constants input s lawful typed gives fits hold n).1
+    (constants_hold fitting kinds have_walks unknown P types limits constants input s n lawful typed gives fits hold).hold.constants
 
 abbrev begins_with : Program → Frame → State
 begins_with P f = record { frames = f ∷ []; objects = P.first_objects; statics = P.first_statics; answers = []; output = []; mode = Running }

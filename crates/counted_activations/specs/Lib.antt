@@ -2,3 +2,4 @@ pub mod Others
 pub mod Laws
 pub mod Runs
 pub mod Found
+pub mod Further

@@ -2,6 +2,7 @@
 
 ghost use Rattle.counted_activations.specs.Laws.{CountedActivationsKeep, CountedLoopsNeedNoPremise, LiveGraphsKeep};
 ghost use Rattle.counted_activations.specs.Found.{FoundLoopsCount};
+ghost use Rattle.counted_activations.specs.Further.{FurtherActivationsKeep, FurtherLoopsNeedNoPremise};
 ghost use Rattle.counted_activations.specs.Runs.{BootHoldsConstants, CountedLoopsOfRuns, RunsHoldConstants};
 
 /// A walk that keeps a bound in a method's graph keeps it in the live graph.
@@ -63,4 +64,26 @@ pub fn found_loops_count()
     ensures { FoundLoopsCount }
 {
     loop_finder::laws::reducible_cycles_are_loops();
+}
+
+/// Where an activation begins in a run from the boot state, in which fields hold what is known of them, it keeps the bounds of loops
+/// that count with it.
+pub fn further_activations_keep()
+    ensures { FurtherActivationsKeep }
+{
+    live_graphs_keep();
+    counted_laws::laws::further_paths_keep();
+    counted_laws::laws::runs_hold_known();
+    activations::laws::activations_are_trees();
+    method_runs::laws::steps_follow_walks();
+    method_runs::laws::first_walks_stand();
+    method_flow::laws::rows_are_of_their_kinds();
+    bytecode_typing::fitting_states_are_well_formed();
+}
+
+/// So there a bound of a method asks for the other loops alone.
+pub fn further_loops_need_no_premise()
+    ensures { FurtherLoopsNeedNoPremise }
+{
+    further_activations_keep();
 }

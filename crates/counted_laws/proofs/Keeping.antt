@@ -16,12 +16,14 @@ use Rattle.method_flow.specs.Nodes.{At, number_of}
 use Rattle.method_flow.specs.Graphs.{IsGraphOf}
 use Rattle.code_lines.specs.Laws.{LinesAreOne, LinesAreApart, OneStandsBefore}
 use Rattle.loop_rules.specs.Tests.{Constants}
-use Rattle.loop_rules.specs.Counted.{CountsTo, EachCycleIsALoop}
-use Rattle.method_runs.specs.Runs.{Walks}
+use Rattle.loop_rules.specs.Counted.{EachCycleIsALoop}
+use Rattle.further_rules.specs.Known.{Known}
+use Rattle.bytecode_model.specs.Steps.{run_from}
+use Rattle.method_runs.specs.Runs.{Walks, walks_from, unknown_walks}
 use Rattle.counted_laws.specs.Visits.{Visit, Passes, Path}
 use Rattle.counted_laws.specs.Visits.Path.{here, more}
-use Rattle.counted_laws.specs.Paths.{WaitingPaths, HavePaths, RunsHavePaths}
-use Rattle.counted_laws.specs.Counting.{CountedPathsKeep, FramesCount, CountedLoopsKeep}
+use Rattle.counted_laws.specs.Paths.{only_constants, WaitingPaths, HavePaths, RunsHavePaths, RunsHoldArrays}
+use Rattle.counted_laws.specs.Counting.{CountsFurther, CountedLoopsAreFurther, FurtherPathsKeep, CountedPathsKeep, FramesCount, FramesCountFurther, CountedLoopsKeep, FurtherLoopsKeep}
 use Rattle.counted_laws.proofs.Cycles.{at_last, each_of}
 use Rattle.counted_laws.proofs.Turning.{Turning, at_most, onward, around, enter, begins_outside}
 
@@ -100,14 +102,14 @@ module _ (h : ℕ) where
   no_fewer y [] = omega arith
   no_fewer y (z ∷ zs) = let e = often_cons z zs in omega arith
 
-module _ (P : Program) (constants : Constants) (m : ℕ) where
-  path_last : {w v : Visit} {ns : List ℕ} → Path P constants m w v ns → (ms : List ℕ) × (ns ≡ ms ++ number_of v.node ∷ [])
+module _ (P : Program) (known : Known) (m : ℕ) where
+  path_last : {w v : Visit} {ns : List ℕ} → Path P known m w v ns → (ms : List ℕ) × (ns ≡ ms ++ number_of v.node ∷ [])
   path_last (here) = ([], refl)
   path_last (more {b} {c} {ns} path passes) = (ns, refl)
 
   -- the part of a path up to one of its visits
-  prefix : {w v : Visit} {ns : List ℕ} → Path P constants m w v ns → (xs after : List ℕ) → ns ≡ xs ++ after → (xs ≡ [] → ⊥) → (u : Visit) × Path P constants m w u xs
-  prefix {w} {v} {ns} path xs [] e some = (v, subst (λ (l : List ℕ). Path P constants m w v l) (e ∙ append-nil xs) path)
+  prefix : {w v : Visit} {ns : List ℕ} → Path P known m w v ns → (xs after : List ℕ) → ns ≡ xs ++ after → (xs ≡ [] → ⊥) → (u : Visit) × Path P known m w u xs
+  prefix {w} {v} {ns} path xs [] e some = (v, subst (λ (l : List ℕ). Path P known m w v l) (e ∙ append-nil xs) path)
   prefix {w} (here) xs (a ∷ more_after) e some =
       let r = split_last [] (number_of w.node) xs (a ∷ more_after) e (not_nil a more_after) in
       absurd (some (none_left xs r.front r.rest))
@@ -120,12 +122,12 @@ module _ (P : Program) (constants : Constants) (m : ℕ) where
       prefix path xs r.front r.rest some
 
 module _ (one : LinesAreOne) (apart : LinesAreApart) (before : OneStandsBefore) (headers : HeaderDominatesMembers) (entered : LoopIsEnteredAtHeader) (back : EdgesToHeaderAreBackEdges) (entry : EntryDominatesAll)
-    (P : Program) (constants : Constants) (m : ℕ) (g : Digraph) (h n : ℕ) (of : IsGraphOf P m g) (cycles : EachCycleIsALoop g) (count : CountsTo P constants m g h n) where
+    (P : Program) (known : Known) (m : ℕ) (g : Digraph) (h n : ℕ) (of : IsGraphOf P m g) (cycles : EachCycleIsALoop g) (count : CountsFurther P known m g h n) where
   abbrev H : ℕ
   H = number_of (At h)
 
   abbrev Turns : Visit → ℕ → Type 0
-  Turns v k = Turning one apart before headers entered back entry P constants m g h n of cycles count v k
+  Turns v k = Turning one apart before headers entered back entry P known m g h n of cycles count v k
 
   -- the loop was entered behind these nodes
   abbrev IsEntered : List ℕ → Type 0
@@ -139,17 +141,17 @@ module _ (one : LinesAreOne) (apart : LinesAreApart) (before : OneStandsBefore) 
     abbrev Claim : Visit → List ℕ → Type 0
     Claim v ns = (seg : List ℕ) → ns ≡ xs ++ seg → (seg ≡ [] → ⊥) → ((x : ℕ) → Contains seg x → IsMember g H x) → Stays v seg
 
-    at_entry : (b v : Visit) (ns : List ℕ) → Path P constants m w b ns → Passes P constants m b v → IsMember g H (number_of v.node) → ns ≡ xs → Turns v 0
+    at_entry : (b v : Visit) (ns : List ℕ) → Path P known m w b ns → Passes P known m b v → IsMember g H (number_of v.node) → ns ≡ xs → Turns v 0
     at_entry b v ns path passes member same = by entered_behind
       where
         by : IsEntered xs → Turns v 0
-        by (inl none) = let l = path_last P constants m path in absurd (snoc_not_nil l.0 (number_of b.node) (sym l.1 ∙ (same ∙ none)))
+        by (inl none) = let l = path_last P known m path in absurd (snoc_not_nil l.0 (number_of b.node) (sym l.1 ∙ (same ∙ none)))
         by (inr (ys, y, is, outside)) =
-            let l = path_last P constants m path in
+            let l = path_last P known m path in
             let last : number_of b.node ≡ y = last_item l.0 ys (number_of b.node) y (sym l.1 ∙ (same ∙ is)) in
-            enter one apart before headers entered back entry P constants m g h n of cycles count w b v ns begins path passes (λ mem. outside (subst (IsMember g H) last mem)) member
+            enter one apart before headers entered back entry P known m g h n of cycles count w b v ns begins path passes (λ mem. outside (subst (IsMember g H) last mem)) member
 
-    behind : (b v : Visit) (ns : List ℕ) → Path P constants m w b ns → Passes P constants m b v → Claim b ns → (front seg : List ℕ) → seg ≡ front ++ number_of v.node ∷ [] → ns ≡ xs ++ front → ((x : ℕ) → Contains seg x → IsMember g H x) → Stays v seg
+    behind : (b v : Visit) (ns : List ℕ) → Path P known m w b ns → Passes P known m b v → Claim b ns → (front seg : List ℕ) → seg ≡ front ++ number_of v.node ∷ [] → ns ≡ xs ++ front → ((x : ℕ) → Contains seg x → IsMember g H x) → Stays v seg
     behind b v ns path passes claim [] seg is rest members =
         let member : IsMember g H (number_of v.node) = members (number_of v.node) (subst (λ (l : List ℕ). Contains l (number_of v.node)) (sym is) (at_head (number_of v.node) [])) in
         (0, at_entry b v ns path passes member (rest ∙ append-nil xs), ap (back_edges_to H) is)
@@ -163,18 +165,18 @@ module _ (one : LinesAreOne) (apart : LinesAreApart) (before : OneStandsBefore) 
         elim (cases_eq (number_of v.node) H) [
           | inl at ↦
               let unit = is_one H (number_of v.node) at in
-              (suc s.0, around one apart before headers entered back entry P constants m g h n of cycles count w b v ns s.0 s.1 begins path passes member at, omega arith)
+              (suc s.0, around one apart before headers entered back entry P known m g h n of cycles count w b v ns s.0 s.1 begins path passes member at, omega arith)
           | inr differ ↦
               let unit = is_none H (number_of v.node) differ in
-              (s.0, onward one apart before headers entered back entry P constants m g h n of cycles count w b v ns s.0 s.1 begins path passes member differ, omega arith)
+              (s.0, onward one apart before headers entered back entry P known m g h n of cycles count w b v ns s.0 s.1 begins path passes member differ, omega arith)
         ]
 
-    stays : (v : Visit) (ns : List ℕ) → Path P constants m w v ns → Claim v ns
+    stays : (v : Visit) (ns : List ℕ) → Path P known m w v ns → Claim v ns
     stays v ns (here) seg e some members =
         let r = split_last [] (number_of w.node) xs seg e some in
         let has : Contains seg (number_of w.node) = subst (λ (l : List ℕ). Contains l (number_of w.node)) (sym r.is) (at_last r.front (number_of w.node)) in
         let zero' : number_of w.node ≡ 0 = ap number_of begins in
-        absurd (begins_outside one apart before headers entered back entry P constants m g h n of cycles count (subst (IsMember g H) zero' (members (number_of w.node) has)))
+        absurd (begins_outside one apart before headers entered back entry P known m g h n of cycles count (subst (IsMember g H) zero' (members (number_of w.node) has)))
     stays v ns (more {b} {c} {ns = ms} path passes) seg e some members =
         let r = split_last ms (number_of c.node) xs seg e some in
         behind b c ms path passes (stays b ms path) r.front seg r.is r.rest members
@@ -209,7 +211,7 @@ module _ (one : LinesAreOne) (apart : LinesAreApart) (before : OneStandsBefore) 
   at_least_one [] seg some e = some e
   at_least_one (y ∷ ys) seg some e = absurd (cc)
 
-  pub keeps : (w v : Visit) (us : List ℕ) → w.node ≡ At 0 → Path P constants m w v us → KeepsBound g H n us
+  pub keeps : (w v : Visit) (us : List ℕ) → w.node ≡ At 0 → Path P known m w v us → KeepsBound g H n us
   keeps w v us begins path = λ xs seg after e all. by xs seg after e all
     where
       by : (xs seg after : List ℕ) → us ≡ xs ++ seg ++ after → All (IsMember g H) seg → back_edges_to H seg ≤ n
@@ -218,36 +220,52 @@ module _ (one : LinesAreOne) (apart : LinesAreApart) (before : OneStandsBefore) 
           let seg : List ℕ = z ∷ zs in
           let some : seg ≡ [] → ⊥ = not_nil z zs in
           let whole : us ≡ (xs ++ seg) ++ after = e in
-          let p = prefix P constants m path (xs ++ seg) after whole (at_least_one xs seg some) in
+          let p = prefix P known m path (xs ++ seg) after whole (at_least_one xs seg some) in
           elim (cases_lt n (back_edges_to H seg)) [
             | inr le ↦ le
             | inl above ↦ absurd (found (length xs) xs seg (omega arith) some (each_of (IsMember g H) seg all) (λ ys seg' e' some' members' le entered'.
                 let s = stays w begins ys entered' p.0 (xs ++ seg) p.1 seg' e' some' members' in
-                let most = at_most one apart before headers entered back entry P constants m g h n of cycles count s.0 s.1.few in
+                let most = at_most one apart before headers entered back entry P known m g h n of cycles count s.0 s.1.few in
                 let total = s.2 in
                 omega arith))
           ]
 
-pub counted_paths_keep : LinesAreOne → LinesAreApart → OneStandsBefore → HeaderDominatesMembers → LoopIsEnteredAtHeader → EdgesToHeaderAreBackEdges → EntryDominatesAll → CountedPathsKeep
-counted_paths_keep one apart before headers entered back entry P constants m g h n a b us of cycles count begins path = keeps one apart before headers entered back entry P constants m g h n of cycles count a b us begins path
+pub further_paths_keep : LinesAreOne → LinesAreApart → OneStandsBefore → HeaderDominatesMembers → LoopIsEnteredAtHeader → EdgesToHeaderAreBackEdges → EntryDominatesAll → FurtherPathsKeep
+further_paths_keep one apart before headers entered back entry P known m g h n a b us of cycles count begins path = keeps one apart before headers entered back entry P known m g h n of cycles count a b us begins path
+
+pub counted_paths_keep : CountedLoopsAreFurther → FurtherPathsKeep → CountedPathsKeep
+counted_paths_keep are keep P constants m g h n a b us of cycles count begins path =
+    keep P (only_constants constants) m g h n a b us of cycles (are P (only_constants constants) m g h n of count) begins path
 
 -- ---- frames
 
-module _ (law : CountedPathsKeep) (P : Program) (constants : Constants) where
-  waiting_count : (fs : List Frame) (ws : Walks) → WaitingPaths P constants fs ws → FramesCount P constants fs ws
-  waiting_count [] [] have = tt
-  waiting_count [] (w ∷ ws) have = absurd have
-  waiting_count (f ∷ fs) [] have = absurd have
-  waiting_count (f ∷ fs) (None ∷ ws) have = waiting_count fs ws have.1
-  waiting_count (f ∷ fs) (Some us ∷ ws) have =
-      (λ g h n of cycles count. law P constants f.method g h n have.0.1.0 (record { node = At f.pc; locals = f.locals; operands = have.0.0 }) us of cycles count have.0.1.1 have.0.1.2, waiting_count fs ws have.1)
+module _ (law : FurtherPathsKeep) (P : Program) (known : Known) where
+  waiting_count : (ls : List ℕ) (fs : List Frame) (ws : Walks) → WaitingPaths P known ls fs ws → FramesCountFurther P known fs ws
+  waiting_count ls [] [] have = tt
+  waiting_count ls [] (w ∷ ws) have = absurd have
+  waiting_count ls (f ∷ fs) [] have = absurd have
+  waiting_count ls (f ∷ fs) (None ∷ ws) have = waiting_count ls fs ws have.1
+  waiting_count ls (f ∷ fs) (Some us ∷ ws) have =
+      (λ g h n of cycles count. law P known f.method g h n have.0.3.0 (record { node = At f.pc; locals = f.locals; operands = have.0.0; lengths = have.0.1 }) us of cycles count have.0.3.1 have.0.3.2, waiting_count ls fs ws have.1)
 
-  frames_count : (mode : Ending) (fs : List Frame) (ws : Walks) → HavePaths P constants mode fs ws → FramesCount P constants fs ws
-  frames_count mode [] ws have = tt
-  frames_count mode (f ∷ fs) [] have = tt
-  frames_count mode (f ∷ fs) (None ∷ ws) have = waiting_count fs ws have.1
-  frames_count mode (f ∷ fs) (Some us ∷ ws) have = (λ g h n of cycles count. law P constants f.method g h n have.0.0 _ us of cycles count have.0.1 have.0.2, waiting_count fs ws have.1)
+  pub frames_count : (ls : List ℕ) (mode : Ending) (fs : List Frame) (ws : Walks) → HavePaths P known ls mode fs ws → FramesCountFurther P known fs ws
+  frames_count ls mode [] ws have = tt
+  frames_count ls mode (f ∷ fs) [] have = tt
+  frames_count ls mode (f ∷ fs) (None ∷ ws) have = waiting_count ls fs ws have.1
+  frames_count ls mode (f ∷ fs) (Some us ∷ ws) have = (λ g h n of cycles count. law P known f.method g h n have.0.0 _ us of cycles count have.0.1 have.0.2, waiting_count ls fs ws have.1)
 
-pub counted_loops_keep : RunsHavePaths → CountedPathsKeep → CountedLoopsKeep
-counted_loops_keep runs law P types limits constants input s n lawful typed gives fits hold =
-    frames_count law P constants _ _ _ (runs P types limits constants input s n lawful typed gives fits hold)
+-- where constants alone are known
+module _ (are : CountedLoopsAreFurther) (P : Program) (constants : Constants) where
+  only_counted : (fs : List Frame) (ws : Walks) → FramesCountFurther P (only_constants constants) fs ws → FramesCount P constants fs ws
+  only_counted [] ws count = tt
+  only_counted (f ∷ fs) [] count = tt
+  only_counted (f ∷ fs) (None ∷ ws) count = only_counted fs ws count
+  only_counted (f ∷ fs) (Some us ∷ ws) count = (λ g h n of cycles counts. count.0 g h n of cycles (are P (only_constants constants) f.method g h n of counts), only_counted fs ws count.1)
+
+pub counted_loops_keep : RunsHavePaths → CountedLoopsAreFurther → FurtherPathsKeep → CountedLoopsKeep
+counted_loops_keep runs are law P types limits constants input s n lawful typed gives fits hold =
+    only_counted are P constants (run_from P limits input s n).frames (walks_from P limits input s (unknown_walks s) n) (frames_count law P (only_constants constants) _ _ _ _ (runs P types limits constants input s n lawful typed gives fits hold))
+
+pub further_loops_keep : RunsHoldArrays → FurtherPathsKeep → FurtherLoopsKeep
+further_loops_keep runs law P types limits known input s n lawful typed gives fits boot are hold =
+    frames_count law P known _ _ _ _ (runs P types limits known input s n lawful typed gives fits boot are hold).1

@@ -1,8 +1,13 @@
 pub mod Storing
+pub mod Lengths
 pub mod Doing
 pub mod Stepping
+pub mod Fields
 pub mod Following
 pub mod Cycles
 pub mod Visiting
+pub mod Pushing
+pub mod Beginning
 pub mod Turning
 pub mod Keeping
+pub mod Booting

@@ -1,9 +1,9 @@
 -- Local variables that are written, and those that aren't.
-use Rattle.std.proofs.Common.{◌≡◌, ℕ, zero, suc, Bool, true, false, ℤ, List, [], ◌∷◌, Option, Some, None, slice_get, refl, sym, ap, ◌∙◌, subst}
+use Rattle.std.proofs.Common.{◌≡◌, ℕ, zero, suc, Bool, true, false, List, [], ◌∷◌, Option, Some, None, slice_get, refl, sym, ap, ◌∙◌}
 use Rattle.std.specs.Prelude.{if◌then◌else◌}
 use Rattle.lists.specs.Lemmas.{none≢some, some_same, onto_some}
 use Rattle.bytecode_model.specs.declared.Value.{Value}
-use Rattle.bytecode_model.specs.declared.Value.TheVariants.{Int, Unset}
+use Rattle.bytecode_model.specs.declared.Value.TheVariants.{Unset}
 use Rattle.bytecode_model.specs.Lists.{onto, replaced}
 use Rattle.bytecode_model.specs.Types.{is_long}
 use Rattle.bytecode_model.specs.Slots.{without_half, stored_at}
@@ -64,17 +64,12 @@ stored_same vs k v ws e = at_same (without_half is_long Unset vs k) k v ws e
 
 -- ---- the others
 
-int_not_unset : (x : ℤ) → Int x ≡ Unset → ⊥
-int_not_unset x e = absurd (cc)
-
 tail_spaced : (u : Value) (vs : List Value) → AreSpaced (u ∷ vs) → AreSpaced vs
 tail_spaced u [] h = tt
 tail_spaced u (w ∷ vs) h = h.1
 
-still_int : (u : Value) (x : ℤ) → Some u ≡ Some (Int x) → Some (if is_long u then Unset else u) ≡ Some (Int x)
-still_int u x e =
-    let same : u ≡ Int x = some_same u (Int x) e in
-    subst (λ (z : Value). Some (if is_long z then Unset else z) ≡ Some (Int x)) (sym same) refl
+still_short : (u y : Value) → is_long y ≡ false → Some u ≡ Some y → Some (if is_long u then Unset else u) ≡ Some y
+still_short u y short e = ap (λ (b : Bool). Some (if b then Unset else u)) (ap is_long (some_same u y e) ∙ short) ∙ e
 
 one_cons : (u : Value) (vs : List Value) (v : Value) → stored (u ∷ vs) (suc zero) v ≡ onto (stored vs zero v) (λ ws. Some ((if is_long u then Unset else u) ∷ ws))
 one_cons u vs v =
@@ -85,42 +80,42 @@ more_cons u vs k v = at_cons u (without_half is_long Unset vs (suc k)) (suc k) v
 
 -- where the first one is written
 first_keeps : (u w : Value) (vs ws : List Value) (v : Value) → (is_long u ≡ true → w ≡ Unset) → (b : Bool) → is_long v ≡ b → (if b then Some (v ∷ Unset ∷ vs) else Some (v ∷ (if is_long u then Unset else w) ∷ vs)) ≡ Some ws
-    → (j : ℕ) (x : ℤ) → slice_get (u ∷ w ∷ vs) (suc j) ≡ Some (Int x) → (b ≡ true → suc j ≡ suc zero → ⊥) → slice_get ws (suc j) ≡ Some (Int x)
-first_keeps u w vs ws v spaced true is e zero x holds apart = absurd (apart refl refl)
-first_keeps u w vs ws v spaced true is e (suc j) x holds apart = ap (λ (l : List Value). slice_get l (suc (suc j))) (sym (some_same (v ∷ Unset ∷ vs) ws e)) ∙ holds
-first_keeps u w vs ws v spaced false is e zero x holds apart =
+    → (j : ℕ) (y : Value) → slice_get (u ∷ w ∷ vs) (suc j) ≡ Some y → (b ≡ true → suc j ≡ suc zero → ⊥) → slice_get ws (suc j) ≡ Some y
+first_keeps u w vs ws v spaced true is e zero y holds apart = absurd (apart refl refl)
+first_keeps u w vs ws v spaced true is e (suc j) y holds apart = ap (λ (l : List Value). slice_get l (suc (suc j))) (sym (some_same (v ∷ Unset ∷ vs) ws e)) ∙ holds
+first_keeps u w vs ws v spaced false is e zero y holds apart =
     ap (λ (l : List Value). slice_get l 1) (sym (some_same (v ∷ (if is_long u then Unset else w) ∷ vs) ws e)) ∙ by (is_long u) refl
   where
-    by : (b : Bool) → is_long u ≡ b → Some (if b then Unset else w) ≡ Some (Int x)
-    by true long = absurd (int_not_unset x (sym (some_same w (Int x) holds) ∙ spaced long))
+    by : (b : Bool) → is_long u ≡ b → Some (if b then Unset else w) ≡ Some y
+    by true long = ap Some (sym (spaced long)) ∙ holds
     by false short = holds
-first_keeps u w vs ws v spaced false is e (suc j) x holds apart = ap (λ (l : List Value). slice_get l (suc (suc j))) (sym (some_same (v ∷ (if is_long u then Unset else w) ∷ vs) ws e)) ∙ holds
+first_keeps u w vs ws v spaced false is e (suc j) y holds apart = ap (λ (l : List Value). slice_get l (suc (suc j))) (sym (some_same (v ∷ (if is_long u then Unset else w) ∷ vs) ws e)) ∙ holds
 
 abbrev no_values : List Value
 no_values = []
 
-none_past : (j : ℕ) (x : ℤ) → slice_get no_values j ≡ Some (Int x) → ⊥
-none_past zero x e = none≢some (Int x) e
-none_past (suc j) x e = none≢some (Int x) e
+none_past : (j : ℕ) (y : Value) → slice_get no_values j ≡ Some y → ⊥
+none_past zero y e = none≢some y e
+none_past (suc j) y e = none≢some y e
 
--- an int that isn't written, nor the second half of a long that is, stays
-pub stored_keeps : (vs : List Value) → AreSpaced vs → (k : ℕ) (v : Value) (ws : List Value) → stored vs k v ≡ Some ws → (j : ℕ) (x : ℤ) → slice_get vs j ≡ Some (Int x) → (j ≡ k → ⊥) → (is_long v ≡ true → j ≡ suc k → ⊥)
-    → slice_get ws j ≡ Some (Int x)
-stored_keeps [] spaced k v ws e j x holds other apart = absurd (none_past j x holds)
-stored_keeps (u ∷ vs) spaced zero v ws e zero x holds other apart = absurd (other refl)
-stored_keeps (u ∷ []) spaced zero v ws e (suc j) x holds other apart = absurd (none_past j x holds)
-stored_keeps (u ∷ w ∷ vs) spaced zero v ws e (suc j) x holds other apart = first_keeps u w vs ws v spaced.0 (is_long v) refl e j x holds apart
-stored_keeps (u ∷ vs) spaced (suc zero) v ws e zero x holds other apart =
+-- a value, but for a long, that isn't written, nor is the second half of a long that is, stays
+pub stored_keeps : (vs : List Value) → AreSpaced vs → (k : ℕ) (v : Value) (ws : List Value) → stored vs k v ≡ Some ws → (j : ℕ) (y : Value) → is_long y ≡ false → slice_get vs j ≡ Some y → (j ≡ k → ⊥) → (is_long v ≡ true → j ≡ suc k → ⊥)
+    → slice_get ws j ≡ Some y
+stored_keeps [] spaced k v ws e j y short holds other apart = absurd (none_past j y holds)
+stored_keeps (u ∷ vs) spaced zero v ws e zero y short holds other apart = absurd (other refl)
+stored_keeps (u ∷ []) spaced zero v ws e (suc j) y short holds other apart = absurd (none_past j y holds)
+stored_keeps (u ∷ w ∷ vs) spaced zero v ws e (suc j) y short holds other apart = first_keeps u w vs ws v spaced.0 (is_long v) refl e j y holds apart
+stored_keeps (u ∷ vs) spaced (suc zero) v ws e zero y short holds other apart =
     let r = onto_some (stored vs zero v) (λ xs. Some ((if is_long u then Unset else u) ∷ xs)) ws (sym (one_cons u vs v) ∙ e) in
-    ap (λ (l : List Value). slice_get l 0) (sym (some_same ((if is_long u then Unset else u) ∷ r.0) ws r.2)) ∙ still_int u x holds
-stored_keeps (u ∷ vs) spaced (suc zero) v ws e (suc j) x holds other apart =
+    ap (λ (l : List Value). slice_get l 0) (sym (some_same ((if is_long u then Unset else u) ∷ r.0) ws r.2)) ∙ still_short u y short holds
+stored_keeps (u ∷ vs) spaced (suc zero) v ws e (suc j) y short holds other apart =
     let r = onto_some (stored vs zero v) (λ xs. Some ((if is_long u then Unset else u) ∷ xs)) ws (sym (one_cons u vs v) ∙ e) in
     ap (λ (l : List Value). slice_get l (suc j)) (sym (some_same ((if is_long u then Unset else u) ∷ r.0) ws r.2))
-    ∙ stored_keeps vs (tail_spaced u vs spaced) zero v r.0 r.1 j x holds (λ same. other (ap suc same)) (λ long same. apart long (ap suc same))
-stored_keeps (u ∷ vs) spaced (suc (suc k)) v ws e zero x holds other apart =
+    ∙ stored_keeps vs (tail_spaced u vs spaced) zero v r.0 r.1 j y short holds (λ same. other (ap suc same)) (λ long same. apart long (ap suc same))
+stored_keeps (u ∷ vs) spaced (suc (suc k)) v ws e zero y short holds other apart =
     let r = onto_some (stored vs (suc k) v) (λ xs. Some (u ∷ xs)) ws (sym (more_cons u vs k v) ∙ e) in
     ap (λ (l : List Value). slice_get l 0) (sym (some_same (u ∷ r.0) ws r.2)) ∙ holds
-stored_keeps (u ∷ vs) spaced (suc (suc k)) v ws e (suc j) x holds other apart =
+stored_keeps (u ∷ vs) spaced (suc (suc k)) v ws e (suc j) y short holds other apart =
     let r = onto_some (stored vs (suc k) v) (λ xs. Some (u ∷ xs)) ws (sym (more_cons u vs k v) ∙ e) in
     ap (λ (l : List Value). slice_get l (suc j)) (sym (some_same (u ∷ r.0) ws r.2))
-    ∙ stored_keeps vs (tail_spaced u vs spaced) (suc k) v r.0 r.1 j x holds (λ same. other (ap suc same)) (λ long same. apart long (ap suc same))
+    ∙ stored_keeps vs (tail_spaced u vs spaced) (suc k) v r.0 r.1 j y short holds (λ same. other (ap suc same)) (λ long same. apart long (ap suc same))

@@ -6,10 +6,11 @@ use Rattle.std.proofs.lemmas.Int.{ints, int_wrap_fits}
 use Rattle.std.proofs.lemmas.Bool.{cases_eq, cases_lt, false≢true}
 use Rattle.std.proofs.lemmas.List.Elements.{Contains-append_left, Contains-append_right, Contains-append_cases}
 use Rattle.lists.specs.Members.{at_head, cons_cases, nil_contains, has_or_not}
+use Rattle.bytecode_model.specs.declared.Value.TheVariants.{Int}
 use Rattle.bytecode_model.specs.Program.{Program}
 use Rattle.bytecode_model.specs.Rows as rows
 use Rattle.loop_nest.specs.Digraph.{Digraph, Edge}
-use Rattle.loop_nest.specs.Walks.{Walk, Dominates, IsHeader, IsMember, IsBackEdge, IsEntering}
+use Rattle.loop_nest.specs.Walks.{Walk, IsMember, IsBackEdge, IsEntering}
 use Rattle.loop_nest.specs.Walks.Walk.{stay}
 use Rattle.loop_nest.specs.Laws.{HeaderDominatesMembers, LoopIsEnteredAtHeader, EdgesToHeaderAreBackEdges, EntryDominatesAll}
 use Rattle.loop_nest.proofs.SimpleWalks.{walk_until, walk_from}
@@ -17,14 +18,16 @@ use Rattle.method_flow.specs.Nodes.{Node, At, number_of}
 use Rattle.method_flow.specs.Graphs.{IsGraphOf}
 use Rattle.code_lines.specs.Lines.{IsLine}
 use Rattle.code_lines.specs.Laws.{LinesAreOne, LinesAreApart, OneStandsBefore}
-use Rattle.loop_rules.specs.Tests.{Constants}
 use Rattle.loop_rules.specs.Turns.{ReachesWithout, IsOnEachTurn, FirstTested}
 use Rattle.loop_rules.specs.Turns.FirstTested.{test_first, step_first}
 use Rattle.loop_rules.specs.Values.{value_at}
-use Rattle.loop_rules.specs.Counted.{CountsTo, EachCycleIsALoop}
+use Rattle.loop_rules.specs.Counted.{EachCycleIsALoop}
+use Rattle.further_rules.specs.Known.{Known}
 use Rattle.counted_laws.specs.Visits.{Visit, HoldsInt, Passes, Path}
+use Rattle.counted_laws.specs.Counting.{CountsFurther}
 use Rattle.counted_laws.proofs.Cycles.{split_at, at_last, last_cases, all_of, walk_more, no_return}
-use Rattle.counted_laws.proofs.Visiting.{same_node, set_before, tested, stays_in, test_is_branch, step_is_other, edge_in}
+use Rattle.counted_laws.proofs.Visiting.{same_node, tested, stays_in, test_is_branch, step_is_other, edge_in}
+use Rattle.counted_laws.proofs.Pushing.{limits_lie, begun}
 
 -- ---- values
 
@@ -49,7 +52,7 @@ not_nil [] x e = absurd (cc)
 not_nil (y ∷ ys) x e = absurd (cc)
 
 module _ (one : LinesAreOne) (apart : LinesAreApart) (before : OneStandsBefore) (headers : HeaderDominatesMembers) (entered : LoopIsEnteredAtHeader) (back : EdgesToHeaderAreBackEdges) (entry : EntryDominatesAll)
-    (P : Program) (constants : Constants) (m : ℕ) (g : Digraph) (h n : ℕ) (of : IsGraphOf P m g) (cycles : EachCycleIsALoop g) (count : CountsTo P constants m g h n) where
+    (P : Program) (known : Known) (m : ℕ) (g : Digraph) (h n : ℕ) (of : IsGraphOf P m g) (cycles : EachCycleIsALoop g) (count : CountsFurther P known m g h n) where
   abbrev H : ℕ
   H = number_of (At h)
 
@@ -102,7 +105,7 @@ module _ (one : LinesAreOne) (apart : LinesAreApart) (before : OneStandsBefore) 
   apart_step : I ≡ T → ⊥
   apart_step e =
       let same : count.step ≡ count.test = omega arith in
-      let branch = test_is_branch P constants m count.test count.behind_test count.local count.offset count.taken count.is_test in
+      let branch = test_is_branch P known m count.test count.behind_test count.local count.offset count.taken count.is_test in
       let step : IsLine P m count.test count.behind_step (rows.Increment count.local count.s) = subst (λ (p : ℕ). IsLine P m p count.behind_step (rows.Increment count.local count.s)) same count.increment in
       step_is_other one P m count.test count.behind_step count.behind_test count.local count.s branch.0 step branch.1 branch.2
 
@@ -206,7 +209,7 @@ module _ (one : LinesAreOne) (apart : LinesAreApart) (before : OneStandsBefore) 
           subst (FitsSigned w32) e (count.first_out.ints turns le)
 
   -- behind the step
-  step_sets : (v b : Visit) (turns : ℕ) (t : Turning v turns) → Passes P constants m v b → num v ≡ I → HoldsInt b.locals count.local (held_value (suc turns))
+  step_sets : (v b : Visit) (turns : ℕ) (t : Turning v turns) → Passes P known m v b → num v ≡ I → HoldsInt b.locals count.local (held_value (suc turns))
   step_sets v b turns t passes at =
       let node : v.node ≡ At count.step = same_node v.node (At count.step) at in
       let holds = t.fresh (unique v turns t I count.each_step at) in
@@ -215,13 +218,13 @@ module _ (one : LinesAreOne) (apart : LinesAreApart) (before : OneStandsBefore) 
       let fits : FitsSigned w32 (held_value turns +ℤ count.s) = subst (FitsSigned w32) (sym sum) (fits_next v turns t at) in
       subst (λ (x : ℤ). HoldsInt b.locals count.local x) (int_wrap_fits w32 (held_value turns +ℤ count.s) fits ∙ sum) did
 
-  other_keeps : (v b : Visit) (turns : ℕ) (t : Turning v turns) → Passes P constants m v b → (num v ≡ I → ⊥) → (x : ℤ) → HoldsInt v.locals count.local x → HoldsInt b.locals count.local x
+  other_keeps : (v b : Visit) (turns : ℕ) (t : Turning v turns) → Passes P known m v b → (num v ≡ I → ⊥) → (x : ℤ) → HoldsInt v.locals count.local x → HoldsInt b.locals count.local x
   other_keeps v b turns t passes differ x holds =
-      passes.keeps count.local x holds (λ p is writes.
+      passes.keeps count.local (Int x) refl holds (λ p is writes.
       let member : IsMember g H (number_of (At p)) = subst (λ (u : Node). IsMember g H (number_of u)) is (t.members (num v) (at_last t.prev (num v))) in
       differ (ap number_of is ∙ ap (λ (q : ℕ). number_of (At q)) (count.no_other p member writes)))
 
-  after_stepped : (v b : Visit) (turns : ℕ) (t : Turning v turns) → Passes P constants m v b → Contains (t.prev ++ num v ∷ []) I → HoldsInt b.locals count.local (held_value (suc turns))
+  after_stepped : (v b : Visit) (turns : ℕ) (t : Turning v turns) → Passes P known m v b → Contains (t.prev ++ num v ∷ []) I → HoldsInt b.locals count.local (held_value (suc turns))
   after_stepped v b turns t passes has =
       elim (cases_eq (num v) I) [
         | inl at ↦ step_sets v b turns t passes at
@@ -231,19 +234,19 @@ module _ (one : LinesAreOne) (apart : LinesAreApart) (before : OneStandsBefore) 
         ]
       ]
 
-  after_fresh : (v b : Visit) (turns : ℕ) (t : Turning v turns) → Passes P constants m v b → (Contains (t.prev ++ num v ∷ []) I → ⊥) → HoldsInt b.locals count.local (held_value turns)
+  after_fresh : (v b : Visit) (turns : ℕ) (t : Turning v turns) → Passes P known m v b → (Contains (t.prev ++ num v ∷ []) I → ⊥) → HoldsInt b.locals count.local (held_value turns)
   after_fresh v b turns t passes never =
       let differ : num v ≡ I → ⊥ = λ at. never (subst (λ (z : ℕ). Contains (t.prev ++ num v ∷ []) z) at (at_last t.prev (num v))) in
       other_keeps v b turns t passes differ (held_value turns) (t.fresh (λ has. never (Contains-append_left t.prev (num v ∷ []) I has)))
 
-  after_tested : (w v b : Visit) (ns : List ℕ) (turns : ℕ) (t : Turning v turns) → w.node ≡ At 0 → Path P constants m w v ns → Passes P constants m v b → IsMember g H (num b) → Contains (t.prev ++ num v ∷ []) T
+  after_tested : (w v b : Visit) (ns : List ℕ) (turns : ℕ) (t : Turning v turns) → w.node ≡ At 0 → Path P known m w v ns → Passes P known m v b → IsMember g H (num b) → Contains (t.prev ++ num v ∷ []) T
       → count.out (tested_value turns) ≡ false
   after_tested w v b ns turns t begins path passes member has =
       elim (last_cases t.prev (num v) T has) [
         | inl there ↦ t.was_tested there
         | inr at ↦
             let node : v.node ≡ At count.test = same_node v.node (At count.test) at in
-            let branched = tested one apart before P constants m w v b ns begins path passes count.local count.test count.behind_test count.offset count.taken count.is_test node (tested_value turns) (at_test v turns t at) in
+            let branched = tested one apart before P known m (limits_lie one apart before P known m) w v b ns begins path passes count.local count.test count.behind_test count.offset count.taken count.is_test node (tested_value turns) (at_test v turns t at) in
             stays_in g H count.test count.behind_test count.offset count.taken count.out count.leaves b (tested_value turns) branched member
       ]
 
@@ -259,9 +262,9 @@ module _ (one : LinesAreOne) (apart : LinesAreApart) (before : OneStandsBefore) 
     λ c. elim (last_cases (more ++ u ∷ []) x H c) [ inl there ↦ none there | inr same ↦ differ same ],
   )
 
-  module _ (w v b : Visit) (ns : List ℕ) (turns : ℕ) (t : Turning v turns) (begins : w.node ≡ At 0) (path : Path P constants m w v ns) (passes : Passes P constants m v b) (member : IsMember g H (num b)) where
+  module _ (w v b : Visit) (ns : List ℕ) (turns : ℕ) (t : Turning v turns) (begins : w.node ≡ At 0) (path : Path P known m w v ns) (passes : Passes P known m v b) (member : IsMember g H (num b)) where
     taken_edge : Edge g (num v) (num b)
-    taken_edge = edge_in P constants m g of v b w ns begins path passes
+    taken_edge = edge_in P known m g of v b w ns begins path passes
 
     pub onward : (num b ≡ H → ⊥) → Turning b turns
     onward differ = record {
@@ -293,15 +296,13 @@ module _ (one : LinesAreOne) (apart : LinesAreApart) (before : OneStandsBefore) 
 
   -- ---- into the loop
 
-  pub enter : (w y x : Visit) (ns : List ℕ) → w.node ≡ At 0 → Path P constants m w y ns → Passes P constants m y x → (IsMember g H (num y) → ⊥) → IsMember g H (num x) → Turning x 0
+  pub enter : (w y x : Visit) (ns : List ℕ) → w.node ≡ At 0 → Path P known m w y ns → Passes P known m y x → (IsMember g H (num y) → ⊥) → IsMember g H (num x) → Turning x 0
   enter w y x ns begins path passes outside member =
-      let edge : Edge g (num y) (num x) = edge_in P constants m g of y x w ns begins path passes in
+      let edge : Edge g (num y) (num x) = edge_in P known m g of y x w ns begins path passes in
       let entering : IsEntering g H (num y) (num x) = record { edge = edge; outside = outside; inside = member } in
       let at : num x ≡ H = entered g H (num y) (num x) entering in
       let to_header : IsEntering g H (num y) H = subst (λ (z : ℕ). IsEntering g H (num y) z) at entering in
-      let source : y.node ≡ count.begins.source = same_node y.node count.begins.source (count.begins.alone (num y) to_header) in
-      let holds = set_before one apart before P constants m count.local count.begins.place count.begins.next count.c count.begins.store count.begins.pushed g
-      (λ a b u ms start p q. edge_in P constants m g of a b u ms start p q) count.begins.source count.begins.place count.begins.last refl w y x ns begins path source passes in
+      let holds = begun one apart before P known m w begins g H count.local count.c count.begins y x ns path passes to_header in
       record {
         prev = [];
         walk = subst (λ (z : ℕ). Walk g H z (z ∷ [])) (sym at) stay;
@@ -313,15 +314,8 @@ module _ (one : LinesAreOne) (apart : LinesAreApart) (before : OneStandsBefore) 
         stepped = λ has. absurd (nil_contains I has);
       }
 
-  -- a method doesn't begin within a loop that is entered
+  -- a method doesn't begin within the loop
   pub begins_outside : IsMember g H 0 → ⊥
   begins_outside member =
       let dominated : Contains (0 ∷ []) H = headers g H 0 member (0 ∷ []) stay in
-      let same : 0 ≡ H = single 0 H dominated in
-      let u = number_of count.begins.source in
-      let edge : IsBackEdge g u H = record { edge = count.begins.enters.edge; dominates = subst (λ (z : ℕ). Dominates g z u) same (entry g u) } in
-      let header : IsHeader g H = (u, edge) in
-      count.begins.enters.outside (elim (cases_eq u H) [
-        | inl at ↦ (header, inl at)
-        | inr differ ↦ (header, inr (record { source = u; back_edge = edge; leads = (u ∷ [], stay, λ c. differ (single u H c)) }))
-      ])
+      count.begins.entered (sym (single 0 H dominated))

@@ -1,4 +1,4 @@
--- Visits one after another: where control comes from, and what was pushed and stored there.
+-- Visits one after another: where control comes from, and what was pushed there.
 use Rattle.std.proofs.Common.{◌≡◌, ◌⊎◌, ℕ, Bool, true, false, not, ℤ, List, [], ◌∷◌, Contains, Option, Some, refl, sym, ap, ◌∙◌, subst, inl, inr, arith}
 use Rattle.std.proofs.lemmas.Int.{ints}
 use Rattle.std.proofs.lemmas.Bool.{false≢true}
@@ -6,7 +6,7 @@ use Rattle.lists.specs.Lemmas.{some_is, some_in, some_same}
 use Rattle.lists.specs.Members.{nil_contains}
 use Rattle.bytecode_model.specs.declared.Value.{Value}
 use Rattle.bytecode_model.specs.declared.Value.TheVariants.{Int}
-use Rattle.bytecode_model.specs.Types.{IntType, Numbers}
+use Rattle.bytecode_model.specs.Types.{IntType, Numbers, is_long}
 use Rattle.bytecode_model.specs.Program.{Program, Body, Handler, body_of}
 use Rattle.bytecode_model.specs.Rows as rows
 use Rattle.bytecode_model.specs.Rows.{Row}
@@ -16,16 +16,15 @@ use Rattle.loop_nest.specs.Walks.{IsMember}
 use Rattle.method_flow.specs.Nodes.{Node, At, RaiseAt, number_of, LeadsTo, IsHandled, IsEdge, IsReached}
 use Rattle.method_flow.specs.Nodes.IsReached.{first, later}
 use Rattle.method_flow.specs.Graphs.{IsGraphOf}
-use Rattle.code_lines.specs.Lines.{IsLine, Names, IsNamed, IsPushedBefore, Writes, written_by}
+use Rattle.code_lines.specs.Lines.{IsLine, Names, IsNamed, Writes, written_by}
 use Rattle.code_lines.specs.Laws.{LinesAreOne, LinesAreApart, OneStandsBefore}
-use Rattle.loop_rules.specs.Tests.{Constants, IsLimit, PushesLimit, IsTest, LeavesLoop}
-use Rattle.loop_rules.specs.Tests.IsLimit.{constant, field}
+use Rattle.loop_rules.specs.Tests.{IsTest, LeavesLoop}
 use Rattle.loop_rules.specs.Tests.IsTest.{with_zero, with_limit}
 use Rattle.loop_rules.specs.Tests.LeavesLoop.{where_taken, where_not}
-use Rattle.loop_rules.specs.Turns.{LastWrite}
-use Rattle.loop_rules.specs.Turns.LastWrite.{here as writes_here, before as writes_before}
-use Rattle.counted_laws.specs.Visits.{Visit, HoldsInt, Pushed, Branched, Passes, Path}
+use Rattle.further_rules.specs.Known.{Known, Pushes}
+use Rattle.counted_laws.specs.Visits.{Visit, HoldsValue, HoldsInt, Branched, Grows, Passes, Path}
 use Rattle.counted_laws.specs.Visits.Path.{here, more}
+use Rattle.counted_laws.proofs.Lengths.{then_grows}
 
 -- ---- numbers of nodes
 
@@ -39,7 +38,7 @@ place_of : Node → ℕ
 place_of (At p) = p
 place_of (RaiseAt p) = p
 
-same_place : (p q : ℕ) → At p ≡ At q → p ≡ q
+pub same_place : (p q : ℕ) → At p ≡ At q → p ≡ q
 unfolding place_of
 same_place p q e = ap place_of e
 
@@ -55,15 +54,15 @@ leads_names p next (rows.Return result) q h = absurd h
 leads_names p next rows.Throw q h = absurd h
 leads_names p next r q h = inr h
 
-module _ (one : LinesAreOne) (apart : LinesAreApart) (before : OneStandsBefore) (P : Program) (constants : Constants) (m : ℕ) where
+module _ (one : LinesAreOne) (apart : LinesAreApart) (before : OneStandsBefore) (P : Program) (known : Known) (m : ℕ) where
   -- a row that writes no local variable
-  no_writes : (p next : ℕ) (r : Row) → IsLine P m p next r → written_by r ≡ [] → (k : ℕ) → Writes P m p k → ⊥
+  pub no_writes : (p next : ℕ) (r : Row) → IsLine P m p next r → written_by r ≡ [] → (k : ℕ) → Writes P m p k → ⊥
   no_writes p next r line none k w =
       let same : w.1 ≡ r = (one P m p w.0 next w.1 r w.2 line).1 in
       nil_contains k (subst (λ (xs : List ℕ). Contains xs k) (ap written_by same ∙ none) w.3)
 
   -- control comes to a place that nothing names from the line before it alone
-  comes_from : (a b : Visit) → Passes P constants m a b → (p q : ℕ) (r : Row) → IsLine P m p q r → (IsNamed P m q → ⊥) → b.node ≡ At q → a.node ≡ At p
+  comes_from : (a b : Visit) → Passes P known m a b → (p q : ℕ) (r : Row) → IsLine P m p q r → (IsNamed P m q → ⊥) → b.node ≡ At q → a.node ≡ At p
   comes_from a b passes p q r line unnamed at = by a.node refl (subst (λ (v : Node). IsEdge P m a.node v) at passes.edge)
     where
       by : (u : Node) → a.node ≡ u → IsEdge P m a.node (At q) → a.node ≡ At p
@@ -83,41 +82,21 @@ module _ (one : LinesAreOne) (apart : LinesAreApart) (before : OneStandsBefore) 
           ]
 
   -- the visit before one at such a place
-  record Before (w z : Visit) (p : ℕ) : Type 0 where
-    visit : Visit
-    nodes : List ℕ
-    path : Path P constants m w visit nodes
-    passes : Passes P constants m visit z
-    at : visit.node ≡ At p
+  pub record Before (w z : Visit) (p : ℕ) : Type 0 where
+    pub visit : Visit
+    pub nodes : List ℕ
+    pub path : Path P known m w visit nodes
+    pub passes : Passes P known m visit z
+    pub at : visit.node ≡ At p
 
-  came_from : (w z : Visit) (ns : List ℕ) → w.node ≡ At 0 → Path P constants m w z ns → (p q : ℕ) (r : Row) → IsLine P m p q r → (IsNamed P m q → ⊥) → z.node ≡ At q → Before w z p
+  pub came_from : (w z : Visit) (ns : List ℕ) → w.node ≡ At 0 → Path P known m w z ns → (p q : ℕ) (r : Row) → IsLine P m p q r → (IsNamed P m q → ⊥) → z.node ≡ At q → Before w z p
   came_from w z ns begins (here) p q r line unnamed at =
       let zero' : 0 ≡ q = same_place 0 q (sym begins ∙ at) in
       let up = (apart P m p q p q r r line line).0 in
       absurd (omega arith)
   came_from w z ns begins (more {b} {ns = ms} path passes) p q r line unnamed at = record { visit = b; nodes = ms; path = path; passes = passes; at = comes_from b z passes p q r line unnamed at }
 
-  -- ---- what stands before a loop
-
-  module _ (local place next : ℕ) (c : ℤ) (store : IsLine P m place next (rows.Store (Numbers IntType) local)) (pushed : IsPushedBefore P m place c) where
-    store_sets : (w y x : Visit) (ns : List ℕ) → w.node ≡ At 0 → Path P constants m w y ns → y.node ≡ At place → Passes P constants m y x → HoldsInt x.locals local c
-    store_sets w y x ns begins path at passes =
-        let z = came_from w y ns begins path pushed.before place (rows.Push (Int c)) pushed.push pushed.alone at in
-        let push : Pushed place c z.visit y = z.passes.does pushed.before place (rows.Push (Int c)) z.at pushed.push.is in
-        passes.does place next (rows.Store (Numbers IntType) local) at store.is c z.visit.operands push.1
-
-    module _ (g : Digraph) (reached_edge : (a b : Visit) (w : Visit) (ns : List ℕ) → w.node ≡ At 0 → Path P constants m w a ns → Passes P constants m a b → Edge g (number_of a.node) (number_of b.node)) where
-      pub set_before : (u : Node) (written : ℕ) → LastWrite P m g local u written → written ≡ place → (w y x : Visit) (ns : List ℕ) → w.node ≡ At 0 → Path P constants m w y ns → y.node ≡ u → Passes P constants m y x
-          → HoldsInt x.locals local c
-      set_before u written (writes_here writes) same w y x ns begins path at passes = store_sets w y x ns begins path (at ∙ ap At same) passes
-      set_before u written (writes_before {w = v} quiet nonzero edge alone further) same w y x ns begins (here) at passes = absurd (nonzero (ap number_of (sym at ∙ begins)))
-      set_before u written (writes_before {w = v} quiet nonzero edge alone further) same w y x ns begins (more {b} {ns = ms} path passes') at passes =
-          let taken : Edge g (number_of b.node) (number_of u) = subst (λ (i : ℕ). Edge g (number_of b.node) i) (ap number_of at) (reached_edge b y w ms begins path passes') in
-          let from : b.node ≡ v = same_node b.node v (alone (number_of b.node) taken) in
-          let holds = set_before v written further same w b y ms begins path from passes' in
-          passes.keeps local c holds (λ p is writes. quiet p (sym at ∙ is) writes)
-
-  -- ---- the test
+  -- ---- what lies on top
 
   int_same : (x y : ℤ) → ◌≡◌ {A = Option Value} (Some (Int x)) (Some (Int y)) → x ≡ y
   int_same x y e = let same = some_same (Int x) (Int y) e in int_of same
@@ -125,37 +104,70 @@ module _ (one : LinesAreOne) (apart : LinesAreApart) (before : OneStandsBefore) 
       int_of : Int x ≡ Int y → x ≡ y
       int_of e' = cc
 
-  -- a line that writes no local variable leaves an int
-  kept : (a b : Visit) → Passes P constants m a b → (p next : ℕ) (r : Row) → IsLine P m p next r → a.node ≡ At p → written_by r ≡ [] → (k : ℕ) (x : ℤ) → HoldsInt a.locals k x → HoldsInt b.locals k x
-  kept a b passes p next r line at none k x holds =
-      passes.keeps k x holds (λ q is writes. no_writes p next r line none k (subst (λ (i : ℕ). Writes P m i k) (same_place q p (sym is ∙ at)) writes))
+  -- a line that writes no local variable leaves a value
+  pub kept : (a b : Visit) → Passes P known m a b → (p next : ℕ) (r : Row) → IsLine P m p next r → a.node ≡ At p → written_by r ≡ [] → (k : ℕ) (v : Value) → is_long v ≡ false → HoldsValue a.locals k v → HoldsValue b.locals k v
+  kept a b passes p next r line at none k v short holds =
+      passes.keeps k v short holds (λ q is writes. no_writes p next r line none k (subst (λ (i : ℕ). Writes P m i k) (same_place q p (sym is ∙ at)) writes))
+
+  -- an earlier visit, of the place from which lines lead on to this one; they write no local variable
+  pub record Came (w z : Visit) (from : ℕ) : Type 0 where
+    pub visit : Visit
+    pub nodes : List ℕ
+    pub path : Path P known m w visit nodes
+    pub at : visit.node ≡ At from
+    pub keeps : (k : ℕ) (v : Value) → is_long v ≡ false → HoldsValue visit.locals k v → HoldsValue z.locals k v
+    pub grows : Grows visit.lengths z.lengths
+
+  -- one more line before
+  abbrev pub came_by : (w a z : Visit) (ns : List ℕ) (p next : ℕ) (r : Row) → Path P known m w a ns → Passes P known m a z → a.node ≡ At p → IsLine P m p next r → written_by r ≡ [] → Came w z p
+  came_by w a z ns p next r path passes at line none = record { visit = a; nodes = ns; path = path; at = at; keeps = λ k v short holds. kept a z passes p next r line at none k v short holds; grows = passes.grows }
+
+  abbrev pub came_before : (w a z : Visit) (p q next : ℕ) (r : Row) → Came w a p → Passes P known m a z → a.node ≡ At q → IsLine P m q next r → written_by r ≡ [] → Came w z p
+  came_before w a z p q next r came passes at line none = record {
+    visit = came.visit;
+    nodes = came.nodes;
+    path = came.path;
+    at = came.at;
+    keeps = λ k v short holds. kept a z passes q next r line at none k v short (came.keeps k v short holds);
+    grows = then_grows came.visit.lengths a.lengths z.lengths came.grows passes.grows;
+  }
+
+  abbrev pub came_through : (w a : Visit) (p q : ℕ) → (c : Came w a q) → Came w c.visit p → Came w a p
+  came_through w a p q c d = record {
+    visit = d.visit;
+    nodes = d.nodes;
+    path = d.path;
+    at = d.at;
+    keeps = λ k v short holds. c.keeps k v short (d.keeps k v short holds);
+    grows = then_grows d.visit.lengths c.visit.lengths a.lengths d.grows c.grows;
+  }
 
   -- the int of the local variable was pushed directly before
-  loaded : (w z : Visit) (ns : List ℕ) → w.node ≡ At 0 → Path P constants m w z ns → (local p q : ℕ) → IsLine P m p q (rows.Load (Numbers IntType) local) → (IsNamed P m q → ⊥) → z.node ≡ At q
+  pub loaded : (w z : Visit) (ns : List ℕ) → w.node ≡ At 0 → Path P known m w z ns → (local p q : ℕ) → IsLine P m p q (rows.Load (Numbers IntType) local) → (IsNamed P m q → ⊥) → z.node ≡ At q
       → (x : ℤ) × (rest : List Value) × HoldsInt z.locals local x × (z.operands ≡ Int x ∷ rest)
   loaded w z ns begins path local p q line unnamed at =
       let b = came_from w z ns begins path p q (rows.Load (Numbers IntType) local) line unnamed at in
       let did = b.passes.does p q (rows.Load (Numbers IntType) local) b.at line.is in
-      (did.0, b.visit.operands, kept b.visit z b.passes p q (rows.Load (Numbers IntType) local) line b.at refl local did.0 did.1, did.2.1)
+      (did.0, b.visit.operands, kept b.visit z b.passes p q (rows.Load (Numbers IntType) local) line b.at refl local (Int did.0) refl did.1, did.2.1)
 
-  -- a limit is pushed
-  limited : (a b : Visit) → Passes P constants m a b → (p next : ℕ) (r : Row) → IsLine P m p next r → a.node ≡ At p → (c : ℤ) → IsLimit P constants r c → (written_by r ≡ []) × Pushed next c a b
-  limited a b passes p next r line at c (constant) = (refl, passes.does p next (rows.Push (Int c)) at line.is)
-  limited a b passes p next r line at c (field {f} known never) = (refl, passes.does p next (rows.GetStatic f) at line.is c known never)
+  -- what pushes a limit is known
+  abbrev pub LimitsLie : Type 0
+  LimitsLie =
+      (w z : Visit) (ns : List ℕ) (from to : ℕ) (c : ℤ) → w.node ≡ At 0 → Path P known m w z ns → Pushes P known m from to c → (IsNamed P m to → ⊥) → z.node ≡ At to
+      → (y : Came w z from) × (z.operands ≡ Int c ∷ y.visit.operands)
 
-  pub tested : (w b c : Visit) (ns : List ℕ) → w.node ≡ At 0 → Path P constants m w b ns → Passes P constants m b c → (local p next : ℕ) (offset : ℤ) (taken : ℤ → Bool) → IsTest P (PushesLimit P constants m) m p next local offset taken
+  pub tested : LimitsLie → (w b c : Visit) (ns : List ℕ) → w.node ≡ At 0 → Path P known m w b ns → Passes P known m b c → (local p next : ℕ) (offset : ℤ) (taken : ℤ → Bool) → IsTest P (Pushes P known m) m p next local offset taken
       → b.node ≡ At p → (x : ℤ) → HoldsInt b.locals local x → Branched p next offset (taken x) c
-  tested w b c ns begins path passes local p next offset taken (with_zero {load} {test} line branch unnamed) at x holds =
+  tested lie w b c ns begins path passes local p next offset taken (with_zero {load} {test} line branch unnamed) at x holds =
       let l = loaded w b ns begins path local load p line unnamed at in
       let same : l.0 ≡ x = int_same l.0 x (sym l.2 ∙ holds) in
       subst (λ (v : ℤ). Branched p next offset (test v) c) same (passes.does p next (rows.Branch (IntType ∷ []) test offset) at branch.is l.0 l.1 l.3)
-  tested w b c ns begins path passes local p next offset taken (with_limit {load} {push} {limit} {test} line pushes branch unnamed unnamed') at x holds =
-      let z = came_from w b ns begins path push p pushes.0 pushes.1 unnamed at in
-      let l = loaded w z.visit z.nodes begins z.path local load push line unnamed' z.at in
-      let pushed = limited z.visit b z.passes push p pushes.0 pushes.1 z.at limit pushes.2 in
-      let still : HoldsInt b.locals local l.0 = kept z.visit b z.passes push p pushes.0 pushes.1 z.at pushed.0 local l.0 l.2 in
+  tested lie w b c ns begins path passes local p next offset taken (with_limit {load} {push} {limit} {test} line pushes branch unnamed unnamed') at x holds =
+      let y = lie w b ns push p limit begins path pushes unnamed at in
+      let l = loaded w y.0.visit y.0.nodes begins y.0.path local load push line unnamed' y.0.at in
+      let still : HoldsInt b.locals local l.0 = y.0.keeps local (Int l.0) refl l.2 in
       let same : l.0 ≡ x = int_same l.0 x (sym still ∙ holds) in
-      let top : b.operands ≡ Int limit ∷ Int l.0 ∷ l.1 = pushed.1.1 ∙ ap (λ (ops : List Value). Int limit ∷ ops) l.3 in
+      let top : b.operands ≡ Int limit ∷ Int l.0 ∷ l.1 = y.1 ∙ ap (λ (ops : List Value). Int limit ∷ ops) l.3 in
       subst (λ (v : ℤ). Branched p next offset (test limit v) c) same (passes.does p next (rows.Branch (IntType ∷ IntType ∷ []) test offset) at branch.is limit l.0 l.1 top)
 
 -- a value with which control stays in the loop doesn't leave it
@@ -178,10 +190,10 @@ is_increment (rows.Increment k n) = true
 is_increment r = false
 
 -- a test is another instruction than a step
-pub test_is_branch : (P : Program) (constants : Constants) (m p next local : ℕ) (offset : ℤ) (taken : ℤ → Bool) → IsTest P (PushesLimit P constants m) m p next local offset taken → (r : Row) × IsLine P m p next r × (is_increment r ≡ false)
+pub test_is_branch : (P : Program) (known : Known) (m p next local : ℕ) (offset : ℤ) (taken : ℤ → Bool) → IsTest P (Pushes P known m) m p next local offset taken → (r : Row) × IsLine P m p next r × (is_increment r ≡ false)
 unfolding is_increment
-test_is_branch P constants m p next local offset taken (with_zero {load} {test} line branch unnamed) = (rows.Branch (IntType ∷ []) test offset, branch, refl)
-test_is_branch P constants m p next local offset taken (with_limit {load} {push} {limit} {test} line pushes branch unnamed unnamed') = (rows.Branch (IntType ∷ IntType ∷ []) test offset, branch, refl)
+test_is_branch P known m p next local offset taken (with_zero {load} {test} line branch unnamed) = (rows.Branch (IntType ∷ []) test offset, branch, refl)
+test_is_branch P known m p next local offset taken (with_limit {load} {push} {limit} {test} line pushes branch unnamed unnamed') = (rows.Branch (IntType ∷ IntType ∷ []) test offset, branch, refl)
 
 pub step_is_other : LinesAreOne → (P : Program) (m p next after k : ℕ) (n : ℤ) (r : Row) → IsLine P m p next (rows.Increment k n) → IsLine P m p after r → is_increment r ≡ false → ⊥
 unfolding is_increment
@@ -191,10 +203,10 @@ step_is_other one P m p next after k n r step line other =
 
 -- ---- the graph
 
-pub reached : {P : Program} {constants : Constants} {m : ℕ} {w v : Visit} {ns : List ℕ} → w.node ≡ At 0 → Path P constants m w v ns → IsReached (IsEdge P m) v.node
-reached {P} {constants} {m} {w} begins (here) = subst (λ (u : Node). IsReached (IsEdge P m) u) (sym begins) first
+pub reached : {P : Program} {known : Known} {m : ℕ} {w v : Visit} {ns : List ℕ} → w.node ≡ At 0 → Path P known m w v ns → IsReached (IsEdge P m) v.node
+reached {P} {known} {m} {w} begins (here) = subst (λ (u : Node). IsReached (IsEdge P m) u) (sym begins) first
 reached begins (more path passes) = later (reached begins path) passes.edge
 
-pub edge_in : (P : Program) (constants : Constants) (m : ℕ) (g : Digraph) → IsGraphOf P m g → (a b w : Visit) (ns : List ℕ) → w.node ≡ At 0 → Path P constants m w a ns → Passes P constants m a b → Edge g (number_of a.node) (number_of b.node)
-edge_in P constants m g of a b w ns begins path passes =
+pub edge_in : (P : Program) (known : Known) (m : ℕ) (g : Digraph) → IsGraphOf P m g → (a b w : Visit) (ns : List ℕ) → w.node ≡ At 0 → Path P known m w a ns → Passes P known m a b → Edge g (number_of a.node) (number_of b.node)
+edge_in P known m g of a b w ns begins path passes =
     (of.edges (number_of a.node) (number_of b.node)).1 (record { source = a.node; target = b.node; reached = reached begins path; edge = passes.edge; numbered = (refl, refl) })

@@ -2,6 +2,4 @@ use Rattle.counted_laws.proofs.Keeping.{counted_paths_keep}
 use Rattle.counted_laws.proofs.laws.counted_paths_keep.Goals as goal
 
 pub returns : goal.returns
-returns c =
-    counted_paths_keep c.lines_follow_one_another.ensures.one c.lines_follow_one_another.ensures.apart c.one_stands_before.ensures.line c.headers_dominate_members.ensures c.loops_are_entered_at_headers.ensures.entered
-    c.loops_are_entered_at_headers.ensures.back c.entry_dominates_all.ensures
+returns c = counted_paths_keep c.counted_loops_are_further.ensures c.further_paths_keep.ensures

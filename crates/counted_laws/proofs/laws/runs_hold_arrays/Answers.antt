@@ -1,0 +1,7 @@
+use Rattle.counted_laws.proofs.Booting.{runs_hold_arrays}
+use Rattle.counted_laws.proofs.laws.runs_hold_arrays.Goals as goal
+
+pub returns : goal.returns
+returns c =
+    runs_hold_arrays c.fitting_states_are_well_formed.ensures c.rows_are_of_their_kinds.ensures c.runs_have_walks.ensures c.first_walks_stand.ensures.boot c.lines_follow_one_another.ensures.one
+    c.lines_follow_one_another.ensures.apart c.one_stands_before.ensures.line
