@@ -53,14 +53,17 @@ some_of : {X : Type 0} (o : Option X) → IsSome o → (x : X) × (o ≡ Some x)
 some_of None e = absurd (cc)
 some_of (Some x) e = (x, refl)
 
+-- the words of a method's code, by its place
+pub words_by_place : (g : Setting) (words : ℕ → List ℕ) → AreWords g.program g.places words → PackedHasWords → (m : ℕ) → IsSome (body_of g.program m) → length (words (g.places.method m)) ≡ code_words g.program m
+words_by_place g words are packed m coded =
+    let b = some_of (body_of g.program m) coded in
+    let has = ap (λ (ws : List ℕ). length ws) (are m b.0 b.1) ∙ packed b.0.code in
+    let long : code_words g.program m ≡ words_for (length b.0.code) = ap (λ (o : Option Body). elim o [ None ↦ 0 | Some x ↦ words_for (length x.code) ]) b.1 in
+    has ∙ sym long
+
 module _ (g : Setting) (k : Known g) where
-  -- the words of a method's code, by its place
   pub keyed : (m : ℕ) → IsSome (body_of g.program m) → length (k.words (g.places.method m)) ≡ code_words g.program m
-  keyed m coded =
-      let b = some_of (body_of g.program m) coded in
-      let words = ap (λ (ws : List ℕ). length ws) (k.are_words m b.0 b.1) ∙ k.packed b.0.code in
-      let long : code_words g.program m ≡ words_for (length b.0.code) = ap (λ (o : Option Body). elim o [ None ↦ 0 | Some x ↦ words_for (length x.code) ]) b.1 in
-      words ∙ sym long
+  keyed m coded = words_by_place g k.words k.are_words k.packed m coded
 
   -- what may run while a method with code does has code
   pub within_coded : (m x : ℕ) → IsSome (body_of g.program m) → IsWithin g.program m x → IsSome (body_of g.program x)

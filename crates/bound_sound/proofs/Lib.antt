@@ -13,3 +13,8 @@ mod Calling
 mod Accounting
 mod Sound
 mod Paying
+mod OwnSteps
+mod Among
+mod Loaded
+mod Once
+mod Missing

@@ -1,3 +1,4 @@
 pub mod Laws
 pub mod Charges
 pub mod Stays
+pub mod Loads

@@ -9,6 +9,7 @@ ghost use Rattle.bytecode_model.specs.Program.{Program};
 ghost use Rattle.node_costs.specs.Costs.{bounds_of};
 ghost use Rattle.method_flow.specs.Flow.{IsFlowOf};
 
+pub mod loads;
 pub mod stays;
 
 use cert_checker::Checked;
