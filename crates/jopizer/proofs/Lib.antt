@@ -7,3 +7,5 @@ pub mod CatchLemmas
 pub mod OneLemmas
 pub mod RefusedLemmas
 pub mod BootLemmas
+pub mod MainLemmas
+pub mod OneRefusal

@@ -30,7 +30,7 @@ use Rattle.jopizer.proofs.OneLemmas.{OneClass, same_classes, same_program}
 
 -- ---- files that are read
 
-class_at : (files : List (List ℕ)) (ks : List ClassFile) (i : ℕ) (bytes : List ℕ) → AreClassesOf files ks → slice_get files i ≡ Some bytes → (k : ClassFile) × IsClassOf bytes k
+pub class_at : (files : List (List ℕ)) (ks : List ClassFile) (i : ℕ) (bytes : List ℕ) → AreClassesOf files ks → slice_get files i ≡ Some bytes → (k : ClassFile) × IsClassOf bytes k
 class_at [] ks i bytes are at = absurd (none≢some bytes at)
 class_at (f ∷ files) [] i bytes are at = absurd are
 class_at (f ∷ files) (k ∷ ks) zero bytes are at = let same : f ≡ bytes = cc in (k, subst (λ (b : List ℕ). IsClassOf b k) same are.0)
@@ -47,7 +47,7 @@ not_other bytes k major is other =
       | inr gt ↦ absurd (omega arith)
     ]
 
-read : (file : ℕ) (bytes : List ℕ) (k : ClassFile) (r : ProgramRefusal) → IsClassOf bytes k → IsUnread file bytes r → ⊥
+pub read : (file : ℕ) (bytes : List ℕ) (k : ClassFile) (r : ProgramRefusal) → IsClassOf bytes k → IsUnread file bytes r → ⊥
 read file bytes k (resolving.BadClass f) is h = h.1 k is
 read file bytes k (resolving.UnsupportedVersion f major) is h = not_other bytes k major is h.1
 read file bytes k (resolving.Duplicate a b) is h = h
@@ -67,7 +67,7 @@ module _ (law : OneClass) (files : List (List ℕ)) (main : List ℕ) (cs : List
       let same = same_classes law files f.classes p.classes f.read p.read in
       none≢some r (ap first (sym p.none) ∙ (ap (λ (ks : List ClassFile). first (refusals ks main)) (sym same) ∙ f.first))
 
-  is_resolved : IsProgramOf files main cs → (r : ProgramRefusal) → IsRefusal files main (answers.Resolving r) → ⊥
+  pub is_resolved : IsProgramOf files main cs → (r : ProgramRefusal) → IsRefusal files main (answers.Resolving r) → ⊥
   is_resolved p (resolving.BadClass f) h = resolves p (resolving.BadClass f) h
   is_resolved p (resolving.UnsupportedVersion f major) h = resolves p (resolving.UnsupportedVersion f major) h
   is_resolved p (resolving.Duplicate a b) h = resolves p (resolving.Duplicate a b) h

@@ -1,6 +1,9 @@
 -- What holds of linked files.
-use Rattle.std.specs.Prelude.{◌≡◌, ℕ, ◌<◌, List, length}
+use Rattle.std.specs.Prelude.{◌≡◌, ◌≢◌, ℕ, ◌<◌, List, [], ◌++◌, length, codes, IsSome}
 use Rattle.class_pool.specs.declared.class.ClassFile.{ClassFile}
+use Rattle.bytecode_model.specs.Program.{body_of}
+use Rattle.program_tables.specs.Numbers.{method_text}
+use Rattle.program_tables.specs.Resolved.{at_method, resolved}
 use Rattle.image_file.specs.Linked as file
 use Rattle.jopizer.specs.declared.refusal.LinkRefusal.{LinkRefusal}
 use Rattle.jopizer.specs.declared.refusal.LinkRefusal.TheVariants as refusals
@@ -19,6 +22,12 @@ abbrev pub LinkedFilesAreNotRefused : Type 0
 LinkedFilesAreNotRefused = (files : List (List ℕ)) (main : List ℕ) (cs : List ClassFile) (r : LinkRefusal) → AreLinked files main cs → IsRefusal files main r
     → r ≡ refusals.NoMemory
 
+-- files are refused for one cause, memory apart
+abbrev pub RefusalsAreOne : Type 0
+RefusalsAreOne =
+    (files : List (List ℕ)) (main : List ℕ) (a b : LinkRefusal) → a ≢ refusals.NoMemory → b ≢ refusals.NoMemory → IsRefusal files main a
+    → IsRefusal files main b → a ≡ b
+
 -- nothing is wrong with the file of the image of what is linked
 abbrev pub LinkedImagesAreRead : Type 0
 LinkedImagesAreRead = (bytes : List ℕ) (l : Parts) (f : ImageFault) → IsLinked l → file.IsLinked bytes (image_of l) → IsWrong bytes f → f ≡ faults.NoMemory
@@ -26,3 +35,13 @@ LinkedImagesAreRead = (bytes : List ℕ) (l : Parts) (f : ImageFault) → IsLink
 -- a method in which a rule fails is one of a file: none fails in the core classes, nor in the class that is run
 abbrev pub MethodsAreOfFiles : Type 0
 MethodsAreOfFiles = (files : List (List ℕ)) (main : List ℕ) (file method pc : ℕ) (rule : _) → FailsInFile files main file method pc rule → file < length files
+
+-- the text of the main of a class of this name
+abbrev pub main_text : (class : List ℕ) → List ℕ
+main_text class = class ++ codes ".main([Ljava/lang/String;)V"
+
+-- classes to which files are linked have the main of the main class, with code
+abbrev pub MainIsThere : Type 0
+MainIsThere =
+    (files : List (List ℕ)) (main : List ℕ) (cs : List ClassFile) → AreLinked files main cs
+    → (m : ℕ) × IsSome (body_of (resolved cs) m) × (at_method cs m [] (method_text cs) ≡ main_text main)

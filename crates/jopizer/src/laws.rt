@@ -6,7 +6,7 @@ ghost use Rattle.image_facts.specs.Says.{Says};
 ghost use Rattle.image_laws.specs.Laws.{CatchesAreNumbered, TablesAreAtStarts};
 ghost use Rattle.image_words.specs.Regions.{places_of};
 ghost use Rattle.program_tables.specs.Resolved.{resolved};
-ghost use Rattle.jopizer.specs.Laws.{OneLinked, LinkedFilesAreNotRefused, LinkedImagesAreRead, MethodsAreOfFiles};
+ghost use Rattle.jopizer.specs.Laws.{OneLinked, LinkedFilesAreNotRefused, RefusalsAreOne, LinkedImagesAreRead, MethodsAreOfFiles, MainIsThere};
 
 use crate::linked::Linked;
 use bytecode_typing::the_walk_finds_a_typing;
@@ -45,6 +45,13 @@ pub fn linked_files_are_not_refused()
     one_class();
 }
 
+/// Files are refused for one cause, memory apart.
+pub fn refusals_are_one()
+    ensures { RefusalsAreOne }
+{
+    one_class();
+}
+
 /// Nothing is wrong with the file of the image of what is linked.
 pub fn linked_images_are_read()
     ensures { LinkedImagesAreRead }
@@ -70,6 +77,14 @@ pub fn methods_are_of_files()
     boot_is_on_no_cycle();
     boot_is_verified();
     members_are_there();
+}
+
+/// Classes to which files are linked have the main of the main class, with code.
+pub fn main_is_there()
+    ensures { MainIsThere }
+{
+    core_is_named();
+    methods_have_code();
 }
 
 /// The types that the exception tables of a verified program catch have numbers, and their ranges lie between instructions.
