@@ -1,10 +1,10 @@
 -- An activation is of a method that the instruction before which it begins may run.
-use Rattle.std.proofs.Common.{◌≡◌, ℕ, ◌+◌, ◌<◌, ◌≤◌, List, [], ◌∷◌, ◌++◌, length, Some, refl, sym, ap, ◌∙◌, subst, arith}
+use Rattle.std.proofs.Common.{◌≡◌, ℕ, ◌<◌, List, [], ◌∷◌, ◌++◌, length, Some, refl, sym, ap, ◌∙◌, subst, arith}
 use Rattle.lists.specs.Lemmas.{some_same}
 use Rattle.bytecode_model.specs.State.{Frame}
 use Rattle.bytecode_typing.specs.Fits.{IsGoing}
 use Rattle.method_flow.specs.Calls.{IsTarget}
-use Rattle.method_flow.specs.Shapes.{IsGoingOn, FramesStep}
+use Rattle.method_flow.specs.Shapes.{FramesStep}
 use Rattle.method_flow.specs.Shapes.FramesStep.{moves, enters, returns, drops, stops}
 use Rattle.machine_stands.specs.Comes.{top_method}
 use Rattle.activation_watch.specs.Watched.{cycles_of}

@@ -1,7 +1,8 @@
 //! The activations that haven't ended.
-ghost use Rattle.std.specs.Prelude.{◌≡◌, List, replicate, None, IfOk, slice_set};
+ghost use Rattle.std.specs.Prelude.{◌≡◌, List, replicate, Some, None, IfOk, slice_set};
 ghost use Rattle.run_follower.specs.declared.here.Here.{Here};
-ghost use Rattle.activation_watch.specs.Opened.{begun_into, ended_at, open_after};
+ghost use Rattle.run_follower.specs.Handed.{later_in};
+ghost use Rattle.activation_watch.specs.Opened.{begun_into, begun_since, ended_at, open_after};
 
 use crate::activation::{Activation, Begun};
 use base::NoMemory;
@@ -19,10 +20,13 @@ pub struct OpenActivations {
 
 impl Model for OpenActivations {
     ghost use Rattle.activation_watch.specs.Opened.{Open};
+    ghost use Rattle.activation_watch.specs.Level.{NoneBeganAt};
 
     ghost Value = { Open };
 
     ghost view = { λ s. record { last = s.last; begun = s.begun.items } };
+
+    ghost invariant = { λ s. NoneBeganAt s.last s.begun.items };
 }
 
 impl OpenActivations {
@@ -41,13 +45,36 @@ impl OpenActivations {
         ensures after { self.new ≡ open_after self.old here }
         ensures ended { result ≡ ended_at self.old.begun here }
     {
-        let ended = take_ended(&mut self.begun, here);
-        if let Some(last) = self.last {
-            put_begun(&mut self.begun, last, here);
-        }
+        let last = self.last;
         self.last = Some(here);
-        ended
+        between(&mut self.begun, last, here)
     }
+
+    /// Goes on to a boundary of the same activation as the last one, at which none ends. Where there was none, nothing changes.
+    #[inline(always)]
+    pub fn at_same_frame(&mut self, clock: u64, misses: u64, pc: u32)
+        ensures after { (last : Here) → self.old.last ≡ Some last → self.new ≡ open_after self.old (later_in last clock misses pc) }
+        ensures ended { (last : Here) → self.old.last ≡ Some last → ended_at self.old.begun (later_in last clock misses pc) ≡ None }
+        ensures none { self.old.last ≡ None → self.new ≡ self.old }
+    {
+        if let Some(last) = &mut self.last {
+            last.clock = clock;
+            last.misses = misses;
+            last.pc = pc;
+        }
+    }
+}
+
+/// Takes out the activation that ends at this boundary, and puts in the one that begins since the last one.
+fn between(held: &mut [Option<Begun>], last: Option<Here>, here: Here) -> Option<Activation>
+    ensures held { held.new ≡ begun_since last here (slice_set held.old here.frames None) }
+    ensures ended { result ≡ ended_at held.old here }
+{
+    let ended = take_ended(held, here);
+    if let Some(last) = last {
+        put_begun(held, last, here);
+    }
+    ended
 }
 
 /// Takes out the activation that ends at this boundary.

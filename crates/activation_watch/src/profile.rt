@@ -88,6 +88,11 @@ impl Follower for MethodTotals {
             add_to_row(&mut self.rows, ended);
         }
     }
+
+    #[inline(always)]
+    fn at_same_frame(&mut self, clock: u64, misses: u64, pc: u32) {
+        self.watch.at_same_frame(clock, misses, pc);
+    }
 }
 
 /// Adds an activation to the row of its method.

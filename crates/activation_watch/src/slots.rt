@@ -99,6 +99,11 @@ impl Follower for SlotCounter {
             self.slots = with_ended(self.slots, self.executive, &self.lengths, ended);
         }
     }
+
+    #[inline(always)]
+    fn at_same_frame(&mut self, clock: u64, misses: u64, pc: u32) {
+        self.watch.at_same_frame(clock, misses, pc);
+    }
 }
 
 /// The numbers with one ended activation more, which may be that of a slot.

@@ -15,6 +15,7 @@ use Rattle.bytecode_typing.specs.Fits.{IsGoing}
 use Rattle.image_facts.specs.Methods.{AreMethods}
 use Rattle.run_follower.specs.declared.here.Here.{Here}
 use Rattle.run_follower.specs.Following.{followed, followed-append}
+use Rattle.run_follower.specs.Handed.{WasHanded}
 use Rattle.boundary.specs.declared.answer.Boundary.{Boundary}
 use Rattle.boundary.specs.declared.answer.Boundary.TheVariants as answers
 use Rattle.boundary.specs.declared.runs.RunEnd.{RunEnd}
@@ -25,6 +26,8 @@ use Rattle.boundary.specs.Session.{Session}
 use Rattle.boundary.specs.Activations.{Stage, Follows}
 use Rattle.boundary.specs.Advances.{Advances, StepsTo, FailsToRead, FailsToWrite, FailsToShow}
 use Rattle.boundary.specs.Runs.{RunsOn, Breaks, RunsAll}
+use Rattle.boundary.specs.declared.top.TopFrame.{TopFrame}
+use Rattle.boundary.specs.Tops.{IsTopOf}
 use Rattle.boundary.specs.Followed.{here_of, seen_at, HasSmallCounts, stages_between, FollowsTo, FollowsAll}
 use Rattle.boundary.proofs.Keeping.{going_mode}
 use Rattle.boundary.proofs.Whole.{advanced, goes_so, ended_mode, uncaught_mode, run_none, run_more}
@@ -59,10 +62,6 @@ seen_uncaught b class is = seen_over b (λ going. subst IsGoing is going)
 seen_once : (b : Stage) → flat_map seen_at (b ∷ []) ≡ seen_at b
 seen_once b = append-nil (seen_at b)
 
--- with its machine by another name
-here_is : (b : Stage) (now : machine.State) → b.machine ≡ now → here_of (record { machine = now; state = b.state }) ≡ here_of b
-here_is b now e = ap (λ (m : machine.State). let c : Stage = record { machine = m; state = b.state } in here_of c) (sym e)
-
 module _ (g : Setting) (limit : ℕ) (a : Stage) where
   -- all that was seen where the run came to a machine
   abbrev pub seen_to : {now : machine.State} {t0 t1 : Told} {K : State → Type 0} → RunsOn g limit a now t0 t1 K → List Here
@@ -80,16 +79,27 @@ pub record IsFollowed {F : Type 0} (after : F → Here → F) (g : Setting) (lim
 abbrev pub IsFar : {F : Type 0} → (after : F → Here → F) → (g : Setting) → (limit : ℕ) → (a : Stage) → (Known : Type 0) → (first : F) → (now : machine.State) → (told told' : Told) → F → Type 0
 IsFar after g limit a Known first now told told' f = IsFollowed after g limit a now told told' (λ s. IsGoing s.mode) Known first f
 
+-- and this tells the top frame at the boundary to which it came, which the follower was handed last
+pub record IsFarTop {F : Type 0} (after : F → Here → F) (g : Setting) (limit : ℕ) (a : Stage) (Known : Type 0) (first : F) (now : machine.State) (told told' : Told) (f : F) (top : TopFrame) : Type 0 where
+  pub far : IsFar after g limit a Known first now told told' f
+  pub top_is : Known → IsTopOf far.run.last top
+  pub handed : Known → WasHanded after f (here_of far.run.last)
+
 module _ {F : Type 0} (after : F → Here → F) (laws : AreRunLaws) (keep : CyclesKeep) (g : Setting) (limit : ℕ) (a : Stage) (Known : Type 0) (first : F) where
-  pub none_followed : (told : Told) (h : Here) (f : F) → f ≡ after first h → Stands g a.machine a.state → IsGoing a.state.mode → (Known → h ≡ here_of a) → HasSmallCounts h
-      → IsFar after g limit a Known first a.machine told told f
+  pub none_followed : (told : Told) (h : Here) (f : F) (top : TopFrame) → f ≡ after first h → Stands g a.machine a.state → IsGoing a.state.mode → (Known → IsTopOf a top)
+      → (Known → IsTopOf a top → h ≡ here_of a) → HasSmallCounts h
+      → IsFarTop after g limit a Known first a.machine told told f top
   unfolding run_none
-  none_followed told h f is stage going same small = record {
-    run = record { last = a; now_is = refl; run = run_none laws keep g limit a told stage; holds = going };
-    seen = λ known.
-        let S : List Here → Type 0 = λ hs. f ≡ followed after first hs in
-        subst S (sym (seen_once a ∙ seen_going a going)) (is ∙ ap (after first) (same known));
-    small = λ known. subst (λ hs. All HasSmallCounts hs) (sym (seen_once a ∙ seen_going a going)) (All-cons HasSmallCounts (here_of a) [] (subst HasSmallCounts (same known) small) (All-nil HasSmallCounts));
+  none_followed told h f top is stage going top_is same small = record {
+    far = record {
+      run = record { last = a; now_is = refl; run = run_none laws keep g limit a told stage; holds = going };
+      seen = λ known.
+          let S : List Here → Type 0 = λ hs. f ≡ followed after first hs in
+          subst S (sym (seen_once a ∙ seen_going a going)) (is ∙ ap (after first) (same known (top_is known)));
+      small = λ known. subst (λ hs. All HasSmallCounts hs) (sym (seen_once a ∙ seen_going a going)) (All-cons HasSmallCounts (here_of a) [] (subst HasSmallCounts (same known (top_is known)) small) (All-nil HasSmallCounts));
+    };
+    top_is = top_is;
+    handed = λ known. (first, is ∙ ap (after first) (same known (top_is known)));
   }
 
   module _ (now new : machine.State) (t0 t1 t2 : Told) (f : F) (far : IsFar after g limit a Known first now t0 t1 f) (below : now.clock < limit) where
@@ -108,6 +118,7 @@ module _ {F : Type 0} (after : F → Here → F) (laws : AreRunLaws) (keep : Cyc
     -- one step more, with what is seen behind it
     record IsMore (K : State → Type 0) : Type 0 where
       pub run : RunsOn g limit a new t0 t2 K
+      pub follows : Follows g last run.last
       pub heres : seen_to g limit a run ≡ seen_to g limit a far.run ++ seen_at run.last
 
     reach : (K : State → Type 0) (v : Advances g last.state now new t1 t2) → K v.next → IsMore K
@@ -119,6 +130,7 @@ module _ {F : Type 0} (after : F → Here → F) (laws : AreRunLaws) (keep : Cyc
         let follows : Follows g last c = record { stands = far.run.run.stands; answer = w.answer; byte = w.byte; is_next = w.is_next; comes = w.comes; new_is = w.new_is } in
         record {
           run = record { last = c; now_is = refl; run = run_more laws keep g limit a last new t0 t1 t2 far.run.run far.run.holds under w; holds = k };
+          follows = follows;
           heres = flat_map-more seen_at (stages_between g limit a far.run.run.steps last far.run.run.stages) c;
         }) v holds
 
@@ -137,18 +149,25 @@ module _ {F : Type 0} (after : F → Here → F) (laws : AreRunLaws) (keep : Cyc
     small_over K more later seen small known =
         subst (λ hs. All HasSmallCounts hs) (sym more.heres) (All-append HasSmallCounts (seen_to g limit a far.run) (seen_at more.run.last) (far.small known) (subst (λ hs. All HasSmallCounts hs) (sym (seen known)) small))
 
-    pub followed_on : (answer : Boundary) (h : Here) (next : F) → next ≡ after f h → (answer ≡ answers.Bytecode) ⊎ (answer ≡ answers.Raise) → AllSteps answer
-        → ((s : State) → Known → Stands g new s → h ≡ here_of (record { machine = new; state = s })) → HasSmallCounts h → IsFar after g limit a Known first new t0 t2 next
-    followed_on answer h next is on steps same small =
+    pub followed_on : (answer : Boundary) (next : F) (top : TopFrame) → (answer ≡ answers.Bytecode) ⊎ (answer ≡ answers.Raise) → AllSteps answer
+        → ((b : Stage) → Known → b.machine ≡ new → Follows g last b → Stands g b.machine b.state → IsTopOf b top)
+        → ((b : Stage) → Known → b.machine ≡ new → Follows g last b → Stands g b.machine b.state → next ≡ after f (here_of b))
+        → ((b : Stage) → b.machine ≡ new → HasSmallCounts (here_of b))
+        → IsFarTop after g limit a Known first new t0 t2 next top
+    followed_on answer next top on steps tops hands small =
         let r = advanced g last.state now new t1 t2 answer on (steps last.state here) in
         let more = reach (λ s. IsGoing s.mode) r.0 (going_mode r.0.next.mode answer r.1 (goes_so answer on)) in
         let b = more.run.last in
-        let stands : Stands g new b.state = subst (λ m. Stands g m b.state) more.run.now_is more.run.run.stands in
-        let seen : Known → seen_at b ≡ h ∷ [] = λ known. seen_going b more.run.holds ∙ ap (λ (x : Here). x ∷ []) (sym (same b.state known stands ∙ here_is b new more.run.now_is)) in
+        let handed : Known → next ≡ after f (here_of b) = λ known. hands b known more.run.now_is more.follows more.run.run.stands in
+        let seen : Known → seen_at b ≡ here_of b ∷ [] = λ known. seen_going b more.run.holds in
         record {
-          run = more.run;
-          seen = λ known. is ∙ come_over (λ s. IsGoing s.mode) more (h ∷ []) seen known;
-          small = small_over (λ s. IsGoing s.mode) more (h ∷ []) seen (All-cons HasSmallCounts h [] small (All-nil HasSmallCounts));
+          far = record {
+            run = more.run;
+            seen = λ known. handed known ∙ come_over (λ s. IsGoing s.mode) more (here_of b ∷ []) seen known;
+            small = small_over (λ s. IsGoing s.mode) more (here_of b ∷ []) seen (All-cons HasSmallCounts (here_of b) [] (small b more.run.now_is) (All-nil HasSmallCounts));
+          };
+          top_is = λ known. tops b known more.run.now_is more.follows more.run.run.stands;
+          handed = λ known. (f, handed known);
         }
 
     pub followed_ended : AllSteps answers.Halted → IsFollowed after g limit a new t0 t2 (λ s. s.mode ≡ modes.Ended) Known first f

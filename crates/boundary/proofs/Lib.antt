@@ -19,6 +19,8 @@ pub mod Lasting
 pub mod Answered
 pub mod Whole
 pub mod Tracing
+pub mod Heights
+pub mod Tops
 pub mod Following
 mod InARow
 mod Faults

@@ -14,4 +14,5 @@ pub mod Runs
 pub mod Traces
 pub mod BareStates
 pub mod Start
+pub mod Tops
 pub mod Followed

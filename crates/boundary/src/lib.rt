@@ -10,6 +10,7 @@ mod methods;
 mod running;
 mod runs;
 mod start;
+mod top;
 mod traces;
 
 pub use answer::Boundary;

@@ -2,6 +2,7 @@
 ghost use Rattle.std.specs.Prelude.{◌≡◌, ◌<◌, length, sum_by};
 ghost use Rattle.bytecode_model.specs.State.{State};
 ghost use Rattle.bytecode_model.specs.Sizes.{value_words};
+ghost use Rattle.machine_frames.specs.Shows.{IsRaising, EachRaising};
 ghost use Rattle.boundary.specs.Answers.{IsGoing};
 ghost use Rattle.boundary.specs.Setting.{Setting};
 ghost use Rattle.boundary.specs.Session.{IsStateOf, EachState, EachTop};
@@ -11,6 +12,8 @@ use crate::answer::Boundary;
 use crate::laws::stages_agree;
 use crate::running::Running;
 use bytecode_typing::fitting_states_are_well_formed;
+use image_facts::CodedMethod;
+use jop_core::Machine;
 use machine_frames::{frame_count, operand_words, raising_pc, running_pc, top_method};
 
 impl<'a, const N: usize> Running<'a, N> {
@@ -28,6 +31,7 @@ impl<'a, const N: usize> Running<'a, N> {
     }
 
     /// The place of its instruction.
+    #[inline(always)]
     pub fn pc(&self) -> u32
         requires { IsGoing self.now.mode }
         ensures { EachTop self.now (λ f. f.pc ≡ result) }
@@ -36,7 +40,7 @@ impl<'a, const N: usize> Running<'a, N> {
         fitting_states_are_well_formed();
         stages_agree();
         match self.mode {
-            Boundary::Raise => raising_pc(&self.machine, self.methods.as_slice()),
+            Boundary::Raise => raised_pc(&self.machine, self.methods.as_slice()),
             _ => running_pc(&self.machine, self.methods.as_slice()),
         }
     }
@@ -81,4 +85,13 @@ impl<'a, const N: usize> Running<'a, N> {
             _ => operand_words(&self.machine, self.methods.as_slice()),
         }
     }
+}
+
+/// The place of the top frame's instruction in a state in which an object is raised, out of the way of those that run.
+#[inline(never)]
+fn raised_pc<const N: usize>(machine: &Machine<N>, methods: &[CodedMethod<'_>]) -> u32
+    requires { IsRaising N methods.now machine.now }
+    ensures { EachRaising methods.now machine.now (λ f. f.pc ≡ result) }
+{
+    raising_pc(machine, methods)
 }

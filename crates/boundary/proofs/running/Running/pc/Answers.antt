@@ -5,8 +5,8 @@ use Rattle.boundary.specs.Session.{Session}
 use Rattle.boundary.proofs.Reading.{running_state, each_running, raising_state, each_raising}
 use Rattle.boundary.proofs.running.Running.pc.Goals as goal
 
-pub raising_pc-requires : goal.raising_pc-requires
-raising_pc-requires g c =
+pub raised_pc-requires : goal.raised_pc-requires
+raised_pc-requires g c =
     let r : Session = record { machine = c.self.inside.machine; methods = methods_of c.self.inside.methods; mode = c.self.inside.mode } in
     (lit< tt, raising_state c.fitting_states_are_well_formed.ensures c.stages_agree.ensures g.row.N r c.args.self.now c.self.view_is c.requires c.self.invariant c.as_slice.result.now c.as_slice.ensures c.in-Raise.is)
 
@@ -18,7 +18,7 @@ running_pc-requires g c =
 pub returns-in-Raise : goal.returns-in-Raise
 returns-in-Raise g c =
     let r : Session = record { machine = c.self.inside.machine; methods = methods_of c.self.inside.methods; mode = c.self.inside.mode } in
-    each_raising c.fitting_states_are_well_formed.ensures c.stages_agree.ensures g.row.N r c.args.self.now c.self.view_is c.requires c.self.invariant c.as_slice.result.now c.as_slice.ensures c.in-Raise.is (λ (f : Frame). f.pc ≡ c.raising_pc.result) c.raising_pc.ensures
+    each_raising c.fitting_states_are_well_formed.ensures c.stages_agree.ensures g.row.N r c.args.self.now c.self.view_is c.requires c.self.invariant c.as_slice.result.now c.as_slice.ensures c.in-Raise.is (λ (f : Frame). f.pc ≡ c.raised_pc.result) c.raised_pc.ensures
 
 pub returns-in_default : goal.returns-in_default
 returns-in_default g c =
