@@ -27,3 +27,4 @@ mod Leaving
 mod Choices
 mod Nests
 mod Programs
+mod HeaderLemmas

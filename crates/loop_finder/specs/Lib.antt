@@ -6,4 +6,5 @@ pub mod Marking
 pub mod Setting
 pub mod Counting
 pub mod Methods
+pub mod Headers
 pub mod Laws

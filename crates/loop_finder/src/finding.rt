@@ -1,21 +1,27 @@
 //! The loops that count, of each method.
 
-ghost use Rattle.std.specs.Prelude.{◌≡◌, ◌↔◌, ℕ, ◌<◌, length, IsTrue, IfOk, OnOk, slice_index};
+ghost use Rattle.std.specs.Prelude.{◌≡◌, ◌↔◌, ℕ, ◌<◌, length, All, IsTrue, IfOk, OnOk, slice_index};
 ghost use Rattle.bytecode_model.specs.Program.{Program};
 ghost use Rattle.loop_nest.specs.Digraph.{Digraph};
 ghost use Rattle.loop_nest.specs.Nest.{IsNest};
+ghost use Rattle.loop_nest.specs.Reduction.{IsReducible};
+ghost use Rattle.method_flow.specs.Compact.{IsCompact};
+ghost use Rattle.method_flow.specs.Graphs.{IsGraphOf};
 ghost use Rattle.method_flow.specs.Flow.{IsCodedOf, IsFlowOf};
 ghost use Rattle.compact_walks.specs.Moving.{IsMoved};
 ghost use Rattle.loop_rules.specs.Finding.{AreCountedLoops};
 ghost use Rattle.loop_rules.specs.Sites.{AreIntSites, AreNeverPut, AreSitesOf, constants_in};
 ghost use Rattle.loop_rules.specs.Tests.{Constants};
 ghost use Rattle.loop_finder.specs.Counting.{AreBounds};
+ghost use Rattle.loop_finder.specs.Headers.{AreHeadersOf, AreMethodHeaders, ArePlacesOf};
 ghost use Rattle.loop_finder.specs.Methods.{AreBoundsBy, AreMethodBounds, IsAppended, IsBoundOfLoop, IsNestBy, with_bound};
 
 use crate::counting::{MethodBody, bound_of};
+use crate::headers::{LoopHeaders, header_places};
 use crate::reading::acts;
 use crate::turns::{Routes, marks_of};
 use base::NoMemory;
+use compact_walks::numbers;
 use flow_graph::{compact, whole_graph};
 use loop_nest::loops::{Nest, NestFault};
 use loop_nest::{Graph, nest};
@@ -94,26 +100,70 @@ fn bounds_by(
     bounds_of_nest(alloc, &MethodBody { acts, routes }, nest, nodes)
 }
 
-/// The loops that count of a method, by the places of their headers.
-fn bounds_of_method(
+/// The loops of a method: where they are headed, and those that count, by the places of their headers.
+#[derive(Drop)]
+struct FoundLoops {
+    headers: LoopHeaders,
+    bounds: Vec<(u32, u32)>,
+}
+
+/// The loops of a method whose graph is reducible.
+fn nested_loops(
     alloc: Global,
     method: &FlowMethod,
     sites: &MethodSites,
-) -> Result<Vec<(u32, u32)>, NoMemory>
-    ensures { IfOk result (λ bounds. (P : Program) (constants : Constants) (m : ℕ) → IsCodedOf P m method.now → AreSitesOf P constants m sites.now
-        → AreNeverPut P constants → AreMethodBounds P constants m bounds.items) }
+    graph: Graph,
+    nest: &Nest,
+    nodes: &[u32],
+) -> Result<FoundLoops, NoMemory>
+    requires nest { IsNestBy graph nodes.now nest.now }
+    requires headers { All (λ l. l.header < length nodes.now) nest.now }
+    ensures headers { IfOk result (λ x. ArePlacesOf nest.now nodes.now x.headers) }
+    ensures bounds { IfOk result (λ x. (P : Program) (constants : Constants) (m : ℕ) (d : Digraph) → IsCodedOf P m method.now
+        → AreSitesOf P constants m sites.now → AreNeverPut P constants → IsGraphOf P m graph
+        → IsCompact graph d (slice_index nodes.now) → IsReducible d → IsNest d nest.now → AreMethodBounds P constants m x.bounds.items) }
 {
     code_lines::laws::lines_follow_one_another();
     code_lines::laws::one_stands_before();
+    compact_walks::laws::graphs_are_moved();
+    compact_walks::laws::moved_is_nest();
+    bound_rules::laws::graphs_are_one();
+    let loops = nest.loops();
+    let headers = LoopHeaders::Reducible(header_places(alloc, loops, nodes)?);
+    // Without loops there is no need to read the code.
+    if loops.is_empty() {
+        return Ok(FoundLoops {
+            headers,
+            bounds: Vec::new(alloc),
+        });
+    }
+    let bounds = bounds_by(alloc, method, sites, graph, nest, nodes)?;
+    Ok(FoundLoops { headers, bounds })
+}
+
+/// The loops of a method.
+fn loops_of_method(
+    alloc: Global,
+    method: &FlowMethod,
+    sites: &MethodSites,
+) -> Result<FoundLoops, NoMemory>
+    ensures headers { IfOk result (λ x. (P : Program) (m : ℕ) → IsCodedOf P m method.now → AreHeadersOf P m x.headers) }
+    ensures bounds { IfOk result (λ x. (P : Program) (constants : Constants) (m : ℕ) → IsCodedOf P m method.now → AreSitesOf P constants m sites.now
+        → AreNeverPut P constants → AreMethodBounds P constants m x.bounds.items) }
+{
     loop_nest::laws::parts_are_reducible();
     loop_nest::laws::reduction_has_one_end();
     compact_walks::laws::graphs_are_moved();
     bound_rules::laws::graphs_are_one();
     let graph = whole_graph(alloc, method)?;
     let compact = compact(alloc, &graph)?;
+    let nodes = compact.nodes.as_slice();
     match nest(alloc, &compact.graph) {
-        Ok(nest) => bounds_by(alloc, method, sites, graph, &nest, compact.nodes.as_slice()),
-        Err(NestFault::Irreducible(_)) => Ok(Vec::new(alloc)),
+        Ok(nest) => nested_loops(alloc, method, sites, graph, &nest, nodes),
+        Err(NestFault::Irreducible(left)) => Ok(FoundLoops {
+            headers: LoopHeaders::Irreducible(numbers(alloc, nodes, &left)?),
+            bounds: Vec::new(alloc),
+        }),
         Err(NestFault::NoMemory) => Err(NoMemory),
     }
 }
@@ -139,18 +189,37 @@ fn has_sites(s: &IntSites, number: u32) -> bool
     (number as usize) < s.method_count()
 }
 
+/// The loops of a program: where they are headed, by method, and those that count.
+#[derive(Drop)]
+pub struct ProgramLoops {
+    pub headers: Vec<LoopHeaders>,
+    pub counted: Vec<FoundLoop>,
+}
+
+/// The loops of the program: of each method with code, by number, where they are headed; and those that count, methods and places
+/// rising, each with the least number of times that it goes round at most. An irreducible method has none that count.
+pub fn find_all(alloc: Global, f: &FlowProgram, s: &IntSites) -> Result<ProgramLoops, NoMemory>
+    ensures headers { IfOk result (λ x. (P : Program) → IsFlowOf P f.now → AreIntSites P s.now → AreMethodHeaders P (length f.now.methods) x.headers.items) }
+    ensures counted { IfOk result (λ x. (P : Program) → IsFlowOf P f.now → AreIntSites P s.now → AreCountedLoops P (constants_in s.now) x.counted.items) }
+{
+    let mut headers = Vec::new(alloc);
+    let mut counted = Vec::new(alloc);
+    for number in 0..f.method_count() {
+        if !has_sites(s, number) {
+            return Ok(ProgramLoops { headers, counted });
+        }
+        let found = loops_of_method(alloc, f.method(number), s.method(number))?;
+        add_loops(number, &found.bounds, &mut counted)?;
+        headers.push(found.headers)?;
+    }
+    Ok(ProgramLoops { headers, counted })
+}
+
 /// The loops of the program that count, methods and places rising, each with the least number of times that it goes round at most.
 /// An irreducible method has none.
 pub fn find(alloc: Global, f: &FlowProgram, s: &IntSites) -> Result<Vec<FoundLoop>, NoMemory>
     ensures { IfOk result (λ found. (P : Program) → IsFlowOf P f.now → AreIntSites P s.now → AreCountedLoops P (constants_in s.now) found.items) }
 {
-    let mut found = Vec::new(alloc);
-    for number in 0..f.method_count() {
-        if !has_sites(s, number) {
-            return Ok(found);
-        }
-        let bounds = bounds_of_method(alloc, f.method(number), s.method(number))?;
-        add_loops(number, &bounds, &mut found)?;
-    }
-    Ok(found)
+    let loops = find_all(alloc, f, s)?;
+    Ok(loops.counted)
 }

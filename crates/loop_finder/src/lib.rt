@@ -4,6 +4,7 @@
 mod acts;
 mod counting;
 mod finding;
+mod headers;
 pub mod laws;
 mod reach;
 mod reading;
@@ -11,4 +12,5 @@ mod setting;
 mod turns;
 mod values;
 
-pub use finding::find;
+pub use finding::{ProgramLoops, find, find_all};
+pub use headers::LoopHeaders;

@@ -3,6 +3,7 @@ ghost use Rattle.std.specs.Prelude.{◌≡◌, ℕ, List, length, Contains, Some
 ghost use Rattle.std.specs.List.Sorted.{IsStrictlyIncreasing};
 ghost use Rattle.method_flow.specs.Flow.{Coded, IsFlowOf};
 ghost use Rattle.program_tables.specs.Resolved.{resolved};
+ghost use Rattle.loop_finder.specs.Headers.{AreMethodHeaders};
 ghost use Rattle.source_headers.specs.Files.{name_of};
 ghost use Rattle.source_headers.specs.Found.{AreRising};
 ghost use Rattle.source_headers.specs.Gathered.{AddsLines, AddsMethod, AreFiles, AreGathered};
@@ -15,6 +16,7 @@ use crate::known::Known;
 use crate::methods::{Method, MethodLoops, headed_places, loops_of, put_method};
 use base::NoMemory;
 use class_pool::ClassFile;
+use loop_finder::ProgramLoops;
 use loop_rules::FoundLoop;
 use method_flow::FlowProgram;
 use method_sources::{MethodSource, file_of, lines_at};
@@ -99,24 +101,25 @@ fn add_methods(
     program: &Program,
     flow: &FlowProgram,
     notes: &SourceBounds,
-    found: &[FoundLoop],
+    loops: &ProgramLoops,
     gathered: &mut Gathered,
 ) -> Result<(), NoMemory>
     requires flow { IsFlowOf (resolved program.now) flow.now }
     requires names { (m : ℕ) (k : Coded) → slice_get flow.now.methods m ≡ Some k → k.name ≡ name_of program.now m }
-    requires found { AreRising found.now }
-    requires none { AreGathered program.now notes.now found.now 0 gathered.old }
-    ensures { OnOk result (AreGathered program.now notes.now found.now (length flow.now.methods) gathered.new) }
+    requires found { AreRising loops.now.counted.items }
+    requires headers { AreMethodHeaders (resolved program.now) (length flow.now.methods) loops.now.headers.items }
+    requires none { AreGathered program.now notes.now loops.now.counted.items 0 gathered.old }
+    ensures { OnOk result (AreGathered program.now notes.now loops.now.counted.items (length flow.now.methods) gathered.new) }
 {
-    let mut left = found;
+    let mut left: &[FoundLoop] = &loops.counted;
     for number in 0..flow.method_count() {
         left = from_place(left, number, 0);
         if number == flow.boot() {
             continue;
         }
-        let loops = loops_of(alloc, program, flow, number)?;
+        let told = loops_of(alloc, program, &loops.headers[number as usize], number)?;
         let name = flow.method(number).name();
-        gathered.add(alloc, notes, left, Method { number, name }, &loops)?;
+        gathered.add(alloc, notes, left, Method { number, name }, &told)?;
     }
     Ok(())
 }
@@ -127,12 +130,13 @@ pub(crate) fn gather(
     program: &Program,
     flow: &FlowProgram,
     notes: &SourceBounds,
-    found: &[FoundLoop],
+    loops: &ProgramLoops,
 ) -> Result<Gathered, NoMemory>
     requires flow { IsFlowOf (resolved program.now) flow.now }
     requires names { (m : ℕ) (k : Coded) → slice_get flow.now.methods m ≡ Some k → k.name ≡ name_of program.now m }
-    requires found { AreRising found.now }
-    ensures { IfOk result (AreGathered program.now notes.now found.now (length flow.now.methods)) }
+    requires found { AreRising loops.now.counted.items }
+    requires headers { AreMethodHeaders (resolved program.now) (length flow.now.methods) loops.now.headers.items }
+    ensures { IfOk result (AreGathered program.now notes.now loops.now.counted.items (length flow.now.methods)) }
 {
     let files = files_of(alloc, program)?;
     let mut gathered = Gathered {
@@ -140,6 +144,6 @@ pub(crate) fn gather(
         methods: Known::new(alloc),
         files,
     };
-    add_methods(alloc, program, flow, notes, found, &mut gathered)?;
+    add_methods(alloc, program, flow, notes, loops, &mut gathered)?;
     Ok(gathered)
 }

@@ -1,10 +1,12 @@
 //! The loops of a method, and their lines.
-ghost use Rattle.std.specs.Prelude.{◌≡◌, ℕ, ◌<◌, ◌++◌, length, Contains, Some, IfOk, OnOk};
+ghost use Rattle.std.specs.Prelude.{◌≡◌, ℕ, ◌<◌, ◌++◌, length, Contains, Some, IsSome, IfOk, OnOk};
 ghost use Rattle.std.specs.List.Sorted.{IsStrictlyIncreasing};
-ghost use Rattle.method_flow.specs.Flow.{IsFlowOf};
+ghost use Rattle.bytecode_model.specs.Program.{body_of};
+ghost use Rattle.flow_graph.specs.declared.numbering.Compact.{Compact};
 ghost use Rattle.program_tables.specs.Numbers.{methods_by_number};
 ghost use Rattle.program_tables.specs.Resolved.{resolved};
-ghost use Rattle.bound_causes.specs.Shapes.{IsShape};
+ghost use Rattle.bound_causes.specs.Shapes.{IsCompactShape, IsShape};
+ghost use Rattle.loop_finder.specs.Headers.{AreHeadersIn, AreHeadersOf};
 ghost use Rattle.source_headers.specs.Found.{AreRising};
 ghost use Rattle.source_headers.specs.Headers.{unnamed_lines};
 ghost use Rattle.method_sources.specs.Sources.{source_at, IsFileOf};
@@ -15,11 +17,12 @@ use crate::found::{from_place, number_at};
 use crate::texts::{put_header, put_irreducible, put_unnamed};
 use answer_lines::is_nameable;
 use base::NoMemory;
-use bound_causes::{Shape, shape_of};
-use bound_rules::laws::graphs_are_one;
+use bound_causes::Shape;
+use bound_causes::laws::{compact_keeps_loops, method_graphs_are_reached};
+use bound_rules::laws::{graphs_are_one, headers_are_instructions};
 use compact_walks::laws::{ends_are_one, graphs_are_moved, parts_are_sound};
+use loop_finder::LoopHeaders;
 use loop_rules::FoundLoop;
-use method_flow::FlowProgram;
 use method_sources::{MethodSource, source_at, source_of};
 use program_tables::laws::methods_stand_by_number;
 use resolved_program::Program;
@@ -69,15 +72,27 @@ fn source_where(
     source_of(alloc, program, number)
 }
 
+/// The shape of a method's loops, by their headers.
+fn shape_by(alloc: Global, headers: &LoopHeaders) -> Result<Shape, NoMemory>
+    ensures { IfOk result (λ s. (c : Compact) → AreHeadersIn c headers.now → IsCompactShape c.graph c.nodes s) }
+{
+    match headers {
+        LoopHeaders::Irreducible(nodes) => {
+            Ok(Shape::Irreducible(Vec::from_slice(alloc, nodes)?))
+        }
+        LoopHeaders::Reducible(places) => Ok(Shape::Reducible(Vec::from_slice(alloc, places)?)),
+    }
+}
+
 /// The loops of a method with code.
 pub(crate) fn loops_of(
     alloc: Global,
     program: &Program,
-    flow: &FlowProgram,
+    headers: &LoopHeaders,
     number: u32,
 ) -> Result<MethodLoops, NoMemory>
-    requires number { number < length flow.now.methods }
-    requires flow { IsFlowOf (resolved program.now) flow.now }
+    requires coded { IsSome (body_of (resolved program.now) number) }
+    requires headers { AreHeadersOf (resolved program.now) number headers.now }
     ensures { IfOk result (IsToldOf program.now number) }
 {
     methods_stand_by_number();
@@ -85,7 +100,10 @@ pub(crate) fn loops_of(
     graphs_are_moved();
     parts_are_sound();
     ends_are_one();
-    let shape = shape_of(alloc, flow.method(number))?;
+    headers_are_instructions();
+    method_graphs_are_reached();
+    compact_keeps_loops();
+    let shape = shape_by(alloc, headers)?;
     let source = source_where(alloc, program, number, &shape)?;
     Ok(MethodLoops { shape, source })
 }

@@ -4,6 +4,7 @@ ghost use Rattle.base.specs.Sizes.{longest_file};
 ghost use Rattle.method_flow.specs.Flow.{Coded, IsFlowOf};
 ghost use Rattle.program_tables.specs.Resolved.{resolved};
 ghost use Rattle.source_bounds.specs.Grammar.{IsRead};
+ghost use Rattle.loop_finder.specs.Headers.{AreMethodHeaders};
 ghost use Rattle.source_headers.specs.Files.{name_of, IsHeaderFile, IsHeaderFault};
 ghost use Rattle.source_headers.specs.Found.{AreRising};
 ghost use Rattle.source_headers.specs.Lacking.{AreUsedBy, IsFileBy, IsLackingFault, IsStrayFault};
@@ -13,8 +14,7 @@ use crate::gathering::{Gathered, gather};
 use crate::notes::notes_in;
 use crate::straying::check_notes;
 use int_sites::int_sites;
-use loop_finder::find;
-use loop_rules::FoundLoop;
+use loop_finder::{ProgramLoops, find_all};
 use method_flow::FlowProgram;
 use resolved_program::Program;
 use source_bounds::SourceBounds;
@@ -36,15 +36,16 @@ fn file_by(
     program: &Program,
     flow: &FlowProgram,
     notes: &SourceBounds,
-    found: &[FoundLoop],
+    loops: &ProgramLoops,
 ) -> Result<Vec<u8>, HeaderFault>
     requires flow { IsFlowOf (resolved program.now) flow.now }
     requires names { (m : ℕ) (k : Coded) → slice_get flow.now.methods m ≡ Some k → k.name ≡ name_of program.now m }
-    requires found { AreRising found.now }
-    ensures file { IfOk result (λ text. IsFileBy program.now notes.now found.now text.items) }
+    requires found { AreRising loops.now.counted.items }
+    requires headers { AreMethodHeaders (resolved program.now) (length flow.now.methods) loops.now.headers.items }
+    ensures file { IfOk result (λ text. IsFileBy program.now notes.now loops.now.counted.items text.items) }
     ensures fault { IfErr result (IsStrayFault program.now notes.now) }
 {
-    let gathered = gather(alloc, program, flow, notes, found)?;
+    let gathered = gather(alloc, program, flow, notes, loops)?;
     text_of(alloc, notes, gathered)
 }
 
@@ -61,8 +62,8 @@ fn noted_file(
     ensures fault { IfErr result (λ fault. (lines : List ℕ) → IsRead lines notes.now → IsHeaderFault program.now lines fault) }
 {
     let sites = int_sites(alloc, program)?;
-    let found = find(alloc, flow, &sites)?;
-    file_by(alloc, program, flow, notes, &found)
+    let loops = find_all(alloc, flow, &sites)?;
+    file_by(alloc, program, flow, notes, &loops)
 }
 
 /// The text of bounds of a program's loops, by its table: methods and headers rising, each with a remark on its source where that is

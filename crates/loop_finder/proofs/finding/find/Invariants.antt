@@ -1,8 +1,0 @@
-use Rattle.bytecode_model.specs.Program.{Program}
-use Rattle.method_flow.specs.Flow.{IsFlowOf}
-use Rattle.loop_rules.specs.Sites.{AreIntSites, constants_in}
-use Rattle.loop_finder.proofs.Programs.{AreFoundBelow}
-use Rattle.loop_finder.proofs.finding.find.Given as goal
-
-abbrev pub invariant-loop-number : goal.invariant-loop-number
-invariant-loop-number l = (P : Program) → IsFlowOf P l.f → AreIntSites P l.s → AreFoundBelow P (constants_in l.s) l.number l.found.items

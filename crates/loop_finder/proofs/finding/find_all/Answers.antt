@@ -1,0 +1,59 @@
+use Rattle.std.proofs.Common.{ℕ, ◌+◌, ◌<◌, List, ◌++◌, length, map, sym, ap, ◌∙◌, subst, inl, inr, arith}
+use Rattle.std.proofs.lemmas.Bool.{both_ways, cases_lt}
+use Rattle.loop_rules.specs.declared.found.FoundLoop.{FoundLoop}
+use Rattle.loop_rules.specs.Sites.{constants_in}
+use Rattle.loop_finder.specs.Methods.{found_in}
+use Rattle.loop_finder.proofs.HeaderLemmas.{all_headers, headers_more, no_headers}
+use Rattle.loop_finder.proofs.Programs.{AreFoundBelow, no_methods, method_more, all_methods}
+use Rattle.loop_finder.proofs.finding.find_all.Goals as goal
+
+pub loop-number-init : goal.loop-number-init
+loop-number-init c = record {
+  headers = λ P flow sites. no_headers P c.new-headers.result.items c.new-headers.ensures.items;
+  counted = λ P flow sites. subst (λ (xs : List FoundLoop). AreFoundBelow P (constants_in c.args.s.now) 0 xs) (sym c.new-counted.ensures.items) (no_methods P (constants_in c.args.s.now));
+}
+
+pub returns-then-not-has_sites-clause-counted : goal.returns-then-not-has_sites-clause-counted
+returns-then-not-has_sites-clause-counted c P flow sites =
+    let number = c.loop-number.number in
+    let none = c.if-not-has_sites.true in
+    all_methods P (constants_in c.args.s.now) number c.loop-number.counted.items (c.loop-number.invariant.counted P flow sites) (λ k some.
+    let lt = (sites.coded k).0 some in
+    elim (cases_lt number (length c.args.s.now.methods)) [
+      | inl less ↦ absurd (both_ways c.has_sites.result none (c.has_sites.ensures.1 less))
+      | inr ge ↦ omega arith
+    ])
+
+pub returns-then-not-has_sites-clause-headers : goal.returns-then-not-has_sites-clause-headers
+returns-then-not-has_sites-clause-headers c P flow sites =
+    let number = c.loop-number.number in
+    let none = c.if-not-has_sites.true in
+    let count = c.method_count-number-end.ensures.count in
+    let lt : number < length c.args.f.now.methods = omega arith in
+    absurd (both_ways c.has_sites.result none (c.has_sites.ensures.1 ((sites.coded number).0 ((flow.coded number).1 lt))))
+
+pub loop-number-preserved : goal.loop-number-preserved
+loop-number-preserved c = record {
+  headers = λ P flow sites.
+      let number = c.loop-number.number in
+      let here = c.in_ok-found.ensures.headers P number (flow.methods number c.method.result.now c.method.ensures) in
+      headers_more P number c.loop-number.headers.items c.push.new.self.items c.in_ok-found.found.headers (c.loop-number.invariant.headers P flow sites) here c.in_ok-push.ensures.items;
+  counted = λ P flow sites.
+      let s = c.args.s.now in
+      let number = c.loop-number.number in
+      let are = c.in_ok-found.ensures.bounds P (constants_in s) number (flow.methods number c.method.result.now c.method.ensures) (sites.each number c.method-in-loop-number.result.now c.method-in-loop-number.ensures) sites.never_put in
+      let found = c.in_ok-add_loops.ensures ∙ ap (λ (xs : List (ℕ × ℕ)). c.loop-number.counted.items ++ map (found_in number) xs) c.deref.ensures.value in
+      subst (λ (xs : List FoundLoop). AreFoundBelow P (constants_in s) (number + 1) xs) (sym found) (method_more P (constants_in s) number c.loop-number.counted.items c.in_ok-found.found.bounds.items (c.loop-number.invariant.counted P flow sites) are);
+}
+
+pub returns-clause-headers : goal.returns-clause-headers
+returns-clause-headers c P flow sites =
+    let count = c.method_count-number-end.ensures.count in
+    let done = c.loop-number-test.false in
+    all_headers P c.loop-number.number (length c.args.f.now.methods) c.loop-number.headers.items (c.loop-number.invariant.headers P flow sites) (omega arith)
+
+pub returns-clause-counted : goal.returns-clause-counted
+returns-clause-counted c P flow sites =
+    let count = c.method_count-number-end.ensures.count in
+    let done = c.loop-number-test.false in
+    all_methods P (constants_in c.args.s.now) c.loop-number.number c.loop-number.counted.items (c.loop-number.invariant.counted P flow sites) (λ k some. let lt = (flow.coded k).0 some in omega arith)
