@@ -29,7 +29,7 @@ use Rattle.source_headers.proofs.ToldLemmas.{not_both}
 
 -- ---- the lesser of two
 
-lesser_is : (a b : Option ℕ) (n : ℕ) → lesser a b ≡ Some n → (a ≡ Some n) ⊎ (b ≡ Some n)
+pub lesser_is : (a b : Option ℕ) (n : ℕ) → lesser a b ≡ Some n → (a ≡ Some n) ⊎ (b ≡ Some n)
 lesser_is None b n h = inr h
 lesser_is (Some x) None n h = inl h
 lesser_is (Some x) (Some y) n h =
@@ -58,7 +58,7 @@ lesser_right (Some x) (Some y) k h = (min x y, refl, let e = some_same y h.0 h.1
 keeps_more : (g : Digraph) (h n k : ℕ) (ns : List ℕ) → n ≤ k → KeepsBound g h n ns → KeepsBound g h k ns
 keeps_more g h n k ns le keeps before inner after parts all = let below = keeps before inner after parts all in omega (arith, below, le)
 
-chosen : (b : Bool) (o : Option ℕ) (n : ℕ) → (if b then o else None) ≡ Some n → o ≡ Some n
+pub chosen : (b : Bool) (o : Option ℕ) (n : ℕ) → (if b then o else None) ≡ Some n → o ≡ Some n
 chosen true o n h = h
 chosen false o n h = absurd (none≢some n h)
 
@@ -115,7 +115,7 @@ module _ (moves : GraphsAreMoved) (sound : PartsAreSound) (ends : EndsAreOne) (o
       some_or_none (written_of cs notes found m p) (λ none. lines m p (record { within = within; graph = heads.graph; is_graph = heads.is_graph; header = heads.header; none = none }))
 
   -- the shape of a method that a text has
-  shape_there : (cs : List ClassFile) (notes : List Note) (found : List FoundLoop) (texts : List (List ℕ)) → AreMethodTexts cs notes found texts → (m : ℕ) → IsBounded (resolved cs) m
+  pub shape_there : (cs : List ClassFile) (notes : List Note) (found : List FoundLoop) (texts : List (List ℕ)) → AreMethodTexts cs notes found texts → (m : ℕ) → IsBounded (resolved cs) m
       → (shape : Shape) × IsShape (resolved cs) m shape
   shape_there cs notes found texts are m bounded =
       let lt = (are.coded m).0 bounded.0 in

@@ -1,9 +1,14 @@
 mod KnownLemmas
 mod FoundLemmas
 mod ToldLemmas
+mod ShapeLemmas
 mod GatherLemmas
 mod FileLemmas
 mod StrayLemmas
 mod HeaderLemmas
 mod LawLemmas
 mod ReadLemmas
+mod RangeLemmas
+mod BoundLemmas
+mod MethodLemmas
+mod WholeLemmas

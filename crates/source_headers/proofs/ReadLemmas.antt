@@ -1,32 +1,32 @@
 -- The lines of headers are read as the numbers that are written.
-use Rattle.std.proofs.Common.{◌≡◌, ℕ, ◌^◌, ◌<◌, ◌≤◌, Bool, true, false, not, ◌&&◌, List, [], ◌∷◌, ◌++◌, length, refl, sym, ap, ◌∙◌, subst, arith, lit<, inl, inr, Option, Some, None}
-use Rattle.std.specs.Prelude.{◌==◌, codes, decimal, flat_map, option_map}
+use Rattle.std.proofs.Common.{◌≡◌, ℕ, zero, suc, ◌+◌, ◌/◌, ◌%◌, ◌^◌, ◌<◌, Bool, true, false, not, ◌&&◌, List, [], ◌∷◌, ◌++◌, length, refl, sym, ap, ◌∙◌, subst, arith, rules, lit<, inl, inr, Option, Some, None}
+use Rattle.std.specs.Prelude.{◌==◌, codes, decimal, flat_map, option_map, if◌then◌else◌}
+use Rattle.std.specs.Fmt.{digits, digits_onto, digit_glyph}
 use Rattle.std.specs.List.{All, AllByRecursion, slice_split, list_all, filter_map, cons_option}
-use Rattle.std.specs.Str.Parse.{AllDigits}
-use Rattle.std.proofs.lemmas.Bool.{cases_Bool, eqb-true, true≢false}
+use Rattle.std.proofs.lemmas.Bool.{cases_Bool, eqb-true, lt-ltb, true≢false}
 use Rattle.std.proofs.lemmas.List.{append_assoc}
 use Rattle.std.proofs.lemmas.List.Elements.{All-from_recursion}
 use Rattle.std.proofs.lemmas.List.Splits.{slice_split_none, slice_split_at, length-slice_split}
-use Rattle.std.proofs.lemmas.Str.Parse.{tells_digits}
 use Rattle.lists.specs.Tests.{and_left, and_right, not_true}
 use Rattle.ascii_text.specs.Line.{lines_of, without_empty_last}
 use Rattle.ascii_text.proofs.NumberLemmas.{HasOneSpelling-decimal}
 use Rattle.loop_bounds.specs.Bounds.{LoopBound}
 use Rattle.loop_bounds.specs.Grammar.{IsNumber, IsSilent, Says, Give}
 use Rattle.answer_lines.specs.LoopLine.{is_nameable}
+use Rattle.source_bounds.specs.Notes.{Note}
 use Rattle.source_bounds.specs.Unbroken.{is_unbroken}
-use Rattle.source_headers.specs.Headers.{written, source_line, number_line, header_lines}
+use Rattle.source_headers.specs.Headers.{Header, written, source_line, number_line, header_lines, spaced, irreducible_line, unnamed_line}
 use Rattle.source_headers.specs.Reading.{bound_written, HeadersAreRead}
 
 -- ---- no space and no line feed
 
-abbrev is_mark : (mark : ℕ) → ℕ → Bool
+abbrev pub is_mark : (mark : ℕ) → ℕ → Bool
 is_mark mark c = c == mark
 
-abbrev Lacks : (mark : ℕ) → List ℕ → Type 0
+abbrev pub Lacks : (mark : ℕ) → List ℕ → Type 0
 Lacks mark text = AllByRecursion (λ c. is_mark mark c ≡ false) text
 
-lacks_both : (mark : ℕ) (text more : List ℕ) → Lacks mark text → Lacks mark more → Lacks mark (text ++ more)
+pub lacks_both : (mark : ℕ) (text more : List ℕ) → Lacks mark text → Lacks mark more → Lacks mark (text ++ more)
 lacks_both mark [] more h r = r
 lacks_both mark (c ∷ text) more h r = (h.0, lacks_both mark text more h.1 r)
 
@@ -41,29 +41,36 @@ lacks_space [] h = tt
 lacks_space (c ∷ text) h =
     (not_true (c == 32) (and_left (not (c == 32)) (not (c == 10)) (and_left (keeps_both c) (list_all keeps_both text) h)), lacks_space text (and_right (keeps_both c) (list_all keeps_both text) h))
 
-lacks_feed : (text : List ℕ) → list_all keeps_both text ≡ true → Lacks 10 text
+pub lacks_feed : (text : List ℕ) → list_all keeps_both text ≡ true → Lacks 10 text
 lacks_feed [] h = tt
 lacks_feed (c ∷ text) h =
     (not_true (c == 10) (and_right (not (c == 32)) (not (c == 10)) (and_left (keeps_both c) (list_all keeps_both text) h)), lacks_feed text (and_right (keeps_both c) (list_all keeps_both text) h))
 
-no_digit : (mark : ℕ) → mark < 40 → (c : ℕ) → 48 ≤ c → c ≤ 57 → is_mark mark c ≡ false
-no_digit mark low c least most =
-    elim (cases_Bool (is_mark mark c)) [
-      | inl e ↦ absurd (let same : c ≡ mark = eqb-true c mark e in omega arith)
+glyph_lacks : (mark d : ℕ) → mark < 40 → d < 10 → is_mark mark (digit_glyph false d) ≡ false
+glyph_lacks mark d low small =
+    let is : digit_glyph false d ≡ 48 + d = ap (λ (b : Bool). if b then 48 + d else 87 + d) (lt-ltb d 10 small) in
+    elim (cases_Bool (is_mark mark (digit_glyph false d))) [
+      | inl e ↦ absurd (let same : digit_glyph false d ≡ mark = eqb-true (digit_glyph false d) mark e in omega (arith, is))
       | inr e ↦ e
     ]
 
-digits_lack : (mark : ℕ) → mark < 40 → (ds : List ℕ) → AllDigits 10 ds → Lacks mark ds
-digits_lack mark low [] h = tt
-digits_lack mark low (c ∷ cs) h =
-    let parts = tells_digits.parts c cs h in
-    (no_digit mark low c (omega (arith, parts.0)) (omega (arith, parts.0)), digits_lack mark low cs parts.1)
+digits_case : (mark : ℕ) (b : Bool) (one more : List ℕ) → Lacks mark one → Lacks mark more → Lacks mark (if b then one else more)
+digits_case mark true one more h r = h
+digits_case mark false one more h r = r
+
+digits_lack : (mark : ℕ) → mark < 40 → (k n : ℕ) (text : List ℕ) → Lacks mark text → Lacks mark (digits_onto k 10 false n text)
+digits_lack mark low zero n text h = h
+digits_lack mark low (suc k) n text h =
+    let d = digit_glyph false (n % 10) in
+    let also : Lacks mark (d ∷ text) = (glyph_lacks mark (n % 10) low (omega arith), h) in
+    digits_case mark (n / 10 == 0) (d ∷ text) (digits_onto k 10 false (n / 10) (d ∷ text)) also (digits_lack mark low k (n / 10) (d ∷ text) also)
+
+pub number_lacks : (mark : ℕ) → mark < 40 → (n : ℕ) → Lacks mark (decimal n)
+unfolding digits
+number_lacks mark low n = digits_lack mark low 64 n [] tt
 
 wide : (n : ℕ) → n < 2 ^ 32 → n < 2 ^ 64
 wide n small = let large : 2 ^ 32 < 2 ^ 64 = lit< tt in omega arith
-
-number_lacks : (mark : ℕ) → mark < 40 → (n : ℕ) → n < 2 ^ 32 → Lacks mark (decimal n)
-number_lacks mark low n small = digits_lack mark low (decimal n) (HasOneSpelling-decimal n (wide n small)).0.digits
 
 is_number : (n : ℕ) → n < 2 ^ 32 → IsNumber (decimal n) n
 is_number n small = let one = HasOneSpelling-decimal n (wide n small) in (one.0, one.1, small)
@@ -104,30 +111,30 @@ regroup_source a b c d rest = simp append_assoc
 regroup_wanting : (a b c d e rest : List ℕ) → (a ++ (b ++ (c ++ (d ++ (e ++ 10 ∷ []))))) ++ rest ≡ (a ++ (b ++ (c ++ (d ++ e)))) ++ 10 ∷ rest
 regroup_wanting a b c d e rest = simp append_assoc
 
-source_first : (s : Option (List ℕ × ℕ)) (rest : List ℕ) → ((t : List ℕ × ℕ) → s ≡ Some t → (is_unbroken t.0 ≡ true) × (t.1 < 2 ^ 32)) → lines_of (source_line s ++ rest) ≡ source_words s ++ lines_of rest
+source_first : (s : Option (List ℕ × ℕ)) (rest : List ℕ) → ((t : List ℕ × ℕ) → s ≡ Some t → is_unbroken t.0 ≡ true) → lines_of (source_line s ++ rest) ≡ source_words s ++ lines_of rest
 unfolding source_words remark_words
 source_first None rest h = refl
 source_first (Some s) rest h =
     let k = h s refl in
     let words = codes "# " ++ (s.0 ++ (codes ":" ++ decimal s.1)) in
-    let lacks : Lacks 10 words = (refl, (refl, lacks_both 10 s.0 (codes ":" ++ decimal s.1) (lacks_feed s.0 k.0) (refl, number_lacks 10 (lit< tt) s.1 k.1))) in
+    let lacks : Lacks 10 words = (refl, (refl, lacks_both 10 s.0 (codes ":" ++ decimal s.1) (lacks_feed s.0 k) (refl, number_lacks 10 (lit< tt) s.1))) in
     ap lines_of (regroup_source (codes "# ") s.0 (codes ":") (decimal s.1) rest) ∙ line_first words rest lacks
 
-number_first : (name : List ℕ) (place : ℕ) (o : Option ℕ) (rest : List ℕ) → is_unbroken name ≡ true → place < 2 ^ 32 → ((n : ℕ) → o ≡ Some n → n < 2 ^ 32)
+number_first : (name : List ℕ) (place : ℕ) (o : Option ℕ) (rest : List ℕ) → is_unbroken name ≡ true
     → lines_of (number_line name place o ++ rest) ≡ number_words name place o ∷ lines_of rest
 unfolding number_words wanting_words bound_words
-number_first name place None rest named small h =
+number_first name place None rest named =
     let words = codes "# " ++ (name ++ (codes " " ++ (decimal place ++ codes " loop<="))) in
     let end : Lacks 10 (codes " loop<=") = (refl, (refl, (refl, (refl, (refl, (refl, (refl, tt))))))) in
     let lacks : Lacks 10 words =
-    (refl, (refl, lacks_both 10 name (codes " " ++ (decimal place ++ codes " loop<=")) (lacks_feed name named) (refl, lacks_both 10 (decimal place) (codes " loop<=") (number_lacks 10 (lit< tt) place small) end))) in
+    (refl, (refl, lacks_both 10 name (codes " " ++ (decimal place ++ codes " loop<=")) (lacks_feed name named) (refl, lacks_both 10 (decimal place) (codes " loop<=") (number_lacks 10 (lit< tt) place) end))) in
     ap lines_of (regroup_wanting (codes "# ") name (codes " ") (decimal place) (codes " loop<=") rest) ∙ line_first words rest lacks
-number_first name place (Some n) rest named small h =
+number_first name place (Some n) rest named =
     let words = name ++ (codes " " ++ (decimal place ++ (codes " loop<=" ++ decimal n))) in
-    let end : Lacks 10 (codes " loop<=" ++ decimal n) = (refl, (refl, (refl, (refl, (refl, (refl, (refl, number_lacks 10 (lit< tt) n (h n refl)))))))) in
+    let end : Lacks 10 (codes " loop<=" ++ decimal n) = (refl, (refl, (refl, (refl, (refl, (refl, (refl, number_lacks 10 (lit< tt) n))))))) in
     let lacks : Lacks 10 words =
     lacks_both 10 name (codes " " ++ (decimal place ++ (codes " loop<=" ++ decimal n))) (lacks_feed name named)
-    (refl, lacks_both 10 (decimal place) (codes " loop<=" ++ decimal n) (number_lacks 10 (lit< tt) place small) end) in
+    (refl, lacks_both 10 (decimal place) (codes " loop<=" ++ decimal n) (number_lacks 10 (lit< tt) place) end) in
     ap lines_of (regroup_wanting name (codes " ") (decimal place) (codes " loop<=") (decimal n) rest) ∙ line_first words rest lacks
 
 -- ---- what they say
@@ -149,9 +156,9 @@ unfolding bound_words
 bound_says name place n nameable small low =
     let named = named_parts name nameable in
     let last = codes "loop<=" ++ decimal n in
-    let last_lacks : Lacks 32 last = (refl, (refl, (refl, (refl, (refl, (refl, number_lacks 32 (lit< tt) n low)))))) in
+    let last_lacks : Lacks 32 last = (refl, (refl, (refl, (refl, (refl, (refl, number_lacks 32 (lit< tt) n)))))) in
     let first = slice_split_at (is_mark 32) name 32 (decimal place ++ 32 ∷ last) (all_of 32 name (lacks_space name named.0)) refl in
-    let second = slice_split_at (is_mark 32) (decimal place) 32 last (all_of 32 (decimal place) (number_lacks 32 (lit< tt) place small)) refl in
+    let second = slice_split_at (is_mark 32) (decimal place) 32 last (all_of 32 (decimal place) (number_lacks 32 (lit< tt) place)) refl in
     let third = slice_split_none (is_mark 32) last (all_of 32 last last_lacks) in (
       λ silent. named.2 (silent_front name (32 ∷ (decimal place ++ 32 ∷ last)) named.1 silent),
       record {
@@ -175,16 +182,61 @@ unfolding source_words remark_words
 source_given None lines bs more = more
 source_given (Some s) lines bs more = ([], bs, refl, refl, more)
 
+-- ---- a header
+
+-- its place and its number have 32 bits, and its file can be named
+pub record IsReadable (notes : List Note) (name : List ℕ) (h : Header) : Type 0 where
+  pub place : h.place < 2 ^ 32
+  pub file : (s : List ℕ × ℕ) → h.source ≡ Some s → is_unbroken s.0 ≡ true
+  pub number : (n : ℕ) → written notes name h ≡ Some n → n < 2 ^ 32
+
+-- its lines before others
+pub header_given : (notes : List Note) (name : List ℕ) (h : Header) (rest : List ℕ) (bs : List LoopBound) → is_nameable name ≡ true → IsReadable notes name h → Give (lines_of rest) bs
+    → Give (lines_of (header_lines notes name h ++ rest)) (cons_option (bound_written notes name h) bs)
+header_given notes name h rest bs nameable is more =
+    let o = written notes name h in
+    let lines : lines_of (header_lines notes name h ++ rest) ≡ source_words h.source ++ (number_words name h.place o ∷ lines_of rest) =
+    ap lines_of (append_assoc (source_line h.source) (number_line name h.place o) rest)
+    ∙ (source_first h.source (number_line name h.place o ++ rest) is.file ∙ ap (λ (ls : List (List ℕ)). source_words h.source ++ ls) (number_first name h.place o rest (named_parts name nameable).0)) in
+    subst (λ (ls : List (List ℕ)). Give ls (cons_option (bound_written notes name h) bs)) (sym lines)
+    (source_given h.source (number_words name h.place o ∷ lines_of rest) (cons_option (bound_written notes name h) bs) (number_given name h.place o (lines_of rest) bs nameable is.place is.number more))
+
 pub headers_read : HeadersAreRead
 headers_read notes name [] nameable range = refl
 headers_read notes name (h ∷ hs) nameable range =
     let r = range.0 in
-    let named = named_parts name nameable in
-    let o = written notes name h in
-    let rest = flat_map (header_lines notes name) hs in
-    let lines : lines_of (flat_map (header_lines notes name) (h ∷ hs)) ≡ source_words h.source ++ (number_words name h.place o ∷ lines_of rest) =
-    ap lines_of (append_assoc (source_line h.source) (number_line name h.place o) rest)
-    ∙ (source_first h.source (number_line name h.place o ++ rest) r.source ∙ ap (λ (ls : List (List ℕ)). source_words h.source ++ ls) (number_first name h.place o rest named.0 r.place r.number)) in
-    subst (λ (ls : List (List ℕ)). Give ls (filter_map (bound_written notes name) (h ∷ hs))) (sym lines)
-    (source_given h.source (number_words name h.place o ∷ lines_of rest) (filter_map (bound_written notes name) (h ∷ hs))
-    (number_given name h.place o (lines_of rest) (filter_map (bound_written notes name) hs) nameable r.place r.number (headers_read notes name hs nameable range.1)))
+    header_given notes name h (flat_map (header_lines notes name) hs) (filter_map (bound_written notes name) hs) nameable (record { place = r.place; file = λ s is. (r.source s is).0; number = r.number })
+    (headers_read notes name hs nameable range.1)
+
+-- ---- remarks
+
+-- a line that says nothing, before others
+pub silent_given : (line rest : List ℕ) (bs : List LoopBound) → Lacks 10 line → IsSilent line → Give (lines_of rest) bs → Give (lines_of (line ++ 10 ∷ rest)) bs
+silent_given line rest bs lacks silent more =
+    let said : Give (line ∷ lines_of rest) bs = ([], bs, refl, silent, more) in
+    subst (λ (ls : List (List ℕ)). Give ls bs) (sym (line_first line rest lacks)) said
+
+spaced_lacks : (nodes : List ℕ) → Lacks 10 (flat_map spaced nodes)
+spaced_lacks [] = tt
+spaced_lacks (u ∷ nodes) = lacks_both 10 (spaced u) (flat_map spaced nodes) (refl, lacks_both 10 (decimal (u / 2)) _ (number_lacks 10 (lit< tt) (u / 2)) (suffix_lacks (u % 2 == 1))) (spaced_lacks nodes)
+  where
+    suffix_lacks : (b : Bool) → Lacks 10 (if b then codes "r" else [])
+    suffix_lacks true = (refl, tt)
+    suffix_lacks false = tt
+
+regroup_unnamed : (a b c rest : List ℕ) → (a ++ (b ++ (c ++ 10 ∷ []))) ++ rest ≡ (a ++ (b ++ c)) ++ 10 ∷ rest
+regroup_unnamed a b c rest = simp append_assoc
+
+pub irreducible_given : (name nodes rest : List ℕ) (bs : List LoopBound) → is_nameable name ≡ true → Give (lines_of rest) bs → Give (lines_of (irreducible_line name nodes ++ rest)) bs
+irreducible_given name nodes rest bs nameable more =
+    let words = codes "# " ++ (name ++ (codes " irreducible" ++ flat_map spaced nodes)) in
+    let last : Lacks 10 (codes " irreducible" ++ flat_map spaced nodes) = lacks_both 10 (codes " irreducible") (flat_map spaced nodes) (search rules) (spaced_lacks nodes) in
+    let lacks : Lacks 10 words = (refl, (refl, lacks_both 10 name (codes " irreducible" ++ flat_map spaced nodes) (lacks_feed name (named_parts name nameable).0) last)) in
+    subst (λ (text : List ℕ). Give (lines_of text) bs) (sym (regroup_source (codes "# ") name (codes " irreducible") (flat_map spaced nodes) rest)) (silent_given words rest bs lacks refl more)
+
+pub unnamed_given : (m : ℕ) (rest : List ℕ) (bs : List LoopBound) → Give (lines_of rest) bs → Give (lines_of (unnamed_line m ++ rest)) bs
+unnamed_given m rest bs more =
+    let words = codes "# method=" ++ (decimal m ++ codes " unnamed") in
+    let last : Lacks 10 (decimal m ++ codes " unnamed") = lacks_both 10 (decimal m) (codes " unnamed") (number_lacks 10 (lit< tt) m) (search rules) in
+    let lacks : Lacks 10 words = lacks_both 10 (codes "# method=") (decimal m ++ codes " unnamed") (search rules) last in
+    subst (λ (text : List ℕ). Give (lines_of text) bs) (sym (regroup_unnamed (codes "# method=") (decimal m) (codes " unnamed") rest)) (silent_given words rest bs lacks refl more)

@@ -1,22 +1,17 @@
 -- What is told of a method is of it.
-use Rattle.std.proofs.Common.{◌≡◌, ◌≢◌, ℕ, ◌*◌, ◌<◌, true, false, List, [], ◌∷◌, length, map, Contains, refl, sym, ◌∙◌, ap, subst, arith, Option, Some, None, inl}
-use Rattle.std.specs.Prelude.{slice_get, IsSome, Result, Ok, Err, IfOk}
-use Rattle.std.specs.Option.{option_map, option_map_or}
+use Rattle.std.proofs.Common.{◌≡◌, ◌≢◌, ℕ, ◌*◌, ◌<◌, List, [], ◌∷◌, length, map, Contains, refl, sym, ◌∙◌, ap, subst, arith, Option, Some, inl}
+use Rattle.std.specs.Prelude.{slice_get, Result, Ok, Err, IfOk}
 use Rattle.std.proofs.lemmas.List.Elements.{All-contains}
 use Rattle.std.proofs.lemmas.Option.{slice_get_within, get_or_from_slice_get}
-use Rattle.lists.specs.Lists.{onto}
-use Rattle.lists.specs.Lemmas.{some_same, onto_some, map_some, some_is}
+use Rattle.lists.specs.Lemmas.{some_same, some_is}
 use Rattle.lists.specs.Members.{nil_contains}
 use Rattle.class_pool.specs.declared.class.ClassFile.{ClassFile}
 use Rattle.class_pool.specs.declared.class.Code.{Code}
-use Rattle.class_pool.specs.Found.{code_of}
-use Rattle.class_lookup.specs.Lookup.{Place, method_at}
 use Rattle.loop_nest.specs.Digraph.{Digraph}
 use Rattle.loop_nest.specs.Reduction.{IsReducible, Leaves}
-use Rattle.bytecode_model.specs.Program.{Program, Method, Body, body_of}
+use Rattle.bytecode_model.specs.Program.{Program, Body, body_of}
 use Rattle.program_tables.specs.Laws.{MethodsStandByNumber}
-use Rattle.program_tables.specs.Numbers.{methods_by_number}
-use Rattle.program_tables.specs.Resolved.{body_in, method_in, resolved_method, resolved_methods, resolved}
+use Rattle.program_tables.specs.Resolved.{resolved}
 use Rattle.method_flow.specs.Compact.{IsCompact}
 use Rattle.compact_walks.specs.Laws.{GraphsAreMoved, PartsAreSound, EndsAreOne}
 use Rattle.bound_rules.specs.Bounding.{IsLeftWith}

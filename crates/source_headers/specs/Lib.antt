@@ -9,3 +9,4 @@ pub mod Faults
 pub mod Lacking
 pub mod Laws
 pub mod Reading
+pub mod Whole

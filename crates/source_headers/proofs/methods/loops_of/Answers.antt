@@ -1,16 +1,25 @@
 use Rattle.program_tables.specs.Resolved.{resolved}
+use Rattle.source_headers.proofs.ShapeLemmas.{shape_is}
 use Rattle.method_sources.proofs.BodyLemmas.{coded_is}
 use Rattle.source_headers.proofs.ToldLemmas.{all_headed}
 use Rattle.source_headers.proofs.methods.loops_of.Goals as goal
 
 pub source_where-requires-clause-number : goal.source_where-requires-clause-number
-source_where-requires-clause-number c = coded_is c.methods_stand_by_number.ensures c.args.program.now c.args.number ((c.requires.flow.coded c.args.number).1 c.requires.number)
+source_where-requires-clause-number c = coded_is c.methods_stand_by_number.ensures c.args.program.now c.args.number c.requires.coded
+
+pub source_where-requires-clause-shape : goal.source_where-requires-clause-shape
+source_where-requires-clause-shape c =
+    let h = c.requires.headers in
+    shape_is c.graphs_are_one.ensures.whole c.headers_are_instructions.ensures c.method_graphs_are_reached.ensures c.compact_keeps_loops.ensures.headers (resolved c.args.program.now) c.args.number h.graph h.is_graph h.compact h.is_compact
+    c.in_ok-shape.shape (c.in_ok-shape.ensures h.compact h.are)
 
 pub returns : goal.returns
 returns c =
     let P = resolved c.args.program.now in
     let m = c.args.number in
-    let shape = c.in_ok-shape.ensures P m (c.requires.flow.methods m c.method.result.now c.method.ensures) in
+    let h = c.requires.headers in
+    let shape = shape_is c.graphs_are_one.ensures.whole c.headers_are_instructions.ensures c.method_graphs_are_reached.ensures c.compact_keeps_loops.ensures.headers P m h.graph h.is_graph h.compact h.is_compact c.in_ok-shape.shape
+    (c.in_ok-shape.ensures h.compact h.are) in
     record {
       shape = shape;
       file = c.in_ok-source.ensures.file;
