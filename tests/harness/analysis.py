@@ -29,6 +29,19 @@ def program_row(title, main, files, reference=None):
     return ' '.join(['program', title, main, *(reference or [data.hex() for data in files])])
 
 
+class ProgramRows:
+    """the rows of programs and of what is asked of them, what is wanted, and how often each answer comes"""
+
+    def __init__(self):
+        self.rows, self.wanted, self.count = [], [], {}
+
+    def program(self, title, main, files, reference=None):
+        """begins the rows of a program; its files stand in a row of another table, if that is said"""
+        self.rows.append(program_row(title, main, files, reference))
+        self.wanted.append(title + ': linked')
+        assert program_of(self.rows[-1]) == (title, main, files)
+
+
 def text_of(part):
     """the bytes of a text, each line with its end"""
     return ''.join(line + '\n' for line in part.split('|')).encode() if part else b''

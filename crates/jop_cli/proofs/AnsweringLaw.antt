@@ -26,9 +26,9 @@ asks : (words : List (List ℕ)) (command : Command) (a : Asked) (old new : Worl
 asks words command a old new ending is does = subst (λ (x : Task). DoesTask words x old new ending) is does
 
 answered : (c : Call) (a : Asked) (l : Parts) (files : List (List ℕ)) (ending : Ending) → IsWholly c ending → Comes c a l files ending → IsAnswered c a.question l files
-answered c a l files ending w (asked.puts text is written put) =
+answered c a l files ending w (asked.puts text is written put sound) =
     puts text is (w.outcome ∙ ap outcome_of written) (record { out = put; err = subst (λ (x : List ℕ). Grew c.err_old c.err_new x) (ap (line_of c.words) written) w.line })
-answered c a l files ending w (asked.says is quiet) = says ending is w.outcome w.line quiet
+answered c a l files ending w (asked.says is quiet sound) = says ending is w.outcome w.line quiet
 answered c a l files ending w (asked.lacking is quiet) = lacks (whole.lacks c ending w is quiet)
 
 pub questions_are_answered : OneLinked → LinkedImagesAreRead → QuestionsAreAnswered

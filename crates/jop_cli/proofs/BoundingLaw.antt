@@ -43,22 +43,22 @@ use Rattle.jop_cli.specs.Calls.{Call, NothingFailed, LacksMemory}
 use Rattle.jop_cli.specs.Correct.{BoundsTexts, IsBounded, Forbids, AnswersForbidden, BoundingIsComplete, BoundRefusalsAreCaused}
 use Rattle.jop_cli.proofs.Wholly.{IsWholly, wholly, executed, lacks}
 use Rattle.jop_cli.proofs.RunningLaw.{not_more}
-use Rattle.jop_cli.proofs.AskingLaw.{Comes, comes}
+use Rattle.jop_cli.proofs.AskingLaw.{IsSound, Comes, comes}
 use Rattle.jop_cli.proofs.AskingLaw as asked
 use Rattle.jop_cli.proofs.CheckingLaw.{answers}
 
 -- what a method of this name comes to, with these bounds: a certificate was put, which holds; or this forbids a bound; or there was no memory
-data Settled (c : Call) (s : Settings) (l : Parts) (lines : List LoopBound) (name : List ℕ) (ending : Ending) : Type 0 where
+pub data Settled (c : Call) (s : Settings) (l : Parts) (lines : List LoopBound) (name : List ℕ) (ending : Ending) : Type 0 where
   bounded : ending ≡ endings.Written → (d : Certificate) → IsBoundBy (resolved l.classes) (timing_of s) (bounds_of l.classes lines) (IsNamed l.classes name) d → IsInGrammar d → Grew c.old.out c.new.out (text_of d)
-      → BoundsActivations (resolved l.classes) (timing_of s) (bounds_of l.classes lines) d.root d.bound → Settled c s l lines name ending
+      → BoundsActivations (resolved l.classes) (timing_of s) (bounds_of l.classes lines) d.root d.bound → IsSound l → Settled c s l lines name ending
   forbidden : (cause : BoundCause) (subject : Vec ℕ Global) → ending ≡ endings.NotAnswered (unanswered.Bound cause) subject → (refusal : BoundRefusal)
       → IsCause (resolved l.classes) (timing_of s) (bounds_of l.classes lines) (IsNamed l.classes name) refusal → cause_of refusal ≡ Some cause → subject.items ≡ subject_of (named_or_number l.classes) refusal
-      → IsQuiet c.old c.new → Settled c s l lines name ending
+      → IsQuiet c.old c.new → IsSound l → Settled c s l lines name ending
   lacking : ending ≡ endings.NoMemory → IsQuiet c.old c.new → Settled c s l lines name ending
 
 module _ (one : GivesOne) (not_refused : ReadIsNotRefused) (c : Call) (s : Settings) (image : ℕ) (l : Parts) (lines : List LoopBound) (name : List ℕ) (h : BoundsTexts c s image l lines name) where
-  text_settled : (ending : Ending) → ending ≡ endings.Written → (text : List ℕ) → Bounds l.classes s h.bounds_text name text → Grew c.old.out c.new.out text → Settled c s l lines name ending
-  text_settled ending says text b put =
+  text_settled : (ending : Ending) → ending ≡ endings.Written → (text : List ℕ) → Bounds l.classes s h.bounds_text name text → Grew c.old.out c.new.out text → IsSound l → Settled c s l lines name ending
+  text_settled ending says text b put sound =
       let k = b.is in
       let same : k.bounds ≡ lines = one h.bounds_text k.bounds lines k.bounds_read h.read in
       bounded says k.certificate
@@ -66,6 +66,7 @@ module _ (one : GivesOne) (not_refused : ReadIsNotRefused) (c : Call) (s : Setti
       k.reads.grammar
       (subst (λ (x : List ℕ). Grew c.old.out c.new.out x) k.text_is put)
       (subst (λ (x : List LoopBound). BoundsActivations (resolved l.classes) (timing_of s) (bounds_of l.classes x) k.certificate.root k.certificate.bound) same b.holds)
+      sound
 
   analysed : (ending : Ending) → IsQuiet c.old c.new → (fault : AnalysisFault) → IsAnalysisFault l.classes s h.bounds_text fault → ending ≡ fault_ending s fault → Settled c s l lines name ending
   analysed ending quiet (analysis.MethodTooLong m long blocks) cause says =
@@ -78,30 +79,30 @@ module _ (one : GivesOne) (not_refused : ReadIsNotRefused) (c : Call) (s : Setti
       absurd (cc)
   analysed ending quiet analysis.NoMemory cause says = lacking says quiet
 
-  forbidden_settled : (ending : Ending) → IsQuiet c.old c.new → (cause : BoundCause) (subject : Vec ℕ Global) → ending ≡ endings.NotAnswered (unanswered.Bound cause) subject → IsForbidden l.classes s h.bounds_text name cause subject.items
+  forbidden_settled : (ending : Ending) → IsQuiet c.old c.new → IsSound l → (cause : BoundCause) (subject : Vec ℕ Global) → ending ≡ endings.NotAnswered (unanswered.Bound cause) subject → IsForbidden l.classes s h.bounds_text name cause subject.items
       → Settled c s l lines name ending
-  forbidden_settled ending quiet cause subject says k =
+  forbidden_settled ending quiet sound cause subject says k =
       let same : k.bounds ≡ lines = one h.bounds_text k.bounds lines k.bounds_read h.read in
       forbidden cause subject says k.refusal
       (subst (λ (x : List LoopBound). IsCause (resolved l.classes) (timing_of s) (bounds_of l.classes x) (IsNamed l.classes name) k.refusal) same k.is)
-      k.cause_is k.subject_is quiet
+      k.cause_is k.subject_is quiet sound
 
-  cause_settled : (ending : Ending) → IsQuiet c.old c.new → (cause : NotBounded) → IsNotBounded l.classes s h.bounds_text name cause → ending ≡ cause_ending s cause → Settled c s l lines name ending
-  cause_settled ending quiet (bound.NoAnalysis fault) is says = analysed ending quiet fault is says
-  cause_settled ending quiet (bound.Forbidden cause subject) is says = forbidden_settled ending quiet cause subject says is
-  cause_settled ending quiet bound.NoMemory is says = lacking says quiet
+  cause_settled : (ending : Ending) → IsQuiet c.old c.new → IsSound l → (cause : NotBounded) → IsNotBounded l.classes s h.bounds_text name cause → ending ≡ cause_ending s cause → Settled c s l lines name ending
+  cause_settled ending quiet sound (bound.NoAnalysis fault) is says = analysed ending quiet fault is says
+  cause_settled ending quiet sound (bound.Forbidden cause subject) is says = forbidden_settled ending quiet sound cause subject says is
+  cause_settled ending quiet sound bound.NoMemory is says = lacking says quiet
 
   -- ---- the files
 
   answer_settled : (ending : Ending) → Comes c (bounding s h.method image) l (h.bytes ∷ h.bounds_text ∷ []) ending → Settled c s l lines name ending
-  answer_settled ending (asked.puts text bounds written put) =
-      text_settled ending written text.items (subst (λ (x : List ℕ). Bounds l.classes s h.bounds_text x text.items) h.named bounds) put
-  answer_settled ending (asked.says ends quiet) =
+  answer_settled ending (asked.puts text bounds written put sound) =
+      text_settled ending written text.items (subst (λ (x : List ℕ). Bounds l.classes s h.bounds_text x text.items) h.named bounds) put sound
+  answer_settled ending (asked.says ends quiet sound) =
       let e = subst (λ (x : List ℕ). EndsNotBounded l.classes s h.bounds_text x ending) h.named ends in
-      cause_settled ending quiet e.cause e.is e.says
+      cause_settled ending quiet sound e.cause e.is e.says
   answer_settled ending (asked.lacking is quiet) = lacking is quiet
 
-  settled : OneLinked → LinkedImagesAreRead → NothingFailed c → Settled c s l lines name c.answered.ending
+  pub settled : OneLinked → LinkedImagesAreRead → NothingFailed c → Settled c s l lines name c.answered.ending
   settled linked_one images n =
       answer_settled c.answered.ending
       (comes linked_one images c n (bounding s h.method image) l (h.bytes ∷ h.bounds_text ∷ []) h.told.many h.told h.is_linked h.is_file c.answered.ending
@@ -110,7 +111,7 @@ module _ (one : GivesOne) (not_refused : ReadIsNotRefused) (c : Call) (s : Setti
 -- ---- what is answered
 
 -- want of memory forbids nothing
-forbids_so : (s : Settings) (l : Parts) (lines : List LoopBound) (name : List ℕ) (refusal : BoundRefusal) (cause : BoundCause) → cause_of refusal ≡ Some cause
+pub forbids_so : (s : Settings) (l : Parts) (lines : List LoopBound) (name : List ℕ) (refusal : BoundRefusal) (cause : BoundCause) → cause_of refusal ≡ Some cause
     → IsCause (resolved l.classes) (timing_of s) (bounds_of l.classes lines) (IsNamed l.classes name) refusal → Forbids s l lines name refusal
 forbids_so s l lines name forbids.NoMemory cause is h = absurd (none≢some cause is)
 forbids_so s l lines name forbids.NoMethod cause is h = h
@@ -131,15 +132,15 @@ module _ (c : Call) (s : Settings) (l : Parts) (lines : List LoopBound) (name : 
   }
 
   complete : ((refusal : BoundRefusal) → ¬ Forbids s l lines name refusal) → Settled c s l lines name ending → IsBounded c s l lines name ⊎ LacksMemory c
-  complete none (bounded says d is grammar put holds) = inl (is_bounded says d is grammar put)
-  complete none (forbidden cause subject says refusal is cause_is subject_is quiet) = absurd (none refusal (forbids_so s l lines name refusal cause cause_is is))
+  complete none (bounded says d is grammar put holds sound) = inl (is_bounded says d is grammar put)
+  complete none (forbidden cause subject says refusal is cause_is subject_is quiet sound) = absurd (none refusal (forbids_so s l lines name refusal cause cause_is is))
   complete none (lacking says quiet) = inr (lacks c ending w says quiet)
 
-  caused : (cause : BoundCause) → c.outcome ≡ outcomes.Refused (Forbidden cause) → Settled c s l lines name ending → AnswersForbidden c s l lines name cause
-  caused cause answer (bounded says d is grammar put holds) =
+  pub caused : (cause : BoundCause) → c.outcome ≡ outcomes.Refused (Forbidden cause) → Settled c s l lines name ending → AnswersForbidden c s l lines name cause
+  caused cause answer (bounded says d is grammar put holds sound) =
       let clash : outcomes.Refused (Forbidden cause) ≡ outcomes.Written = sym answer ∙ (w.outcome ∙ ap outcome_of says) in
       absurd (cc)
-  caused cause answer (forbidden other subject says refusal is cause_is subject_is quiet) =
+  caused cause answer (forbidden other subject says refusal is cause_is subject_is quiet sound) =
       let e : outcomes.Refused (Forbidden other) ≡ outcomes.Refused (Forbidden cause) = sym (w.outcome ∙ ap outcome_of says) ∙ answer in
       let same : other ≡ cause = cc e in
       record {

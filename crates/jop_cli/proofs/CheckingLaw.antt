@@ -101,8 +101,8 @@ module _ (one : GivesOne) (not_refused : ReadIsNotRefused) (certified : HasOneCe
   -- ---- the files
 
   answer_settled : (ending : Ending) → Comes c (checking s image) l (h.bytes ∷ h.bounds_text ∷ h.cert_text ∷ []) ending → Settled l.classes s lines certificate ending × IsQuiet c.old c.new
-  answer_settled ending (asked.puts text is written put) = absurd is
-  answer_settled ending (asked.says checks quiet) = (program_settled ending checks, quiet)
+  answer_settled ending (asked.puts text is written put sound) = absurd is
+  answer_settled ending (asked.says checks quiet sound) = (program_settled ending checks, quiet)
   answer_settled ending (asked.lacking is quiet) = (lacking is, quiet)
 
   settled : OneLinked → LinkedImagesAreRead → NothingFailed c → Settled l.classes s lines certificate c.answered.ending × IsQuiet c.old c.new

@@ -26,7 +26,7 @@ use Rattle.jop_core.specs.Reset.{bare_reset}
 use Rattle.boundary.specs.Setting.{bare_setting}
 use Rattle.run_devices.specs.Lent.{Lent}
 use Rattle.jop_cli.specs.Phase.{HasSettings, is_linked}
-use Rattle.jop_cli.specs.BareFile.{blocks_of_code, RanBare, RanWith, RunsBareBytes}
+use Rattle.jop_cli.specs.BareFile.{blocks_of_code, RanImage, RanImageWith, RunsBareBytes}
 use Rattle.jop_cli.specs.LinkedFile.{RunsLinkedBytes}
 use Rattle.jop_cli.specs.World.{World, IsUntaken, Reads}
 use Rattle.jop_cli.specs.declared.task.Task.{Task}
@@ -36,12 +36,12 @@ use Rattle.jop_cli.specs.Answer.{DoesTask, Does, RunsFile, ShowsOutput, TakesFor
 use Rattle.jop_cli.proofs.Refusing.{IsRefusing, Says, refuses, holds, bytes_refuse, image_refuses, linked_says, bare_refuses}
 
 pub with_settings : (settings : Settings) (show : Show) (n : ℕ) (image : Image) (plan : Plan) (old new : Lent) (ending : Ending) → settings.stack ≡ n → blocks_of_code settings image ≤ settings.blocks → HasSettings settings plan.config
-    → plan.limit ≡ settings.cycles → plan.show ≡ show → RanBare (bare_shown plan.show) (bare_setting image n plan.config.memory) (bare_reset n image plan.config) plan.limit old new ending → RanWith settings show image old new ending
+    → plan.limit ≡ settings.cycles → plan.show ≡ show → RanImage (bare_shown plan.show) (bare_setting image n plan.config.memory) (bare_reset n image plan.config) plan.limit old new ending → RanImageWith settings show image old new ending
 with_settings settings show n image plan old new ending is few has limit shows ran =
     let config = plan.config in
-    let a = subst (λ (x : Show). RanBare (bare_shown x) (bare_setting image n config.memory) (bare_reset n image config) plan.limit old new ending) shows ran in
-    let b = subst (λ (k : ℕ). RanBare (bare_shown show) (bare_setting image n config.memory) (bare_reset n image config) k old new ending) limit a in
-    record { blocks = few; config = config; has = has; ran = subst (λ (k : ℕ). RanBare (bare_shown show) (bare_setting image k config.memory) (bare_reset k image config) settings.cycles old new ending) (sym is) b }
+    let a = subst (λ (x : Show). RanImage (bare_shown x) (bare_setting image n config.memory) (bare_reset n image config) plan.limit old new ending) shows ran in
+    let b = subst (λ (k : ℕ). RanImage (bare_shown show) (bare_setting image n config.memory) (bare_reset n image config) k old new ending) limit a in
+    record { blocks = few; config = config; has = has; ran = subst (λ (k : ℕ). RanImage (bare_shown show) (bare_setting image k config.memory) (bare_reset k image config) settings.cycles old new ending) (sym is) b }
 
 -- the file was read, and its bytes were run as those of a bare image or of a linked one
 pub runs_read : (settings : Settings) (show : Show) (word : ℕ) (whole bytes : List ℕ) (old new : World) (ending : Ending) → bytes ≡ whole → Reads word whole old new

@@ -7,7 +7,7 @@ use Rattle.class_pool.specs.declared.class.ClassFile.{ClassFile}
 use Rattle.image_builder.specs.Laid.{Laid}
 use Rattle.jopizer.specs.Linked.{Parts}
 use Rattle.jop_cli.specs.declared.program_end.ProgramEnd.{ProgramEnd}
-use Rattle.jop_cli.specs.LinkedSettings.{CodesFit, RanWith}
+use Rattle.jop_cli.specs.LinkedSettings.{CodesFit, RanLinkedWith}
 use Rattle.jop_cli.specs.declared.show.Show.{Show}
 use Rattle.jop_cli.specs.Show.{linked_shown}
 use Rattle.jop_cli.specs.Phase.{HasSettings}
@@ -17,7 +17,7 @@ use Rattle.jop_cli.specs.LinkedRun.{HasClass, linked_setting}
 
 pub with_settings : (settings : Settings) (show : Show) (l : Parts) (cs : List ClassFile) (laid : Laid) (n : ℕ) (plan : Plan) (old new : Lent) (end : ProgramEnd) → CodesFit settings l → length l.laid.words ≤ settings.memory → cs ≡ l.classes → laid ≡ l.laid
     → settings.stack ≡ n → HasSettings settings plan.config → plan.limit ≡ settings.cycles → plan.show ≡ show
-    → Ran (linked_shown cs plan.show) (linked_setting cs n plan.config.memory) (linked_reset n laid.words plan.config) plan.limit old new end → HasClass cs end → RanWith settings show l old new end
+    → Ran (linked_shown cs plan.show) (linked_setting cs n plan.config.memory) (linked_reset n laid.words plan.config) plan.limit old new end → HasClass cs end → RanLinkedWith settings show l old new end
 with_settings settings show l cs laid n plan old new end codes memory classes laid_is stack has limit shows ran class =
     let config = plan.config in
     let a = subst (λ (xs : List ClassFile). Ran (linked_shown xs plan.show) (linked_setting xs n config.memory) (linked_reset n laid.words config) plan.limit old new end) classes ran in

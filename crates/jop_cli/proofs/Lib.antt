@@ -21,13 +21,16 @@ mod RunningLaw
 mod AskingLaw
 mod CheckingLaw
 mod BoundingLaw
+mod CausesLaw
 mod KeptLaw
 mod AnsweringLaw
 mod HoldingLaw
 mod ProfilingLaw
 mod PlanningLaw
+mod ExecutiveLaw
 mod LoopsLaw
 mod CountedLaw
+mod NotedLaw
 mod NeedAnswers
 mod BoundAnswers
 mod Reported

@@ -126,7 +126,7 @@ image_read bytes image is endings.NoMemory h = refl
 image_read bytes image is ending h = absurd h
 
 module _ (c : Call) (settings : Settings) (show : Show) (n : NothingFailed c) (image : Image) (code : blocks_of_code settings image ≤ settings.blocks) (untaken : IsUntaken c.old c.new) where
-  bare_ran : (ending : Ending) → IsWholly c ending → bare.RanWith settings show image (lent_without_input c.old) (lent_without_input c.new) ending → RanBare c settings show image ⊎ LacksMemory c
+  bare_ran : (ending : Ending) → IsWholly c ending → bare.RanImageWith settings show image (lent_without_input c.old) (lent_without_input c.new) ending → RanBare c settings show image ⊎ LacksMemory c
   bare_ran (endings.Ended counts) w h =
       inl (record {
         config = h.config;
@@ -145,7 +145,7 @@ module _ (c : Call) (settings : Settings) (show : Show) (n : NothingFailed c) (i
   bare_ran endings.NoMemory w h = inr (record { outcome = w.outcome; quiet = quiet_without c.old c.new untaken h.ran })
   bare_ran ending w h = absurd h.ran
 
-  bare_ends : (ending : Ending) → IsWholly c ending → bare.IsCodeTooLong settings image (lent_without_input c.old) (lent_without_input c.new) ending ⊎ bare.RanWith settings show image (lent_without_input c.old) (lent_without_input c.new) ending
+  bare_ends : (ending : Ending) → IsWholly c ending → bare.IsCodeTooLong settings image (lent_without_input c.old) (lent_without_input c.new) ending ⊎ bare.RanImageWith settings show image (lent_without_input c.old) (lent_without_input c.new) ending
       → RanBare c settings show image ⊎ LacksMemory c
   bare_ends ending w (inl long) = absurd (omega (arith, code, long.blocks))
   bare_ends ending w (inr ran) = bare_ran ending w ran
@@ -158,7 +158,7 @@ bare_bytes one c settings show word image holds n untaken ending w h =
     (λ r.
     let same : r.image ≡ image = one holds.bytes r.image image r.bare holds.is_file in
     bare_ends c settings show n image holds.code untaken ending w
-    (subst (λ (i : Image). bare.IsCodeTooLong settings i (lent_without_input c.old) (lent_without_input c.new) ending ⊎ bare.RanWith settings show i (lent_without_input c.old) (lent_without_input c.new) ending) same r.ran))
+    (subst (λ (i : Image). bare.IsCodeTooLong settings i (lent_without_input c.old) (lent_without_input c.new) ending ⊎ bare.RanImageWith settings show i (lent_without_input c.old) (lent_without_input c.new) ending) same r.ran))
     h
 
 bare_file : OneBareImage → (c : Call) (settings : Settings) (show : Show) (word : ℕ) (image : Image) → HoldsBare c settings word image → NothingFailed c → (ending : Ending) → IsWholly c ending

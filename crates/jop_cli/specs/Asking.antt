@@ -38,15 +38,15 @@ EndsBy cause (Text text) = ⊥
 EndsBy cause (Ends ending) = cause ending
 
 -- settings of a machine, where the question has them, are in their ranges
-abbrev pub HasSettings : Question → Type 0
-HasSettings (Check s) = AreSettings s
-HasSettings (Bound s method) = AreSettings s
-HasSettings (Bounds s) = AreSettings s
-HasSettings (Shapes s method) = AreSettings s
-HasSettings (Report s method) = AreSettings s
-HasSettings Loops = Unit {0}
-HasSettings Headers = Unit {0}
-HasSettings Memory = Unit {0}
+abbrev pub HasRightSettings : Question → Type 0
+HasRightSettings (Check s) = AreSettings s
+HasRightSettings (Bound s method) = AreSettings s
+HasRightSettings (Bounds s) = AreSettings s
+HasRightSettings (Shapes s method) = AreSettings s
+HasRightSettings (Report s method) = AreSettings s
+HasRightSettings Loops = Unit {0}
+HasRightSettings Headers = Unit {0}
+HasRightSettings Memory = Unit {0}
 
 -- what was linked answers so; the words name what is asked for
 abbrev pub IsAnswer : (words : List (List ℕ)) → Question → Parts → (operands : List (List ℕ)) → Answer → Type 0

@@ -45,7 +45,7 @@ pub record PutsListing (word : ℕ) (old new : World) : Type 0 where
   pub input : IsUntaken old new
 
 -- a front of the listing was put, where out failed
-pub record PutsFront (word : ℕ) (old new : World) : Type 0 where
+pub record PutsListingFront (word : ℕ) (old new : World) : Type 0 where
   pub listing : List ℕ
   pub lists : Lists word listing old new
   pub count : ℕ
@@ -66,6 +66,6 @@ abbrev pub Assembles : (word : ℕ) → World → World → Ending → Type 0
 Assembles word old new Written = PutsListing word old new
 Assembles word old new (Refused refusal) = NotAssembled word old new refusal × IsQuiet old new
 Assembles word old new ReadFault = FilesStayBut word old new × Rose (old.file_faults word) (new.file_faults word) × IsQuiet old new
-Assembles word old new WriteFault = PutsFront word old new
+Assembles word old new WriteFault = PutsListingFront word old new
 Assembles word old new NoMemory = FilesStayBut word old new × IsQuiet old new
 Assembles word old new ending = ⊥

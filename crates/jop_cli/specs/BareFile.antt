@@ -28,12 +28,12 @@ abbrev pub blocks_of_code : Settings → Image → ℕ
 blocks_of_code settings image = blocks_for settings.block_words (words_for (length image.code))
 
 -- How the run of a bare image ends: no class is uncaught, and the input isn't asked.
-abbrev pub RanBare : Shown → (g : Setting) → (reset : machine.State) → (limit : ℕ) → (old new : Lent) → Ending → Type 0
-RanBare shown g reset limit old new (Ended counts) = run.Ran shown g reset limit old new (runs.Ended counts)
-RanBare shown g reset limit old new (Spent counts) = run.Ran shown g reset limit old new (runs.Spent counts)
-RanBare shown g reset limit old new WriteFault = run.Ran shown g reset limit old new runs.WriteFault
-RanBare shown g reset limit old new NoMemory = run.Ran shown g reset limit old new runs.NoMemory
-RanBare shown g reset limit old new ending = ⊥
+abbrev pub RanImage : Shown → (g : Setting) → (reset : machine.State) → (limit : ℕ) → (old new : Lent) → Ending → Type 0
+RanImage shown g reset limit old new (Ended counts) = run.Ran shown g reset limit old new (runs.Ended counts)
+RanImage shown g reset limit old new (Spent counts) = run.Ran shown g reset limit old new (runs.Spent counts)
+RanImage shown g reset limit old new WriteFault = run.Ran shown g reset limit old new runs.WriteFault
+RanImage shown g reset limit old new NoMemory = run.Ran shown g reset limit old new runs.NoMemory
+RanImage shown g reset limit old new ending = ⊥
 
 -- The code of the image takes more blocks than the method cache has, and nothing was done.
 pub record IsCodeTooLong (settings : Settings) (image : Image) (old new : Lent) (ending : Ending) : Type 0 where
@@ -42,17 +42,17 @@ pub record IsCodeTooLong (settings : Settings) (image : Image) (old new : Lent) 
   pub same : new ≡ old
 
 -- The code fits the method cache, and the image was run by a machine with the settings.
-pub record RanWith (settings : Settings) (show : Show) (image : Image) (old new : Lent) (ending : Ending) : Type 0 where
+pub record RanImageWith (settings : Settings) (show : Show) (image : Image) (old new : Lent) (ending : Ending) : Type 0 where
   pub blocks : blocks_of_code settings image ≤ settings.blocks
   pub config : Config
   pub has : HasSettings settings config
-  pub ran : RanBare (bare_shown show) (bare_setting image settings.stack config.memory) (bare_reset settings.stack image config) settings.cycles old new ending
+  pub ran : RanImage (bare_shown show) (bare_setting image settings.stack config.memory) (bare_reset settings.stack image config) settings.cycles old new ending
 
 -- The bytes are those of an image, and its code takes more blocks than the method cache has, or it was run.
 pub record RunsImage (settings : Settings) (show : Show) (bytes : List ℕ) (old new : Lent) (ending : Ending) : Type 0 where
   pub image : Image
   pub bare : IsBare bytes image
-  pub ran : IsCodeTooLong settings image old new ending ⊎ RanWith settings show image old new ending
+  pub ran : IsCodeTooLong settings image old new ending ⊎ RanImageWith settings show image old new ending
 
 -- how the run of the bytes ends
 abbrev pub RunsBareBytes : Settings → Show → (bytes : List ℕ) → (old new : Lent) → Ending → Type 0

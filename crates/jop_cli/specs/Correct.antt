@@ -6,7 +6,7 @@
 --   boundary Runs (the run of both), image_words Regions and image_file Linked (what an image and its file are), image_file Bare and microcode_asm Roms
 --   (the same of a bare image and of a microprogram), command_line Command (what words say), and of this crate Tasks (what commands do), World,
 --   Linking, LinkedSettings, Calls and Courses.
-use Rattle.std.specs.Prelude.{◌≡◌, ℕ, suc, ◌+◌, ◌≤◌, ◌⊎◌, ℤ, Bool, true, List, [], ◌∷◌, ◌++◌, length, Contains, Option, Some, IsSome, Ok, MatchOption}
+use Rattle.std.specs.Prelude.{◌≡◌, ◌↔◌, ℕ, suc, ◌+◌, ◌≤◌, ◌⊎◌, ℤ, Bool, true, List, [], ◌∷◌, ◌++◌, length, Contains, Option, Some, IsSome, Ok, MatchOption}
 use Rattle.std.specs.Prelude.{Vec, slice_get}
 use Rattle.std.specs.declared.alloc.Global.{Global}
 use Rattle.std.specs.List.{concat}
@@ -37,6 +37,7 @@ use Rattle.bytecode_typing.specs.Typed.{Typing}
 use Rattle.memory_rules.specs.declared.needs.Need.{Need}
 use Rattle.memory_laws.specs.Promises.{RunsFromBoot, StandsAtCall, StandsAtMaking, KeptSoFar}
 use Rattle.method_flow.specs.Keeping.{BoundOf}
+use Rattle.method_flow.specs.Regions.{IsWithin}
 use Rattle.method_flow.specs.declared.timing.Timing.{Timing}
 use Rattle.report_rows.specs.declared.rows.ReportRow.{ReportRow}
 use Rattle.report_rows.specs.Rows.{cycles_of as rows_cycles}
@@ -67,9 +68,13 @@ use Rattle.loop_rules.specs.Sites.{int_at}
 use Rattle.int_sites.specs.Constants.{AreConstants}
 use Rattle.counted_activations.specs.Others.{CountsIn, KeepsOthers}
 use Rattle.analysis_commands.specs.Loops.{AreLoopLines}
+use Rattle.source_headers.specs.Files.{IsHeaderFile}
+use Rattle.source_headers.specs.Laws.{line_bound, place_bound, HasNumbers}
+use Rattle.source_headers.specs.Whole.{BoundsWritten}
 use Rattle.ascii_text.specs.Line.{lines_of as text_lines}
 use Rattle.loop_bounds.specs.Bounds.{LoopBound}
 use Rattle.loop_bounds.specs.Grammar.{IsRead}
+use Rattle.bound_sound.specs.Loads.{ActivationsLoadOnce, StaysLoadOnce, LoadsAreMisses}
 use Rattle.bound_cert.specs.Certificate.{Certificate, IsInGrammar}
 use Rattle.bound_cert.specs.Texts.{AreLinesOf, text_of}
 use Rattle.bound_rules.specs.declared.faults.CheckFault.{CheckFault}
@@ -77,7 +82,9 @@ use Rattle.bound_rules.specs.Conditions.{MeetsConditions}
 use Rattle.bound_rules.specs.Refused.{IsRefused}
 use Rattle.bound_rules.specs.declared.faults.BoundRefusal.{BoundRefusal}
 use Rattle.bound_rules.specs.declared.faults.BoundRefusal.TheVariants.{NoMemory as Lacking}
-use Rattle.bound_rules.specs.Bounding.{IsCause}
+use Rattle.bound_rules.specs.Bounding.{AreReducible, HaveLines, IsCause}
+use Rattle.bound_causes.specs.Shapes.{IsShape}
+use Rattle.bound_causes.specs.declared.shapes.Shape.{Shape}
 use Rattle.answer_lines.specs.declared.bound.BoundCause.{BoundCause}
 use Rattle.answer_lines.specs.AnalysisLines.{held_parts, fault_parts, cause_parts}
 use Rattle.analysis_commands.specs.Analysis.{timing_of, bounds_of, name_of, named_or_number}
@@ -85,7 +92,8 @@ use Rattle.analysis_commands.specs.Checking.{fault_name}
 use Rattle.analysis_commands.specs.Memory.{IsNeed}
 use Rattle.analysis_commands.specs.Plan.{IsPlan, IsExecutive}
 use Rattle.analysis_commands.specs.Bounding.{IsNamed, IsBoundBy, cause_of, subject_of}
-use Rattle.jop_cli.specs.declared.outcome.Refusal.TheVariants.{Check as NotChecked, Bound as Forbidden}
+use Rattle.jop_cli.specs.declared.outcome.AsmRefusal.{AsmRefusal}
+use Rattle.jop_cli.specs.declared.outcome.Refusal.TheVariants.{Asm as NotAssembled, Check as NotChecked, Bound as Forbidden}
 use Rattle.jop_cli.specs.declared.outcome.Answer.TheVariants.{Text, Ends}
 use Rattle.jop_cli.specs.declared.asking.Question.{Question}
 use Rattle.jop_cli.specs.declared.asking.Asked.{Asked}
@@ -95,7 +103,8 @@ use Rattle.jop_cli.specs.declared.show.Show.{Show}
 use Rattle.jop_cli.specs.declared.show.Show.TheVariants as shows
 use Rattle.jop_cli.specs.LinkedRun.{linked_setting}
 use Rattle.jop_cli.specs.Line.{text_at, line_of}
-use Rattle.jop_cli.specs.Linking.{class_name, Refuses, AreLinkedTo}
+use Rattle.jop_cli.specs.Linking.{class_name, Refuses, HasName, AreLinkedTo}
+use Rattle.jop_cli.specs.Assembling.{IsNoProgram}
 use Rattle.jop_cli.specs.LinkedSettings.{CodesFit}
 use Rattle.jop_cli.specs.BareFile.{blocks_of_code}
 use Rattle.outside.specs.Outside.{Grew}
@@ -131,6 +140,31 @@ LinkingIsComplete =
     (c : Call) (main first : ℕ) (files : List (List ℕ)) → command_of c.words ≡ Ok (LinkTo main first) → AreTold c first files → NothingFailed c
     → ((refusal : LinkRefusal) → ¬ Refuses files (class_name (text_at c.words main)) refusal)
     → IsLinkedBy c files (class_name (text_at c.words main)) ⊎ LacksMemory c
+
+-- This ending was answered: its line was said, and nothing else was done.
+pub record AnswersEnding (c : Call) (ending : Ending) : Type 0 where
+  pub outcome : c.outcome ≡ outcome_of ending
+  pub line : Grew c.err_old c.err_new (line_of c.words ending)
+  pub quiet : IsQuiet c.old c.new
+
+-- So this refusal was, and the line names what it names in the files.
+pub record AnswersRefusal (c : Call) (files : List (List ℕ)) (refusal : LinkRefusal) : Type 0 where
+  pub name : Vec ℕ Global
+  pub names : HasName files refusal name.items
+  pub answers : AnswersEnding c (endings.NotLinked refusal name)
+
+-- What refuses class files is answered; or there is no memory.
+abbrev pub LinkRefusalsAreAnswered : Type 0
+LinkRefusalsAreAnswered =
+    (c : Call) (main first : ℕ) (files : List (List ℕ)) (refusal : LinkRefusal) → command_of c.words ≡ Ok (LinkTo main first) → AreTold c first files
+    → NothingFailed c → Refuses files (class_name (text_at c.words main)) refusal
+    → AnswersRefusal c files refusal ⊎ LacksMemory c
+
+-- For it is one refusal, and what is refused isn't linked.
+abbrev pub LinkRefusalsAreOne : Type 0
+LinkRefusalsAreOne =
+    (files : List (List ℕ)) (main : List ℕ) (refusal : LinkRefusal) → Refuses files main refusal
+    → ((bytes : List ℕ) (sizes : Sizes) → ¬ AreLinkedTo files main bytes sizes) × ((other : LinkRefusal) → Refuses files main other → other ≡ refusal)
 
 -- ---- `run` and `trace`
 
@@ -192,6 +226,18 @@ abbrev pub AssemblingIsComplete : Type 0
 AssemblingIsComplete =
     (c : Call) (word : ℕ) (text : List ℕ) (rom : Rom) → command_of c.words ≡ Ok (Assemble word) → IsTold c word text → NothingFailed c → IsAssembled text rom
     → IsListed c (listing_of rom.words) ⊎ LacksMemory c
+
+-- What refuses a text is answered; or there is no memory.
+abbrev pub AsmRefusalsAreAnswered : Type 0
+AsmRefusalsAreAnswered =
+    (c : Call) (word : ℕ) (text : List ℕ) (refusal : AsmRefusal) → command_of c.words ≡ Ok (Assemble word) → IsTold c word text → NothingFailed c
+    → IsNoProgram text refusal → AnswersEnding c (endings.Refused (NotAssembled refusal)) ⊎ LacksMemory c
+
+-- For it is one refusal, and what is refused isn't assembled.
+abbrev pub AsmRefusalsAreOne : Type 0
+AsmRefusalsAreOne =
+    (text : List ℕ) (refusal : AsmRefusal) → IsNoProgram text refusal
+    → ((rom : Rom) → ¬ IsAssembled text rom) × ((other : AsmRefusal) → IsNoProgram text other → other ≡ refusal)
 
 -- ---- `check`
 
@@ -309,6 +355,13 @@ BoundRefusalsAreCaused =
     → BoundsTexts c settings image l lines name → NothingFailed c
     → c.outcome ≡ Refused (Forbidden cause) → AnswersForbidden c settings l lines name cause
 
+-- A cause that stands is the one that is answered, of a recursion with one of its rings; or there is no memory.
+abbrev pub CausesAreAnswered : Type 0
+CausesAreAnswered =
+    (c : Call) (settings : Settings) (image : ℕ) (l : Parts) (lines : List LoopBound) (name : List ℕ) (refusal : BoundRefusal) (cause : BoundCause)
+    → AreSettings settings → BoundsTexts c settings image l lines name → NothingFailed c → Forbids settings l lines name refusal
+    → cause_of refusal ≡ Some cause → AnswersForbidden c settings l lines name cause ⊎ LacksMemory c
+
 -- What a call shows in the same way that answers that a certificate of a method is written: its text was put, and its bound is kept.
 pub record ShowsWritten (c : Call) (settings : Settings) (method image : ℕ) : Type 0 where
   pub files : List (List ℕ)
@@ -362,6 +415,14 @@ BoundsHoldInRuns =
     → BoundsActivations (resolved l.classes) (timing_of settings) bound_of m bound → IsBoundary settings l r.config a
     → (h : IsActivation (linked_setting l.classes settings.stack r.config.memory) m a b) → Keeps bound_of h
     → MatchOption bound ⊥ (λ most. cycles_of a b ≤ most)
+
+-- ---- what is loaded
+
+-- Of what runs the program of a setting: an ended activation of a method loads each method at most once, but for the load on the way back to its caller, where
+-- all that may run while the method does fits the cache together; and so does each stay of a frame of the method in a loop of it, where the method and what
+-- the calls in the loop may run do. The machine counts a miss just where a step loads.
+abbrev pub MethodsAreLoadedOnce : Type 0
+MethodsAreLoadedOnce = ActivationsLoadOnce × StaysLoadOnce × LoadsAreMisses
 
 -- ---- `profile`
 
@@ -427,6 +488,12 @@ pub record AreReadied (c : Call) (table rounds : ℕ) (slots : List Slot) (texts
   pub told : AreTold c table (table_text ∷ (texts ++ files))
   pub read : tables.IsRead table_text slots
   pub none : (refusal : LinkRefusal) → ¬ Refuses (with_executive slots rounds files) executive_class refusal
+
+-- What is linked with an executive has it: there is a first method with code that has its name.
+abbrev pub ExecutivesAreThere : Type 0
+ExecutivesAreThere =
+    (slots : List Slot) (rounds : ℕ) (files : List (List ℕ)) (l : Parts) → IsLinkedWith slots rounds files l
+    → (executive : ℕ) × IsExecutive (resolved l.classes) (named_or_number l.classes) executive
 
 -- What comes of a plan: the lines of all slots were put, and no line; or a line was said that tells why there is no plan, and nothing was put; or there was
 -- no memory.
@@ -514,6 +581,36 @@ CountedLoopsAreKept =
     → IsResolved l.classes → AreConstants l.classes constants → BoundsActivations (resolved l.classes) (timing_of settings) bound_of m bound
     → IsBoundary settings l r.config a
     → (h : IsActivation (linked_setting l.classes settings.stack r.config.memory) m a b) → KeepsOthers (int_at constants) bound_of h
+    → MatchOption bound ⊥ (λ most. cycles_of a b ≤ most)
+
+-- ---- `headers`
+
+-- The text that is put of the headers of what is linked is read whole, and what `bound` takes from it bounds each header of a loop by just the number that is
+-- written, and nothing else.
+abbrev pub HeaderFilesAreTaken : Type 0
+HeaderFilesAreTaken =
+    (cs : List ClassFile) (lines text : List ℕ) → IsResolved cs → (h : IsHeaderFile cs lines text)
+    → (bounds : List LoopBound) × IsRead text bounds × BoundsWritten cs h.notes h.found (bounds_of cs bounds)
+
+-- Where all that may run while a method does has code, and isn't the method that is run first: each loop of these has one entry and, by what is taken, a bound,
+-- exactly where no remark on them stands in place of numbers. So `bound` doesn't answer then that a loop lacks one, or has several entries.
+abbrev pub HeaderFilesHaveBounds : Type 0
+HeaderFilesHaveBounds =
+    (cs : List ClassFile) (lines text : List ℕ) → IsResolved cs → (h : IsHeaderFile cs lines text) → (bounds : List LoopBound) → IsRead text bounds → (root : ℕ)
+    → ((m : ℕ) → IsWithin (resolved cs) root m → IsSome (body_of (resolved cs) m) × (¬ (m ≡ (resolved cs).boot)))
+    → (AreReducible (resolved cs) root × HaveLines (resolved cs) (bounds_of cs bounds) root)
+    ↔ ((m : ℕ) → IsWithin (resolved cs) root m → (shape : Shape) → IsShape (resolved cs) m shape → HasNumbers cs h.notes h.found m shape)
+
+-- In the runs of what is linked a bound of a method, by what is taken, holds of each ended activation of the method that begins at a boundary of such a run and
+-- keeps what the lines say of sources and of places: the loops that are found to count need no premise. Where the bound is never, no such activation ends.
+abbrev pub NotedLoopsAreKept : Type 0
+NotedLoopsAreKept =
+    (c : Call) (settings : Settings) (show : Show) (l : Parts) (r : RanLinked c settings show l) (lines text : List ℕ) (h : IsHeaderFile l.classes lines text)
+    (bounds : List LoopBound) (m : ℕ) (bound : Option ℕ) (a b : Stage)
+    → IsResolved l.classes → IsRead text bounds → BoundsActivations (resolved l.classes) (timing_of settings) (bounds_of l.classes bounds) m bound
+    → IsBoundary settings l r.config a
+    → (x : IsActivation (linked_setting l.classes settings.stack r.config.memory) m a b) → Keeps (line_bound l.classes h.notes) x
+    → Keeps (place_bound l.classes h.notes) x
     → MatchOption bound ⊥ (λ most. cycles_of a b ≤ most)
 
 -- ---- what is asked of an image: `check`, `bound`, `loops`, `headers`, `memory`

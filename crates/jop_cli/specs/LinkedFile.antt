@@ -18,7 +18,7 @@ use Rattle.jop_cli.specs.declared.outcome.Ending.TheVariants.{Ended, Uncaught, R
 use Rattle.jop_cli.specs.declared.show.Show.{Show}
 use Rattle.jop_cli.specs.Linking.{Refuses, HasName}
 use Rattle.run_devices.specs.Lent.{Lent}
-use Rattle.jop_cli.specs.LinkedSettings.{RanWith, IsTooLarge, IsTooLong}
+use Rattle.jop_cli.specs.LinkedSettings.{RanLinkedWith, IsTooLarge, IsTooLong}
 
 -- ---- the bytes
 
@@ -69,17 +69,17 @@ IsUnheld settings l ending = ⊥
 abbrev pub EndsAs : Settings → Show → Parts → (old new : Lent) → Ending → Type 0
 EndsAs settings show l old new (TooLong method name blocks limit) = IsUnheld settings l (TooLong method name blocks limit) × (new ≡ old)
 EndsAs settings show l old new (Refused (MemoryTooSmall words given)) = IsUnheld settings l (Refused (MemoryTooSmall words given)) × (new ≡ old)
-EndsAs settings show l old new (Ended counts) = RanWith settings show l old new (runs.Ended counts)
+EndsAs settings show l old new (Ended counts) = RanLinkedWith settings show l old new (runs.Ended counts)
 EndsAs settings show l old new (Uncaught class name counts) =
-    RanWith settings show l old new (runs.Uncaught class counts) × NamesClass l.classes class name.items
-EndsAs settings show l old new (Spent counts) = RanWith settings show l old new (runs.Spent counts)
-EndsAs settings show l old new InputFault = RanWith settings show l old new runs.ReadFault
-EndsAs settings show l old new WriteFault = RanWith settings show l old new runs.WriteFault
+    RanLinkedWith settings show l old new (runs.Uncaught class counts) × NamesClass l.classes class name.items
+EndsAs settings show l old new (Spent counts) = RanLinkedWith settings show l old new (runs.Spent counts)
+EndsAs settings show l old new InputFault = RanLinkedWith settings show l old new runs.ReadFault
+EndsAs settings show l old new WriteFault = RanLinkedWith settings show l old new runs.WriteFault
 EndsAs settings show l old new NoMemory = new ≡ old
 EndsAs settings show l old new ending = ⊥
 
 -- the bytes are the file of what was linked, and it was run
-pub record RunsProgram (settings : Settings) (show : Show) (bytes : List ℕ) (old new : Lent) (ending : Ending) : Type 0 where
+pub record RunsLinkedProgram (settings : Settings) (show : Show) (bytes : List ℕ) (old new : Lent) (ending : Ending) : Type 0 where
   pub linked : Parts
   pub is_linked : IsLinked linked
   pub is_file : file.IsLinked bytes (image_of linked)
@@ -87,4 +87,4 @@ pub record RunsProgram (settings : Settings) (show : Show) (bytes : List ℕ) (o
 
 -- how the run of the bytes ends
 abbrev pub RunsLinkedBytes : Settings → Show → (bytes : List ℕ) → (old new : Lent) → Ending → Type 0
-RunsLinkedBytes settings show bytes old new ending = (BytesFault bytes ending × (new ≡ old)) ⊎ RunsProgram settings show bytes old new ending
+RunsLinkedBytes settings show bytes old new ending = (BytesFault bytes ending × (new ≡ old)) ⊎ RunsLinkedProgram settings show bytes old new ending

@@ -20,7 +20,7 @@ abbrev pub CodesFit : Settings → Parts → Type 0
 CodesFit settings l = (m : ℕ) → MethodFits (resolved l.classes) settings.blocks settings.block_words m
 
 -- A machine with the settings holds the image, and it was run from reset.
-pub record RanWith (settings : Settings) (show : Show) (l : Parts) (old new : Lent) (end : ProgramEnd) : Type 0 where
+pub record RanLinkedWith (settings : Settings) (show : Show) (l : Parts) (old new : Lent) (end : ProgramEnd) : Type 0 where
   pub codes : CodesFit settings l
   pub memory : length l.laid.words ≤ settings.memory
   pub config : Config

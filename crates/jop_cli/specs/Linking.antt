@@ -84,7 +84,7 @@ pub record PutsImage (files : List (List ℕ)) (main : List ℕ) (sizes : Sizes)
   pub later : before ≤ now
 
 -- a front of it was put, where out failed
-pub record PutsFront (files : List (List ℕ)) (main : List ℕ) (old new : Option (List ℕ)) (before now : ℕ) : Type 0 where
+pub record PutsImageFront (files : List (List ℕ)) (main : List ℕ) (old new : Option (List ℕ)) (before now : ℕ) : Type 0 where
   pub bytes : List ℕ
   pub sizes : Sizes
   pub linked : AreLinkedTo files main bytes sizes
@@ -96,7 +96,7 @@ pub record PutsFront (files : List (List ℕ)) (main : List ℕ) (old new : Opti
 -- how files with this main class end, what out told before and then, and its counts of faults
 abbrev pub PutsLinked : (files : List (List ℕ)) → (main : List ℕ) → (old new : Option (List ℕ)) → (before now : ℕ) → Ending → Type 0
 PutsLinked files main old new before now (Linked sizes) = PutsImage files main sizes old new before now
-PutsLinked files main old new before now WriteFault = PutsFront files main old new before now
+PutsLinked files main old new before now WriteFault = PutsImageFront files main old new before now
 PutsLinked files main old new before now ending = LinkFault files main ending × (new ≡ old) × (now ≡ before)
 
 -- the files of the words from one on were read, and the file of their image was put, or they aren't linked

@@ -139,7 +139,7 @@ ProfilesHeld s l bounds_text old new ending = ((ending ≡ NoMemory) × (new ≡
 pub record RanBareProfile (s : Settings) (image : Image) (bounds_text : List ℕ) (ending : Ending) : Type 0 where
   pub bounds : List LoopBound
   pub read : IsRead bounds_text bounds
-  pub ran : bare.RanWith s shows.Output image nothing nothing ending
+  pub ran : bare.RanImageWith s shows.Output image nothing nothing ending
 
 abbrev pub ProfilesBare : Settings → Image → (bounds_text : List ℕ) → Ending → Type 0
 ProfilesBare s image bounds_text ending =

@@ -28,21 +28,21 @@ use Rattle.jop_cli.specs.Bounding.{EndsNotBounded}
 
 -- ---- the report
 
-abbrev pub bound_told : Option Report → Option ℕ
-bound_told o = option_map (λ r. r.totals.bound) o
+abbrev pub reported_bound : Option Report → Option ℕ
+reported_bound o = option_map (λ r. r.totals.bound) o
 
 -- The method is asked for, and nothing forbids its bound, which is printed, and which a certificate says. The report has its parts; of a method that never
 -- ends there is none.
 pub record IsReported (P : Program) (t : Timing) (bound_of : BoundOf) (named : ℕ → Type 0) (root : ℕ) (report : Option Report) : Type 0 where
   pub asked : IsAsked P named root
   pub no_cause : HasNoCause P t bound_of root
-  pub printed : IsPrinted P t bound_of root (bound_told report)
-  pub certified : IsCertified P t bound_of root (bound_told report)
+  pub printed : IsPrinted P t bound_of root (reported_bound report)
+  pub certified : IsCertified P t bound_of root (reported_bound report)
   pub parts : IfSome report (IsReportOf P t bound_of root)
 
 -- what is printed of the method of this number, whose size forbids no bound, and the parts of that, in each program of the table
 pub record IsReportFor (a : Analysis) (root : ℕ) (report : Option Report) : Type 0 where
-  pub bound : (P : Program) → IsFlowOf P a.flow → IsMethodBound P a.timing (table.bounds_of a.flow a.bounds) root (Printed (bound_told report))
+  pub bound : (P : Program) → IsFlowOf P a.flow → IsMethodBound P a.timing (table.bounds_of a.flow a.bounds) root (Printed (reported_bound report))
   pub parts : (P : Program) → IsFlowOf P a.flow → IfSome report (IsReportOf P a.timing (table.bounds_of a.flow a.bounds) root)
 
 -- so it is in each program of the table

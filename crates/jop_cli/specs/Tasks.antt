@@ -9,7 +9,7 @@ use Rattle.jop_cli.specs.declared.asking.Asked.{Asked}
 use Rattle.jop_cli.specs.declared.show.Show.TheVariants as shows
 use Rattle.jop_cli.specs.declared.task.Task.{Task}
 use Rattle.jop_cli.specs.declared.task.Task.TheVariants.{Run, Profile, Plan, Cycle, Assemble, Link, Ask, Work}
-use Rattle.jop_cli.specs.Asking.{HasSettings}
+use Rattle.jop_cli.specs.Asking.{HasRightSettings}
 
 -- ---- the questions
 
@@ -66,5 +66,5 @@ IsAmong n (Plan s rounds table) = AreSettings s × (1 ≤ rounds) × (rounds ≤
 IsAmong n (Cycle s rounds table) = AreSettings s × (1 ≤ rounds) × (rounds ≤ 32767) × (table + 1 ≤ n)
 IsAmong n (Assemble text) = text < n
 IsAmong n (Link main first) = (main < n) × (first < n)
-IsAmong n (Ask asked) = HasSettings asked.question × (asked.image + asked.operands ≤ n)
+IsAmong n (Ask asked) = HasRightSettings asked.question × (asked.image + asked.operands ≤ n)
 IsAmong n (Work count) = (1 ≤ count) × (count ≤ 1000)

@@ -28,7 +28,7 @@ use Rattle.jop_cli.specs.declared.outcome.Ending.{Ending}
 use Rattle.jop_cli.specs.declared.outcome.Ending.TheVariants.{Written, Uncaught, Refused, TooLong, NotAnswered, Spent, WriteFault, NoMemory}
 use Rattle.jop_cli.specs.World.{World, IsUntaken}
 use Rattle.jop_cli.specs.Linking.{LinkFault}
-use Rattle.jop_cli.specs.LinkedSettings.{RanWith}
+use Rattle.jop_cli.specs.LinkedSettings.{RanLinkedWith}
 use Rattle.jop_cli.specs.LinkedFile.{EndsAs}
 
 -- ---- what is linked, and how it is run
@@ -56,19 +56,19 @@ fresh = lent (Some []) 0 (Some []) 0 None
 -- The run of what was linked ended by returning, with these counts, and put these bytes out.
 pub record Returned (l : Parts) (output : List ℕ) (counts : Counts) : Type 0 where
   pub after : Lent
-  pub ran : RanWith usual_settings shows.Output l fresh after (runs.Ended counts)
+  pub ran : RanLinkedWith usual_settings shows.Output l fresh after (runs.Ended counts)
   pub held : after.held ≡ Some output
 
 -- it ended so, as `run` of its image with nothing to read does
-abbrev pub EndsRun : Parts → Ending → Type 0
-EndsRun l ending = (after : Lent) × EndsAs usual_settings shows.Output l fresh after ending
+abbrev pub EndsWork : Parts → Ending → Type 0
+EndsWork l ending = (after : Lent) × EndsAs usual_settings shows.Output l fresh after ending
 
 -- it ended otherwise than by returning, or wasn't begun; or there was no memory
 abbrev pub StopsAs : Parts → Ending → Type 0
-StopsAs l (TooLong method name blocks limit) = EndsRun l (TooLong method name blocks limit)
-StopsAs l (Refused (MemoryTooSmall words given)) = EndsRun l (Refused (MemoryTooSmall words given))
-StopsAs l (Uncaught class name counts) = EndsRun l (Uncaught class name counts)
-StopsAs l (Spent counts) = EndsRun l (Spent counts)
+StopsAs l (TooLong method name blocks limit) = EndsWork l (TooLong method name blocks limit)
+StopsAs l (Refused (MemoryTooSmall words given)) = EndsWork l (Refused (MemoryTooSmall words given))
+StopsAs l (Uncaught class name counts) = EndsWork l (Uncaught class name counts)
+StopsAs l (Spent counts) = EndsWork l (Spent counts)
 StopsAs l NoMemory = Unit {0}
 StopsAs l ending = ⊥
 
@@ -133,7 +133,7 @@ pub record Stops (n : ℕ) (ending : Ending) : Type 0 where
   pub stops : StopsAs linked ending
 
 -- its program returns, and a bound of its main method is forbidden so
-pub record Forbids (n : ℕ) (ending : Ending) : Type 0 where
+pub record ForbidsWork (n : ℕ) (ending : Ending) : Type 0 where
   pub linked : Parts
   pub is : IsWork n linked
   pub output : List ℕ
@@ -143,7 +143,7 @@ pub record Forbids (n : ℕ) (ending : Ending) : Type 0 where
 
 -- why there is no line, in this order: the class isn't linked, its program stops otherwise than by returning, a bound of main is forbidden
 abbrev pub NotWorked : (n : ℕ) → Ending → Type 0
-NotWorked n ending = LinkFault (work_files n) class_name ending ⊎ (Stops n ending ⊎ Forbids n ending)
+NotWorked n ending = LinkFault (work_files n) class_name ending ⊎ (Stops n ending ⊎ ForbidsWork n ending)
 
 -- what out told before and then, and its counts of faults
 abbrev pub PutsWork : (n : ℕ) → (old new : Option (List ℕ)) → (before now : ℕ) → Ending → Type 0

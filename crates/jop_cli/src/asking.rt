@@ -8,7 +8,7 @@ ghost use Rattle.jop_cli.specs.Line.{text_at};
 ghost use Rattle.jop_cli.specs.World.{world};
 ghost use Rattle.jop_cli.specs.Leaving.{Leaves};
 ghost use Rattle.jop_cli.specs.Opening.{Opens};
-ghost use Rattle.jop_cli.specs.Asking.{HasSettings, IsAnswer, IsBareAnswer, Answers, PutsText, PutsAnswer, AsksFiles};
+ghost use Rattle.jop_cli.specs.Asking.{HasRightSettings, IsAnswer, IsBareAnswer, Answers, PutsText, PutsAnswer, AsksFiles};
 
 use crate::all_bounds::{bounds_bare, bounds_linked};
 use crate::bounding::{bound_bare_image, bound_linked, shapes_bare, shapes_linked};
@@ -84,7 +84,7 @@ fn answer_linked(
     linked: &Linked,
     operands: &[Vec<u8>],
 ) -> Answer
-    requires settings { HasSettings question }
+    requires settings { HasRightSettings question }
     requires short { All (λ text. length text.items ≤ longest_file) operands.now }
     ensures { IsAnswer (texts words.now) question linked.now (contents operands.now) result }
 {
@@ -112,7 +112,7 @@ fn answer_linked(
 
 /// The answer of a bare image, which has no classes.
 fn answer_bare(alloc: Global, question: Question, image: &Bare, operands: &[Vec<u8>]) -> Answer
-    requires settings { HasSettings question }
+    requires settings { HasRightSettings question }
     requires short { All (λ text. length text.items ≤ longest_file) operands.now }
     ensures { IsBareAnswer question image.now (contents operands.now) result }
 {
@@ -141,7 +141,7 @@ fn answer_image(
     image: &Image,
     operands: &[Vec<u8>],
 ) -> Answer
-    requires settings { HasSettings question }
+    requires settings { HasRightSettings question }
     requires short { All (λ text. length text.items ≤ longest_file) operands.now }
     requires opens { Opens (text_at (contents operands.now) 0) image.now }
     ensures { Answers (texts words.now) question (contents operands.now) result }
@@ -165,7 +165,7 @@ fn answer_operands(
     question: Question,
     operands: &[Vec<u8>],
 ) -> Answer
-    requires settings { HasSettings question }
+    requires settings { HasRightSettings question }
     requires short { All (λ text. length text.items ≤ longest_file) operands.now }
     ensures { Answers (texts words.now) question (contents operands.now) result }
 {
@@ -210,7 +210,7 @@ pub(crate) fn ask_files<F: Files, O: Sink>(
     files: &mut F,
     out: &mut O,
 ) -> Ending
-    requires settings { HasSettings asked.now.question }
+    requires settings { HasRightSettings asked.now.question }
     requires there { asked.now.image + asked.now.operands ≤ F.words files.old }
     requires few { F.words files.old < 2 ^ 32 }
     ensures asks { (left : Option (List ℕ)) (read_faults : ℕ) (watch : Option (List Seen)) → AsksFiles (texts words.now) asked.now

@@ -9,7 +9,7 @@ ghost use Rattle.command_line.specs.Range.{AreSettings};
 ghost use Rattle.jop_cli.specs.Leaving.{Leaves};
 ghost use Rattle.jop_cli.specs.Show.{AreNamed, IsNamed, IsTrace, IsTraced, bare_shown, shown_by};
 ghost use Rattle.jop_cli.specs.Run.{Started};
-ghost use Rattle.jop_cli.specs.BareFile.{ImageFault, blocks_of_code, IsCodeTooLong, RanBare, RanWith};
+ghost use Rattle.jop_cli.specs.BareFile.{ImageFault, blocks_of_code, IsCodeTooLong, RanImage, RanImageWith};
 
 use crate::outcome::{Ending, Refusal};
 use crate::program_end::ProgramEnd;
@@ -67,7 +67,7 @@ fn run_started<const N: usize, O: Sink, V: Watch>(
     requires grammar { IsImage bare.now }
     requires named { AreNamed (shown_by shown.now) running.old.methods }
     requires few { plan.limit < 2 ^ 63 }
-    ensures ran { RanBare (shown_by shown.now) (bare_setting bare.now N plan.config.memory) (bare_reset N bare.now plan.config) plan.limit
+    ensures ran { RanImage (shown_by shown.now) (bare_setting bare.now N plan.config.memory) (bare_reset N bare.now plan.config) plan.limit
         (lent (Some []) 0 (O.held out.old) (O.faults out.old) (V.held watch.old))
         (lent (Some []) 0 (O.held out.new) (O.faults out.new) (V.held watch.new)) result }
     ensures done { Leaves result → ⊥ }
@@ -99,7 +99,7 @@ fn run_image<const N: usize, O: Sink, V: Watch>(
     requires grammar { IsImage bare.now }
     requires named { IsNamed (shown_by shown.now) }
     requires few { plan.limit < 2 ^ 63 }
-    ensures ran { RanBare (shown_by shown.now) (bare_setting bare.now N plan.config.memory) (bare_reset N bare.now plan.config) plan.limit
+    ensures ran { RanImage (shown_by shown.now) (bare_setting bare.now N plan.config.memory) (bare_reset N bare.now plan.config) plan.limit
         (lent (Some []) 0 (O.held out.old) (O.faults out.old) (V.held watch.old))
         (lent (Some []) 0 (O.held out.new) (O.faults out.new) (V.held watch.new)) result }
     ensures leaves { Leaves result → (out.new ≡ out.old) × (watch.new ≡ watch.old) }
@@ -126,7 +126,7 @@ fn run_bare<const N: usize, O: Sink, V: Watch>(
     requires room { CanStartBare bare.now plan.config }
     requires grammar { IsImage bare.now }
     requires few { plan.limit < 2 ^ 63 }
-    ensures ran { RanBare (bare_shown plan.show) (bare_setting bare.now N plan.config.memory) (bare_reset N bare.now plan.config) plan.limit
+    ensures ran { RanImage (bare_shown plan.show) (bare_setting bare.now N plan.config.memory) (bare_reset N bare.now plan.config) plan.limit
         (lent (Some []) 0 (O.held out.old) (O.faults out.old) (V.held watch.old))
         (lent (Some []) 0 (O.held out.new) (O.faults out.new) (V.held watch.new)) result }
     ensures leaves { Leaves result → (out.new ≡ out.old) × (watch.new ≡ watch.old) }
@@ -150,7 +150,7 @@ pub(crate) fn run_with<O: Sink, V: Watch>(
     requires settings { AreSettings settings.now }
     requires grammar { IsImage bare.now }
     requires room { blocks_of_code settings.now bare.now ≤ settings.now.blocks }
-    ensures ran { RanWith settings.now show bare.now
+    ensures ran { RanImageWith settings.now show bare.now
         (lent (Some []) 0 (O.held out.old) (O.faults out.old) (V.held watch.old))
         (lent (Some []) 0 (O.held out.new) (O.faults out.new) (V.held watch.new)) result }
     ensures leaves { Leaves result → (out.new ≡ out.old) × (watch.new ≡ watch.old) }
@@ -178,7 +178,7 @@ pub(crate) fn run_fitting<O: Sink, V: Watch>(
     ensures ran { IsCodeTooLong settings.now bare.now
         (lent (Some []) 0 (O.held out.old) (O.faults out.old) (V.held watch.old))
         (lent (Some []) 0 (O.held out.new) (O.faults out.new) (V.held watch.new)) result
-        ⊎ RanWith settings.now show bare.now
+        ⊎ RanImageWith settings.now show bare.now
         (lent (Some []) 0 (O.held out.old) (O.faults out.old) (V.held watch.old))
         (lent (Some []) 0 (O.held out.new) (O.faults out.new) (V.held watch.new)) result }
     ensures leaves { Leaves result → (out.new ≡ out.old) × (watch.new ≡ watch.old) }

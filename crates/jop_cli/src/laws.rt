@@ -1,11 +1,13 @@
 //! What the program promises. The functions do nothing; a caller whose proof needs a law calls its function.
 //!
 //! The laws speak of calls of `jop`: what its contract says of its arguments and of its outcome makes one (`call_of`).
-ghost use Rattle.jop_cli.specs.Correct.{LinkingIsComplete, RunsAreTheBytecodes, TracesAreTheRuns, OneBareImage, BareRunsAreTheBytecodes, BareTracesAreTheRuns};
-ghost use Rattle.jop_cli.specs.Correct.{AssemblingIsComplete, BoundsAreKept, CheckingIsComplete, FaultsAreAnswered, BoundingIsComplete, BoundRefusalsAreCaused};
-ghost use Rattle.jop_cli.specs.Correct.{BoundsHoldInRuns, WrittenLoopsCount, CountedLoopsAreKept, QuestionsAreAnswered, NeedsSuffice};
-ghost use Rattle.jop_cli.specs.Correct.{NamesTellMethods, ProfilesAreComplete, ProfilesAreKept, PlansAreAnswered, CyclesAreRuns, SlotsAreKept};
-ghost use Rattle.jop_cli.specs.Correct.{ReportsAddUp, WorkingIsComplete, WorkLinesAreTrue};
+ghost use Rattle.jop_cli.specs.Correct.{LinkingIsComplete, LinkRefusalsAreAnswered, LinkRefusalsAreOne, RunsAreTheBytecodes, TracesAreTheRuns, OneBareImage};
+ghost use Rattle.jop_cli.specs.Correct.{BareRunsAreTheBytecodes, BareTracesAreTheRuns, AssemblingIsComplete, AsmRefusalsAreAnswered, AsmRefusalsAreOne};
+ghost use Rattle.jop_cli.specs.Correct.{BoundsAreKept, CheckingIsComplete, FaultsAreAnswered, BoundingIsComplete, BoundRefusalsAreCaused, CausesAreAnswered};
+ghost use Rattle.jop_cli.specs.Correct.{BoundsHoldInRuns, MethodsAreLoadedOnce, WrittenLoopsCount, CountedLoopsAreKept, HeaderFilesAreTaken};
+ghost use Rattle.jop_cli.specs.Correct.{HeaderFilesHaveBounds, NotedLoopsAreKept, QuestionsAreAnswered, NeedsSuffice, NamesTellMethods, ProfilesAreComplete};
+ghost use Rattle.jop_cli.specs.Correct.{ProfilesAreKept, ExecutivesAreThere, PlansAreAnswered, CyclesAreRuns, SlotsAreKept, ReportsAddUp, WorkingIsComplete};
+ghost use Rattle.jop_cli.specs.Correct.{WorkLinesAreTrue};
 
 use activation_laws::{called_keep_bounds, profiles_keep_bounds};
 use activations::laws::{places_tell_words, steps_are_told};
@@ -13,30 +15,33 @@ use bound_cert::has_one_certificate;
 use bound_report::laws::parts_add_up;
 use bound_rules::laws::{faults_are_one, refused_is_not_met};
 use bound_sound::certificates_are_sound;
+use bound_sound::loads::{activations_load_once, loads_are_misses, stays_load_once};
 use boundary::laws::runs_are_in_a_row;
 use counted_activations::laws::{counted_loops_of_runs, found_loops_count};
-use jopizer::laws::{linked_images_are_read, one_linked};
+use jopizer::laws::{
+    linked_files_are_not_refused, linked_images_are_read, main_is_there, one_linked,
+    refusals_are_one,
+};
 use loop_bounds::laws::{gives_one, read_is_not_refused};
 use memory_laws::laws::{heap_need_suffices, stack_need_suffices};
 use method_names::names::names_are_one;
 use report_lines::laws::lines_add_up;
+use source_headers::laws::{files_bound_headers, header_files_are_read, roots_have_lines};
 
-/// Class files that nothing refuses are linked.
-pub fn linking_is_complete()
-    ensures { LinkingIsComplete }
-{}
-
-/// The run of an image that is linked is that of its program.
-pub fn runs_are_the_bytecodes()
-    ensures { RunsAreTheBytecodes }
+/// Class files that nothing refuses are linked, and what refuses them is answered, which is one refusal.
+pub fn linking_is_exact()
+    ensures complete { LinkingIsComplete }
+    ensures refused { LinkRefusalsAreAnswered }
+    ensures one { LinkRefusalsAreOne }
 {
-    one_linked();
-    linked_images_are_read();
+    linked_files_are_not_refused();
+    refusals_are_one();
 }
 
-/// The trace of an image that is linked is that of its program's run.
-pub fn traces_are_the_runs()
-    ensures { TracesAreTheRuns }
+/// The run of an image that is linked is that of its program, and its trace that of the run.
+pub fn runs_are_the_bytecodes()
+    ensures runs { RunsAreTheBytecodes }
+    ensures traces { TracesAreTheRuns }
 {
     one_linked();
     linked_images_are_read();
@@ -47,46 +52,25 @@ pub fn one_bare_image()
     ensures { OneBareImage }
 {}
 
-/// The run of a bare image is that of its program.
+/// The run of a bare image is that of its program, and its trace that of the run.
 pub fn bare_runs_are_the_bytecodes()
-    ensures { BareRunsAreTheBytecodes }
+    ensures runs { BareRunsAreTheBytecodes }
+    ensures traces { BareTracesAreTheRuns }
 {
     one_bare_image();
 }
 
-/// The trace of a bare image is that of its program's run.
-pub fn bare_traces_are_the_runs()
-    ensures { BareTracesAreTheRuns }
-{
-    one_bare_image();
-}
-
-/// The listing of a text that is assembled is put.
-pub fn assembling_is_complete()
-    ensures { AssemblingIsComplete }
+/// The listing of a text that is assembled is put, and what refuses a text is answered, which is one refusal.
+pub fn assembling_is_exact()
+    ensures complete { AssemblingIsComplete }
+    ensures refused { AsmRefusalsAreAnswered }
+    ensures one { AsmRefusalsAreOne }
 {}
 
-/// A certificate that meets the conditions holds.
-pub fn checking_is_complete()
-    ensures { CheckingIsComplete }
-{
-    one_linked();
-    linked_images_are_read();
-    gives_one();
-    read_is_not_refused();
-    has_one_certificate();
-    refused_is_not_met();
-}
-
-/// Where the answer is that a certificate holds, or that one is written, the activations of its method take at most as many cycles as its
-/// bound says.
-pub fn bounds_are_kept()
-    ensures { BoundsAreKept }
-{}
-
-/// One that doesn't is refused by the first condition that fails.
-pub fn faults_are_answered()
-    ensures { FaultsAreAnswered }
+/// A certificate that meets the conditions holds, and one that doesn't is refused by the first condition that fails.
+pub fn checking_is_exact()
+    ensures complete { CheckingIsComplete }
+    ensures faults { FaultsAreAnswered }
 {
     one_linked();
     linked_images_are_read();
@@ -97,25 +81,28 @@ pub fn faults_are_answered()
     faults_are_one();
 }
 
-/// A certificate of a method is written where nothing forbids a bound.
-pub fn bounding_is_complete()
-    ensures { BoundingIsComplete }
+/// A certificate of a method is written where nothing forbids a bound; where none is, the cause that is answered forbids it, and a cause
+/// that stands is answered.
+pub fn bounding_is_exact()
+    ensures complete { BoundingIsComplete }
+    ensures caused { BoundRefusalsAreCaused }
+    ensures answered { CausesAreAnswered }
 {
     one_linked();
     linked_images_are_read();
     gives_one();
     read_is_not_refused();
+    bound_laws::laws::refusals_are_one();
+    bound_laws::laws::own_costs_exist();
+    names_are_one();
+    bound_laws::laws::resolved_codes_are_short();
 }
 
-/// Where no bound is given, the cause that is answered forbids it.
-pub fn bound_refusals_are_caused()
-    ensures { BoundRefusalsAreCaused }
-{
-    one_linked();
-    linked_images_are_read();
-    gives_one();
-    read_is_not_refused();
-}
+/// Where the answer is that a certificate holds, or that one is written, the activations of its method take at most as many cycles as its
+/// bound says.
+pub fn bounds_are_kept()
+    ensures { BoundsAreKept }
+{}
 
 /// A name is that of one method with code.
 pub fn names_tell_methods()
@@ -124,27 +111,27 @@ pub fn names_tell_methods()
     names_are_one();
 }
 
-/// A bound of a method holds of the runs of what is linked.
+/// A bound of a method holds of the runs of what is linked, in which activations of methods that fit the cache load each method at most
+/// once.
 pub fn bounds_hold_in_runs()
-    ensures { BoundsHoldInRuns }
+    ensures holds { BoundsHoldInRuns }
+    ensures loads { MethodsAreLoadedOnce }
 {
     places_tell_words();
     steps_are_told();
+    activations_load_once();
+    stays_load_once();
+    loads_are_misses();
 }
 
-/// A profile of what is linked is that of its run.
+/// A profile of what is linked is that of its run, and the bounds in its lines are kept by the numbers beside them.
 pub fn profiles_are_complete()
-    ensures { ProfilesAreComplete }
+    ensures complete { ProfilesAreComplete }
+    ensures kept { ProfilesAreKept }
 {
     one_linked();
     linked_images_are_read();
     read_is_not_refused();
-}
-
-/// The bounds in the lines of a profile are kept by the numbers beside them.
-pub fn profiles_are_kept()
-    ensures { ProfilesAreKept }
-{
     certificates_are_sound();
     runs_are_in_a_row();
     profiles_keep_bounds();
@@ -158,18 +145,13 @@ pub fn reports_add_up()
     lines_add_up();
 }
 
-/// A plan of class files that are linked with the executive of a table is answered.
-pub fn plans_are_answered()
-    ensures { PlansAreAnswered }
+/// What is linked with the executive of a table has it; a plan of it is answered, and a cycle is a run of it.
+pub fn executives_are_answered()
+    ensures there { ExecutivesAreThere }
+    ensures plans { PlansAreAnswered }
+    ensures cycles { CyclesAreRuns }
 {
-    slot_table::laws::gives_one();
-    slot_table::laws::read_is_not_refused();
-}
-
-/// A cycle of class files that are linked with the executive of a table is a run of them.
-pub fn cycles_are_runs()
-    ensures { CyclesAreRuns }
-{
+    main_is_there();
     slot_table::laws::gives_one();
     slot_table::laws::read_is_not_refused();
 }
@@ -183,20 +165,30 @@ pub fn slots_are_kept()
     called_keep_bounds();
 }
 
-/// Where the answer is that the lines of loops are written, the loops count to their numbers.
-pub fn written_loops_count()
-    ensures { WrittenLoopsCount }
+/// Where the answer is that the lines of loops are written, the loops count to their numbers; in the runs of what is linked a bound of a
+/// method asks for the other loops alone.
+pub fn loops_count()
+    ensures written { WrittenLoopsCount }
+    ensures kept { CountedLoopsAreKept }
 {
     found_loops_count();
-}
-
-/// In the runs of what is linked a bound of a method asks for the other loops alone.
-pub fn counted_loops_are_kept()
-    ensures { CountedLoopsAreKept }
-{
     places_tell_words();
     steps_are_told();
     counted_loops_of_runs();
+}
+
+/// What `bound` takes from the text of headers is just what is written, so that loops are bounded exactly where no remark stands in place
+/// of numbers; in the runs of what is linked a bound by it asks for what the lines say alone.
+pub fn headers_bound_loops()
+    ensures taken { HeaderFilesAreTaken }
+    ensures bounds { HeaderFilesHaveBounds }
+    ensures kept { NotedLoopsAreKept }
+{
+    header_files_are_read();
+    files_bound_headers();
+    roots_have_lines();
+    found_loops_count();
+    loops_count();
 }
 
 /// What is asked of an image that is linked is answered.
@@ -215,12 +207,8 @@ pub fn needs_suffice()
     heap_need_suffices();
 }
 
-/// The line of `work` is put where nothing stands in its way.
-pub fn working_is_complete()
-    ensures { WorkingIsComplete }
-{}
-
-/// Where the answer is that the line of `work` is written, it is true.
-pub fn work_lines_are_true()
-    ensures { WorkLinesAreTrue }
+/// The line of `work` is put where nothing stands in its way, and where the answer is that it is written, it is true.
+pub fn working_is_exact()
+    ensures complete { WorkingIsComplete }
+    ensures right { WorkLinesAreTrue }
 {}

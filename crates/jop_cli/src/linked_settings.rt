@@ -5,7 +5,7 @@ ghost use Rattle.program_tables.specs.Resolved.{resolved};
 ghost use Rattle.linked_methods.specs.Fitting.{MethodFits};
 ghost use Rattle.run_devices.specs.Lent.{lent};
 ghost use Rattle.jop_cli.specs.Show.{IsTrace};
-ghost use Rattle.jop_cli.specs.LinkedSettings.{LeavesDevices, RanWith};
+ghost use Rattle.jop_cli.specs.LinkedSettings.{LeavesDevices, RanLinkedWith};
 
 use crate::linked_machine::run_linked;
 use crate::program_end::ProgramEnd;
@@ -44,7 +44,7 @@ pub(crate) fn run_held<S: Source, O: Sink, V: Watch>(
     requires settings { AreSettings settings.now }
     requires codes { (m : ℕ) → MethodFits (resolved linked.now.classes) settings.now.blocks settings.now.block_words m }
     requires memory { length linked.now.laid.words ≤ settings.now.memory }
-    ensures ran { RanWith settings.now show linked.now
+    ensures ran { RanLinkedWith settings.now show linked.now
         (lent (S.left input.old) (S.faults input.old) (O.held out.old) (O.faults out.old) (V.held watch.old))
         (lent (S.left input.new) (S.faults input.new) (O.held out.new) (O.faults out.new) (V.held watch.new)) result }
     ensures leaves { LeavesDevices result → (input.new ≡ input.old) × (out.new ≡ out.old) × (watch.new ≡ watch.old) }

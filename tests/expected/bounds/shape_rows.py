@@ -51,15 +51,11 @@ def shape_lines(study, waits, method):
     return ['blocks=%d block-words=%d bound=%s' % (blocks, words, shape_word(study, timing_of(waits, blocks, words), root)) for words in SIZES for blocks in COUNTS]
 
 
-class Shapes:
+class Shapes(analysis.ProgramRows):
     """rows of the bounds of methods in all shapes"""
 
-    def __init__(self):
-        self.rows, self.wanted, self.count = [], [], {}
-
     def program(self, title, main, files, reference=None):
-        self.rows.append(analysis.program_row(title, main, files, reference))
-        self.wanted.append('%s: linked' % title)
+        super().program(title, main, files, reference)
         self.study = Study(flow.Program(main, files), Timing(), {})
 
     def with_bounds(self, bounds):

@@ -17,17 +17,11 @@ SMALL = Timing(3, 7, 4, 16)
 FIRST, MADE = 100, 24
 
 
-class Checks:
+class Checks(analysis.ProgramRows):
     """rows of certificates of programs, with what is said of them"""
 
-    def __init__(self):
-        self.rows, self.wanted, self.count = [], [], {}
-
     def program(self, title, main, files, reference=None):
-        """begins the rows of a program; its files stand in a row of another table, if that is said"""
-        self.rows.append(analysis.program_row(title, main, files, reference))
-        self.wanted.append('%s: linked' % title)
-        assert analysis.program_of(self.rows[-1]) == (title, main, files)
+        super().program(title, main, files, reference)
         self.known = flow.Program(main, files)
         self.base = None
 
@@ -77,15 +71,11 @@ def word_of(line):
     return ' '.join(words[:2]) + (' #' if words[0] == 'check:' and words[2].startswith('#') else '')
 
 
-class Bounds:
+class Bounds(analysis.ProgramRows):
     """rows of bounds of methods, with what is printed"""
 
-    def __init__(self):
-        self.rows, self.wanted, self.count = [], [], {}
-
     def program(self, title, main, files, reference=None):
-        self.rows.append(analysis.program_row(title, main, files, reference))
-        self.wanted.append('%s: linked' % title)
+        super().program(title, main, files, reference)
         self.known = flow.Program(main, files)
 
     def bound(self, title, timing, method, lines, expected=None):
@@ -113,15 +103,11 @@ class Bounds:
         return 'JOPC 2, bound %s, holds %s %s' % (printed, method, printed)
 
 
-class AllBounds:
+class AllBounds(analysis.ProgramRows):
     """rows of the bounds of all methods, with the lines that are put"""
 
-    def __init__(self):
-        self.rows, self.wanted, self.count = [], [], {}
-
     def program(self, title, main, files, reference=None):
-        self.rows.append(analysis.program_row(title, main, files, reference))
-        self.wanted.append('%s: linked' % title)
+        super().program(title, main, files, reference)
         self.known = flow.Program(main, files)
 
     def all(self, title, timing, lines, said=()):

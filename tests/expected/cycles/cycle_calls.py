@@ -46,7 +46,7 @@ class Cycles(CyclicRows):
         return uses
 
 
-def papers(rows):
+def known_rows(rows):
     """one slot, three rounds: all but the uses is idle; of length 1 all are late"""
     uses = [use for _, use in rows.cycle(hand.small(), ONE, 3, wanted='ended slots=3 late=0 idle=')]
     wanted = 'ended slots=3 late=0 idle=%d ' % (300000 - sum(uses))
@@ -168,7 +168,7 @@ def streams(rows):
 def main():
     rows = Cycles(sys.argv[1])
     usage(rows, WORDS)
-    papers(rows)
+    known_rows(rows)
     tables(rows, 6)
     unlinked(rows)
     shapes(rows)

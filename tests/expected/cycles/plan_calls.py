@@ -38,7 +38,7 @@ class Plans(CyclicRows):
         return [int(each.split(' bound=')[1].split(' ')[0]) for each in out.decode().splitlines()]
 
 
-def papers(rows):
+def known_rows(rows):
     """one slot, three rounds: its bound is that of a method of one return, and the length is kept or not"""
     bound = rows.plan(hand.small(), ONE, rounds=3, wanted='slot 0 A.e()V bound=')[0]
     for length in (1, bound - 1, bound, bound + 1, MOST_LENGTH):
@@ -133,7 +133,7 @@ def streams(rows):
 def main():
     rows = Plans(sys.argv[1])
     usage(rows, WORDS)
-    papers(rows)
+    known_rows(rows)
     tables(rows)
     unlinked(rows)
     kept(rows)

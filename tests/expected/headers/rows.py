@@ -50,16 +50,11 @@ def read(path):
         return file.read()
 
 
-class Rows:
+class Rows(analysis.ProgramRows):
     """the rows and what they want"""
 
-    def __init__(self):
-        self.rows, self.wanted = [], []
-
     def program(self, title, main, files, reference=None):
-        self.rows.append(analysis.program_row(title, main, files, reference))
-        self.wanted.append(title + ': linked')
-        assert analysis.program_of(self.rows[-1]) == (title, main, files)
+        super().program(title, main, files, reference)
         self.known = Headers(main, files)
 
     def headers(self, title, notes=None, said=None):

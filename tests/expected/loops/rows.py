@@ -77,19 +77,19 @@ def by_javac(program):
         assert came == [None if word == 'none' else int(word) for word in wanted.split()], (name, wanted, came)
 
 
-class Rows:
+class Rows(analysis.ProgramRows):
     """the rows and what they want"""
 
     def __init__(self):
-        self.rows, self.wanted, self.count = [], [], [0, 0]
+        super().__init__()
+        self.count = [0, 0]
 
     def program(self, title, main, files, reference=None):
         """a row; its program"""
-        self.rows.append(analysis.program_row(title, main, files, reference))
-        assert analysis.program_of(self.rows[-1]) == (title, main, files)
+        super().program(title, main, files, reference)
         program = counted.Program(main, files)
         lines = list(program.found())
-        self.wanted += [title + ': linked', *('  ' + line for line in lines)]
+        self.wanted += ['  ' + line for line in lines]
         own = [m for m in range(len(program.coded)) if program.is_own(m)]
         self.count[0] += len(lines)
         self.count[1] += sum(len(flow.Graph(program.body(m)).loops() or ()) for m in own)

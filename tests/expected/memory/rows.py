@@ -20,16 +20,11 @@ from need import Need, line_of  # noqa: E402
 TABLE = os.path.join(HERE, '../../tables/memory')
 
 
-class Rows:
+class Rows(analysis.ProgramRows):
     """the rows and what they want"""
 
-    def __init__(self):
-        self.rows, self.wanted = [], []
-
     def program(self, title, main, files, reference=None):
-        self.rows.append(analysis.program_row(title, main, files, reference))
-        self.wanted.append(title + ': linked')
-        assert analysis.program_of(self.rows[-1]) == (title, main, files)
+        super().program(title, main, files, reference)
         self.asked = main, files
 
     def memory(self, title, bounds, sizes, said=None):

@@ -27,16 +27,15 @@ SMALL = Machine(tables.SMALL)
 WIDE, SLOW = Machine(Timing(0, 0, 256, 1024)), Machine(Timing(63, 63, 60, 1))
 
 
-class Profiles:
+class Profiles(analysis.ProgramRows):
     """the rows and what they want"""
 
     def __init__(self, plain):
-        self.plain, self.rows, self.wanted, self.count = plain, [], [], {}
+        super().__init__()
+        self.plain = plain
 
     def program(self, title, main, files, reference=None):
-        self.rows.append(analysis.program_row(title, main, files, reference))
-        self.wanted.append(title + ': linked')
-        assert analysis.program_of(self.rows[-1]) == (title, main, files)
+        super().program(title, main, files, reference)
         self.known = Simulated(self.plain, main, files)
 
     def profile(self, title, machine=Machine(), given=b'', bounds=(), fails=None, line=None, said=()):

@@ -26,16 +26,11 @@ from study import Study  # noqa: E402
 LINES = ('lines_of_javac', 'Lines', ['of', 'headers.headed', 'program', 'javac'])
 
 
-class Rows:
+class Rows(analysis.ProgramRows):
     """the rows and what they want"""
 
-    def __init__(self):
-        self.rows, self.wanted, self.count = [], [], {}
-
     def program(self, title, main, files, reference=None):
-        self.rows.append(analysis.program_row(title, main, files, reference))
-        self.wanted.append(title + ': linked')
-        assert analysis.program_of(self.rows[-1]) == (title, main, files)
+        super().program(title, main, files, reference)
         self.files, self.known = files, flow.Program(main, files)
 
     def report(self, title, method, lines=(), waits=(1, 2), options=(16, 64), said=()):

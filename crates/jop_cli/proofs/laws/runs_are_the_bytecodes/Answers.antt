@@ -1,5 +1,8 @@
 use Rattle.jop_cli.proofs.RunningLaw as law
 use Rattle.jop_cli.proofs.laws.runs_are_the_bytecodes.Goals as goal
 
-pub returns : goal.returns
-returns c = law.runs_are_the_bytecodes c.one_linked.ensures c.linked_images_are_read.ensures
+pub returns-clause-runs : goal.returns-clause-runs
+returns-clause-runs c = law.runs_are_the_bytecodes c.one_linked.ensures c.linked_images_are_read.ensures
+
+pub returns-clause-traces : goal.returns-clause-traces
+returns-clause-traces c = law.traces_are_the_runs c.one_linked.ensures c.linked_images_are_read.ensures

@@ -1,6 +1,0 @@
-use Rattle.jop_cli.proofs.CheckingLaw as law
-use Rattle.jop_cli.proofs.laws.checking_is_complete.Goals as goal
-
-pub returns : goal.returns
-returns c =
-    law.checking_is_complete c.gives_one.ensures c.read_is_not_refused.ensures c.has_one_certificate.ensures c.one_linked.ensures c.linked_images_are_read.ensures c.refused_is_not_met.ensures

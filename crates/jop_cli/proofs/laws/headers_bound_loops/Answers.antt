@@ -1,0 +1,11 @@
+use Rattle.jop_cli.proofs.NotedLaw as law
+use Rattle.jop_cli.proofs.laws.headers_bound_loops.Goals as goal
+
+pub returns-clause-taken : goal.returns-clause-taken
+returns-clause-taken c = law.header_files_are_taken c.header_files_are_read.ensures c.files_bound_headers.ensures.bounds
+
+pub returns-clause-bounds : goal.returns-clause-bounds
+returns-clause-bounds c = c.roots_have_lines.ensures
+
+pub returns-clause-kept : goal.returns-clause-kept
+returns-clause-kept c = law.noted_loops_are_kept c.found_loops_count.ensures c.files_bound_headers.ensures.sources c.loops_count.ensures.kept

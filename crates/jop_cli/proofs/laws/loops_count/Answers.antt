@@ -1,0 +1,9 @@
+use Rattle.jop_cli.proofs.LoopsLaw.{written_loops_count}
+use Rattle.jop_cli.proofs.CountedLaw.{counted_loops_are_kept}
+use Rattle.jop_cli.proofs.laws.loops_count.Goals as goal
+
+pub returns-clause-written : goal.returns-clause-written
+returns-clause-written c = written_loops_count c.found_loops_count.ensures
+
+pub returns-clause-kept : goal.returns-clause-kept
+returns-clause-kept c = counted_loops_are_kept c.places_tell_words.ensures c.steps_are_told.ensures c.counted_loops_of_runs.ensures
