@@ -7,8 +7,9 @@ What is a class file follows from the section of the JVM Specification (SE 8) th
 """
 import copy, struct, sys, os
 
-def u2(n): return struct.pack('>H', n)
-def u4(n): return struct.pack('>I', n)
+sys.path.append(os.path.join(os.path.dirname(os.path.abspath(__file__)), '..'))
+import class_writer as writer
+from class_writer import u2
 
 class Reader:
     def __init__(self, b): self.b, self.i = b, 0
@@ -38,14 +39,10 @@ class Class:
     def members(self, r):
         return [dict(flags=r.u2(), name=r.u2(), descriptor=r.u2(), attributes=self.attrs(r)) for _ in range(r.u2())]
     def bytes(self):
-        out = u4(0xCAFEBABE) + u2(self.minor) + u2(self.major) + u2(len(self.pool))
-        for e in self.pool:
-            if e: out += bytes([e[0]]) + (u2(len(e[1])) if e[0] == 1 else b'') + e[1]
-        out += u2(self.flags) + u2(self.this) + u2(self.super) + u2(len(self.interfaces)) + b''.join(map(u2, self.interfaces))
-        for ms in (self.fields, self.methods):
-            out += u2(len(ms))
-            for m in ms: out += u2(m['flags']) + u2(m['name']) + u2(m['descriptor']) + put_attrs(m['attributes'])
-        return out + put_attrs(self.attributes) + self.tail
+        entries = [bytes([e[0]]) + (u2(len(e[1])) if e[0] == 1 else b'') + e[1] for e in self.pool if e]
+        members = [[writer.member(m['flags'], m['name'], m['descriptor'], put_attrs(m['attributes'])) for m in ms] for ms in (self.fields, self.methods)]
+        return writer.class_file(u2(len(self.pool)) + b''.join(entries), self.flags, self.this, self.super, self.interfaces, *members, put_attrs(self.attributes),
+                                 (self.minor, self.major)) + self.tail
     def add(self, tag, data):
         self.pool.append([tag, data])
         if tag in (5, 6): self.pool.append(None); return len(self.pool) - 2
@@ -59,7 +56,7 @@ class Class:
     def method(self, name): return self.member('methods', name)
     def attribute(self, m, name): return next(a for a in m['attributes'] if self.of(a[0]) == name)
 
-def put_attrs(attrs): return u2(len(attrs)) + b''.join(u2(n) + u4(len(b)) + b for n, b in attrs)
+def put_attrs(attrs): return [writer.attribute(n, b) for n, b in attrs]
 
 class CodeParts:
     def __init__(self, data):
@@ -67,7 +64,7 @@ class CodeParts:
         self.code = r.take(r.u4()); self.handlers = [[r.u2() for _ in range(4)] for _ in range(r.u2())]
         self.attributes = [[r.u2(), r.take(r.u4())] for _ in range(r.u2())]
     def bytes(self):
-        return u2(self.stack) + u2(self.locals) + u4(len(self.code)) + self.code + u2(len(self.handlers)) + b''.join(u2(x) for h in self.handlers for x in h) + put_attrs(self.attributes)
+        return writer.code(self.stack, self.locals, self.code, self.handlers, put_attrs(self.attributes))
 
 rows = []
 def row(title, base, change=lambda c: None):

@@ -1,6 +1,6 @@
 """A cyclic executive, what `plan` says of its slots and what `cycle` tells of its run, worked out from the words of docs/formats.md.
 
-The class of the executive is written here, byte by byte. The program is linked by ../images, its methods are bounded by ../bounds, and the boundaries of its run are those of the plain simulator
+The class of the executive is written here over ../class_writer.py, and one of it byte by byte. The program is linked by ../images, its methods are bounded by ../bounds, and the boundaries of its run are those of the plain simulator
 (../plain.c), among which ../profiles finds the activations; nothing of `jop` is used.
 """
 import os
@@ -9,7 +9,8 @@ import sys
 from typing import NamedTuple
 
 HERE = os.path.dirname(os.path.abspath(__file__))
-sys.path[:0] = [os.path.join(HERE, part) for part in ('../profiles', '../bounds', '../graphs', '../../harness')]
+sys.path[:0] = [os.path.join(HERE, part) for part in ('../profiles', '../bounds', '../graphs', '..', '../../harness')]
+import class_writer as writer  # noqa: E402
 from simulated import Machine, Simulated, activations, refused  # noqa: E402, F401
 from study import Study, read_bounds  # noqa: E402
 
@@ -41,36 +42,6 @@ def table_of(slots):
 
 # ---- the class (JVM Specification SE 8, 4)
 
-class Pool:
-    """a constant pool in the order in which its entries are mentioned first, each in front of those that it names"""
-
-    def __init__(self):
-        self.keys, self.entries = [], {}
-
-    def index(self, key, make):
-        """the index of an entry; what it names is made behind it"""
-        if key not in self.keys:
-            self.keys.append(key)
-            self.entries[key] = make()
-        return self.keys.index(key) + 1
-
-    def text(self, text):
-        data = text.encode()
-        return self.index(('text', text), lambda: struct.pack('>BH', 1, len(data)) + data)
-
-    def cls(self, name):
-        return self.index(('class', name), lambda: struct.pack('>BH', 7, self.text(name)))
-
-    def pair(self, name, descriptor):
-        return self.index(('pair', name, descriptor), lambda: struct.pack('>BHH', 12, self.text(name), self.text(descriptor)))
-
-    def method(self, owner, name, descriptor):
-        return self.index(('method', owner, name, descriptor), lambda: struct.pack('>BHH', 10, self.cls(owner), self.pair(name, descriptor)))
-
-    def data(self):
-        return struct.pack('>H', len(self.keys) + 1) + b''.join(self.entries[key] for key in self.keys)
-
-
 def main_code(indexes, rounds):
     """iconst_0, istore_1; at 2 iload_1, sipush R, if_icmpge to the return; an invokestatic a slot; iinc 1 1, goto 2, return"""
     n = len(indexes)
@@ -86,26 +57,29 @@ def frames(n):
     return struct.pack('>H', 2) + bytes.fromhex('fc000201') + same
 
 
+def begun():
+    """the pool, in which each entry stands in front of those that it names, with what is asked for before the slots"""
+    pool = writer.Pool(front=True)
+    classes = pool.cls(EXECUTIVE), pool.cls('java/lang/Object')
+    return pool, classes, [pool.utf8(text) for text in ('main', '([Ljava/lang/String;)V', 'Code')]
+
+
+def indexes_in(pool, slots):
+    return [pool.member(10, *slot.parts(), '()V') for slot in slots]
+
+
 def executive(slots, rounds):
     """the class file of the executive: `Cyclic`, public, of version 50, with its main"""
-    pool = Pool()
-    this, above = pool.cls(EXECUTIVE), pool.cls('java/lang/Object')
-    name, descriptor, code_name = (pool.text(text) for text in ('main', '([Ljava/lang/String;)V', 'Code'))
-    code = main_code([pool.method(*slot.parts(), '()V') for slot in slots], rounds)
-    table = frames(len(slots))
-    inner = struct.pack('>HI', pool.text('StackMapTable'), len(table)) + table
-    body = struct.pack('>HHI', 2, 2, len(code)) + code + struct.pack('>HH', 0, 1) + inner
-    method = struct.pack('>HHHH', 0x0009, name, descriptor, 1) + struct.pack('>HI', code_name, len(body)) + body
-    front = struct.pack('>IHH', 0xCAFEBABE, 0, 50) + pool.data()
-    return front + struct.pack('>HHHHHH', 0x0021, this, above, 0, 0, 1) + method + struct.pack('>H', 0)
+    pool, classes, (name, descriptor, code_name) = begun()
+    code = main_code(indexes_in(pool, slots), rounds)
+    body = writer.code(2, 2, code, others=[writer.attribute(pool.utf8('StackMapTable'), frames(len(slots)))])
+    main = writer.member(0x0009, name, descriptor, [writer.attribute(code_name, body)])
+    return writer.class_file(pool.pool_bytes(), 0x0021, *classes, methods=[main], version=(0, 50))
 
 
 def method_index(slots, number):
     """the index of the method of a slot in the pool of the executive"""
-    pool = Pool()
-    for make in (lambda: pool.cls(EXECUTIVE), lambda: pool.cls('java/lang/Object'), lambda: pool.text('main'), lambda: pool.text('([Ljava/lang/String;)V'), lambda: pool.text('Code')):
-        make()
-    return [pool.method(*slot.parts(), '()V') for slot in slots][number]
+    return indexes_in(begun()[0], slots)[number]
 
 
 # The class of one slot, A.e()V, and three rounds, written out by hand.

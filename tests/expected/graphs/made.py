@@ -4,8 +4,13 @@ calls that are selected among classes, rings of calls.
 Each method takes two ints and an array of ints, in locals that keep their types, and has no operands where blocks of its code begin; a handler begins with what
 it catches. So a frame has the locals of the method's first one.
 """
+import os
 import random
 import struct
+import sys
+
+sys.path.append(os.path.join(os.path.dirname(os.path.abspath(__file__)), '..'))
+import class_writer as writer  # noqa: E402
 
 PUBLIC, PRIVATE, PROTECTED, STATIC, ABSTRACT, INTERFACE = 1, 2, 4, 8, 0x400, 0x601
 OBJECT, THROWABLE = 'java/lang/Object', 'java/lang/Throwable'
@@ -13,68 +18,38 @@ MAIN = '([Ljava/lang/String;)V'
 CAUGHT = [THROWABLE, THROWABLE, 'java/lang/Exception', 'java/lang/RuntimeException', 'java/lang/Error']
 
 
-class ClassFile:
+class ClassFile(writer.Pool):
     """a class file (4.1)"""
 
     def __init__(self, name, above=OBJECT, interfaces=(), flags=0x21, major=52):
-        self.entries, self.index, self.methods, self.fields = [], {}, [], []
+        super().__init__(pair_first=True)
+        self.methods, self.fields = [], []
         self.name, self.flags, self.major = name, flags, major
         self.this, self.above = self.cls(name), self.cls(above)
         self.interfaces = [self.cls(each) for each in interfaces]
 
-    def entry(self, data):
-        if data not in self.index:
-            self.entries.append(data)
-            self.index[data] = len(self.entries)
-        return self.index[data]
-
-    def utf8(self, text):
-        data = text.encode()
-        return self.entry(struct.pack('>BH', 1, len(data)) + data)
-
-    def cls(self, name):
-        return self.entry(struct.pack('>BH', 7, self.utf8(name)))
-
-    def int(self, value):
-        return self.entry(struct.pack('>Bi', 3, value))
-
-    def member(self, tag, owner, name, descriptor):
-        both = self.entry(struct.pack('>BHH', 12, self.utf8(name), self.utf8(descriptor)))
-        return self.entry(struct.pack('>BHH', tag, self.cls(owner), both))
-
     def field(self, flags, name, descriptor):
-        self.fields.append(struct.pack('>HHHH', flags, self.utf8(name), self.utf8(descriptor), 0))
+        self.fields.append(writer.member(flags, self.utf8(name), self.utf8(descriptor)))
 
     def constant(self, flags, name, value):
         """a field of an int, with a constant or without one"""
-        found = b'' if value is None else self.attribute('ConstantValue', struct.pack('>H', self.int(value)))
-        self.fields.append(struct.pack('>HHHH', flags, self.utf8(name), self.utf8('I'), value is not None) + found)
+        found = [] if value is None else [self.attribute('ConstantValue', writer.u2(self.int(value)))]
+        self.fields.append(writer.member(flags, self.utf8(name), self.utf8('I'), found))
 
     def method(self, flags, name, descriptor, body=None):
         """a method; its body is max_stack, max_locals, code, the exception table and the frames"""
-        data = struct.pack('>HHHH', flags, self.utf8(name), self.utf8(descriptor), 0)
-        if body is not None:
-            data = data[:-2] + struct.pack('>H', 1) + self.attribute('Code', self.code(*body))
-        self.methods.append(data)
+        named = self.utf8(name), self.utf8(descriptor)
+        self.methods.append(writer.member(flags, *named, [] if body is None else [self.attribute('Code', self.code(*body))]))
 
     def attribute(self, name, data):
-        return struct.pack('>HI', self.utf8(name), len(data)) + data
+        return writer.attribute(self.utf8(name), data)
 
     def code(self, stack, local, code, table, frames):
-        data = struct.pack('>HHI', stack, local, len(code)) + code
-        data += struct.pack('>H', len(table)) + b''.join(struct.pack('>HHHH', *entry) for entry in table)
-        if not frames:
-            return data + b'\0\0'
-        maps = struct.pack('>H', len(frames)) + b''.join(frames)
-        return data + struct.pack('>H', 1) + self.attribute('StackMapTable', maps)
+        maps = [self.attribute('StackMapTable', writer.u2(len(frames)) + b''.join(frames))] if frames else []
+        return writer.code(stack, local, code, table, maps)
 
     def data(self):
-        out = struct.pack('>HH', self.flags, self.this) + struct.pack('>HH', self.above, len(self.interfaces))
-        out += b''.join(struct.pack('>H', each) for each in self.interfaces)
-        for members in (self.fields, self.methods):
-            out += struct.pack('>H', len(members)) + b''.join(members)
-        front = struct.pack('>IHHH', 0xCAFEBABE, 0, self.major, len(self.entries) + 1) + b''.join(self.entries)
-        return front + out + b'\0\0'
+        return writer.class_file(self.pool_bytes(), self.flags, self.this, self.above, self.interfaces, self.fields, self.methods, version=(0, self.major))
 
 
 def frames_at(places):

@@ -1,44 +1,24 @@
-"""Writes small class files (JVM Specification SE 8, chapter 4), for the rows at the limits."""
-import struct
+"""Small class files, for the rows at the limits."""
+import os
+import sys
+
+sys.path.append(os.path.join(os.path.dirname(os.path.abspath(__file__)), '..'))
+import class_writer as writer  # noqa: E402
 
 
-class ClassFile:
+class ClassFile(writer.Pool):
     def __init__(self, flags, name, above='java/lang/Object', interfaces=()):
-        self.flags, self.interfaces, self.entries, self.index = flags, interfaces, [], {}
-        self.methods, self.fields = [], []
+        super().__init__(pair_first=True)
+        self.flags, self.methods, self.fields = flags, [], []
         self.name, self.above = self.cls(name), self.cls(above)
         self.interfaces = [self.cls(i) for i in interfaces]
 
-    def entry(self, data):
-        if data not in self.index:
-            self.entries.append(data)
-            self.index[data] = len(self.entries)
-        return self.index[data]
-
-    def utf8(self, text):
-        b = text.encode()
-        return self.entry(b'\x01' + struct.pack('>H', len(b)) + b)
-
-    def cls(self, name):
-        return self.entry(b'\x07' + struct.pack('>H', self.utf8(name)))
-
-    def string(self, text):
-        return self.entry(b'\x08' + struct.pack('>H', self.utf8(text)))
-
     def method(self, flags, name, descriptor, code=None, stack=2, local=1):
-        attributes = b'\0\0'
-        if code is not None:
-            body = struct.pack('>HHI', stack, local, len(code)) + code + b'\0\0\0\0'
-            attributes = struct.pack('>HHI', 1, self.utf8('Code'), len(body)) + body
-        self.methods.append(struct.pack('>HHH', flags, self.utf8(name), self.utf8(descriptor)) + attributes)
+        codes = [] if code is None else [writer.attribute(self.utf8('Code'), writer.code(stack, local, code))]
+        self.methods.append(writer.member(flags, self.utf8(name), self.utf8(descriptor), codes))
 
-    def data(self):
-        out = struct.pack('>IHHH', 0xCAFEBABE, 0, 52, len(self.entries) + 1) + b''.join(self.entries)
-        out += struct.pack('>HHHH', self.flags, self.name, self.above, len(self.interfaces)) + b''.join(struct.pack('>H', i) for i in self.interfaces)
-        for members in (self.fields, self.methods):
-            out += struct.pack('>H', len(members)) + b''.join(members)
-        out += b'\0\0'
-        return out
+    def data(self, version=(0, 52)):
+        return writer.class_file(self.pool_bytes(), self.flags, self.name, self.above, self.interfaces, self.fields, self.methods, version=version)
 
 
 def main_class(code=b''):

@@ -13,6 +13,7 @@ HERE = os.path.dirname(os.path.abspath(__file__))
 sys.path.insert(0, os.path.join(HERE, '../images'))
 import expected_image
 import worked
+import class_writer as writer
 from classfile import ClassFile
 
 MAIN = '([Ljava/lang/String;)V'
@@ -27,31 +28,19 @@ class Made(ClassFile):
         self.major = major
 
     def code(self, flags, name, descriptor, code, stack=2, local=1, table=(), frames=b'', count=0):
-        body = struct.pack('>HHI', stack, local, len(code)) + code + struct.pack('>H', len(table))
-        body += b''.join(struct.pack('>HHHH', *entry) for entry in table)
-        if frames:
-            maps = struct.pack('>H', count) + frames
-            body += struct.pack('>HHI', 1, self.utf8('StackMapTable'), len(maps)) + maps
-        else:
-            body += b'\0\0'
-        self.methods.append(struct.pack('>HHH', flags, self.utf8(name), self.utf8(descriptor)) + struct.pack('>HHI', 1, self.utf8('Code'), len(body)) + body)
+        maps = [writer.attribute(self.utf8('StackMapTable'), writer.u2(count) + frames)] if frames else []
+        named = self.utf8(name), self.utf8(descriptor)
+        self.methods.append(writer.member(flags, *named, [writer.attribute(self.utf8('Code'), writer.code(stack, local, code, table, maps))]))
         return self
 
     def field(self, flags, name, descriptor):
-        self.fields.append(struct.pack('>HHHH', flags, self.utf8(name), self.utf8(descriptor), 0))
-
-    def member(self, tag, owner, name, descriptor):
-        both = self.entry(b'\x0c' + struct.pack('>HH', self.utf8(name), self.utf8(descriptor)))
-        return self.entry(struct.pack('>BHH', tag, self.cls(owner), both))
+        self.fields.append(writer.member(flags, self.utf8(name), self.utf8(descriptor)))
 
     def main(self, code, **more):
         return self.code(PUBLIC_STATIC, 'main', MAIN, code, **more)
 
     def bytes(self):
-        out = struct.pack('>IHHH', 0xCAFEBABE, 0, self.major, len(self.entries) + 1) + b''.join(self.entries)
-        out += struct.pack('>HHHH', self.flags, self.name, self.above, 0)
-        out += struct.pack('>H', len(self.fields)) + b''.join(self.fields)
-        return out + struct.pack('>H', len(self.methods)) + b''.join(self.methods) + b'\0\0'
+        return self.data((0, self.major))
 
 
 def sum_of(data):

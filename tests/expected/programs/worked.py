@@ -20,7 +20,7 @@ def write(k):
 def division(Made):
     """writes -2147483648 / -1 byte by byte, and divides 1 by 0"""
     k = Made('A')
-    code = b'\x12' + bytes([k.entry(b'\x03\x80\0\0\0')]) + b'\x02\x6c\x3c'
+    code = b'\x12' + bytes([k.int(-2147483648)]) + b'\x02\x6c\x3c'
     for shift in (24, 16, 8, 0):
         code += b'\x1b\x10' + bytes([shift]) + b'\x7c' + write(k)
     return k.main(code + b'\x04\x03\x6c\x57\xb1', local=2).bytes()
@@ -100,7 +100,7 @@ def empty_switch(Made):
 def far_switch(Made):
     """a switch on 2147483647, which is its last key"""
     k = Made('A')
-    code = b'\x12' + bytes([k.entry(b'\x03\x7f\xff\xff\xff')]) + b'\xab\0' + struct.pack('>iiiiii', 26, 2, -2147483648, 27, 2147483647, 32) + b'\xb1'
+    code = b'\x12' + bytes([k.int(2147483647)]) + b'\xab\0' + struct.pack('>iiiiii', 26, 2, -2147483648, 27, 2147483647, 32) + b'\xb1'
     code += b'\x04' + write(k) + b'\xb1' + b'\x05' + write(k) + b'\xb1'
     return k.main(code, frames=b'\x1c\x00\x04', count=3).bytes()
 

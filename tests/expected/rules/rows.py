@@ -6,30 +6,16 @@
 What each row has to give was worked out by hand from the JVM Specification (SE 8), 4.7.3, 4.7.4, 4.9.1 and 4.10.1, and
 stands beside the row. The classes of javac are read from the folder OUT; make.sh compiles them.
 """
-import os, re, struct, subprocess, sys, tempfile
+import os, re, subprocess, sys, tempfile
 
-def u1(n): return struct.pack('>B', n)
-def u2(n): return struct.pack('>H', n)
-def u4(n): return struct.pack('>I', n & 0xffffffff)
+sys.path.append(os.path.join(os.path.dirname(os.path.abspath(__file__)), '..'))
+import class_writer as writer
+from class_writer import u1, u2, u4
 
-class Pool:
-    def __init__(self): self.entries, self.index, self.next = [], {}, 1
-    def put(self, key, data, size=1):
-        if key not in self.index:
-            self.index[key] = self.next; self.entries.append(data); self.next += size
-        return self.index[key]
-    def utf8(self, s): return self.put(('u', s), u1(1) + u2(len(s.encode())) + s.encode())
-    def cls(self, s): i = self.utf8(s); return self.put(('c', s), u1(7) + u2(i))
-    def int(self, n): return self.put(('i', n), u1(3) + u4(n))
-    def long(self, n): return self.put(('j', n), u1(5) + struct.pack('>q', n), 2)
-    def string(self, s): i = self.utf8(s); return self.put(('s', s), u1(8) + u2(i))
-    def nat(self, n, d): i, j = self.utf8(n), self.utf8(d); return self.put(('n', n, d), u1(12) + u2(i) + u2(j))
+class Pool(writer.Pool):
     def ref(self, tag, text):
-        owner, rest = text.split('.', 1)
-        m = re.match(r'([^(:]+)(?::)?(.*)', rest)
-        c, n = self.cls(owner), self.nat(m.group(1), m.group(2))
-        return self.put((tag, text), u1(tag) + u2(c) + u2(n))
-    def bytes(self): return u2(self.next) + b''.join(self.entries)
+        owner, name, descriptor = re.match(r'([^.]+)\.([^(:]+)(?::)?(.*)', text).groups()
+        return self.member(tag, owner, name, descriptor)
 
 def operand(pool, text):
     """What stands in braces: f a field, m a method, n an interface's method, c a class, i an int, j a long, s a string."""
@@ -47,27 +33,26 @@ def assemble(pool, text):
     return out
 
 def method(pool, name, flags, locals, stack, code, handlers=(), map=None):
-    n, d = re.match(r'([^(]+)(.*)', name).groups()
+    named = re.match(r'([^(]+)(.*)', name).groups()
     body = assemble(pool, code)
-    table = b''.join(u2(s) + u2(e) + u2(h) + u2(pool.cls(c) if c else 0) for s, e, h, c in handlers)
-    attributes = b''
+    table = [(s, e, h, pool.cls(c) if c else 0) for s, e, h, c in handlers]
+    maps = []
     if map is not None:
         data = assemble(pool, map)
-        attributes = u2(pool.utf8('StackMapTable')) + u4(len(data)) + data
-    attribute = u2(stack) + u2(locals) + u4(len(body)) + body + u2(len(handlers)) + table + u2(1 if map is not None else 0) + attributes
-    return u2(flags) + u2(pool.utf8(n)) + u2(pool.utf8(d)) + u2(1) + u2(pool.utf8('Code')) + u4(len(attribute)) + attribute
+        maps = [writer.attribute(pool.utf8('StackMapTable'), data)]
+    indexes = [pool.utf8(text) for text in named]
+    return writer.member(flags, *indexes, [writer.attribute(pool.utf8('Code'), writer.code(stack, locals, body, table, maps))])
 
 def classfile(name, parent='java/lang/Object', flags=0x21, fields=(), methods=(), interfaces=(), major=52):
     pool = Pool()
     this, above = pool.cls(name), pool.cls(parent)
     faces = [pool.cls(i) for i in interfaces]
-    fs = b''.join(u2(f) + u2(pool.utf8(n)) + u2(pool.utf8(d)) + u2(0) for f, n, d in fields)
-    ms = b''.join(m(pool) for m in methods)
-    return u4(0xCAFEBABE) + u2(0) + u2(major) + pool.bytes() + u2(flags) + u2(this) + u2(above) + u2(len(faces)) + b''.join(map(u2, faces)) \
-        + u2(len(fields)) + fs + u2(len(methods)) + ms + u2(0)
+    fs = [writer.member(f, pool.utf8(n), pool.utf8(d)) for f, n, d in fields]
+    ms = [m(pool) for m in methods]
+    return writer.class_file(pool.pool_bytes(), flags, this, above, faces, fs, ms, version=(0, major))
 
 def has(name, flags, locals, stack, code, handlers=(), map=None): return lambda pool: method(pool, name, flags, locals, stack, code, handlers, map)
-def abstract(name): return lambda pool: u2(0x401) + u2(pool.utf8(name.split('(')[0])) + u2(pool.utf8('(' + name.split('(')[1])) + u2(0)
+def abstract(name): return lambda pool: writer.member(0x401, *(pool.utf8(text) for text in re.match(r'([^(]+)(.*)', name).groups()))
 
 MAIN = has('main([Ljava/lang/String;)V', 9, 1, 0, 'b1')
 INIT = has('<init>()V', 1, 1, 1, '2a b7{mjava/lang/Object.<init>()V} b1')
