@@ -1,6 +1,6 @@
 -- An activation is of a method that the instruction before which it begins may run.
 use Rattle.std.proofs.Common.{◌≡◌, ℕ, ◌<◌, List, [], ◌∷◌, ◌++◌, length, Some, refl, sym, ap, ◌∙◌, subst, arith}
-use Rattle.lists.specs.Lemmas.{some_same}
+use Rattle.lists.proofs.Lemmas.{some_same}
 use Rattle.bytecode_model.specs.State.{Frame}
 use Rattle.bytecode_typing.specs.Fits.{IsGoing}
 use Rattle.method_flow.specs.Calls.{IsTarget}

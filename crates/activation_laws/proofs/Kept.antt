@@ -10,10 +10,11 @@ use Rattle.method_flow.specs.declared.timing.Timing.{Timing}
 use Rattle.activations.specs.Setting.{Setting, IsSetting}
 use Rattle.activations.specs.Activations.{Stage, Follows}
 use Rattle.activations.specs.Activations as boundaries
-use Rattle.activations.specs.Steps.{PlacesTellWords, StepsAreTold, HasTiming}
+use Rattle.activations.specs.Steps.{PlacesTellWords, StepsAreTold}
+use Rattle.activations.specs.Timing.{HasTiming}
 use Rattle.activations.specs.Warrant.{BoundsActivations}
 use Rattle.activation_laws.specs.Seen.{AreSeen, ActivationsAreSeen}
-use Rattle.activation_laws.specs.Profiled.{FirstHasTiming, IsKept, ProfilesKeepBounds}
+use Rattle.activation_laws.specs.Profiled.{FirstHasTiming, ProfileIsWithin, ProfilesKeepBounds}
 
 -- ---- the timing stays
 
@@ -70,7 +71,7 @@ module _ (m : ℕ) where
         | inr other ↦ subst M (sym (of_other x xs other)) later
       ]
 
-  row_kept : (bound : Option ℕ) (xs : List Activation) → AllKeep bound xs → IsKept (profile_of (of_method m xs)) bound
+  row_kept : (bound : Option ℕ) (xs : List Activation) → AllKeep bound xs → ProfileIsWithin (profile_of (of_method m xs)) bound
   row_kept None xs keep = ap length (none_ended xs keep)
   row_kept (Some most) xs keep = most_kept most xs keep
 

@@ -10,7 +10,7 @@ use Rattle.method_flow.specs.declared.timing.Timing.{Timing}
 use Rattle.method_flow.specs.Keeping.{BoundOf}
 use Rattle.activations.specs.Setting.{Setting, IsSetting, Stands}
 use Rattle.activations.specs.Activations.{Stage}
-use Rattle.activations.specs.Steps.{HasTiming}
+use Rattle.activations.specs.Timing.{HasTiming}
 use Rattle.activations.specs.Keeping.{Keeps}
 use Rattle.activations.specs.Warrant.{BoundsActivations}
 use Rattle.activation_laws.specs.Seen.{AreSeen, IsActivationIn}
@@ -39,12 +39,12 @@ abbrev pub EachKeeps : Setting → List Stage → BoundOf → (method : ℕ) →
 EachKeeps g stages bound_of m = (x : Activation) (is : IsActivationIn g stages x) → x.method ≡ m → Keeps bound_of is.is
 
 -- the greatest number of cycles is within the bound; where that is never, no activation ended
-abbrev pub IsKept : Profile → (bound : Option ℕ) → Type 0
-IsKept row bound = MatchOption bound (row.count ≡ 0) (λ most. row.most ≤ most)
+abbrev pub ProfileIsWithin : Profile → (bound : Option ℕ) → Type 0
+ProfileIsWithin row bound = MatchOption bound (row.count ≡ 0) (λ most. row.most ≤ most)
 
 -- A bound of a method is kept by what a profile tells of it, where each of its activations keeps the bounds of loops.
 abbrev pub ProfilesKeepBounds : Type 0
 ProfilesKeepBounds =
     (g : Setting) (stages : List Stage) (heres : List Here) (t : Timing) (bound_of : BoundOf) (m : ℕ) (bound : Option ℕ) → IsSetting g
     → AreSeen g stages heres → FirstHasTiming t stages → BoundsActivations g.program t bound_of m bound → EachKeeps g stages bound_of m
-    → IsKept (profile_of (of_method m (activations heres))) bound
+    → ProfileIsWithin (profile_of (of_method m (activations heres))) bound

@@ -4,7 +4,7 @@ use Rattle.std.specs.Prelude.{find}
 use Rattle.std.specs.Option.{option_to_list}
 use Rattle.std.proofs.lemmas.Bool.{cond-true, cond-false, cases_lt, cases_eq, eq-eqb, ne_eqb, lt-ltb, le-ltb, ltb-true}
 use Rattle.std.proofs.lemmas.List.{length-set, get_or-set_other, set_past, get_or_past, get_or-replicate, length-replicate}
-use Rattle.lists.specs.Lemmas.{none≢some}
+use Rattle.lists.proofs.Lemmas.{none≢some}
 use Rattle.run_follower.specs.declared.here.Here.{Here}
 use Rattle.activation_watch.specs.declared.activation.Begun.{Begun}
 use Rattle.activation_watch.specs.declared.activation.Activation.{Activation}

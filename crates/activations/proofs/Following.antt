@@ -32,7 +32,8 @@ use Rattle.method_flow.specs.declared.timing.Timing.{Timing}
 use Rattle.method_flow.specs.Costs.{params, IsOwnCost}
 use Rattle.activations.specs.Setting.{Setting, limits, IsSetting}
 use Rattle.activations.specs.Activations.{Stage, Follows}
-use Rattle.activations.specs.Steps.{HasTiming, AreWords, place_of, StepsAreTold}
+use Rattle.activations.specs.Steps.{AreWords, place_of, StepsAreTold}
+use Rattle.activations.specs.Timing.{HasTiming}
 
 -- ---- the machine
 

@@ -10,7 +10,8 @@ use Rattle.activations.specs.Setting.{Setting}
 use Rattle.activations.specs.Activations.{Stage, Follows, depth, StaysAbove, IsActivation}
 use Rattle.activations.specs.Stays.{IsTop, Stay}
 use Rattle.activations.specs.Stays.Stay.{leaves, goes, calls}
-use Rattle.activations.specs.Keeping.{node_at, stages_of, walk_of, LiesAmong, ChildrenKeep}
+use Rattle.activations.specs.Keeping.{node_at, stages_of, walk_of, LiesAmong}
+use Rattle.activations.specs.Children.{ChildrenKeep}
 use Rattle.activations.specs.Trees.{StaysKeep}
 use Rattle.activations.proofs.Staying.{left_of, left_depth, depth_is}
 use Rattle.activations.proofs.Nodes.{path_of, nodes_of}

@@ -6,7 +6,7 @@ use Rattle.bytecode_model.specs.declared.Ending.TheVariants.{Running, Raising, E
 use Rattle.bytecode_model.specs.State.{Frame}
 use Rattle.bytecode_typing.specs.Fits.{IsGoing}
 use Rattle.bytecode_typing.specs.Laws.{FittingStatesAreWellFormed}
-use Rattle.lists.specs.Lemmas.{some_same}
+use Rattle.lists.proofs.Lemmas.{some_same}
 use Rattle.machine_stands.specs.Comes.{top_method}
 use Rattle.method_flow.specs.Nodes.{At}
 use Rattle.method_flow.specs.Live.{LiveWalk}

@@ -4,7 +4,7 @@ use Rattle.std.specs.Prelude.{IsSome, is_some, if◌then◌else◌}
 use Rattle.std.proofs.lemmas.Option.{slice_get_within}
 use Rattle.base.specs.Packed.{words_of_bytes}
 use Rattle.bytecode_model.specs.Program.{Program, Body, body_of}
-use Rattle.lists.specs.Lemmas.{onto_some}
+use Rattle.lists.proofs.Lemmas.{onto_some}
 use Rattle.image_facts.specs.Places.{Places}
 use Rattle.activations.specs.Steps.{PlacesTellWords}
 

@@ -8,8 +8,6 @@ use Rattle.method_flow.specs.Shapes.{node_of}
 use Rattle.method_flow.specs.Keeping.{BoundOf, WalkKeeps}
 use Rattle.activations.specs.Setting.{Setting}
 use Rattle.activations.specs.Activations.{Stage, depth, IsActivation}
-use Rattle.activations.specs.Stays.{Stay}
-use Rattle.activations.specs.Stays.Stay.{leaves, goes, calls}
 
 -- the node at which the top frame stands
 abbrev pub node_of_top : Ending → List Frame → List ℕ
@@ -38,13 +36,3 @@ pub record LiesAmong {g : Setting} {m : ℕ} {a b : Stage} (inner : IsActivation
 pub record Keeps {g : Setting} {m : ℕ} {a b : Stage} (bound_of : BoundOf) (h : IsActivation g m a b) : Type 0 where
   pub own : WalkKeeps g.program bound_of m (walk_of h)
   pub inner : (m' : ℕ) (a' b' : Stage) (h' : IsActivation g m' a' b') → LiesAmong h' (stages_of h) → WalkKeeps g.program bound_of m' (walk_of h')
-
--- ---- along a tree
-
--- the walks of all frames that are made in a stay keep the bounds
-abbrev pub ChildrenKeep : {g : Setting} (bound_of : BoundOf) {callers : List Frame} {m : ℕ} {a b : Stage} {between : List Stage} {nodes : List ℕ}
-    → Stay g callers m a b between nodes → Type 0
-ChildrenKeep bound_of (leaves top follows left) = Unit {0}
-ChildrenKeep bound_of (goes top follows moves more) = ChildrenKeep bound_of more
-ChildrenKeep {g} bound_of (calls {vs = vs} top follows enters child more) =
-    WalkKeeps g.program bound_of enters.top.method vs × ChildrenKeep bound_of child × ChildrenKeep bound_of more

@@ -1,7 +1,9 @@
 pub mod Setting
 pub mod Activations
+pub mod Timing
 pub mod Steps
 pub mod Stays
 pub mod Keeping
+pub mod Children
 pub mod Trees
 pub mod Warrant

@@ -4,7 +4,6 @@ use Rattle.std.specs.declared.option.Option.{Option}
 use Rattle.base.specs.Packed.{words_of_bytes}
 use Rattle.method_cache.specs.Contents.{is_cached}
 use Rattle.cache_regions.specs.LookUps.{after, stall_of_loads}
-use Rattle.jop_core.specs.State as machine
 use Rattle.bytecode_model.specs.declared.Ending.TheVariants.{Running}
 use Rattle.bytecode_model.specs.State.{Frame}
 use Rattle.bytecode_model.specs.Program.{Program, Body, body_of}
@@ -15,15 +14,9 @@ use Rattle.method_flow.specs.Calls.{IsStartOf}
 use Rattle.method_flow.specs.declared.timing.Timing.{Timing}
 use Rattle.method_flow.specs.Costs.{IsOwnCost}
 use Rattle.method_flow.specs.Shapes.{node_of, FramesStep}
+use Rattle.activations.specs.Timing.{HasTiming}
 use Rattle.activations.specs.Setting.{Setting, IsSetting}
 use Rattle.activations.specs.Activations.{Stage, Follows}
-
--- the machine has these waits, and a method cache of these sizes
-pub record HasTiming (t : Timing) (m : machine.State) : Type 0 where
-  pub read : m.port.read ≡ t.read
-  pub write : m.port.write ≡ t.write
-  pub blocks : m.cache.blocks ≡ t.blocks
-  pub block_words : m.cache.block_words ≡ t.block_words
 
 -- the words of the methods' codes, by the methods' places in memory
 abbrev pub AreWords : Program → Places → (ℕ → List ℕ) → Type 0

@@ -8,7 +8,8 @@ use Rattle.method_flow.specs.Keeping.{BoundOf, WalkKeeps}
 use Rattle.activations.specs.Setting.{Setting, IsSetting}
 use Rattle.activations.specs.Activations.{Stage, IsActivation}
 use Rattle.activations.specs.Stays.{Stay}
-use Rattle.activations.specs.Keeping.{walk_of, Keeps, ChildrenKeep}
+use Rattle.activations.specs.Keeping.{walk_of, Keeps}
+use Rattle.activations.specs.Children.{ChildrenKeep}
 
 -- the invoke with which the activation begins, and the stay of the frame that it makes
 pub record Tree (g : Setting) (m : ℕ) (a b : Stage) (h : IsActivation g m a b) : Type 0 where

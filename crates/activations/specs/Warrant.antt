@@ -6,7 +6,7 @@ use Rattle.method_flow.specs.declared.timing.Timing.{Timing}
 use Rattle.method_flow.specs.Keeping.{BoundOf}
 use Rattle.activations.specs.Setting.{Setting, IsSetting}
 use Rattle.activations.specs.Activations.{Stage, IsActivation, cycles_of}
-use Rattle.activations.specs.Steps.{HasTiming}
+use Rattle.activations.specs.Timing.{HasTiming}
 use Rattle.activations.specs.Keeping.{Keeps}
 
 -- Every ended activation of the method, on whatever machine with this timing stands for a state of the program, and with whatever in its cache, takes

@@ -27,7 +27,7 @@ use Rattle.analysis_commands.specs.declared.analysis.Analysis.{Analysis}
 use Rattle.analysis_commands.specs.declared.bound.NotBounded.{NotBounded}
 use Rattle.analysis_commands.specs.declared.bound.NotBounded.TheVariants as refusals
 use Rattle.analysis_commands.specs.Analysis.{name_of, IsAnalysisOf}
-use Rattle.analysis_commands.specs.Bounding.{IsNamed, IsBoundBy, IsBound, IsBoundNumber, subject_of, IsForbidden, IsNotBounded}
+use Rattle.analysis_commands.specs.Bounding.{MethodHasName, IsBoundBy, IsCertText, IsBoundNumber, subject_of, IsForbidden, IsNotBounded}
 use Rattle.analysis_commands.specs.BoundAnswers.{IsAskedOf, IsCertificateOf, IsCauseOf, IsCertificateFor, IsSizeCauseOf, IsBoundText, IsBoundNumberOf, IsForbiddenBy, IsNotBoundedBy}
 use Rattle.analysis_commands.proofs.Lifting.{AreAlike, none, some, are_alike, named, moved}
 
@@ -105,21 +105,21 @@ named_in name have o q (none e f) coded h = absurd (true≢false (sym (subst (λ
 named_in name have o q (some k b e f is) coded h = subst (λ (x : Option Coded). IsSomeAnd x (λ k. k.name ≡ name)) (sym e) (is ∙ h)
 
 module _ (cs : List ClassFile) (f : Flow) (flow : IsFlowOf (resolved cs) f) (names : (m : ℕ) (k : Coded) → slice_get f.methods m ≡ Some k → k.name ≡ name_of cs m) (name : List ℕ) where
-  pub asked_out : (root : ℕ) → IsAsked (resolved cs) (IsNamedBy f name) root → IsAsked (resolved cs) (IsNamed cs name) root
+  pub asked_out : (root : ℕ) → IsAsked (resolved cs) (IsNamedBy f name) root → IsAsked (resolved cs) (MethodHasName cs name) root
   asked_out root h = record {
     coded = h.coded;
     not_boot = h.not_boot;
     is_named = named_out name (name_of cs root) (slice_get f.methods root) (body_of (resolved cs) root) (are_alike cs f flow names root) h.coded h.is_named;
   }
 
-  asked_in : (root : ℕ) → IsAsked (resolved cs) (IsNamed cs name) root → IsAsked (resolved cs) (IsNamedBy f name) root
+  asked_in : (root : ℕ) → IsAsked (resolved cs) (MethodHasName cs name) root → IsAsked (resolved cs) (IsNamedBy f name) root
   asked_in root h = record {
     coded = h.coded;
     not_boot = h.not_boot;
     is_named = named_in name (name_of cs root) (slice_get f.methods root) (body_of (resolved cs) root) (are_alike cs f flow names root) h.coded h.is_named;
   }
 
-  cause_out : (t : Timing) (b : BoundOf) (r : BoundRefusal) → IsCause (resolved cs) t b (IsNamedBy f name) r → IsCause (resolved cs) t b (IsNamed cs name) r
+  cause_out : (t : Timing) (b : BoundOf) (r : BoundRefusal) → IsCause (resolved cs) t b (IsNamedBy f name) r → IsCause (resolved cs) t b (MethodHasName cs name) r
   cause_out t b NoMethod h = λ root asked. h root (asked_in root asked)
   cause_out t b (Recursion cycle) h = (h.0, asked_out h.0 h.1, h.2)
   cause_out t b (Irreducible m nodes) h = (h.0, asked_out h.0 h.1, h.2, h.3)
@@ -127,13 +127,13 @@ module _ (cs : List ClassFile) (f : Flow) (flow : IsFlowOf (resolved cs) f) (nam
   cause_out t b (TooLarge m) h = (h.0, asked_out h.0 h.1, h.2, h.3, h.4, h.5)
   cause_out t b NoMemory h = tt
 
-  bound_out : (t : Timing) (b : BoundOf) (c : Certificate) → IsBoundBy (resolved cs) t b (IsNamedBy f name) c → IsBoundBy (resolved cs) t b (IsNamed cs name) c
+  bound_out : (t : Timing) (b : BoundOf) (c : Certificate) → IsBoundBy (resolved cs) t b (IsNamedBy f name) c → IsBoundBy (resolved cs) t b (MethodHasName cs name) c
   bound_out t b c h = record { asked = asked_out c.root h.asked; no_cause = h.no_cause; version = h.version; meets = h.meets; printed = h.printed }
 
 -- ---- the answers
 
 module _ (cs : List ClassFile) (s : Settings) (bounds_text : List ℕ) (a : Analysis) (is : IsAnalysisOf cs s bounds_text a) (name : List ℕ) where
-  bound : (text : List ℕ) → IsBoundText a name text → IsBound cs s bounds_text name text
+  bound : (text : List ℕ) → IsBoundText a name text → IsCertText cs s bounds_text name text
   bound text h =
       let by_table = bound_out cs a.flow is.flow is.names name a.timing (table.bounds_of a.flow a.bounds) h.certificate (h.is (resolved cs) is.flow) in
       record {
@@ -141,7 +141,7 @@ module _ (cs : List ClassFile) (s : Settings) (bounds_text : List ℕ) (a : Anal
         bounds = a.bounds;
         bounds_read = is.bounds;
         certificate = h.certificate;
-        is = moved cs s bounds_text a is (λ t b. IsBoundBy (resolved cs) t b (IsNamed cs name) h.certificate) by_table;
+        is = moved cs s bounds_text a is (λ t b. IsBoundBy (resolved cs) t b (MethodHasName cs name) h.certificate) by_table;
         reads = h.reads;
         text_is = h.text_is;
       }
@@ -154,7 +154,7 @@ module _ (cs : List ClassFile) (s : Settings) (bounds_text : List ℕ) (a : Anal
         bounds = a.bounds;
         bounds_read = is.bounds;
         certificate = h.certificate;
-        is = moved cs s bounds_text a is (λ t b. IsBoundBy (resolved cs) t b (IsNamed cs name) h.certificate) by_table;
+        is = moved cs s bounds_text a is (λ t b. IsBoundBy (resolved cs) t b (MethodHasName cs name) h.certificate) by_table;
         bound_is = h.bound_is;
       }
 
@@ -166,7 +166,7 @@ module _ (cs : List ClassFile) (s : Settings) (bounds_text : List ℕ) (a : Anal
         bounds = a.bounds;
         bounds_read = is.bounds;
         refusal = h.refusal;
-        is = moved cs s bounds_text a is (λ t b. IsCause (resolved cs) t b (IsNamed cs name) h.refusal) by_table;
+        is = moved cs s bounds_text a is (λ t b. IsCause (resolved cs) t b (MethodHasName cs name) h.refusal) by_table;
         cause_is = h.cause_is;
         subject_is = h.subject_is ∙ ap (λ (n : ℕ → List ℕ). subject_of n h.refusal) (fun_ext (named cs a.flow is.flow is.names));
       }
@@ -176,7 +176,7 @@ module _ (cs : List ClassFile) (s : Settings) (bounds_text : List ℕ) (a : Anal
   not_bounded (refusals.Forbidden cause subject) h = forbidden cause subject.items h
   not_bounded refusals.NoMemory h = tt
 
-  pub bound_ok : (r : Result (Vec ℕ Global) NotBounded) → IfOk r (λ text. IsBoundText a name text.items) → IfOk r (λ text. IsBound cs s bounds_text name text.items)
+  pub bound_ok : (r : Result (Vec ℕ Global) NotBounded) → IfOk r (λ text. IsBoundText a name text.items) → IfOk r (λ text. IsCertText cs s bounds_text name text.items)
   bound_ok (Ok text) h = bound text.items h
   bound_ok (Err refusal) h = tt
 

@@ -5,7 +5,7 @@ use Rattle.std.specs.Option.{option_map_or}
 use Rattle.std.proofs.Math.Path.{fun_ext}
 use Rattle.std.proofs.lemmas.Bool.{true≢false}
 use Rattle.std.proofs.lemmas.Option.{slice_get_within, slice_get_cases}
-use Rattle.lists.specs.Lemmas.{none≢some}
+use Rattle.lists.proofs.Lemmas.{none≢some}
 use Rattle.class_pool.specs.declared.class.ClassFile.{ClassFile}
 use Rattle.program_tables.specs.Resolved.{resolved}
 use Rattle.linked_methods.specs.declared.fitting.TooLong.{TooLong}
@@ -25,7 +25,7 @@ use Rattle.bound_cert.specs.Texts.{AreLinesOf}
 use Rattle.bound_rules.specs.declared.faults.CheckFault.{CheckFault}
 use Rattle.bound_rules.specs.declared.faults.CheckFault.TheVariants as faults
 use Rattle.bound_rules.specs.Conditions.{MeetsConditions}
-use Rattle.bound_rules.specs.Refused.{IsRefused, IsRefusedOrMemory}
+use Rattle.bound_rules.specs.Refused.{IsCertRefused, IsRefusedOrMemory}
 use Rattle.analysis_commands.specs.declared.analysis.Analysis.{Analysis}
 use Rattle.analysis_commands.specs.declared.analysis.AnalysisFault.{AnalysisFault}
 use Rattle.analysis_commands.specs.declared.analysis.AnalysisFault.TheVariants.{MethodTooLong, BadBounds, TwiceBound, NoMemory}
@@ -33,7 +33,7 @@ use Rattle.analysis_commands.specs.declared.check.Held.{Held}
 use Rattle.analysis_commands.specs.declared.check.CheckRefusal.{CheckRefusal}
 use Rattle.analysis_commands.specs.declared.check.CheckRefusal.TheVariants as check
 use Rattle.analysis_commands.specs.Analysis.{EachFits, timing_of, name_of, number_text, named_or_number, bounds_of, IsAnalysisOf, IsBoundsFault, IsAnalysisFault}
-use Rattle.analysis_commands.specs.Checking.{method_of, ReadsBoth, IsHeld, IsRefusal}
+use Rattle.analysis_commands.specs.Checking.{method_of, ReadsBoth, IsHeld, IsCheckRefusal}
 use Rattle.analysis_commands.specs.Answers.{table_name, IsTooLong, IsHeldInText, IsTextFault, FailsInText, IsRefusedInText}
 
 -- ---- a method of the table and the program's
@@ -133,7 +133,7 @@ analysed_ok cs s text f t (Err fault) flow names fits timing parts = tt
 
 -- ---- the conditions
 
-not_memory : (P : Program) (t : Timing) (b : BoundOf) (c : Certificate) (fault : CheckFault) (m : ℕ) → method_of fault ≡ Some m → IsRefusedOrMemory P t b c fault → IsRefused P t b c fault
+not_memory : (P : Program) (t : Timing) (b : BoundOf) (c : Certificate) (fault : CheckFault) (m : ℕ) → method_of fault ≡ Some m → IsRefusedOrMemory P t b c fault → IsCertRefused P t b c fault
 not_memory P t b c (faults.Missing n) m e h = h
 not_memory P t b c (faults.Member n u) m e h = h
 not_memory P t b c (faults.Edge n u v) m e h = h
@@ -166,13 +166,13 @@ module _ (cs : List ClassFile) (s : Settings) (bounds_text : List ℕ) (a : Anal
         bound = t.held.bound;
       }
 
-  text_refused : (cert_text : List ℕ) (r : CheckRefusal) → IsTextFault cert_text r → IsRefusal cs s bounds_text cert_text r
+  text_refused : (cert_text : List ℕ) (r : CheckRefusal) → IsTextFault cert_text r → IsCheckRefusal cs s bounds_text cert_text r
   text_refused cert_text (check.NoAnalysis fault) h = absurd h
   text_refused cert_text (check.BadCert line) h = (is.codes_fit, record { bounds = a.bounds; bounds_read = is.bounds; first = h })
   text_refused cert_text (check.Fails fault name) h = absurd h
   text_refused cert_text check.NoMemory h = tt
 
-  fails : (cert_text : List ℕ) (r : CheckRefusal) → FailsInText a cert_text r → IsRefusal cs s bounds_text cert_text r
+  fails : (cert_text : List ℕ) (r : CheckRefusal) → FailsInText a cert_text r → IsCheckRefusal cs s bounds_text cert_text r
   fails cert_text (check.NoAnalysis fault) h = absurd h.refused
   fails cert_text (check.BadCert line) h = absurd h.refused
   fails cert_text (check.Fails fault name) h =
@@ -182,19 +182,19 @@ module _ (cs : List ClassFile) (s : Settings) (bounds_text : List ℕ) (a : Anal
           bounds = a.bounds;
           certificate = c;
           reads = reads cert_text c h.read;
-          refused = moved (λ t b. IsRefused (resolved cs) t b c fault) (not_memory (resolved cs) a.timing (table.bounds_of a.flow a.bounds) c fault m h.refused.1 (h.refused.2 (resolved cs) is.flow));
+          refused = moved (λ t b. IsCertRefused (resolved cs) t b c fault) (not_memory (resolved cs) a.timing (table.bounds_of a.flow a.bounds) c fault m h.refused.1 (h.refused.2 (resolved cs) is.flow));
         },
         h.refused.3 ∙ (named cs a.flow is.flow is.names m ∙ ap (λ (o : Option ℕ). option_map_or (named_or_number cs) o []) (sym h.refused.1)),
       )
   fails cert_text check.NoMemory h = tt
 
-  refused : (cert_text : List ℕ) (r : CheckRefusal) → IsRefusedInText a cert_text r → IsRefusal cs s bounds_text cert_text r
+  refused : (cert_text : List ℕ) (r : CheckRefusal) → IsRefusedInText a cert_text r → IsCheckRefusal cs s bounds_text cert_text r
   refused cert_text r h = ⊎_elim (text_refused cert_text r) (fails cert_text r) h
 
 pub held_ok : (cs : List ClassFile) (s : Settings) (bounds_text cert_text : List ℕ) (a : Analysis) (r : Result Held CheckRefusal) → IsAnalysisOf cs s bounds_text a → IfOk r (IsHeldInText a cert_text) → IfOk r (IsHeld cs s bounds_text cert_text)
 held_ok cs s bounds_text cert_text a (Ok h) is t = held cs s bounds_text a is cert_text h t
 held_ok cs s bounds_text cert_text a (Err refusal) is t = tt
 
-pub refused_err : (cs : List ClassFile) (s : Settings) (bounds_text cert_text : List ℕ) (a : Analysis) (r : Result Held CheckRefusal) → IsAnalysisOf cs s bounds_text a → IfErr r (IsRefusedInText a cert_text) → IfErr r (IsRefusal cs s bounds_text cert_text)
+pub refused_err : (cs : List ClassFile) (s : Settings) (bounds_text cert_text : List ℕ) (a : Analysis) (r : Result Held CheckRefusal) → IsAnalysisOf cs s bounds_text a → IfErr r (IsRefusedInText a cert_text) → IfErr r (IsCheckRefusal cs s bounds_text cert_text)
 refused_err cs s bounds_text cert_text a (Ok h) is t = tt
 refused_err cs s bounds_text cert_text a (Err refusal) is t = refused cs s bounds_text a is cert_text refusal t

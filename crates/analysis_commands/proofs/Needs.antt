@@ -18,7 +18,7 @@ use Rattle.analysis_commands.specs.declared.memory.MemoryRefusal.{MemoryRefusal}
 use Rattle.analysis_commands.specs.declared.memory.MemoryRefusal.TheVariants as refusals
 use Rattle.analysis_commands.specs.Analysis.{name_of, bounds_of, named_or_number}
 use Rattle.analysis_commands.specs.Answers.{table_name}
-use Rattle.analysis_commands.specs.Memory.{IsGiven, IsBadSizes, IsBadText, IsNoNeedBy, IsNeedBy, IsNotMetBy, IsNeed, IsMemoryRefusal}
+use Rattle.analysis_commands.specs.Memory.{IsGivenBy, IsBadSizes, IsBadText, IsNoNeedBy, IsNeedBy, IsNotMetBy, IsNeed, IsMemoryRefusal}
 use Rattle.analysis_commands.proofs.Lifting.{bounds_same, named}
 
 -- ---- the texts
@@ -32,7 +32,7 @@ sizes_bad bounds_text sizes_text bounds (refusals.TwiceSize line) read h = ((bou
 sizes_bad bounds_text sizes_text bounds (refusals.NoNeed cause subject) read h = absurd h
 sizes_bad bounds_text sizes_text bounds refusals.NoMemory read h = tt
 
-pub given_ok : (bounds_text sizes_text : List ℕ) (bounds : List LoopBound) (r : Result Given MemoryRefusal) → IsRead bounds_text bounds → IfOk r (λ g. (g.bounds ≡ bounds) × IsReadLengths sizes_text g.lengths) → IfOk r (IsGiven bounds_text sizes_text)
+pub given_ok : (bounds_text sizes_text : List ℕ) (bounds : List LoopBound) (r : Result Given MemoryRefusal) → IsRead bounds_text bounds → IfOk r (λ g. (g.bounds ≡ bounds) × IsReadLengths sizes_text g.lengths) → IfOk r (IsGivenBy bounds_text sizes_text)
 given_ok bounds_text sizes_text bounds (Ok g) read h = record { bounds = subst (IsRead bounds_text) (sym h.0) read; lengths = h.1 }
 given_ok bounds_text sizes_text bounds (Err refusal) read h = tt
 
@@ -72,7 +72,7 @@ module _ (cs : List ClassFile) (f : Flow) (flow : IsFlowOf (resolved cs) f) (nam
 
 -- ---- the answers
 
-module _ (cs : List ClassFile) (bounds_text sizes_text : List ℕ) (given : Given) (is : IsGiven bounds_text sizes_text given) where
+module _ (cs : List ClassFile) (bounds_text sizes_text : List ℕ) (given : Given) (is : IsGivenBy bounds_text sizes_text given) where
   pub answer_ok : (r : Result Need MemoryRefusal) → IfOk r (IsNeedBy (resolved cs) (bounds_of cs given.bounds) (bounds_of cs given.lengths)) → IfOk r (IsNeed cs bounds_text sizes_text)
   answer_ok (Ok n) h = record { given = given; is_given = is; is = h }
   answer_ok (Err refusal) h = tt

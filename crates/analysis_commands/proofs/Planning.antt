@@ -6,12 +6,12 @@ use Rattle.std.proofs.Math.Path.{fun_ext}
 use Rattle.std.proofs.lemmas.Bool.{true≢false, cases_order, eqb-true}
 use Rattle.std.proofs.lemmas.List.Elements.{All-get_or, All-contains}
 use Rattle.std.proofs.lemmas.Option.{slice_get_within, get_or_from_slice_get}
-use Rattle.lists.specs.Lemmas.{none≢some, some_same, some_is, holds_at, some_in}
+use Rattle.lists.proofs.Lemmas.{none≢some, some_same, some_is, holds_at, some_in}
 use Rattle.lists.specs.Members.{at_head, in_tail, cons_cases, nil_contains, map_contains}
 use Rattle.class_pool.specs.declared.class.ClassFile.{ClassFile}
 use Rattle.program_tables.specs.Resolved.{resolved}
 use Rattle.section_check.specs.Least.{IsLeast}
-use Rattle.section_check.specs.LeastLemmas.{least_same}
+use Rattle.section_check.proofs.LeastLemmas.{least_same}
 use Rattle.slot_table.specs.Executive.{call_place}
 use Rattle.bytecode_model.specs.Program.{Program, Body, body_of}
 use Rattle.method_flow.specs.declared.flow.Call.{Call}

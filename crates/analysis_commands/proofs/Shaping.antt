@@ -8,7 +8,7 @@ use Rattle.std.proofs.Math.Nat.{mul-le-mul_left}
 use Rattle.std.proofs.lemmas.List.{take_more}
 use Rattle.std.proofs.lemmas.Grind.{div_ceil_times}
 use Rattle.std.proofs.lemmas.List.Elements.{All-nil, All-cons, All-append}
-use Rattle.lists.specs.Lemmas.{none≢some, some_same}
+use Rattle.lists.proofs.Lemmas.{none≢some, some_same}
 use Rattle.base.specs.Packed.{words_for}
 use Rattle.class_pool.specs.declared.class.ClassFile.{ClassFile}
 use Rattle.program_tables.specs.Resolved.{resolved}
@@ -31,8 +31,8 @@ use Rattle.analysis_commands.specs.declared.shapes.Shape.{Shape}
 use Rattle.analysis_commands.specs.declared.shapes.ShapeBound.{ShapeBound}
 use Rattle.analysis_commands.specs.declared.shapes.ShapeBound.TheVariants as found
 use Rattle.analysis_commands.specs.Analysis.{EachFits, timing_of, bounds_of, IsAnalysisFault}
-use Rattle.analysis_commands.specs.Bounding.{IsNamed, cause_of, IsForbidden, IsNotBounded}
-use Rattle.analysis_commands.specs.Shapes.{IsShape, with_shape, shape_with, widest, block_sizes, block_counts, all_shapes, shape_line, shape_lines, of_shape, IsShapeBound, AreLinesOf, IsShapeRefusal}
+use Rattle.analysis_commands.specs.Bounding.{MethodHasName, cause_of, IsForbidden, IsNotBounded}
+use Rattle.analysis_commands.specs.Shapes.{IsShape, with_shape, shape_with, widest, block_sizes, block_counts, all_shapes, shape_line, shape_lines, of_shape, IsShapeBound, AreLinesOfShapes, IsShapeRefusal}
 
 -- ---- settings
 
@@ -143,7 +143,7 @@ module _ (cs : List ClassFile) (s : Settings) (text name : List ℕ) (shape : Sh
     bounds = h.bounds;
     bounds_read = h.bounds_read;
     refusal = h.refusal;
-    is = keeps (resolved cs) (timing_of (with_shape s shape)) (timing_of (with_shape s widest)) (bounds_of cs h.bounds) (IsNamed cs name) h.refusal cause subject h.cause_is none h.is;
+    is = keeps (resolved cs) (timing_of (with_shape s shape)) (timing_of (with_shape s widest)) (bounds_of cs h.bounds) (MethodHasName cs name) h.refusal cause subject h.cause_is none h.is;
     cause_is = h.cause_is;
     subject_is = h.subject_is;
   }
@@ -195,13 +195,13 @@ zipped (x ∷ xs) ys [] cs R zip more = absurd zip
 zipped (x ∷ xs) ys (b ∷ bs) cs R zip more = (zip.0, zipped xs ys bs cs R zip.1 more)
 
 module _ (cs : List ClassFile) (s : Settings) (text name : List ℕ) where
-  pub none_yet : AreLinesOf cs s text name [] []
+  pub none_yet : AreLinesOfShapes cs s text name [] []
   none_yet = record { bounds = []; each = tt; text_is = refl }
 
-  pub one : (shape : Shape) (bound : ShapeBound) (line : List ℕ) → IsShapeBound cs (with_shape s shape) text name bound → line ≡ shape_line shape bound → AreLinesOf cs s text name (shape ∷ []) line
+  pub one : (shape : Shape) (bound : ShapeBound) (line : List ℕ) → IsShapeBound cs (with_shape s shape) text name bound → line ≡ shape_line shape bound → AreLinesOfShapes cs s text name (shape ∷ []) line
   one shape bound line is e = record { bounds = bound ∷ []; each = (is, tt); text_is = e ∙ sym (append-nil (shape_line shape bound)) }
 
-  pub joined : (xs ys : List Shape) (front back all : List ℕ) → AreLinesOf cs s text name xs front → AreLinesOf cs s text name ys back → all ≡ front ++ back → AreLinesOf cs s text name (xs ++ ys) all
+  pub joined : (xs ys : List Shape) (front back all : List ℕ) → AreLinesOfShapes cs s text name xs front → AreLinesOfShapes cs s text name ys back → all ≡ front ++ back → AreLinesOfShapes cs s text name (xs ++ ys) all
   joined xs ys front back all first later e =
       let R : Shape → ShapeBound → Type 0 = λ shape bound. IsShapeBound cs (with_shape s shape) text name bound in
       record {
@@ -211,13 +211,13 @@ module _ (cs : List ClassFile) (s : Settings) (text name : List ℕ) where
       }
 
   -- one line more
-  pub longer : (xs : List Shape) (k : ℕ) (other : Shape) (front line all : List ℕ) → k < length xs → AreLinesOf cs s text name (take k xs) front → AreLinesOf cs s text name (get_or xs k other ∷ []) line → all ≡ front ++ line
-      → AreLinesOf cs s text name (take (k + 1) xs) all
+  pub longer : (xs : List Shape) (k : ℕ) (other : Shape) (front line all : List ℕ) → k < length xs → AreLinesOfShapes cs s text name (take k xs) front → AreLinesOfShapes cs s text name (get_or xs k other ∷ []) line → all ≡ front ++ line
+      → AreLinesOfShapes cs s text name (take (k + 1) xs) all
   longer xs k other front line all below first later e =
-      let P : List Shape → Type 0 = λ ys. AreLinesOf cs s text name ys all in
+      let P : List Shape → Type 0 = λ ys. AreLinesOfShapes cs s text name ys all in
       subst P (sym (take_more xs k other below)) (joined (take k xs) (get_or xs k other ∷ []) front line all first later e)
 
   pub line_ok : (shape : Shape) (u : Settings) (bound : ShapeBound) (r : Result (Vec ℕ Global) NotBounded) → u ≡ with_shape s shape → IsShapeBound cs u text name bound → IfOk r (λ line. line.items ≡ shape_line shape bound)
-      → IfOk r (λ line. AreLinesOf cs s text name (shape ∷ []) line.items)
+      → IfOk r (λ line. AreLinesOfShapes cs s text name (shape ∷ []) line.items)
   line_ok shape u bound (Ok line) e is h = one shape bound line.items (subst (λ (v : Settings). IsShapeBound cs v text name bound) e is) h
   line_ok shape u bound (Err r) e is h = tt

@@ -4,13 +4,13 @@ use Rattle.ascii_text.specs.Line.{lines_of as text_lines}
 use Rattle.method_flow.specs.Flow.{Flow}
 use Rattle.node_costs.specs.Costs.{bounds_of}
 use Rattle.bound_cert.specs.Certificate.{Certificate}
-use Rattle.bound_cert.specs.Texts.{AreLinesOf, IsFirstRefused}
+use Rattle.bound_cert.specs.Texts.{AreLinesOf, IsFirstRefusedLine}
 use Rattle.bound_rules.specs.declared.faults.CheckFault.TheVariants as faults
 use Rattle.cert_checker.specs.Answer.{Meets, Refuses}
 use Rattle.analysis_commands.specs.declared.analysis.Analysis.{Analysis}
 use Rattle.linked_methods.specs.declared.fitting.TooLong.{TooLong}
 use Rattle.analysis_commands.specs.declared.analysis.AnalysisFault.{AnalysisFault}
-use Rattle.analysis_commands.specs.declared.analysis.AnalysisFault.TheVariants.{MethodTooLong, BadBounds, TwiceBound, NoMemory as Spent}
+use Rattle.analysis_commands.specs.declared.analysis.AnalysisFault.TheVariants.{MethodTooLong, BadBounds, TwiceBound, NoMemory as WithoutMemory}
 use Rattle.analysis_commands.specs.declared.check.Held.{Held}
 use Rattle.analysis_commands.specs.declared.check.CheckRefusal.{CheckRefusal}
 use Rattle.analysis_commands.specs.declared.check.CheckRefusal.TheVariants.{NoAnalysis, BadCert, Fails, NoMemory}
@@ -26,7 +26,7 @@ abbrev pub IsTooLong : Flow → TooLong → AnalysisFault → Type 0
 IsTooLong f long (MethodTooLong m name blocks) = (m ≡ long.method) × (blocks ≡ long.blocks) × (name.items ≡ table_name f m)
 IsTooLong f long (BadBounds line) = ⊥
 IsTooLong f long (TwiceBound line) = ⊥
-IsTooLong f long Spent = Unit {0}
+IsTooLong f long WithoutMemory = Unit {0}
 
 -- ---- the conditions
 
@@ -50,7 +50,7 @@ IsRefusedBy a c NoMemory = Unit {0}
 -- why a text is no certificate
 abbrev pub IsTextFault : (text : List ℕ) → CheckRefusal → Type 0
 IsTextFault text (NoAnalysis fault) = ⊥
-IsTextFault text (BadCert line) = IsFirstRefused (text_lines text) line
+IsTextFault text (BadCert line) = IsFirstRefusedLine (text_lines text) line
 IsTextFault text (Fails fault name) = ⊥
 IsTextFault text NoMemory = Unit {0}
 

@@ -24,8 +24,8 @@ use Rattle.analysis_commands.specs.declared.bound.NotBounded.TheVariants as refu
 use Rattle.analysis_commands.specs.Analysis.{EachFits, timing_of, bounds_of, name_of, named_or_number, IsBoundsFault, IsAnalysisFault}
 
 -- the method has the name
-abbrev pub IsNamed : List ClassFile → (name : List ℕ) → (method : ℕ) → Type 0
-IsNamed cs name m = name_of cs m ≡ name
+abbrev pub MethodHasName : List ClassFile → (name : List ℕ) → (method : ℕ) → Type 0
+MethodHasName cs name m = name_of cs m ≡ name
 
 -- ---- the certificate
 
@@ -39,12 +39,12 @@ pub record IsBoundBy (P : Program) (t : Timing) (bound_of : BoundOf) (named : �
   pub printed : IsPrinted P t bound_of c.root c.bound
 
 -- each code fits the method cache, these are the bounds of a text, and the other text is that of such a certificate of a method of this name
-pub record IsBound (cs : List ClassFile) (s : Settings) (bounds_text name text : List ℕ) : Type 0 where
+pub record IsCertText (cs : List ClassFile) (s : Settings) (bounds_text name text : List ℕ) : Type 0 where
   pub codes_fit : EachFits s cs
   pub bounds : List LoopBound
   pub bounds_read : IsRead bounds_text bounds
   pub certificate : Certificate
-  pub is : IsBoundBy (resolved cs) (timing_of s) (bounds_of cs bounds) (IsNamed cs name) certificate
+  pub is : IsBoundBy (resolved cs) (timing_of s) (bounds_of cs bounds) (MethodHasName cs name) certificate
   pub reads : AreLinesOf (text_lines text) certificate
   pub text_is : text ≡ text_of certificate
 
@@ -54,7 +54,7 @@ pub record IsBoundNumber (cs : List ClassFile) (s : Settings) (bounds_text name 
   pub bounds : List LoopBound
   pub bounds_read : IsRead bounds_text bounds
   pub certificate : Certificate
-  pub is : IsBoundBy (resolved cs) (timing_of s) (bounds_of cs bounds) (IsNamed cs name) certificate
+  pub is : IsBoundBy (resolved cs) (timing_of s) (bounds_of cs bounds) (MethodHasName cs name) certificate
   pub bound_is : bound ≡ certificate.bound
 
 -- ---- the refusals
@@ -83,7 +83,7 @@ pub record IsForbidden (cs : List ClassFile) (s : Settings) (bounds_text name : 
   pub bounds : List LoopBound
   pub bounds_read : IsRead bounds_text bounds
   pub refusal : BoundRefusal
-  pub is : IsCause (resolved cs) (timing_of s) (bounds_of cs bounds) (IsNamed cs name) refusal
+  pub is : IsCause (resolved cs) (timing_of s) (bounds_of cs bounds) (MethodHasName cs name) refusal
   pub cause_is : cause_of refusal ≡ Some cause
   pub subject_is : subject ≡ subject_of (named_or_number cs) refusal
 

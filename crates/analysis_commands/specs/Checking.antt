@@ -8,11 +8,11 @@ use Rattle.ascii_text.specs.Line.{lines_of as text_lines}
 use Rattle.loop_bounds.specs.Bounds.{LoopBound}
 use Rattle.loop_bounds.specs.Grammar.{IsRead}
 use Rattle.bound_cert.specs.Certificate.{Certificate}
-use Rattle.bound_cert.specs.Texts.{AreLinesOf, IsFirstRefused}
+use Rattle.bound_cert.specs.Texts.{AreLinesOf, IsFirstRefusedLine}
 use Rattle.bound_rules.specs.declared.faults.CheckFault.{CheckFault}
 use Rattle.bound_rules.specs.declared.faults.CheckFault.TheVariants as faults
 use Rattle.bound_rules.specs.Conditions.{MeetsConditions}
-use Rattle.bound_rules.specs.Refused.{IsRefused}
+use Rattle.bound_rules.specs.Refused.{IsCertRefused}
 use Rattle.analysis_commands.specs.declared.check.Held.{Held}
 use Rattle.analysis_commands.specs.declared.check.CheckRefusal.{CheckRefusal}
 use Rattle.analysis_commands.specs.declared.check.CheckRefusal.TheVariants.{NoAnalysis, BadCert, Fails, NoMemory}
@@ -56,20 +56,20 @@ pub record FailsBy (cs : List ClassFile) (s : Settings) (bounds_text cert_text :
   pub bounds : List LoopBound
   pub certificate : Certificate
   pub reads : ReadsBoth cs s bounds_text cert_text bounds certificate
-  pub refused : IsRefused (resolved cs) (timing_of s) (bounds_of cs bounds) certificate fault
+  pub refused : IsCertRefused (resolved cs) (timing_of s) (bounds_of cs bounds) certificate fault
 
 -- the bounds are read, and this is the first line with which no certificate begins
 pub record IsBadCert (bounds_text cert_text : List ℕ) (line : ℕ) : Type 0 where
   pub bounds : List LoopBound
   pub bounds_read : IsRead bounds_text bounds
-  pub first : IsFirstRefused (text_lines cert_text) line
+  pub first : IsFirstRefusedLine (text_lines cert_text) line
 
 -- why nothing is held, in this order: the methods, the bounds, the certificate, the conditions
-abbrev pub IsRefusal : List ClassFile → Settings → (bounds_text cert_text : List ℕ) → CheckRefusal → Type 0
-IsRefusal cs s bounds_text cert_text (NoAnalysis fault) = IsAnalysisFault cs s bounds_text fault
-IsRefusal cs s bounds_text cert_text (BadCert line) = EachFits s cs × IsBadCert bounds_text cert_text line
-IsRefusal cs s bounds_text cert_text (Fails fault name) = FailsBy cs s bounds_text cert_text fault × (name.items ≡ fault_name cs fault)
-IsRefusal cs s bounds_text cert_text NoMemory = Unit {0}
+abbrev pub IsCheckRefusal : List ClassFile → Settings → (bounds_text cert_text : List ℕ) → CheckRefusal → Type 0
+IsCheckRefusal cs s bounds_text cert_text (NoAnalysis fault) = IsAnalysisFault cs s bounds_text fault
+IsCheckRefusal cs s bounds_text cert_text (BadCert line) = EachFits s cs × IsBadCert bounds_text cert_text line
+IsCheckRefusal cs s bounds_text cert_text (Fails fault name) = FailsBy cs s bounds_text cert_text fault × (name.items ≡ fault_name cs fault)
+IsCheckRefusal cs s bounds_text cert_text NoMemory = Unit {0}
 
 -- ---- a bare image, which has no classes
 

@@ -25,7 +25,7 @@ use Rattle.analysis_commands.specs.Analysis.{bounds_of, named_or_number}
 -- ---- the texts
 
 -- these are the bounds and the lengths of two texts
-pub record IsGiven (bounds_text sizes_text : List ℕ) (g : Given) : Type 0 where
+pub record IsGivenBy (bounds_text sizes_text : List ℕ) (g : Given) : Type 0 where
   pub bounds : IsRead bounds_text g.bounds
   pub lengths : IsReadLengths sizes_text g.lengths
 
@@ -61,7 +61,7 @@ pub record IsNeedBy (P : Program) (bounds lengths : BoundOf) (need : Need) : Typ
 -- the texts give bounds and lengths, and with them a run needs so much
 pub record IsNeed (cs : List ClassFile) (bounds_text sizes_text : List ℕ) (need : Need) : Type 0 where
   pub given : Given
-  pub is_given : IsGiven bounds_text sizes_text given
+  pub is_given : IsGivenBy bounds_text sizes_text given
   pub is : IsNeedBy (resolved cs) (bounds_of cs given.bounds) (bounds_of cs given.lengths) need
 
 -- ---- the refusals
@@ -105,7 +105,7 @@ IsNotMetBy P bounds lengths name refusal = ⊥
 -- the texts give bounds and lengths, and with them the program has no need
 pub record IsNotMet (cs : List ClassFile) (bounds_text sizes_text : List ℕ) (refusal : MemoryRefusal) : Type 0 where
   pub given : Given
-  pub is_given : IsGiven bounds_text sizes_text given
+  pub is_given : IsGivenBy bounds_text sizes_text given
   pub is : IsNotMetBy (resolved cs) (bounds_of cs given.bounds) (bounds_of cs given.lengths) (named_or_number cs) refusal
 
 -- why no need is given, in this order: the bounds, the lengths, the causes

@@ -72,14 +72,14 @@ IsShapeBound cs s bounds_text name TooLong = ¬ EachFits s cs
 IsShapeBound cs s bounds_text name TooLarge = (m : ℕ) × (subject : List ℕ) × IsForbidden cs s bounds_text name (causes.TooLarge m) subject
 
 -- the text is the lines of these shapes, with what is found in each
-pub record AreLinesOf (cs : List ClassFile) (s : Settings) (bounds_text name : List ℕ) (listed : List Shape) (text : List ℕ) : Type 0 where
+pub record AreLinesOfShapes (cs : List ClassFile) (s : Settings) (bounds_text name : List ℕ) (listed : List Shape) (text : List ℕ) : Type 0 where
   pub bounds : List ShapeBound
   pub each : AllZip (λ (shape : Shape) (bound : ShapeBound). IsShapeBound cs (with_shape s shape) bounds_text name bound) listed bounds
   pub text_is : text ≡ shape_lines listed bounds
 
 -- and so of all shapes
 abbrev pub AreShapeLines : List ClassFile → Settings → (bounds_text name text : List ℕ) → Type 0
-AreShapeLines cs s bounds_text name text = AreLinesOf cs s bounds_text name all_shapes text
+AreShapeLines cs s bounds_text name text = AreLinesOfShapes cs s bounds_text name all_shapes text
 
 -- ---- the refusals
 

@@ -3,7 +3,7 @@ ghost use Rattle.std.specs.Prelude.{◌≡◌, ◌≤◌, ◌<◌, length, IfOk,
 ghost use Rattle.base.specs.Sizes.{longest_file};
 ghost use Rattle.command_line.specs.Range.{AreSettings};
 ghost use Rattle.bound_causes.specs.Naming.{IsNamedBy};
-ghost use Rattle.analysis_commands.specs.Bounding.{IsBound, IsBoundNumber, IsNotBounded, IsBareNotBounded};
+ghost use Rattle.analysis_commands.specs.Bounding.{IsCertText, IsBoundNumber, IsNotBounded, IsBareNotBounded};
 ghost use Rattle.analysis_commands.specs.BoundAnswers.{IsOfProgram, IsBoundText, IsBoundNumberOf, IsCauseOf, IsNotBoundedBy};
 
 use crate::analysis::{Analysis, AnalysisFault, analysis_of, bounds_in};
@@ -76,7 +76,7 @@ pub fn bound_program(
 ) -> Result<Vec<u8>, NotBounded>
     requires settings { AreSettings settings.now }
     requires short { length bounds.now ≤ longest_file }
-    ensures bound { IfOk result (λ text. IsBound program.now settings.now bounds.now name.now text.items) }
+    ensures bound { IfOk result (λ text. IsCertText program.now settings.now bounds.now name.now text.items) }
     ensures refused { IfErr result (IsNotBounded program.now settings.now bounds.now name.now) }
 {
     match analysis_of(alloc, program, settings, bounds) {

@@ -5,7 +5,7 @@ ghost use Rattle.ascii_text.specs.Line.{lines_of as text_lines};
 ghost use Rattle.command_line.specs.Range.{AreSettings};
 ghost use Rattle.bound_cert.specs.Texts.{AreLinesOf};
 ghost use Rattle.analysis_commands.specs.Answers.{IsTextFault, IsHeldInText, IsRefusedInText, IsBareTextRefusal};
-ghost use Rattle.analysis_commands.specs.Checking.{first_method, IsHeld, IsRefusal, IsBareRefusal};
+ghost use Rattle.analysis_commands.specs.Checking.{first_method, IsHeld, IsCheckRefusal, IsBareRefusal};
 
 use crate::analysis::{Analysis, AnalysisFault, analysis_of, bounds_in};
 use crate::conditions::check_certificate;
@@ -80,7 +80,7 @@ pub fn check_program(
     requires settings { AreSettings settings.now }
     requires short { length bounds.now ≤ longest_file }
     ensures held { IfOk result (IsHeld program.now settings.now bounds.now certificate.now) }
-    ensures refused { IfErr result (IsRefusal program.now settings.now bounds.now certificate.now) }
+    ensures refused { IfErr result (IsCheckRefusal program.now settings.now bounds.now certificate.now) }
 {
     match analysis_of(alloc, program, settings, bounds) {
         Ok(analysis) => check_text(alloc, &analysis, certificate),

@@ -7,7 +7,7 @@ ghost use Rattle.node_costs.specs.Costs as table;
 ghost use Rattle.program_tables.specs.Resolved.{resolved};
 ghost use Rattle.analysis_commands.specs.Analysis.{bounds_of, named_or_number};
 ghost use Rattle.analysis_commands.specs.Answers.{table_name};
-ghost use Rattle.analysis_commands.specs.Memory.{IsGiven, IsBadSizes, IsBadText, cause_of, subject_of, IsNoNeedBy, IsNeedBy, IsNotMetBy, IsNeed};
+ghost use Rattle.analysis_commands.specs.Memory.{IsGivenBy, IsBadSizes, IsBadText, cause_of, subject_of, IsNoNeedBy, IsNeedBy, IsNotMetBy, IsNeed};
 ghost use Rattle.analysis_commands.specs.Memory.{IsMemoryRefusal};
 
 use crate::analysis::table_of;
@@ -75,7 +75,7 @@ fn lengths_behind(alloc: Global, bounds: Bounds, sizes: &[u8]) -> Result<Given, 
 pub fn given_by(alloc: Global, bounds: &[u8], sizes: &[u8]) -> Result<Given, MemoryRefusal>
     requires bounds { length bounds.now ≤ longest_file }
     requires sizes { length sizes.now ≤ longest_file }
-    ensures given { IfOk result (IsGiven bounds.now sizes.now) }
+    ensures given { IfOk result (IsGivenBy bounds.now sizes.now) }
     ensures bad { IfErr result (IsBadText bounds.now sizes.now) }
 {
     match read_bounds(alloc, bounds) {

@@ -4,7 +4,7 @@ ghost use Rattle.base.specs.Sizes.{longest_file};
 ghost use Rattle.command_line.specs.Range.{AreSettings};
 ghost use Rattle.analysis_commands.specs.Bounding.{IsNotBounded};
 ghost use Rattle.analysis_commands.specs.Shapes.{IsShape, shape_with, all_shapes, with_shape, word_of, shape_text, shape_line, of_fault, of_cause, of_shape};
-ghost use Rattle.analysis_commands.specs.Shapes.{IsShapeBound, AreLinesOf, AreShapeLines, IsShapeRefusal};
+ghost use Rattle.analysis_commands.specs.Shapes.{IsShapeBound, AreLinesOfShapes, AreShapeLines, IsShapeRefusal};
 
 use crate::analysis::AnalysisFault;
 use crate::bound::{NotBounded, bound_number};
@@ -167,7 +167,7 @@ fn line_in(
     requires settings { AreSettings settings.now }
     requires shape { IsShape shape }
     requires short { length bounds.now ≤ longest_file }
-    ensures line { IfOk result (λ line. AreLinesOf program.now settings.now bounds.now name.now (shape ∷ []) line.items) }
+    ensures line { IfOk result (λ line. AreLinesOfShapes program.now settings.now bounds.now name.now (shape ∷ []) line.items) }
     ensures refused { IfErr result (IsShapeRefusal program.now settings.now bounds.now name.now) }
 {
     let shaped = with_shape(settings, shape);
@@ -200,7 +200,7 @@ fn lines_in(
     requires settings { AreSettings settings.now }
     requires shapes { All IsShape shapes.now }
     requires short { length bounds.now ≤ longest_file }
-    ensures lines { IfOk result (λ text. AreLinesOf program.now settings.now bounds.now name.now shapes.now text.items) }
+    ensures lines { IfOk result (λ text. AreLinesOfShapes program.now settings.now bounds.now name.now shapes.now text.items) }
     ensures refused { IfErr result (IsShapeRefusal program.now settings.now bounds.now name.now) }
 {
     let mut text = Vec::new(alloc);

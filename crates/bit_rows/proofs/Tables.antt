@@ -4,7 +4,7 @@ use Rattle.std.specs.Prelude.{if◌then◌else◌}
 use Rattle.std.specs.Map.{lookup}
 use Rattle.std.specs.Option.{option_map_or, option_or}
 use Rattle.std.proofs.lemmas.Bool.{eqb-true, eq-eqb, and_parts, and_from, cond-true, false≢true}
-use Rattle.lists.specs.Lemmas.{some_same, none≢some}
+use Rattle.lists.proofs.Lemmas.{some_same, none≢some}
 use Rattle.lists.proofs.Lookups.{lookup_append}
 use Rattle.bit_rows.specs.Table.{BitTable, AreApart, start_of, is_pair}
 use Rattle.bit_rows.specs.Bits.{has, is_set, is_set_from}

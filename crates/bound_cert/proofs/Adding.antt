@@ -2,8 +2,8 @@
 use Rattle.std.proofs.Common.{◌≡◌, ℕ, List, [], ◌∷◌, ◌++◌, map, append_assoc, append-nil, refl, sym, ◌∙◌, ap, subst, Option, Some, None, ℤ}
 use Rattle.std.specs.Prelude.{flat_map}
 use Rattle.std.specs.Option.{option_map, option_to_list}
-use Rattle.lists.specs.Lemmas.{none≢some, some_same}
-use Rattle.lists.specs.FirstLemmas.{flat_map-more}
+use Rattle.lists.proofs.Lemmas.{none≢some, some_same}
+use Rattle.lists.proofs.FirstLemmas.{flat_map-more}
 use Rattle.section_check.specs.Section.{CertifiedLoop}
 use Rattle.bound_cert.specs.declared.lines.line.SectionKind.{SectionKind}
 use Rattle.bound_cert.specs.declared.lines.line.CertLine.{CertLine}

@@ -2,12 +2,12 @@
 use Rattle.std.proofs.Common.{◌≡◌, ◌≢◌, ℕ, ◌<◌, ◌^◌, List, [], ◌∷◌, ◌++◌, map, refl, Option, Some, None, ℤ}
 use Rattle.std.specs.Prelude.{IsSomeAnd, All}
 use Rattle.std.specs.Option.{option_map, option_to_list}
-use Rattle.section_check.specs.Section.{CertifiedLoop}
+use Rattle.section_check.specs.Section.{CertifiedLoop, IsPotential}
 use Rattle.bound_cert.specs.declared.lines.line.SectionKind.{SectionKind}
 use Rattle.bound_cert.specs.declared.lines.line.SectionKind.TheVariants.{Loops}
 use Rattle.bound_cert.specs.declared.lines.line.CertLine.TheVariants.{Start, Node, Loop}
 use Rattle.bound_cert.specs.Loop.{LoopSaid, IsLoopSaid}
-use Rattle.bound_cert.specs.CertLines.{IsPotential, IsBound}
+use Rattle.bound_cert.specs.CertLines.{IsBoundValue}
 use Rattle.bound_cert.specs.declared.cert.CertSection.{CertSection}
 use Rattle.bound_cert.specs.Certificate.{sort_of, IsInGrammar}
 use Rattle.bound_cert.specs.Drafts.{Draft, Begun, IsDraft, never_with, empty_section, if_empty, with_loop, GoesOn, TakesNode, TakesLoop}
@@ -59,5 +59,5 @@ start_differs v r cl cu k m g = last_differs v r (cl ++ option_to_list cu) (empt
 
 -- ---- the bound
 
-pub whole_grammar : (v r : ℕ) (ss : List CertSection) (b : Option ℕ) → IsBound b → IsInGrammar (never_with v r ss) → IsInGrammar (record { version = v; root = r; sections = ss; bound = b })
+pub whole_grammar : (v r : ℕ) (ss : List CertSection) (b : Option ℕ) → IsBoundValue b → IsInGrammar (never_with v r ss) → IsInGrammar (record { version = v; root = r; sections = ss; bound = b })
 whole_grammar v r ss b h g = record { version = g.version; root = g.root; sections = g.sections; apart = g.apart; bound = h }

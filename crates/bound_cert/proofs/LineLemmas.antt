@@ -13,8 +13,9 @@ use Rattle.bound_cert.specs.declared.lines.line.SectionKind.TheVariants.{Inside,
 use Rattle.bound_cert.specs.declared.lines.line.CertLine.{CertLine}
 use Rattle.bound_cert.specs.declared.lines.line.CertLine.TheVariants.{Version, Root, Start, Node, Loop, Bound}
 use Rattle.bound_cert.specs.Finding.{HasNoSpace, IsBehindPart, Finds}
-use Rattle.bound_cert.specs.Loop.{LoopSaid, AreMembers}
-use Rattle.bound_cert.specs.CertLines.{kind_text, members_text, bound_text, line_text, IsVersion, IsPotential, IsBound, IsInRange}
+use Rattle.bound_cert.specs.Loop.{LoopSaid, AreLoopMembers}
+use Rattle.bound_cert.specs.CertLines.{kind_text, members_text, bound_text, line_text, IsVersion, IsBoundValue, IsInRange}
+use Rattle.section_check.specs.Section.{IsPotential}
 use Rattle.bound_cert.specs.Rests.{node_rest, IsNodeRest, loop_rest, IsLoopRest, IsFrame}
 use Rattle.bound_cert.proofs.PartLemmas.{each_append, each_weaker, one_first_part, no_space_there, no_space_by_test}
 use Rattle.bound_cert.proofs.NumberLemmas.{IsDigit, digits_are, odd_same, decimal_no_space, negative_small, positive_small, first_digit}
@@ -101,7 +102,7 @@ one_loop_rest x y h k e =
     let q = one_first_part (decimal x.1) (decimal y.1) x.2 y.2 (decimal_no_space x.1 h.1) (decimal_no_space y.1 k.1) h.2 k.2 inner in
     (decimal_injective x.0 y.0 hx ky p.0, decimal_injective x.1 y.1 h.1 k.1 q.0, q.1)
 
-pub no_members : (region : Bool) (r text : List ℕ) (place cost : ℕ) → r ≡ loop_rest (place, cost, text) → IsLoopRest (place, cost, text) → ((ms : List ℕ) → AreMembers ms → text ≢ members_text ms)
+pub no_members : (region : Bool) (r text : List ℕ) (place cost : ℕ) → r ≡ loop_rest (place, cost, text) → IsLoopRest (place, cost, text) → ((ms : List ℕ) → AreLoopMembers ms → text ≢ members_text ms)
     → (e : CertLine) → IsInRange e → (if region then codes "region " else codes "loop ") ++ r ≢ line_text e
 no_members region r text place cost is h none e range f =
     let p = by_word (loop_word region) r e (loop_word_is region) (sym (loop_line_is region r) ∙ f) in
@@ -110,7 +111,7 @@ no_members region r text place cost is h none e range f =
     let header = small.header in
     none l.members small.members (one_loop_rest (place, cost, text) (l.header / 2, l.cost, members_text l.members) h (omega arith, small.cost, behind_all l.members) (sym is ∙ same)).2) e p.0 range p.1
 
-pub loop_found : (region : Bool) (r text : List ℕ) (place cost : ℕ) (members : List ℕ) → r ≡ loop_rest (place, cost, text) → IsLoopRest (place, cost, text) → text ≡ members_text members → AreMembers members
+pub loop_found : (region : Bool) (r text : List ℕ) (place cost : ℕ) (members : List ℕ) → r ≡ loop_rest (place, cost, text) → IsLoopRest (place, cost, text) → text ≡ members_text members → AreLoopMembers members
     → Finds line_text IsInRange ((if region then codes "region " else codes "loop ") ++ r) (Some (Loop (record { region = region; header = 2 * place; cost = cost; members = members })))
 loop_found region r text place cost members is h f m =
     let small = h.0 in
@@ -153,7 +154,7 @@ never_number n h e =
     let high = each.0.1 in
     omega arith
 
-one_bound : (a b : Option ℕ) → IsBound a → IsBound b → bound_text a ≡ bound_text b → a ≡ b
+one_bound : (a b : Option ℕ) → IsBoundValue a → IsBoundValue b → bound_text a ≡ bound_text b → a ≡ b
 one_bound None None h k e = refl
 one_bound None (Some n) h k e = absurd (never_number n k e)
 one_bound (Some n) None h k e = absurd (never_number n h (sym e))
@@ -325,7 +326,7 @@ members_no_feed (u ∷ ms) h =
     (space_no_feed (decimal (u / 2) ++ (if u % 2 == 1 then codes "r" else [])) (no_feed_append (decimal (u / 2)) (if u % 2 == 1 then codes "r" else []) (decimal_no_feed (u / 2) (omega arith)) (suffix_no_feed (u % 2 == 1))))
     (members_no_feed ms (All-tail (λ u. u < 2 ^ 32) u ms h))
 
-bound_no_feed : (b : Option ℕ) → IsBound b → HasNoFeed (bound_text b)
+bound_no_feed : (b : Option ℕ) → IsBoundValue b → HasNoFeed (bound_text b)
 bound_no_feed None h = no_feed_by_test (codes "never") refl
 bound_no_feed (Some n) h = decimal_no_feed n h
 

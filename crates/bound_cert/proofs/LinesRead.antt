@@ -3,12 +3,12 @@ use Rattle.std.proofs.Common.{◌≡◌, ◌≢◌, ℕ, zero, suc, ◌+◌, ◌
 use Rattle.std.specs.List.{AllByRecursion}
 use Rattle.std.proofs.lemmas.List.{length-append, take-append-drop, take-append-le}
 use Rattle.lists.specs.Lists.{onto}
-use Rattle.lists.specs.Lemmas.{some_same}
+use Rattle.lists.proofs.Lemmas.{some_same}
 use Rattle.bound_cert.specs.declared.lines.line.CertLine.{CertLine}
 use Rattle.bound_cert.specs.CertLines.{line_text, IsInRange}
 use Rattle.bound_cert.proofs.LineLemmas.{says_one_thing}
 use Rattle.bound_cert.specs.Certificate.{Certificate, IsInGrammar}
-use Rattle.bound_cert.specs.Texts.{said, lines_of, AreLinesOf, BeginOne, IsFirstRefused}
+use Rattle.bound_cert.specs.Texts.{said, lines_of, AreLinesOf, BeginOne, IsFirstRefusedLine}
 use Rattle.bound_cert.specs.Drafts.{Draft, Blank, Whole, IsDraft, put, Adds, Refuses}
 use Rattle.bound_cert.proofs.Running.{run, run_on, run_said, said_back, run_goes_on, rest_to, goal_of, run_rest, goal_in_grammar, said_in_range}
 
@@ -124,7 +124,7 @@ take_one [] y ys (suc n) e = absurd (omega arith)
 take_one (x ∷ xs) y ys zero e = absurd (omega arith)
 take_one (x ∷ xs) y ys (suc n) e = ap (λ (zs : List (List ℕ)). x ∷ zs) (take_one xs y ys n (omega arith))
 
-pub refused : (lines : List (List ℕ)) (number : ℕ) (left rest : List (List ℕ)) (line : List ℕ) (d : Draft) → IsReadTo lines number left d → left ≡ line ∷ rest → Refuses d line → IsFirstRefused lines (number + 1)
+pub refused : (lines : List (List ℕ)) (number : ℕ) (left rest : List (List ℕ)) (line : List ℕ) (d : Draft) → IsReadTo lines number left d → left ≡ line ∷ rest → Refuses d line → IsFirstRefusedLine lines (number + 1)
 refused lines number left rest line d r e refuses =
     let count = r.count in
     let whole : lines ≡ map line_text r.entries ++ line ∷ rest = r.whole ∙ ap (λ (xs : List (List ℕ)). map line_text r.entries ++ xs) e in
@@ -146,7 +146,7 @@ same_draft : (es : List CertLine) (c : Certificate) (gs : List CertLine) (d : Dr
 same_draft es c [] d given same none = some_same d (Whole c) (sym given ∙ (ap (run Blank) (sym (append-nil es)) ∙ (ap (run Blank) (sym same) ∙ run_said c)))
 same_draft es c (x ∷ xs) d given same none = absurd (cc)
 
-pub ended : (lines : List (List ℕ)) (number : ℕ) (left : List (List ℕ)) (d : Draft) → IsReadTo lines number left d → left ≡ [] → ((c : Certificate) → d ≢ Whole c) → IsFirstRefused lines (number + 1)
+pub ended : (lines : List (List ℕ)) (number : ℕ) (left : List (List ℕ)) (d : Draft) → IsReadTo lines number left d → left ≡ [] → ((c : Certificate) → d ≢ Whole c) → IsFirstRefusedLine lines (number + 1)
 ended lines number left d r e none =
     let count = r.count in
     let whole : lines ≡ map line_text r.entries ++ [] = r.whole ∙ ap (λ (xs : List (List ℕ)). map line_text r.entries ++ xs) e in

@@ -6,9 +6,9 @@ use Rattle.std.proofs.lemmas.List.Elements.{All-head, All-tail, All-push, All-ni
 use Rattle.std.proofs.lemmas.List.{length-append}
 use Rattle.std.proofs.lemmas.Bool.{true≢false, false≢true}
 use lib.Pointwise.{pointwise, bytes_decides}
-use Rattle.lists.specs.FirstLemmas.{flat_map-more}
+use Rattle.lists.proofs.FirstLemmas.{flat_map-more}
 use Rattle.bound_cert.specs.Finding.{HasNoSpace, IsBehindPart, IsFirstPart}
-use Rattle.bound_cert.specs.Loop.{AreMembers, IsAbove, last_of}
+use Rattle.bound_cert.specs.Loop.{AreLoopMembers, IsAbove, last_of}
 use Rattle.bound_cert.specs.CertLines.{node_text, members_text}
 use Rattle.bound_cert.proofs.PartLemmas.{one_first_part}
 use Rattle.bound_cert.proofs.NumberLemmas.{one_node, node_no_space}
@@ -80,7 +80,7 @@ one_more text members rest part after u r e b is small above = record {
 }
 
 pub none_more : (text members rest part after : List ℕ) → AreReadTo text members rest → rest ≡ 32 ∷ (part ++ after) → HasNoSpace part → IsBehindPart after
-    → ((u : ℕ) → (u < 2 ^ 32) × IsAbove (last_of members) u → part ≢ node_text u) → (ys : List ℕ) → AreMembers ys → text ≢ members_text ys
+    → ((u : ℕ) → (u < 2 ^ 32) × IsAbove (last_of members) u → part ≢ node_text u) → (ys : List ℕ) → AreLoopMembers ys → text ≢ members_text ys
 none_more text members rest part after r e h b none ys m f =
     let begins = begin_members members ys rest r.small m.small r.behind (sym r.whole ∙ f) in
     further begins.0 begins.1 begins.2
@@ -98,12 +98,12 @@ none_more text members rest part after r e h b none ys m f =
         none z (small, above_before members zs z rising) one.0
 
 -- all of the text is read
-pub read_whole : (text members rest : List ℕ) → AreReadTo text members rest → rest ≡ [] → 0 < length members → (text ≡ members_text members) × AreMembers members
+pub read_whole : (text members rest : List ℕ) → AreReadTo text members rest → rest ≡ [] → 0 < length members → (text ≡ members_text members) × AreLoopMembers members
 read_whole text members rest r e some =
     (r.whole ∙ (ap (λ (t : List ℕ). members_text members ++ t) e ∙ append-nil (members_text members)), record { some = some; rising = r.rising; small = r.small })
 
 -- a text without members is empty, and none is
-pub none_at_all : (text members rest : List ℕ) → AreReadTo text members rest → rest ≡ [] → members ≡ [] → (ys : List ℕ) → AreMembers ys → text ≢ members_text ys
+pub none_at_all : (text members rest : List ℕ) → AreReadTo text members rest → rest ≡ [] → members ≡ [] → (ys : List ℕ) → AreLoopMembers ys → text ≢ members_text ys
 none_at_all text members rest r e n [] m f = let some = m.some in omega arith
 none_at_all text members rest r e n (y ∷ ys) m f =
     let empty : text ≡ [] = r.whole ∙ (ap (λ (xs : List ℕ). members_text xs ++ rest) n ∙ e) in
@@ -131,11 +131,11 @@ no_more (x ∷ xs) h t =
     let same : x ∷ [] ≡ 32 ∷ [] = ap (λ (y : ℕ). y ∷ []) h in
     absurd (true≢false (sym ((bytes_decides (x ∷ []) (32 ∷ [])).1 same) ∙ t))
 
-pub none_said : (text members rest : List ℕ) → AreReadTo text members rest → pointwise nat_eq (take 1 rest) (32 ∷ []) ≡ false → length members ≡ 0 → (ys : List ℕ) → AreMembers ys → text ≢ members_text ys
+pub none_said : (text members rest : List ℕ) → AreReadTo text members rest → pointwise nat_eq (take 1 rest) (32 ∷ []) ≡ false → length members ≡ 0 → (ys : List ℕ) → AreLoopMembers ys → text ≢ members_text ys
 none_said text [] rest r t n ys m = none_at_all text [] rest r (no_more rest r.behind t) refl ys m
 none_said text (x ∷ members) rest r t n ys m = absurd (omega arith)
 
-pub some_said : (text members rest : List ℕ) → AreReadTo text members rest → pointwise nat_eq (take 1 rest) (32 ∷ []) ≡ false → length members ≢ 0 → (text ≡ members_text members) × AreMembers members
+pub some_said : (text members rest : List ℕ) → AreReadTo text members rest → pointwise nat_eq (take 1 rest) (32 ∷ []) ≡ false → length members ≢ 0 → (text ≡ members_text members) × AreLoopMembers members
 some_said text members rest r t n = read_whole text members rest r (no_more rest r.behind t) (omega arith)
 
 pub more_read : (text members rest behind part after more : List ℕ) (u : ℕ) → AreReadTo text members rest → pointwise nat_eq (take 1 rest) (32 ∷ []) ≡ true → behind ≡ drop 1 rest → IsFirstPart behind part after → (part ≡ node_text u) × ((u < 2 ^ 32) × IsAbove (last_of members) u) → more ≡ members ++ u ∷ [] → AreReadTo text more after
@@ -144,6 +144,6 @@ more_read text members rest behind part after more u r t e f found is =
     (one_more text members rest part after u r (begins_with rest behind t e ∙ ap (λ (xs : List ℕ). 32 ∷ xs) f.whole) f.behind found.0 found.1.0 found.1.1)
 
 pub none_there : (text members rest behind part after : List ℕ) → AreReadTo text members rest → pointwise nat_eq (take 1 rest) (32 ∷ []) ≡ true → behind ≡ drop 1 rest → IsFirstPart behind part after
-    → ((u : ℕ) → (u < 2 ^ 32) × IsAbove (last_of members) u → part ≢ node_text u) → (ys : List ℕ) → AreMembers ys → text ≢ members_text ys
+    → ((u : ℕ) → (u < 2 ^ 32) × IsAbove (last_of members) u → part ≢ node_text u) → (ys : List ℕ) → AreLoopMembers ys → text ≢ members_text ys
 none_there text members rest behind part after r t e f none ys m =
     none_more text members rest part after r (begins_with rest behind t e ∙ ap (λ (xs : List ℕ). 32 ∷ xs) f.whole) f.no_space f.behind none ys m

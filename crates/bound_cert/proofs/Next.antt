@@ -3,13 +3,14 @@ use Rattle.std.proofs.Common.{◌≡◌, ◌≢◌, ℕ, ◌<◌, ◌^◌, true,
 use Rattle.std.specs.Prelude.{All, Result, Ok, Err, IfOk, MatchOption}
 use Rattle.std.specs.Option.{option_map, option_to_list}
 use Rattle.std.specs.List.{list_any}
-use Rattle.lists.specs.Lemmas.{some_same as same_value}
+use Rattle.lists.proofs.Lemmas.{some_same as same_value}
 use Rattle.bound_cert.specs.declared.lines.line.SectionKind.{SectionKind}
 use Rattle.bound_cert.specs.declared.lines.line.SectionKind.TheVariants.{Loops}
 use Rattle.bound_cert.specs.declared.lines.line.CertLine.{CertLine}
 use Rattle.bound_cert.specs.declared.lines.line.CertLine.TheVariants.{Start, Node, Loop, Bound}
 use Rattle.bound_cert.specs.Loop.{LoopSaid, IsLoopSaid}
-use Rattle.bound_cert.specs.CertLines.{line_text, IsPotential, IsBound, IsInRange}
+use Rattle.bound_cert.specs.CertLines.{line_text, IsBoundValue, IsInRange}
+use Rattle.section_check.specs.Section.{IsPotential}
 use Rattle.bound_cert.proofs.LineLemmas.{says_one_thing}
 use Rattle.bound_cert.specs.declared.cert.CertSection.{CertSection}
 use Rattle.bound_cert.specs.declared.cert.SectionSort.{SectionSort}
@@ -134,7 +135,7 @@ put_bound : (v r : ℕ) (cl : List CertSection) (cu : Option CertSection) (bound
 put_bound v r cl None bound = refl
 put_bound v r cl (Some s) bound = refl
 
-pub ends : (b n : Begun) (cert : Certificate) (bound : Option ℕ) → IsDraft (begun_draft b) → IsBound bound → IsClosed b n → cert ≡ record { version = n.version; root = n.root; sections = n.closed.items; bound = bound } → GivesNext (begun_draft b) (Bound bound) (readings.Whole cert)
+pub ends : (b n : Begun) (cert : Certificate) (bound : Option ℕ) → IsDraft (begun_draft b) → IsBoundValue bound → IsClosed b n → cert ≡ record { version = n.version; root = n.root; sections = n.closed.items; bound = bound } → GivesNext (begun_draft b) (Bound bound) (readings.Whole cert)
 ends b n cert bound d range c e =
     let same : cert ≡ record { version = b.version; root = b.root; sections = sections_of b; bound = bound } = certificate_is b n cert bound c e in
     record {

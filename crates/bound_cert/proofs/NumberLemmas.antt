@@ -11,7 +11,8 @@ use Rattle.std.proofs.lemmas.Int.{ints}
 use Rattle.ascii_text.specs.Number.{IsDecimalNumber, value_of}
 use Rattle.ascii_text.proofs.NumberLemmas.{HasOneSpelling-decimal}
 use Rattle.bound_cert.specs.Finding.{HasNoSpace, Finds}
-use Rattle.bound_cert.specs.CertLines.{node_text, IsPotential}
+use Rattle.bound_cert.specs.CertLines.{node_text}
+use Rattle.section_check.specs.Section.{IsPotential}
 use Rattle.bound_cert.proofs.PartLemmas.{each_append, each_weaker, Stops, one_part, no_space_by_test}
 
 -- ---- digits

@@ -5,12 +5,12 @@ use Rattle.std.specs.List.{AllByRecursion}
 use Rattle.std.specs.Option.{option_to_list}
 use Rattle.std.proofs.lemmas.List.Elements.{All-head, All-tail}
 use Rattle.lists.specs.Lists.{onto}
-use Rattle.lists.specs.Lemmas.{some_same, onto_some}
-use Rattle.section_check.specs.Section.{CertifiedLoop, ArePotentials, listed}
+use Rattle.lists.proofs.Lemmas.{some_same, onto_some}
+use Rattle.section_check.specs.Section.{CertifiedLoop, ArePotentials, listed, IsPotential}
 use Rattle.bound_cert.specs.declared.lines.line.SectionKind.{SectionKind}
 use Rattle.bound_cert.specs.declared.lines.line.CertLine.{CertLine}
 use Rattle.bound_cert.specs.declared.lines.line.CertLine.TheVariants.{Version, Root, Node, Loop, Bound}
-use Rattle.bound_cert.specs.CertLines.{IsPotential, IsInRange}
+use Rattle.bound_cert.specs.CertLines.{IsInRange}
 use Rattle.bound_cert.specs.declared.cert.CertSection.{CertSection}
 use Rattle.bound_cert.specs.Certificate.{Certificate, IsLoopInText, IsSectionInText, IsInGrammar}
 use Rattle.bound_cert.specs.Texts.{loop_said, section_said, said}

@@ -4,11 +4,10 @@ use Rattle.std.specs.Prelude.{All, AllPairs}
 use Rattle.std.specs.List.Sorted.{IsStrictlyIncreasing}
 use Rattle.std.proofs.lemmas.List.Elements.{All-push, All-nil}
 use Rattle.std.proofs.lemmas.List.Quantifiers.{all_pairs_push}
-use Rattle.section_check.specs.Section.{CertifiedLoop, listed}
+use Rattle.section_check.specs.Section.{CertifiedLoop, listed, IsPotential}
 use Rattle.bound_cert.specs.declared.lines.line.SectionKind.{SectionKind}
 use Rattle.bound_cert.specs.declared.lines.line.SectionKind.TheVariants.{Loops}
 use Rattle.bound_cert.specs.Loop.{LoopSaid, IsAbove, last_of, IsLoopSaid}
-use Rattle.bound_cert.specs.CertLines.{IsPotential}
 use Rattle.bound_cert.specs.declared.cert.CertSection.{CertSection}
 use Rattle.bound_cert.specs.declared.cert.SectionSort.{SectionSort}
 use Rattle.bound_cert.specs.Certificate.{IsLoopInText, IsSectionInText, sort_of, IsInGrammar}

@@ -5,7 +5,7 @@ use Rattle.std.specs.List.{AllByRecursion, slice_split}
 use Rattle.std.proofs.lemmas.Bool.{cases_Bool, eqb-true}
 use Rattle.std.proofs.lemmas.List.Elements.{All-from_recursion}
 use Rattle.std.proofs.lemmas.List.Splits.{slice_split_at}
-use Rattle.lists.specs.FirstLemmas.{flat_map-append}
+use Rattle.lists.proofs.FirstLemmas.{flat_map-append}
 use Rattle.ascii_text.specs.Line.{lines_of as text_lines, without_empty_last}
 use Rattle.section_check.specs.Section.{CertifiedLoop}
 use Rattle.bound_cert.specs.declared.lines.line.CertLine.{CertLine}

@@ -1,5 +1,5 @@
 -- The lines of a certificate. Nodes of a method are the numbers 2p, the instruction at place p, and 2p + 1, the raise step at it.
-use Rattle.std.specs.Prelude.{◌≡◌, ◌⊎◌, ℕ, ◌-◌, ◌/◌, ◌%◌, ◌==◌, ◌<◌, ◌^◌, ℤ, pos, negsuc, ◌≤ℤ◌, if◌then◌else◌, List, [], ◌∷◌, ◌++◌, flat_map, Option, Some}
+use Rattle.std.specs.Prelude.{◌≡◌, ◌⊎◌, ℕ, ◌/◌, ◌%◌, ◌==◌, ◌<◌, ◌^◌, if◌then◌else◌, List, [], ◌∷◌, ◌++◌, flat_map, Option, Some}
 use Rattle.std.specs.Prelude.{None, codes, decimal}
 use Rattle.std.specs.Fmt.{signed_decimal}
 use Rattle.bound_cert.specs.declared.lines.line.SectionKind.{SectionKind}
@@ -7,6 +7,7 @@ use Rattle.bound_cert.specs.declared.lines.line.SectionKind.TheVariants.{Inside,
 use Rattle.bound_cert.specs.declared.lines.line.CertLine.{CertLine}
 use Rattle.bound_cert.specs.declared.lines.line.CertLine.TheVariants.{Version, Root, Start, Node, Loop, Bound}
 use Rattle.bound_cert.specs.Loop.{IsLoopSaid}
+use Rattle.section_check.specs.Section.{IsPotential}
 
 -- ---- their parts
 
@@ -36,12 +37,9 @@ abbrev pub IsVersion : ℕ → Type 0
 IsVersion version = (version ≡ 1) ⊎ (version ≡ 2)
 
 -- 64 bits and a sign
-abbrev pub IsPotential : ℤ → Type 0
-IsPotential p = (negsuc (2 ^ 64 - 2) ≤ℤ p) × (p ≤ℤ pos (2 ^ 64 - 1))
-
-abbrev pub IsBound : Option ℕ → Type 0
-IsBound None = Unit {0}
-IsBound (Some n) = n < 2 ^ 64
+abbrev pub IsBoundValue : Option ℕ → Type 0
+IsBoundValue None = Unit {0}
+IsBoundValue (Some n) = n < 2 ^ 64
 
 -- ---- a line
 
@@ -61,4 +59,4 @@ IsInRange (Root method) = method < 2 ^ 32
 IsInRange (Start kind method) = method < 2 ^ 32
 IsInRange (Node u potential) = (u < 2 ^ 32) × IsPotential potential
 IsInRange (Loop l) = IsLoopSaid l
-IsInRange (Bound bound) = IsBound bound
+IsInRange (Bound bound) = IsBoundValue bound

@@ -4,8 +4,8 @@ use Rattle.std.specs.List.Sorted.{IsStrictlyIncreasing}
 use Rattle.section_check.specs.Section.{CertifiedLoop, listed, ArePotentials}
 use Rattle.bound_cert.specs.declared.lines.line.SectionKind.{SectionKind}
 use Rattle.bound_cert.specs.declared.lines.line.SectionKind.TheVariants.{Inside, Alone, Loops}
-use Rattle.bound_cert.specs.Loop.{AreMembers}
-use Rattle.bound_cert.specs.CertLines.{IsVersion, IsBound}
+use Rattle.bound_cert.specs.Loop.{AreLoopMembers}
+use Rattle.bound_cert.specs.CertLines.{IsVersion, IsBoundValue}
 use Rattle.bound_cert.specs.declared.cert.SectionSort.{SectionSort}
 use Rattle.bound_cert.specs.declared.cert.CertSection.{CertSection}
 
@@ -22,7 +22,7 @@ pub record Certificate : Type 0 where
 pub record IsLoopInText (l : CertifiedLoop) : Type 0 where
   pub instruction : l.header % 2 ≡ 0
   pub header : l.header < 2 ^ 32
-  pub members : AreMembers l.members
+  pub members : AreLoopMembers l.members
   pub cost : l.iteration_cost < 2 ^ 64
 
 -- sections of the kind loops are of version 2, and regions are loops of such sections
@@ -51,4 +51,4 @@ pub record IsInGrammar (c : Certificate) : Type 0 where
   pub root : c.root < 2 ^ 32
   pub sections : All (IsSectionInText c.version) c.sections
   pub apart : AllPairs (λ a b. a ≢ b) (map sort_of c.sections)
-  pub bound : IsBound c.bound
+  pub bound : IsBoundValue c.bound

@@ -19,7 +19,7 @@ IsAbove None u = Unit {0}
 IsAbove (Some last) u = last < u
 
 -- numbers of nodes that rise, at least one
-pub record AreMembers (members : List ℕ) : Type 0 where
+pub record AreLoopMembers (members : List ℕ) : Type 0 where
   pub some : 0 < length members
   pub rising : IsStrictlyIncreasing members
   pub small : All (λ u. u < 2 ^ 32) members
@@ -29,4 +29,4 @@ pub record IsLoopSaid (l : LoopSaid) : Type 0 where
   pub instruction : l.header % 2 ≡ 0
   pub header : l.header < 2 ^ 32
   pub cost : l.cost < 2 ^ 64
-  pub members : AreMembers l.members
+  pub members : AreLoopMembers l.members

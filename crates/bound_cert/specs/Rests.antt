@@ -4,7 +4,8 @@ use Rattle.std.specs.Fmt.{signed_decimal}
 use Rattle.bound_cert.specs.declared.lines.line.CertLine.{CertLine}
 use Rattle.bound_cert.specs.declared.lines.line.CertLine.TheVariants.{Version, Root, Start, Node, Loop, Bound}
 use Rattle.bound_cert.specs.Finding.{IsBehindPart}
-use Rattle.bound_cert.specs.CertLines.{behind_space, IsPotential}
+use Rattle.bound_cert.specs.CertLines.{behind_space}
+use Rattle.section_check.specs.Section.{IsPotential}
 
 -- a place and a potential
 abbrev pub node_rest : ℕ × ℤ → List ℕ

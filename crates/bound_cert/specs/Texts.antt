@@ -42,7 +42,7 @@ pub record BeginOne (lines : List (List ℕ)) : Type 0 where
   pub whole : AreLinesOf (lines ++ further) certificate
 
 -- Line n, counted from 1, is the first with which no certificate begins. Where the lines begin one and end too early, it is the one behind the last.
-pub record IsFirstRefused (lines : List (List ℕ)) (n : ℕ) : Type 0 where
+pub record IsFirstRefusedLine (lines : List (List ℕ)) (n : ℕ) : Type 0 where
   pub none : (c : Certificate) → ¬ AreLinesOf lines c
   pub counted : (1 ≤ n) × (n ≤ length lines + 1)
   pub before : (k : ℕ) → k < n → BeginOne (take k lines)

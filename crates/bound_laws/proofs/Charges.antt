@@ -8,7 +8,7 @@ use Rattle.loop_nest.specs.Nest.{NaturalLoop, headers_of, header_at, members_at,
 use Rattle.loop_nest.specs.Laws.{LoopsAreNested, HeaderDominatesMembers, DominanceIsAntisymmetric}
 use Rattle.loop_nest.proofs.Rising.{same_place}
 use Rattle.std.proofs.lemmas.List.Elements.{All-contains}
-use Rattle.section_check.specs.Placing.{IsAt}
+use Rattle.section_check.specs.Placing.{IsEntryAt}
 use Rattle.path_solver.specs.Reaching.{IsFlagged}
 use Rattle.bytecode_model.specs.Program.{Program}
 use Rattle.method_flow.specs.declared.timing.Timing.{Timing}
@@ -19,7 +19,7 @@ use Rattle.bound_laws.specs.Walking.{LeadsFromReached}
 use Rattle.bound_laws.proofs.Choosing.{chosen}
 use Rattle.bound_laws.proofs.Nests.{header_reached, member_of, of_member, header_is}
 
-members_there : (ls : List NaturalLoop) (i : ℕ) (l : NaturalLoop) → IsAt ls i l → members_at ls i ≡ l.members
+members_there : (ls : List NaturalLoop) (i : ℕ) (l : NaturalLoop) → IsEntryAt ls i l → members_at ls i ≡ l.members
 members_there [] i l at = let lt = at.0 in absurd (omega arith)
 members_there (k ∷ ks) zero l at = ap (λ (x : NaturalLoop). x.members) at.1
 members_there (k ∷ ks) (suc i) l at = let lt = at.0 in members_there ks i l (omega arith, at.1)
@@ -188,7 +188,7 @@ module _ (nested : LoopsAreNested) (dominate : HeaderDominatesMembers) (antisymm
   -- ---- what entries are charged
 
   abbrev IsLoad : List Bool → ℕ → ℕ → Type 0
-  IsLoad flags i fee = ((l : NaturalLoop) → IsAt nest i l → IsFlagged flags i → (fits : LoopFits P t m l.members) → fee ≡ loads_of fits) × ((IsFlagged flags i → ⊥) → fee ≡ 0)
+  IsLoad flags i fee = ((l : NaturalLoop) → IsEntryAt nest i l → IsFlagged flags i → (fits : LoopFits P t m l.members) → fee ≡ loads_of fits) × ((IsFlagged flags i → ⊥) → fee ≡ 0)
 
   one_load : (flags : List Bool) → AreCharged P t m nest flags → (i : ℕ) → i < length nest → (fee : ℕ) × IsLoad flags i fee
   one_load flags c i lt = by (get_or flags i false) refl
@@ -197,7 +197,7 @@ module _ (nested : LoopsAreNested) (dominate : HeaderDominatesMembers) (antisymm
       by false is = (0, (λ l at f fits. absurd (false≢true (sym is ∙ f)), λ none. refl))
       by true is =
           let k = get_or nest i some_loop in
-          let at : IsAt nest i k = (lt, get_or_default nest i k some_loop lt) in
+          let at : IsEntryAt nest i k = (lt, get_or_default nest i k some_loop lt) in
           let fits = ((c.each i k at).0 is).fits in
           (loads_of fits, (λ l at' f fits'. same_loads_by P t m k.members l.members (sym (members_there nest i k at) ∙ members_there nest i l at') fits fits', λ none. absurd (none is)))
 

@@ -8,7 +8,7 @@ use Rattle.method_flow.specs.Regions.{IsWithin}
 use Rattle.method_flow.specs.declared.timing.Timing.{Timing}
 use Rattle.method_graphs.specs.Laws.{LiveGraphsExist, TypedMethodsReachStarts}
 use Rattle.std.proofs.lemmas.Bool.{false≢true}
-use Rattle.lists.specs.Lemmas.{some_in}
+use Rattle.lists.proofs.Lemmas.{some_in}
 use Rattle.opcodes.specs.Start.{IsStart}
 use Rattle.bound_rules.specs.Bounding.{HasNoRecursion, AreReducible, HaveLines}
 use Rattle.bound_rules.specs.Laws.{MethodsHaveCode}

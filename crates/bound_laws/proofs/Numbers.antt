@@ -20,7 +20,7 @@ use Rattle.bound_rules.specs.Costs.{added, added_at, AreCosts}
 use Rattle.bound_rules.specs.Fitting.{RegionFits, loads_of, header_bound, header_bounds}
 use Rattle.bound_rules.specs.Bounding.{IsLeftWith}
 use Rattle.bound_rules.specs.Laws.{ReachesStarts}
-use Rattle.bound_rules.specs.Numbers.{Numbers, LiveNest, charged_loops, no_fees, IsValue, AreCharged, AreLoads, is_in_charged, full_and_back, loops_adds, IsInside, IsLoops, IsFull}
+use Rattle.bound_rules.specs.Numbers.{Numbers, LiveNest, charged_loops, no_fees, IsGreatestValue, AreCharged, AreLoads, is_in_charged, full_and_back, loops_adds, IsInside, IsLoops, IsFull}
 use Rattle.bound_rules.specs.Numbers.IsFull.{fits, exceeds}
 use Rattle.bound_rules.proofs.Owning.{same_of_each, target_calls}
 use Rattle.bound_laws.specs.Walking.{GreatestWalksExist}
@@ -71,13 +71,13 @@ module _ (P : Program) (t : Timing) (bound_of : BoundOf) (m : ℕ) (starts : Rea
       by false = same_full p reached
 
   -- a number by the numbers of one family is one by those of the other
-  pub inside_by : (flow : LiveNest P bound_of m) (costs : List ℕ) → AreCosts P t m (IsLiveEdge P m) (λ p. added P m p N.inside) flow.graph costs → IsValue flow.graph costs (charged_loops flow (no_fees flow)) (M.inside m)
+  pub inside_by : (flow : LiveNest P bound_of m) (costs : List ℕ) → AreCosts P t m (IsLiveEdge P m) (λ p. added P m p N.inside) flow.graph costs → IsGreatestValue flow.graph costs (charged_loops flow (no_fees flow)) (M.inside m)
       → IsInside P t bound_of M m
   inside_by flow costs are value =
       record { flow = flow; costs = costs; are_costs = other_costs P t m (λ p. added P m p N.inside) (λ p. added P m p M.inside) flow.graph costs same_inside are; value = value }
 
   pub loops_by : (flow : LiveNest P bound_of m) (flags : List Bool) → AreCharged P t m flow.nest flags → (fees : List ℕ) → AreLoads P t m flow.nest flags fees → (costs : List ℕ)
-      → AreCosts P t m (IsLiveEdge P m) (loops_adds P t N m flow.nest flags) flow.graph costs → IsValue flow.graph costs (charged_loops flow fees) (M.loops m) → IsLoops P t bound_of M m
+      → AreCosts P t m (IsLiveEdge P m) (loops_adds P t N m flow.nest flags) flow.graph costs → IsGreatestValue flow.graph costs (charged_loops flow fees) (M.loops m) → IsLoops P t bound_of M m
   loops_by flow flags charged fees loads costs are value = record {
     flow = flow;
     flags = flags;
@@ -92,9 +92,9 @@ module _ (P : Program) (t : Timing) (bound_of : BoundOf) (m : ℕ) (starts : Rea
   -- numbers of a method are its numbers in a family that agrees on it and on those that it may call
   pub still_numbers : AgreeAt N M m → AreNumbersAt P t bound_of N m → AreNumbersAt P t bound_of M m
   still_numbers same are = record {
-    inside = λ fit. let h = are.inside fit in inside_by h.flow h.costs h.are_costs (subst (λ (o : Option ℕ). IsValue h.flow.graph h.costs (charged_loops h.flow (no_fees h.flow)) o) same.inside h.value);
+    inside = λ fit. let h = are.inside fit in inside_by h.flow h.costs h.are_costs (subst (λ (o : Option ℕ). IsGreatestValue h.flow.graph h.costs (charged_loops h.flow (no_fees h.flow)) o) same.inside h.value);
     loops = λ alone. let h = are.loops alone in
-        loops_by h.flow h.flags h.charged h.fees h.are_fees h.costs h.are_costs (subst (λ (o : Option ℕ). IsValue h.flow.graph h.costs (charged_loops h.flow h.fees) o) same.loops h.value);
+        loops_by h.flow h.flags h.charged h.fees h.are_fees h.costs h.are_costs (subst (λ (o : Option ℕ). IsGreatestValue h.flow.graph h.costs (charged_loops h.flow h.fees) o) same.loops h.value);
     full = by are.full;
   }
     where
@@ -142,7 +142,7 @@ pub record IsGround (P : Program) (t : Timing) (bound_of : BoundOf) (m : ℕ) : 
   pub starts : ReachesStarts P m
 
 module _ (laws : GraphLaws) (greatest : GreatestWalksExist) (P : Program) (t : Timing) (bound_of : BoundOf) (m : ℕ) (ground : IsGround P t bound_of m) where
-  value_exists : (flow : LiveNest P bound_of m) (costs fees : List ℕ) → length fees ≡ length flow.nest → ((v : Option ℕ) × IsValue flow.graph costs (charged_loops flow fees) v → ⊥) → ⊥
+  value_exists : (flow : LiveNest P bound_of m) (costs fees : List ℕ) → length fees ≡ length flow.nest → ((v : Option ℕ) × IsGreatestValue flow.graph costs (charged_loops flow fees) v → ⊥) → ⊥
   value_exists flow costs fees long none =
       none (
         None,
@@ -159,7 +159,7 @@ module _ (laws : GraphLaws) (greatest : GreatestWalksExist) (P : Program) (t : T
       pub are : AreNumbersAt P t bound_of numbers m
 
     with_inside : (flow : LiveNest P bound_of m) (together : RegionFits P t m) (costs : List ℕ) → AreCosts P t m (IsLiveEdge P m) (λ p. added P m p N.inside) flow.graph costs → (v : Option ℕ)
-        → IsValue flow.graph costs (charged_loops flow (no_fees flow)) v → GoesOn
+        → IsGreatestValue flow.graph costs (charged_loops flow (no_fees flow)) v → GoesOn
     with_inside flow together costs are v value =
         let full = option_map (λ n. n + loads_of together) v in
         let M = extended N m v None full in
@@ -168,14 +168,14 @@ module _ (laws : GraphLaws) (greatest : GreatestWalksExist) (P : Program) (t : T
           others = others_agree N m v None full;
           are = record {
             inside = λ fit. inside_by P t bound_of m ground.starts N M (λ y call. others_agree N m v None full y (apart y call)) flow costs are
-                (subst (λ (o : Option ℕ). IsValue flow.graph costs (charged_loops flow (no_fees flow)) o) (sym (inside_new N m v None full)) value);
+                (subst (λ (o : Option ℕ). IsGreatestValue flow.graph costs (charged_loops flow (no_fees flow)) o) (sym (inside_new N m v None full)) value);
             loops = λ alone. absurd (alone together);
             full = fits together (full_new N m v None full ∙ ap (λ (o : Option ℕ). option_map (λ n. n + loads_of together) o) (sym (inside_new N m v None full)));
           };
         }
 
     with_loops : (flow : LiveNest P bound_of m) → (RegionFits P t m → ⊥) → (flags : List Bool) → AreCharged P t m flow.nest flags → (fees : List ℕ) → AreLoads P t m flow.nest flags fees → (costs : List ℕ)
-        → AreCosts P t m (IsLiveEdge P m) (loops_adds P t N m flow.nest flags) flow.graph costs → (v : Option ℕ) → IsValue flow.graph costs (charged_loops flow fees) v → GoesOn
+        → AreCosts P t m (IsLiveEdge P m) (loops_adds P t N m flow.nest flags) flow.graph costs → (v : Option ℕ) → IsGreatestValue flow.graph costs (charged_loops flow fees) v → GoesOn
     with_loops flow alone flags charged fees loads costs are v value =
         let full = option_map (λ n. n + load P t.read m) v in
         let M = extended N m None v full in
@@ -185,7 +185,7 @@ module _ (laws : GraphLaws) (greatest : GreatestWalksExist) (P : Program) (t : T
           are = record {
             inside = λ fit. absurd (alone fit);
             loops = λ _. loops_by P t bound_of m ground.starts N M (λ y call. others_agree N m None v full y (apart y call)) flow flags charged fees loads costs are
-                (subst (λ (o : Option ℕ). IsValue flow.graph costs (charged_loops flow fees) o) (sym (loops_new N m None v full)) value);
+                (subst (λ (o : Option ℕ). IsGreatestValue flow.graph costs (charged_loops flow fees) o) (sym (loops_new N m None v full)) value);
             full = exceeds alone (full_new N m None v full ∙ ap (λ (o : Option ℕ). option_map (λ n. n + load P t.read m) o) (sym (loops_new N m None v full)));
           };
         }

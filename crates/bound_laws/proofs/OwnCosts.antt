@@ -1,7 +1,7 @@
 -- The nodes to which control comes in a typed program have costs.
 use Rattle.std.proofs.Common.{◌≡◌, ℕ, ◌^◌, ◌<◌, ◌≤◌, List, length, Option, Some, None, Ok, Err, Result, IsSome, IsSomeAnd, refl, ap, arith}
 use Rattle.std.proofs.lemmas.Bool.{false≢true}
-use Rattle.lists.specs.Lemmas.{none≢some, some_same, onto_some, some_in}
+use Rattle.lists.proofs.Lemmas.{none≢some, some_same, onto_some, some_in}
 use Rattle.micro_flow.specs.Costs.{CostsAreSmall, RaiseIsSmall}
 use Rattle.micro_flow.specs.Walk.{IsCost, IsRaiseCost}
 use Rattle.opcodes.specs.declared.instruction.Instr.{Instr}

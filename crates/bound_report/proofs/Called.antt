@@ -2,7 +2,7 @@
 use Rattle.std.proofs.Common.{◌≡◌, ◌≢◌, ℕ, ◌+◌, ◌-◌, ◌*◌, ◌<◌, Bool, true, false, not, List, [], ◌∷◌, Contains, Option, Some, None, refl, sym, ap, ap₂, ◌∙◌, subst, inl, inr, arith}
 use Rattle.std.specs.Prelude.{◌↔◌, if◌then◌else◌, option_map, unwrap_or, slice_get, slice_index_or, IsSome}
 use Rattle.std.proofs.lemmas.Bool.{cases_lt, cond_below, cond_above}
-use Rattle.lists.specs.Lemmas.{map_some, some_in}
+use Rattle.lists.proofs.Lemmas.{map_some, some_in}
 use Rattle.lists.specs.Members.{has_or_not, map_contains}
 use Rattle.opcodes.specs.Start.{IsStart, AreStarts}
 use Rattle.bytecode_model.specs.Program.{Program, body_of}
@@ -21,7 +21,7 @@ use Rattle.bound_rules.specs.Costs.{greater, greatest_of, added, added_at}
 use Rattle.bound_rules.specs.Fitting.{loads_of}
 use Rattle.bound_rules.specs.Numbers.{full_and_back}
 use Rattle.bound_rules.proofs.Greatest.{same_members, none_greatest}
-use Rattle.compact_walks.specs.Limited.{limit, limited}
+use Rattle.compact_walks.specs.Limited.{cycles_limit, limited}
 use Rattle.wcet.specs.declared.known.Known.{Known}
 use Rattle.wcet.specs.Known.{known_at, AreTold, IsFullBy, IsToldOf}
 use Rattle.wcet.specs.Known.IsFullBy.{fits as full_fits, exceeds as full_exceeds}
@@ -77,13 +77,13 @@ module _ (P : Program) (t : Timing) (table : List Known) (m p : ℕ) (targets : 
       ((start, members x g.0), e, (n.0, n.1, omega arith))
 
   -- with loads
-  more_is : (x nf n more : ℕ) → nf ≡ limited (n + more) → nf < limit → (known_at table x).full ≡ Some nf → (known_at table x).asked ≡ Some n → more_of (known_at table x) ≡ more
+  more_is : (x nf n more : ℕ) → nf ≡ limited (n + more) → nf < cycles_limit → (known_at table x).full ≡ Some nf → (known_at table x).asked ≡ Some n → more_of (known_at table x) ≡ more
   more_is x nf n more is small full number =
       let exact : nf ≡ n + more = is ∙ small_is (n + more) (omega arith) in
       let a : more_of (known_at table x) ≡ nf - n = ap₂ (λ (u v : Option ℕ). unwrap_or u 0 - unwrap_or v 0) full number in
       omega arith
 
-  paid : (x nf : ℕ) → (known_at table x).full ≡ Some nf → nf < limit → IsFullBy P t x (known_at table x) → (n : ℕ) × (asked x ≡ Some n) × (more : ℕ) × IsMore P t x more × (more_of (known_at table x) ≡ more) × (nf ≡ n + more)
+  paid : (x nf : ℕ) → (known_at table x).full ≡ Some nf → nf < cycles_limit → IsFullBy P t x (known_at table x) → (n : ℕ) × (asked x ≡ Some n) × (more : ℕ) × IsMore P t x more × (more_of (known_at table x) ≡ more) × (nf ≡ n + more)
   paid x nf full small (full_fits together is) =
       let n = map_some (λ k. limited (k + loads_of together)) (known_at table x).asked nf (sym is ∙ full) in
       let exact : nf ≡ n.0 + loads_of together = sym n.2 ∙ small_is (n.0 + loads_of together) (let e = n.2 in omega arith) in
@@ -98,7 +98,7 @@ module _ (P : Program) (t : Timing) (table : List Known) (m p : ℕ) (targets : 
       ap (λ (o : Option ℕ). unwrap_or o 0)
       (greatest_back back (λ x. (known_at table x).full) (targets_of P m p) ∙ ap (option_map (λ n. n + back)) (sym (same (λ x. (known_at table x).full))))
 
-  full_added : (target : Option ℕ) (loads : ℕ) → IsGreatestTarget table true targets target → loads ≡ loads_at table true back target → added P m p (full_and_back P t (numbers_by table) m) < limit
+  full_added : (target : Option ℕ) (loads : ℕ) → IsGreatestTarget table true targets target → loads ≡ loads_at table true back target → added P m p (full_and_back P t (numbers_by table) m) < cycles_limit
       → IsAdded P t asked m (At p) true target loads (added P m p (full_and_back P t (numbers_by table) m))
   full_added None loads g e small = (e, full_value ∙ ap (λ (o : Option ℕ). unwrap_or (option_map (λ n. n + back) o) 0) g)
   full_added (Some x) loads g e small =
@@ -111,7 +111,7 @@ module _ (P : Program) (t : Timing) (table : List Known) (m p : ℕ) (targets : 
       let paid_more = is.4 in
       ((start, members x g.0), (more, is.3, omega arith), (n, is.1, omega arith))
 
-  pub called_added : (b : Bool) (c : Callee) → IsCallee table (not b) back targets c → adds_if P t table m p b < limit → IsAdded P t asked m (At p) (not b) c.target c.loads (adds_if P t table m p b)
+  pub called_added : (b : Bool) (c : Callee) → IsCallee table (not b) back targets c → adds_if P t table m p b < cycles_limit → IsAdded P t asked m (At p) (not b) c.target c.loads (adds_if P t table m p b)
   called_added true c is small = inside_added c.target c.loads is.greatest is.loads
   called_added false c is small = full_added c.target c.loads is.greatest is.loads small
 
@@ -144,7 +144,7 @@ module _ (starts : (code : List ℕ) → AreStarts code) (kinds : RowsAreOfTheir
   may_call q x start target = record { place = q; start = start_of q start; call = target_calls P m q x target; is_target = target }
 
   -- at a call of the table
-  call_added : (q : ℕ) → IsStart k.code q → (d : Call) → Contains k.calls d → d.place ≡ q → adds_if P t table m q (wb (2 * q)) < limit
+  call_added : (q : ℕ) → IsStart k.code q → (d : Call) → Contains k.calls d → d.place ≡ q → adds_if P t table m q (wb (2 * q)) < cycles_limit
       → IsAdded P t (asked_in table) m (At q) (not (wb (2 * q))) (callee_at callees (2 * q)).target (callee_at callees (2 * q)).loads (adds_if P t table m q (wb (2 * q)))
   call_added q start d among place small =
       let targets = targets_of_call f d in
@@ -163,7 +163,7 @@ module _ (starts : (code : List ℕ) → AreStarts code) (kinds : RowsAreOfTheir
   adds_none q never true = ap (λ (o : Option ℕ). unwrap_or o 0) (none_greatest (asked_in table) (targets_of P m q) never)
   adds_none q never false = ap (λ (o : Option ℕ). unwrap_or o 0) (none_greatest (full_and_back P t (numbers_by table) m) (targets_of P m q) never)
 
-  pub node_added : (u : Node) → IsReached (IsLiveEdge P m) u → added_at (λ q. adds_if P t table m q (wb (2 * q))) u < limit → (pays : ℕ → Bool) → ((q : ℕ) → u ≡ At q → pays (2 * q) ≡ not (wb (2 * q)))
+  pub node_added : (u : Node) → IsReached (IsLiveEdge P m) u → added_at (λ q. adds_if P t table m q (wb (2 * q))) u < cycles_limit → (pays : ℕ → Bool) → ((q : ℕ) → u ≡ At q → pays (2 * q) ≡ not (wb (2 * q)))
       → IsAdded P t (asked_in table) m u (pays (number_of u)) (callee_at callees (number_of u)).target (callee_at callees (number_of u)).loads (added_at (λ q. adds_if P t table m q (wb (2 * q))) u)
   node_added (At q) reached small pays same =
       let start = started q reached in

@@ -1,13 +1,13 @@
 -- What holds of all methods of an order that are found, where none of their numbers is too large.
 use Rattle.std.proofs.Common.{◌≡◌, ◌<◌, ℕ, List, length, None}
 use Rattle.wcet.specs.declared.methods.Methods.{Methods}
-use Rattle.wcet.specs.Known.{Setting, bounds_in, ForEach}
+use Rattle.wcet.specs.Known.{BoundSetting, bounds_in, ForEach}
 use Rattle.wcet.specs.Ending.{AreReadyFound, AreKnownWithin}
 use Rattle.wcet.proofs.Certifying.{root_known}
 use Rattle.wcet.proofs.Ended.{all_small}
 use Rattle.bound_report.specs.Settled.{IsSettled, AreReadyIn}
 
-module _ (set : Setting) (root : ℕ) (order : List ℕ) (a : Methods) (below : root < length set.flow.methods) (h : AreReadyIn set root order a) where
+module _ (set : BoundSetting) (root : ℕ) (order : List ℕ) (a : Methods) (below : root < length set.flow.methods) (h : AreReadyIn set root order a) where
   pub ready_found : AreReadyFound set root a
   ready_found = record { order = order; distinct = h.distinct; found = h.found; ready = h.ready }
 

@@ -9,7 +9,7 @@ use Rattle.loop_nest.specs.Nest.{NaturalLoop, IsLoopOf, IsNest}
 use Rattle.loop_nest.proofs.Elements.{from_map}
 use Rattle.loop_nest.proofs.Ends.{visited_within}
 use Rattle.section_check.specs.Bounded.{BoundedLoop, holds, entries_from, entries, cost_of, IsKept, IsBoundedWalk}
-use Rattle.section_check.specs.Placing.{IsAt}
+use Rattle.section_check.specs.Placing.{IsEntryAt}
 use Rattle.section_check.specs.Renumbering.{AreMovedCosts}
 use Rattle.path_solver.specs.Longest.{bounded_loops}
 use Rattle.compact_walks.specs.Moving.{IsMoved, moved_nest, moved_bounded}
@@ -103,7 +103,7 @@ module _ (g d : Digraph) (node : ℕ → ℕ) (h : IsMoved g d node) (nest : Lis
       none : BoundedLoop
       none = record { header = 0; members = []; bound = 0; load = 0 }
 
-      listed : (walk : List ℕ) → ((i : ℕ) (l : BoundedLoop) → IsAt inner i l → get_or entered i 0 ≡ entries l.members walk) → length entered ≡ length inner → entered ≡ map (λ (l : BoundedLoop). entries l.members walk) inner
+      listed : (walk : List ℕ) → ((i : ℕ) (l : BoundedLoop) → IsEntryAt inner i l → get_or entered i 0 ≡ entries l.members walk) → length entered ≡ length inner → entered ≡ map (λ (l : BoundedLoop). entries l.members walk) inner
       listed walk are long =
           let f : BoundedLoop → ℕ = λ l. entries l.members walk in
           same_lists entered (map f inner) (long ∙ sym (length-map inner f))

@@ -6,7 +6,7 @@ use Rattle.std.proofs.Math.Nat.{mul-zero}
 use Rattle.std.proofs.lemmas.Bool.{cases_eq, ne_eqb, ltb-true}
 use Rattle.std.proofs.lemmas.List.Sums.{sum_by-cons}
 use Rattle.std.proofs.lemmas.List.Elements.{All-contains, Contains-append_cases}
-use Rattle.lists.specs.Lemmas.{some_is}
+use Rattle.lists.proofs.Lemmas.{some_is}
 use Rattle.lists.specs.Members.{at_head, in_tail, nil_contains}
 use Rattle.loop_nest.specs.Digraph.{Digraph}
 use Rattle.loop_nest.proofs.Elements.{from_map, from_filter}

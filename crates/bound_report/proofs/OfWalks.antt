@@ -27,12 +27,12 @@ use Rattle.bound_rules.specs.Fitting.{RegionFits}
 use Rattle.bound_rules.specs.Laws.{AgreeOnLive}
 use Rattle.bound_rules.specs.Numbers.{Numbers, charged_loops, no_fees, is_in_charged, loops_adds}
 use Rattle.bound_rules.proofs.Owning.{same_own}
-use Rattle.compact_walks.specs.Limited.{limit}
+use Rattle.compact_walks.specs.Limited.{cycles_limit}
 use Rattle.compact_walks.specs.Moving.{moved_natural}
 use Rattle.walk_counts.specs.declared.WalkCounts.{WalkCounts}
 use Rattle.wcet.specs.declared.known.Known.{Known}
 use Rattle.wcet.specs.declared.prepared.Prepared.{Prepared}
-use Rattle.wcet.specs.Known.{Setting, bounds_in}
+use Rattle.wcet.specs.Known.{BoundSetting, bounds_in}
 use Rattle.wcet.specs.Laws.{numbers_by}
 use Rattle.wcet.specs.Prepared.{node_of, nest_of, is_without_at}
 use Rattle.wcet.specs.Found.{costs_of}
@@ -85,7 +85,7 @@ charged_long [] flags long = refl
 charged_long (n ∷ ns) [] long = absurd (omega arith)
 charged_long (n ∷ ns) (f ∷ fs) long = let rest = charged_long ns fs (omega arith) in omega arith
 
-module _ (laws : AreFoundLaws) (P : Program) (set : Setting) (table : List Known) (m : ℕ) (coded : Coded) (p : Prepared) (w : WalkCounts) (k : MethodCounts) (h : IsPreparedIn P set table m coded p) (walked : AreWalkCounts p w)
+module _ (laws : AreFoundLaws) (P : Program) (set : BoundSetting) (table : List Known) (m : ℕ) (coded : Coded) (p : Prepared) (w : WalkCounts) (k : MethodCounts) (h : IsPreparedIn P set table m coded p) (walked : AreWalkCounts p w)
     (method : k.method ≡ m) (nodes : AreNodesOf set m table p w.visits.items k.nodes.items) (entered : k.entered.items ≡ w.entered.items) (fees : k.fees.items ≡ charged p.charges.loads.items p.charges.flags.items) where
   abbrev t : Timing
   t = set.timing
@@ -173,8 +173,8 @@ module _ (laws : AreFoundLaws) (P : Program) (set : Setting) (table : List Known
         let mine = own_at u reached in
         let own : cost.0 ≡ slice_index nodes.own (number_of u) = same_own P set.timing m u cost.0 (slice_index nodes.own (number_of u)) cost.1 mine in
         let sum : slice_index costs (number_of u) ≡ slice_index nodes.own (number_of u) + added_at (λ q. adds_if P set.timing table m q (wb (2 * q))) u = cost.2 ∙ ap₂ (λ (a b : ℕ). a + b) own (adds_at u reached) in
-        let few : slice_index p.costs.items (number_of u) < limit =
-        All-contains (λ y. slice_index p.costs.items y < limit) p.shape.nodes (number_of u) walked.small (in_nodes laws.walks P set.timing (bounds_in set) table m p h.prepared small u reached)
+        let few : slice_index p.costs.items (number_of u) < cycles_limit =
+        All-contains (λ y. slice_index p.costs.items y < cycles_limit) p.shape.nodes (number_of u) walked.small (in_nodes laws.walks P set.timing (bounds_in set) table m p h.prepared small u reached)
         in
         let same_cost = live_costs u reached in
         let added_u = node_added laws.starts laws.kinds P set.timing set.flow h.flow table m coded h.at h.coded h.settled.told nodes.without nodes.callees callees u reached (omega arith) pays

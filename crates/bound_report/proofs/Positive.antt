@@ -9,7 +9,7 @@ use Rattle.micro_isa.specs.Operations.{operation_of}
 use Rattle.micro_isa.specs.Words.{micro_of}
 use Rattle.microcode_rom.specs.declared.TheConstants.{WORDS}
 use Rattle.micro_flow.specs.declared.CostParams.{CostParams}
-use Rattle.micro_flow.specs.Walk.{Kind, Waits, Reads, Writes, Halts, Other, kind_of, Walker, passed, onward, turned, branched, timed, stops, step, going, walk, begin, IsGreatest}
+use Rattle.micro_flow.specs.Walk.{TimeKind, Waits, Reads, Writes, Halts, Other, kind_of, Walker, passed, onward, turned, branched, timed, stops, step, going, walk, begin, IsGreatestTime}
 
 onward_clock : (b : Bool) (s : Walker) → (onward b s).clock ≡ s.clock
 onward_clock true s = refl
@@ -19,14 +19,14 @@ onward_fine : (b : Bool) (s : Walker) → (onward b s).fine ≡ s.fine
 onward_fine true s = refl
 onward_fine false s = refl
 
-timed_clock : (k : Kind) (p : CostParams) (s : Walker) → s.clock < (timed k p s).clock
+timed_clock : (k : TimeKind) (p : CostParams) (s : Walker) → s.clock < (timed k p s).clock
 timed_clock Waits p s = omega arith
 timed_clock Reads p s = omega arith
 timed_clock Writes p s = omega arith
 timed_clock Halts p s = omega arith
 timed_clock Other p s = omega arith
 
-timed_fine : (k : Kind) (p : CostParams) (s : Walker) → (timed k p s).fine ≡ s.fine
+timed_fine : (k : TimeKind) (p : CostParams) (s : Walker) → (timed k p s).fine ≡ s.fine
 timed_fine Waits p s = refl
 timed_fine Reads p s = refl
 timed_fine Writes p s = refl
@@ -54,7 +54,7 @@ record IsStep (old new : Walker) : Type 0 where
   later : old.clock < new.clock
   fine : new.fine ≡ true → old.fine ≡ true
 
-plain_step : (b : Bool) (k : Kind) (p : CostParams) (s : Walker) → IsStep s (onward b (timed k p s))
+plain_step : (b : Bool) (k : TimeKind) (p : CostParams) (s : Walker) → IsStep s (onward b (timed k p s))
 plain_step b k p s = record {
   later = (let up = timed_clock k p s in let same = onward_clock b (timed k p s) in omega arith);
   fine = λ e. grind (arith, timed_fine k p s, onward_fine b (timed k p s));
@@ -114,5 +114,5 @@ ends_later p at (c ∷ cs) fine over =
     let more = rest.0 in
     omega arith
 
-pub cost_positive : (p : CostParams) (at n : ℕ) → IsGreatest p at n → 0 < n
+pub cost_positive : (p : CostParams) (at n : ℕ) → IsGreatestTime p at n → 0 < n
 cost_positive p at n g = let up = ends_later p at g.attained.choices g.attained.ends.fine g.attained.ends.over in let same = g.attained.takes in omega arith

@@ -3,7 +3,7 @@ use Rattle.std.proofs.Common.{◌≡◌, ℕ, ◌+◌, ◌*◌, ◌^◌, ◌<◌
 use Rattle.std.specs.Prelude.{is_some, IsSome}
 use Rattle.std.proofs.Math.Nat.{le-mul_of_pos_right, mul-le-mul_left}
 use Rattle.std.proofs.lemmas.List.Elements.{All-contains}
-use Rattle.lists.specs.Lemmas.{map_some}
+use Rattle.lists.proofs.Lemmas.{map_some}
 use Rattle.cache_regions.specs.Region.{AreDistinct}
 use Rattle.bytecode_model.specs.Program.{Program}
 use Rattle.method_flow.specs.Keeping.{BoundOf}

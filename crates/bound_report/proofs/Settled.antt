@@ -9,7 +9,7 @@ use Rattle.method_flow.specs.Recursion.{MayCall}
 use Rattle.method_flow.specs.Regions.{load}
 use Rattle.method_flow.specs.declared.timing.Timing.{Timing}
 use Rattle.bound_rules.specs.Fitting.{RegionFits, loads_of}
-use Rattle.compact_walks.specs.Limited.{limit}
+use Rattle.compact_walks.specs.Limited.{cycles_limit}
 use Rattle.wcet.specs.declared.fit.Fit.{Fit}
 use Rattle.wcet.specs.declared.known.Known.{Known}
 use Rattle.wcet.specs.declared.found.Walked.{Walked}
@@ -61,7 +61,7 @@ settled_are_walked known_is P set table m k p h w = by w
     found : (w : Walked) → IsWalked p w → IsKnownOf P set.timing (bounds_in set) table m (found_by m fit.fit w).known
     found w is = known_is P set.timing (bounds_in set) set.flow k table m p fit.fit w h.flow h.at h.coded h.waits.read h.waits.write h.settled.told h.limited h.shape h.prepared fit.same fit.is is
 
-    by : IsWalked p Never ⊎ IsWalked p (Large limit) → ⊥
+    by : IsWalked p Never ⊎ IsWalked p (Large cycles_limit) → ⊥
     by (inl never) =
         let some : IsSome (asked_in table m) = subst (λ (o : Option ℕ). IsSome o) (sym h.settled.is_number) refl in
         let ends = h.settled.known.told.asked.0 some in
@@ -69,7 +69,7 @@ settled_are_walked known_is P set table m k p h w = by w
         cc
     by (inr large) =
         let agree : (x : ℕ) → MayCall P m x → Agrees P set.timing (numbers_by table) x (known_at table x) = λ x call. agree_with P set.timing table h.limited x in
-        let exceeds = ((found (Large limit) large).exceeds (numbers_by table) agree h.settled.numbers).0 refl in
+        let exceeds = ((found (Large cycles_limit) large).exceeds (numbers_by table) agree h.settled.numbers).0 refl in
         let too_large = (h.settled.known.exceeds (numbers_by table) agree h.settled.numbers).1 exceeds in
         let bad : false ≡ true = sym h.settled.small ∙ too_large in
         cc

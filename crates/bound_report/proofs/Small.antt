@@ -3,7 +3,7 @@ use Rattle.std.proofs.Common.{◌≡◌, ℕ, ◌+◌, ◌-◌, ◌^◌, ◌<◌
 use Rattle.std.specs.Prelude.{IsTrue, option_map, unwrap_or, slice_index}
 use Rattle.std.specs.Option.{IsSomeAnd}
 use Rattle.std.proofs.lemmas.Bool.{cases_lt}
-use Rattle.lists.specs.Lemmas.{some_is}
+use Rattle.lists.proofs.Lemmas.{some_is}
 use Rattle.section_check.specs.Bounded.{BoundedLoop, IsGreatest}
 use Rattle.loop_nest.specs.Digraph.{Digraph}
 use Rattle.bytecode_model.specs.Program.{Program, body_of, instr_at}
@@ -20,7 +20,7 @@ use Rattle.method_flow.specs.Regions.{load}
 use Rattle.method_flow.specs.declared.timing.Timing.{Timing}
 use Rattle.bound_rules.specs.Costs.{AreCosts}
 use Rattle.bound_rules.specs.Fitting.{loads_of}
-use Rattle.bound_rules.specs.Numbers.{IsValue, IsFull}
+use Rattle.bound_rules.specs.Numbers.{IsGreatestValue, IsFull}
 use Rattle.bound_rules.specs.Numbers.IsFull.{fits as full_fits, exceeds as full_exceeds}
 use Rattle.compact_walks.proofs.Walks.{start_visited}
 use Rattle.wcet.specs.declared.known.Known.{Known}
@@ -97,8 +97,8 @@ module _ (P : Program) (t : Timing) (bound_of : BoundOf) (table : List Known) (l
       let all = greatest.attained in
       omega arith
 
-  value_positive : (g : Digraph) (costs : List ℕ) (loops : List BoundedLoop) (adds : ℕ → ℕ) (o : Option ℕ) → AreCosts P t m (IsLiveEdge P m) adds g costs → o ≡ Some h.number → IsValue g costs loops o → 0 < h.number
-  value_positive g costs loops adds o are is value = walk_positive g costs loops adds h.number are (subst (λ (v : Option ℕ). IsValue g costs loops v) is value)
+  value_positive : (g : Digraph) (costs : List ℕ) (loops : List BoundedLoop) (adds : ℕ → ℕ) (o : Option ℕ) → AreCosts P t m (IsLiveEdge P m) adds g costs → o ≡ Some h.number → IsGreatestValue g costs loops o → 0 < h.number
+  value_positive g costs loops adds o are is value = walk_positive g costs loops adds h.number are (subst (λ (v : Option ℕ). IsGreatestValue g costs loops v) is value)
 
   positive : 0 < h.number
   positive = by h.numbers.full

@@ -8,7 +8,7 @@ use Rattle.path_solver.specs.Longest.{bounded_loops, WalkExceeds}
 use Rattle.path_solver.specs.Reaching.{ReachesExit}
 use Rattle.path_solver.specs.Regions.{charged}
 use Rattle.bound_rules.specs.declared.faults.BoundRefusal.{BoundRefusal}
-use Rattle.compact_walks.specs.Limited.{limit, picked, ArePicked, SomeExceeds}
+use Rattle.compact_walks.specs.Limited.{cycles_limit, picked, ArePicked, SomeExceeds}
 use Rattle.walk_counts.specs.declared.WalkCounts.{WalkCounts}
 use Rattle.walk_counts.specs.Counts.{AreCounts}
 use Rattle.wcet.specs.declared.prepared.Prepared.{Prepared}
@@ -36,7 +36,7 @@ module _ (p : Prepared) (shape : IsInShape p) (costs fees bounds : List ℕ) (ar
           subst (λ (xs : List ℕ). K xs p.bounds.items (charged p.charges.loads.items p.charges.flags.items)) are.are
           (subst (λ (xs : List ℕ). K costs xs (charged p.charges.loads.items p.charges.flags.items)) given (subst (λ (xs : List ℕ). K costs bounds xs) paid k))
 
-      below : w.value < limit
+      below : w.value < cycles_limit
       below =
           elim (cases_lt w.value (2 ^ 64)) [
             | inl less ↦ less

@@ -8,7 +8,7 @@ use Rattle.method_flow.specs.Keeping.{BoundOf}
 use Rattle.method_flow.specs.Recursion.{MayCall}
 use Rattle.method_flow.specs.declared.timing.Timing.{Timing}
 use Rattle.wcet.specs.declared.known.Known.{Known}
-use Rattle.wcet.specs.Known.{Setting, known_at}
+use Rattle.wcet.specs.Known.{BoundSetting, known_at}
 use Rattle.wcet.specs.Laws.{numbers_by}
 use Rattle.bound_report.specs.declared.counts.NodeCount.{NodeCount}
 use Rattle.bound_report.specs.declared.counts.MethodCounts.{MethodCounts}
@@ -48,7 +48,7 @@ pub record AreRootTimes (count root : ℕ) (times : List ℕ) : Type 0 where
   pub each : (x : ℕ) → x < count → slice_index times x ≡ (if x == root then 1 else 0)
 
 -- the counts of one method more
-pub record AddsCount (set : Setting) (table : List Known) (m : ℕ) (times : List ℕ) (counted : List MethodCounts)
+pub record AddsCount (set : BoundSetting) (table : List Known) (m : ℕ) (times : List ℕ) (counted : List MethodCounts)
     (times' : List ℕ) (counted' : List MethodCounts) : Type 0 where
   pub counts : MethodCounts
   pub are : IsCountOf set table m (slice_index times m) counts

@@ -6,7 +6,7 @@ use Rattle.method_flow.specs.Flow.{Coded, Flow, targets_of_call}
 use Rattle.node_costs.specs.Costs.{method_load}
 use Rattle.bound_rules.specs.Costs.{greatest_of}
 use Rattle.wcet.specs.declared.known.Known.{Known}
-use Rattle.wcet.specs.Known.{Setting, known_at}
+use Rattle.wcet.specs.Known.{BoundSetting, known_at}
 use Rattle.bound_report.specs.declared.callees.Callee.{Callee}
 
 -- the number of a method where its call pays loads, or pays none
@@ -56,6 +56,6 @@ pub record AreCallees (f : Flow) (calls : List Call) (table : List Known) (back 
   pub others : (u : ℕ) → ((c : Call) → Contains calls c → u ≢ 2 * c.place) → callee_at callees u ≡ no_callee
 
 -- so of the method m, by the table
-abbrev pub AreCalleesOf : Setting → (method : ℕ) → List Known → (without : List Bool) → List Callee → Type 0
+abbrev pub AreCalleesOf : BoundSetting → (method : ℕ) → List Known → (without : List Bool) → List Callee → Type 0
 AreCalleesOf set m table without callees = (k : Coded) → slice_get set.flow.methods m ≡ Some k
     → AreCallees set.flow k.calls table (method_load set.timing.read set.flow.methods m) without callees

@@ -7,11 +7,11 @@ use Rattle.walk_counts.specs.declared.WalkCounts.{WalkCounts}
 use Rattle.wcet.specs.declared.known.Known.{Known}
 use Rattle.wcet.specs.declared.prepared.Prepared.{Prepared}
 use Rattle.wcet.specs.declared.found.Walked.TheVariants.{Never, Large}
-use Rattle.wcet.specs.Known.{Setting, IsSetting, bounds_in, IsLimited}
+use Rattle.wcet.specs.Known.{BoundSetting, IsBoundSetting, bounds_in, IsLimited}
 use Rattle.wcet.specs.Laws.{numbers_by}
 use Rattle.wcet.specs.Prepared.{IsInShape, IsPreparedFor}
 use Rattle.wcet.specs.Found.{IsWalked}
-use Rattle.compact_walks.specs.Limited.{limit}
+use Rattle.compact_walks.specs.Limited.{cycles_limit}
 use Rattle.bound_report.specs.declared.counts.MethodCounts.{MethodCounts}
 use Rattle.bound_report.specs.Counts.{AreCountsOf}
 use Rattle.bound_report.specs.Walks.{AreWalkCounts}
@@ -19,8 +19,8 @@ use Rattle.bound_report.specs.Nodes.{AreNodesOf}
 use Rattle.bound_report.specs.Settled.{asked_in, IsSettledAt}
 
 -- a method of the table that is prepared for a program and settled there
-pub record IsPreparedIn (P : Program) (set : Setting) (table : List Known) (m : ℕ) (k : Coded) (p : Prepared) : Type 0 where
-  pub waits : IsSetting set
+pub record IsPreparedIn (P : Program) (set : BoundSetting) (table : List Known) (m : ℕ) (k : Coded) (p : Prepared) : Type 0 where
+  pub waits : IsBoundSetting set
   pub flow : IsFlowOf P set.flow
   pub at : slice_get set.flow.methods m ≡ Some k
   pub coded : IsCoded k
@@ -32,7 +32,7 @@ pub record IsPreparedIn (P : Program) (set : Setting) (table : List Known) (m : 
 -- the counts of its walk are counts of the method
 abbrev pub CountsAreOfWalks : Type 0
 CountsAreOfWalks =
-    (P : Program) (set : Setting) (table : List Known) (m : ℕ) (coded : Coded) (p : Prepared) (w : WalkCounts) (k : MethodCounts)
+    (P : Program) (set : BoundSetting) (table : List Known) (m : ℕ) (coded : Coded) (p : Prepared) (w : WalkCounts) (k : MethodCounts)
     → IsPreparedIn P set table m coded p
     → AreWalkCounts p w → k.method ≡ m → AreNodesOf set m table p w.visits.items k.nodes.items → k.entered.items ≡ w.entered.items
     → k.fees.items ≡ charged p.charges.loads.items p.charges.flags.items
@@ -41,5 +41,5 @@ CountsAreOfWalks =
 -- its walks end, and none of them and none of its nodes costs too much
 abbrev pub SettledAreWalked : Type 0
 SettledAreWalked =
-    (P : Program) (set : Setting) (table : List Known) (m : ℕ) (k : Coded) (p : Prepared) → IsPreparedIn P set table m k p
-    → IsWalked p Never ⊎ IsWalked p (Large limit) → ⊥
+    (P : Program) (set : BoundSetting) (table : List Known) (m : ℕ) (k : Coded) (p : Prepared) → IsPreparedIn P set table m k p
+    → IsWalked p Never ⊎ IsWalked p (Large cycles_limit) → ⊥

@@ -5,7 +5,7 @@ use Rattle.method_flow.specs.Flow.{Coded, IsCodedOf}
 use Rattle.node_costs.specs.Costs.{AreOwnCosts}
 use Rattle.wcet.specs.declared.known.Known.{Known}
 use Rattle.wcet.specs.declared.prepared.Prepared.{Prepared}
-use Rattle.wcet.specs.Known.{Setting}
+use Rattle.wcet.specs.Known.{BoundSetting}
 use Rattle.wcet.specs.Prepared.{AreWithout}
 use Rattle.bound_report.specs.declared.callees.Callee.{Callee}
 use Rattle.bound_report.specs.declared.counts.NodeCount.{NodeCount}
@@ -21,7 +21,7 @@ counted_nodes own cs (u ∷ us) [] = []
 counted_nodes own cs (u ∷ us) (n ∷ ns) = counted_node u n (slice_index own u) (callee_at cs u) ∷ counted_nodes own cs us ns
 
 -- the nodes of the method m, as it was prepared
-pub record AreNodesOf (set : Setting) (m : ℕ) (table : List Known) (p : Prepared) (visits : List ℕ) (nodes : List NodeCount) : Type 0 where
+pub record AreNodesOf (set : BoundSetting) (m : ℕ) (table : List Known) (p : Prepared) (visits : List ℕ) (nodes : List NodeCount) : Type 0 where
   pub own : List ℕ
   pub owned : (P : Program) (k : Coded) → slice_get set.flow.methods m ≡ Some k → IsCodedOf P m k → AreOwnCosts P set.timing m k.code own
   pub without : List Bool

@@ -7,7 +7,7 @@ use Rattle.method_flow.specs.declared.timing.Timing.{Timing}
 use Rattle.bound_rules.specs.Numbers.{AreNumbers}
 use Rattle.wcet.specs.declared.known.Known.{Known}
 use Rattle.wcet.specs.declared.methods.Methods.{Methods}
-use Rattle.wcet.specs.Known.{Setting, bounds_in, ForEach, known_at, AreTold, IsKnownOf, AreNumbersOf}
+use Rattle.wcet.specs.Known.{BoundSetting, bounds_in, ForEach, known_at, AreTold, IsKnownOf, AreNumbersOf}
 use Rattle.wcet.specs.Laws.{numbers_by}
 use Rattle.wcet.specs.Methods.{AreMethodsFound}
 use Rattle.wcet.specs.Ready.{AreReady, IsReady}
@@ -38,13 +38,13 @@ pub record IsSettled (P : Program) (t : Timing) (bound_of : BoundOf) (root : ℕ
   pub numbers : AreNumbers P t bound_of root (numbers_by table)
 
 -- all methods are found of an order for which all is ready
-pub record AreReadyIn (set : Setting) (root : ℕ) (order : List ℕ) (a : Methods) : Type 0 where
+pub record AreReadyIn (set : BoundSetting) (root : ℕ) (order : List ℕ) (a : Methods) : Type 0 where
   pub distinct : AreDistinct order
   pub found : AreMethodsFound set order a
   pub ready : ForEach set (λ P. IsReady P (bounds_in set) root order)
 
 -- these are counts of the method, whose number counts so often
-pub record IsCountOf (set : Setting) (table : List Known) (m count : ℕ) (k : MethodCounts) : Type 0 where
+pub record IsCountOf (set : BoundSetting) (table : List Known) (m count : ℕ) (k : MethodCounts) : Type 0 where
   pub method : k.method ≡ m
   pub times : k.times ≡ count
   pub counts : ForEach set (λ P. AreCountsOf P set.timing (bounds_in set) (numbers_by table) (asked_in table) k)

@@ -3,7 +3,7 @@ use Rattle.std.specs.Prelude.{◌≡◌, ◌⊎◌, ◌<◌}
 use Rattle.section_check.specs.Bounded.{IsGreatest}
 use Rattle.bound_rules.specs.declared.faults.BoundRefusal.{BoundRefusal}
 use Rattle.bound_rules.specs.declared.faults.BoundRefusal.TheVariants.{NoMemory}
-use Rattle.compact_walks.specs.Limited.{limit, AreSmallAt}
+use Rattle.compact_walks.specs.Limited.{cycles_limit, AreSmallAt}
 use Rattle.compact_walks.specs.Solving.{loops_of}
 use Rattle.walk_counts.specs.declared.WalkCounts.{WalkCounts}
 use Rattle.walk_counts.specs.Counts.{AreCounts}
@@ -15,9 +15,9 @@ use Rattle.wcet.specs.Found.{costs_of, problem_of, IsWalked}
 pub record AreWalkCounts (p : Prepared) (w : WalkCounts) : Type 0 where
   pub small : AreSmallAt p.shape.nodes p.costs.items
   pub greatest : IsGreatest p.shape.graph (costs_of p) (loops_of (problem_of p)) w.value
-  pub below : w.value < limit
+  pub below : w.value < cycles_limit
   pub counts : AreCounts p.shape.graph (costs_of p) (loops_of (problem_of p)) w.value w.visits.items w.entered.items
 
 -- no walk ends, or a node or a walk costs too much; of want of memory nothing is said
 abbrev pub IsNotWalked : Prepared → BoundRefusal → Type 0
-IsNotWalked p fault = (fault ≡ NoMemory) ⊎ (IsWalked p Never ⊎ IsWalked p (Large limit))
+IsNotWalked p fault = (fault ≡ NoMemory) ⊎ (IsWalked p Never ⊎ IsWalked p (Large cycles_limit))

@@ -2,7 +2,7 @@
 ghost use Rattle.std.specs.Prelude.{◌≡◌, ◌≤◌, ◌<◌, ◌*◌, length, false, slice_index_or, All, IfOk};
 ghost use Rattle.std.specs.List.Sorted.{IsStrictlyIncreasing};
 ghost use Rattle.method_flow.specs.Flow.{places_of};
-ghost use Rattle.compact_walks.specs.Limited.{limit};
+ghost use Rattle.compact_walks.specs.Limited.{cycles_limit};
 ghost use Rattle.wcet.specs.Known.{IsLimited};
 ghost use Rattle.bound_report.specs.Callees.{number_by, better, loads_by, more_of, no_callee, IsGreatestTarget, IsCallee, AreCallees, AreCalleesOf};
 
@@ -71,7 +71,7 @@ pub fn more_of(known: Known) -> u128
 /// What a call of a method pays for loads, where it pays them and the load of the caller is `back`.
 fn loads_by(known: Known, pays: bool, back: u64) -> u128
     requires limited { IsLimited known }
-    requires back { back ≤ limit }
+    requires back { back ≤ cycles_limit }
     ensures { result ≡ loads_by pays back known }
 {
     if pays {
@@ -85,7 +85,7 @@ fn loads_by(known: Known, pays: bool, back: u64) -> u128
 fn callee_of(targets: &[u32], table: &[Known], pays: bool, back: u64) -> Callee
     requires known { All (λ t. t < length table.now) targets.now }
     requires limited { All IsLimited table.now }
-    requires back { back ≤ limit }
+    requires back { back ≤ cycles_limit }
     ensures { IsCallee table.now pays back targets.now result }
 {
     match greatest_target(targets, table, pays) {
@@ -116,7 +116,7 @@ fn write_callees(
     requires lists { All (λ c. c.targets < length f.now.targets) calls.now }
     requires long { length table.now ≡ length f.now.methods }
     requires limited { All IsLimited table.now }
-    requires back { back ≤ limit }
+    requires back { back ≤ cycles_limit }
     requires rising { IsStrictlyIncreasing (places_of calls.now) }
     requires inside { All (λ c. 2 * c.place < length callees.old) calls.now }
     requires none { All (λ c. c ≡ no_callee) callees.old }

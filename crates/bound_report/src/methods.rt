@@ -1,7 +1,7 @@
 //! The counts of one method.
 ghost use Rattle.std.specs.Prelude.{◌≡◌, ◌<◌, Some, length, slice_get, All, IfOk, IfErr};
 ghost use Rattle.method_flow.specs.Flow.{Coded, IsCoded};
-ghost use Rattle.wcet.specs.Known.{bounds_in, ForEach, IsLimited, IsSetting};
+ghost use Rattle.wcet.specs.Known.{bounds_in, ForEach, IsLimited, IsBoundSetting};
 ghost use Rattle.wcet.specs.Prepared.{IsInShape, IsPreparedFor};
 ghost use Rattle.wcet.specs.Ready.{IsWantOfMemory};
 ghost use Rattle.bound_report.specs.Settled.{IsSettledAt, IsCountOf};
@@ -22,7 +22,7 @@ use wcet::task::Task;
 /// Says of what form the waits are and the method `m` is.
 fn form_of(task: &Task<'_>, m: u32)
     requires { m < length task.now.flow.methods }
-    ensures setting { IsSetting task.now }
+    ensures setting { IsBoundSetting task.now }
     ensures coded { (k : Coded) × (slice_get task.now.flow.methods m ≡ Some k) × IsCoded k }
 {
     let _timing = task.timing();

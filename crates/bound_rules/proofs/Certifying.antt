@@ -32,8 +32,8 @@ use Rattle.bound_rules.specs.declared.faults.BoundRefusal.TheVariants as refusal
 use Rattle.bound_rules.specs.Told.{Valued, section_value, most_cycles}
 use Rattle.bound_rules.specs.Told.SaysFull.{fits}
 use Rattle.bound_rules.specs.Conditions.{MeetAll, IsRight, MeetsConditions}
-use Rattle.bound_rules.specs.Refused.{IsRefused}
-use Rattle.bound_rules.specs.Refused.IsRefused.{at_end}
+use Rattle.bound_rules.specs.Refused.{IsCertRefused}
+use Rattle.bound_rules.specs.Refused.IsCertRefused.{at_end}
 use Rattle.bound_rules.specs.Bounding.{HasNoRecursion, IsLeftWith, IsCause}
 use Rattle.bound_rules.specs.Bounding.ExceedsSize.{full}
 use Rattle.bound_rules.specs.Examples.{timing, inside_section, return_certificate, ReturnCertificates, Refusals, RefusedBounds}
@@ -65,11 +65,11 @@ module _ (bound_of : BoundOf) (c i greatest : ℕ) (own : IsOwnCost sample timin
       let loads = same_load sample 1 r.printed.greatest_load greatest r.printed.is_load load in
       r.printed.is ∙ ap₂ (λ (n k : ℕ). Some (n + (c + 7) + k)) invokes loads
 
-  wrong_line : (bound : Option ℕ) → bound ≢ Some (i + (c + 7) + greatest) → IsRefused sample timing bound_of (return_certificate c bound) (faults.Region 1)
+  wrong_line : (bound : Option ℕ) → bound ≢ Some (i + (c + 7) + greatest) → IsCertRefused sample timing bound_of (return_certificate c bound) (faults.Region 1)
   unfolding return_values
   wrong_line bound other = at_end return_values all_meet (refl, record { coded = refl; full = Some (c + 7); says = fits return_fits refl; wrong = λ r. other (one_right bound r) })
 
-  no_section : (bound : Option ℕ) → IsRefused sample timing bound_of (record { version = 2; root = 1; sections = []; bound = bound }) (faults.Missing 1)
+  no_section : (bound : Option ℕ) → IsCertRefused sample timing bound_of (record { version = 2; root = 1; sections = []; bound = bound }) (faults.Missing 1)
   no_section bound = at_end [] refl (refl, inr (refl, fits return_fits refl))
 
 pub return_certificates : ReturnCertificates

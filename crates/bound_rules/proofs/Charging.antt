@@ -13,7 +13,7 @@ use Rattle.loop_nest.specs.Nest.{NaturalLoop, headers_of, header_at, members_at,
 use Rattle.loop_nest.specs.Laws.{WalksComeByEdges, HeaderDominatesMembers, LoopsAreNested, DominanceIsAntisymmetric}
 use Rattle.loop_nest.proofs.Rising.{same_place}
 use Rattle.cache_regions.specs.Region.{AreDistinct}
-use Rattle.section_check.specs.Placing.{IsAt}
+use Rattle.section_check.specs.Placing.{IsEntryAt}
 use Rattle.path_solver.specs.Reaching.{IsFlagged}
 use Rattle.bytecode_model.specs.Program.{Program}
 use Rattle.method_flow.specs.Nodes.IsReached.{later}
@@ -45,7 +45,7 @@ same_length (l ∷ ls) [] a = absurd a
 same_length (l ∷ ls) (k ∷ ks) (header, members, rest) = ap suc (same_length ls ks rest)
 
 -- the loop at the same place
-pub alike_at : (ls ks : List NaturalLoop) → AreAlike ls ks → (i : ℕ) (k : NaturalLoop) → IsAt ks i k → (l : NaturalLoop) × IsAt ls i l × (l.members ≡ k.members)
+pub alike_at : (ls ks : List NaturalLoop) → AreAlike ls ks → (i : ℕ) (k : NaturalLoop) → IsEntryAt ks i k → (l : NaturalLoop) × IsEntryAt ls i l × (l.members ≡ k.members)
 alike_at [] [] a i k at = absurd (let below = at.0 in omega arith)
 alike_at [] (x ∷ ks) a i k at = absurd a
 alike_at (l ∷ ls) [] a i k at = absurd a
@@ -76,7 +76,7 @@ module _ (P : Program) (t : Timing) (m : ℕ) where
                 (subst (λ (ms : List (List ℕ)). Contains (slice_index_or ms j []) (header_at xs i)) (same_members xs ys alike) around.member);
           }
 
-      each : (i : ℕ) (k : NaturalLoop) → IsAt ks i k → IsFlagged flags i ↔ IsCharged P t m ks flags i k
+      each : (i : ℕ) (k : NaturalLoop) → IsEntryAt ks i k → IsFlagged flags i ↔ IsCharged P t m ks flags i k
       each i k at =
           let r = alike_at ls ks a i k at in
           (λ flagged. moved ks ls headers' a' i k r.0 r.2 ((charged.each i r.0 r.1).0 flagged), λ is. (charged.each i r.0 r.1).1 (moved ls ks headers a i r.0 k (sym r.2) is))
@@ -93,7 +93,7 @@ distinct_rising xs rise i j d less below e = let lt = AllPairs-from_increasing x
 sizes : List NaturalLoop → ℕ
 sizes ks = sum_by (λ (k : NaturalLoop). length k.members) ks
 
-size_at : (ks : List NaturalLoop) (i : ℕ) (k : NaturalLoop) → IsAt ks i k → length k.members ≤ sizes ks
+size_at : (ks : List NaturalLoop) (i : ℕ) (k : NaturalLoop) → IsEntryAt ks i k → length k.members ≤ sizes ks
 unfolding sizes
 size_at [] i k at = absurd (let below = at.0 in omega arith)
 size_at (x ∷ ks) zero k at = let same = ap (λ (y : NaturalLoop). length y.members) at.1 in omega (arith, sum_by-cons (λ (y : NaturalLoop). length y.members) x ks)
@@ -104,7 +104,7 @@ some_loop = record { header = 0; members = []; outer = None }
 
 module _ (come : WalksComeByEdges) (dominates : HeaderDominatesMembers) (nested : LoopsAreNested) (antisymmetric : DominanceIsAntisymmetric) (P : Program) (t : Timing) (m : ℕ) (g : Digraph) (live : IsLiveGraph P m g) (ks : List NaturalLoop)
     (nest : IsNest g ks) where
-  loop_at : (i : ℕ) (k : NaturalLoop) → IsAt ks i k → IsLoopOf g k
+  loop_at : (i : ℕ) (k : NaturalLoop) → IsEntryAt ks i k → IsLoopOf g k
   loop_at i k at = All-contains (IsLoopOf g) ks k nest.loops (i, at.0, at.1)
 
   header_reached : (h : ℕ) → IsHeader g h → IsReachable g h
@@ -112,14 +112,14 @@ module _ (come : WalksComeByEdges) (dominates : HeaderDominatesMembers) (nested 
       let r = (live.edges u h).0 back.edge in
       subst (λ (x : ℕ). IsReachable g x) (sym r.numbered.1) (reachable come (IsLiveEdge P m) P m (λ v w e. e.edge) g live (later r.reached r.edge))
 
-  header_is : (i : ℕ) (k : NaturalLoop) → IsAt ks i k → header_at ks i ≡ k.header
+  header_is : (i : ℕ) (k : NaturalLoop) → IsEntryAt ks i k → header_at ks i ≡ k.header
   header_is i k at = index_at (headers_of ks) i k.header (at_map (λ l. l.header) ks i k at)
 
-  members_are : (i : ℕ) (k : NaturalLoop) → IsAt ks i k → members_at ks i ≡ k.members
+  members_are : (i : ℕ) (k : NaturalLoop) → IsEntryAt ks i k → members_at ks i ≡ k.members
   members_are i k at = let r = at_map (λ (l : NaturalLoop). l.members) ks i k at in get_or_default (map (λ (l : NaturalLoop). l.members) ks) i [] k.members r.0 ∙ r.1
 
   -- of a loop and one around it, the outer one's header is no member of the inner one
-  header_apart : (i j : ℕ) (k l : NaturalLoop) → IsAt ks i k → IsAt ks j l → IsAround ks i j → Contains l.members k.header → Contains k.members l.header → ⊥
+  header_apart : (i j : ℕ) (k l : NaturalLoop) → IsEntryAt ks i k → IsEntryAt ks j l → IsAround ks i j → Contains l.members k.header → Contains k.members l.header → ⊥
   header_apart i j k l at_i at_j around inner outer =
       let loop_k = loop_at i k at_i in
       let loop_l = loop_at j l at_j in
@@ -133,7 +133,7 @@ module _ (come : WalksComeByEdges) (dominates : HeaderDominatesMembers) (nested 
       around.other (same_place (headers_of ks) nest.rising j i (omega arith) (omega arith) headers)
 
   -- a loop around another has more members
-  bigger : (i j : ℕ) (k l : NaturalLoop) → IsAt ks i k → IsAt ks j l → IsAround ks i j → suc (length k.members) ≤ length l.members
+  bigger : (i j : ℕ) (k l : NaturalLoop) → IsEntryAt ks i k → IsEntryAt ks j l → IsAround ks i j → suc (length k.members) ≤ length l.members
   bigger i j k l at_i at_j around =
       let loop_k = loop_at i k at_i in
       let loop_l = loop_at j l at_j in
@@ -156,12 +156,12 @@ module _ (come : WalksComeByEdges) (dominates : HeaderDominatesMembers) (nested 
 
   -- the charged loops are told from outside inwards
   module _ (flags others : List Bool) (a : AreCharged P t m ks flags) (b : AreCharged P t m ks others) where
-    agree : (n i : ℕ) (k : NaturalLoop) → IsAt ks i k → sizes ks < n + length k.members → (IsFlagged flags i → IsFlagged others i) × (IsFlagged others i → IsFlagged flags i)
+    agree : (n i : ℕ) (k : NaturalLoop) → IsEntryAt ks i k → sizes ks < n + length k.members → (IsFlagged flags i → IsFlagged others i) × (IsFlagged others i → IsFlagged flags i)
     agree zero i k at less = absurd (let most = size_at ks i k at in omega arith)
     agree (suc n) i k at less =
         let outer : (j : ℕ) → IsAround ks i j → (IsFlagged flags j → IsFlagged others j) × (IsFlagged others j → IsFlagged flags j) =
         λ j around. let l = get_or ks j some_loop in
-        let at_j : IsAt ks j l = (around.below, get_or_default ks j l some_loop around.below) in
+        let at_j : IsEntryAt ks j l = (around.below, get_or_default ks j l some_loop around.below) in
         let more = bigger i j k l at at_j around in
         agree n j l at_j (omega arith)
         in
@@ -183,7 +183,7 @@ module _ (come : WalksComeByEdges) (dominates : HeaderDominatesMembers) (nested 
         let long = a.long in
         same_lists false flags others (a.long ∙ sym b.long)
         (λ i below. let k = get_or ks i some_loop in
-        let at : IsAt ks i k = (omega arith, get_or_default ks i k some_loop (omega arith)) in
+        let at : IsEntryAt ks i k = (omega arith, get_or_default ks i k some_loop (omega arith)) in
         let both = agree (suc (sizes ks)) i k at (omega arith) in
         same_bool (get_or flags i false) (get_or others i false) both.0 both.1)
 

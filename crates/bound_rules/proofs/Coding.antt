@@ -3,7 +3,7 @@ use Rattle.std.proofs.Common.{◌≡◌, ℕ, Bool, true, false, List, [], ◌�
 use Rattle.std.specs.Prelude.{IfSome, slice_get, ◌&&◌, if◌then◌else◌}
 use Rattle.std.specs.Option.{option_map_or}
 use Rattle.std.specs.List.{filter_map, cons_option}
-use Rattle.lists.specs.Lemmas.{onto_some, some_is, holds_at}
+use Rattle.lists.proofs.Lemmas.{onto_some, some_is, holds_at}
 use Rattle.lists.specs.Members.{cons_cases, nil_contains}
 use Rattle.lists.specs.Tests.{and_left, and_right}
 use Rattle.opcodes.specs.Start.{IsStart}

@@ -9,7 +9,7 @@ use Rattle.bytecode_model.specs.Program.{Program}
 use Rattle.method_flow.specs.Nodes.{Node, At, number_of, IsEdge, IsExit}
 use Rattle.method_flow.specs.Nodes.IsReached.{first, later}
 use Rattle.method_flow.specs.Calls.{IsCall, IsTarget}
-use Rattle.method_flow.specs.Live.{IsReturning, CanEnd, EndsFrom, GoesOn, IsLiveEdge}
+use Rattle.method_flow.specs.Live.{IsReturning, CanEnd, EndsFrom, CanBeTaken, IsLiveEdge}
 use Rattle.method_flow.specs.Live.CanEnd.{ends}
 use Rattle.method_flow.specs.Live.EndsFrom.{here, along, behind}
 use Rattle.method_flow.specs.Keeping.{BoundOf}
@@ -79,11 +79,11 @@ module _ (P : Program) (t : Timing) (bound_of : BoundOf) where
 
     live_edge : (earlier : List Valued) (s : CertSection) (value : Option ℕ) → AreMet P t bound_of earlier → (h : MeetsSection P t bound_of earlier s value) (u v : Node) → IsSectionNode P s.method h.view.told u
         → IsLiveEdge P s.method u v → IsSectionEdge P s.method h.view.told u v
-    live_edge earlier s value met h u v reached live = record { edge = live.edge; goes_on = λ p q is_u is_v call. by p q is_u is_v call (subst (λ (x : Node). GoesOn P s.method x v) is_u live.goes_on) }
+    live_edge earlier s value met h u v reached live = record { edge = live.edge; goes_on = λ p q is_u is_v call. by p q is_u is_v call (subst (λ (x : Node). CanBeTaken P s.method x v) is_u live.goes_on) }
       where
-        by : (p q : ℕ) → u ≡ At p → v ≡ At q → IsCall P s.method p → GoesOn P s.method (At p) v → (x : ℕ) × IsTarget P s.method p x × (h.view.told p x ≢ Some None)
+        by : (p q : ℕ) → u ≡ At p → v ≡ At q → IsCall P s.method p → CanBeTaken P s.method (At p) v → (x : ℕ) × IsTarget P s.method p x × (h.view.told p x ≢ Some None)
         by p q is_u is_v call goes =
-            let g : IsCall P s.method p → (x : ℕ) × IsTarget P s.method p x × CanEnd P x = subst (λ (y : Node). GoesOn P s.method (At p) y) is_v goes in
+            let g : IsCall P s.method p → (x : ℕ) × IsTarget P s.method p x × CanEnd P x = subst (λ (y : Node). CanBeTaken P s.method (At p) y) is_v goes in
             let x = g call in
             let reached' : IsSectionNode P s.method h.view.told (At p) = subst (λ (y : Node). IsSectionNode P s.method h.view.told y) is_u reached in
             (x.0, x.1, λ none. let f = target_none earlier s value met h p x.0 reached' call x.1 none in cannot_end x.2 f.1.earlier f.1.section f.1.met f.1.meets f.1.method)

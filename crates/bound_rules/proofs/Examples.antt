@@ -11,7 +11,7 @@ use Rattle.bytecode_model.specs.Table.{row_of}
 use Rattle.lists.specs.Members.{at_head, in_tail, cons_cases, nil_contains}
 use Rattle.loop_nest.specs.Digraph.{Digraph, IsBefore}
 use Rattle.section_check.specs.Section.{Certified, listed, potential, with_fee}
-use Rattle.section_check.specs.Placing.{IsHeld, IsMisplaced, ExceedsLimit}
+use Rattle.section_check.specs.Placing.{IsInLoop, IsMisplaced, ExceedsLimit}
 use Rattle.section_check.specs.Placing.IsMisplaced.{lists_no_node, holds_no_node, heads_faulty, enters_aside, holds_entry, exceeds_limit}
 use Rattle.section_check.specs.Conditions.{EdgeHolds, ExitHolds, natural}
 use Rattle.bound_cert.specs.declared.lines.line.SectionKind.{SectionKind}
@@ -26,7 +26,7 @@ use Rattle.method_flow.specs.Examples.{sample}
 use Rattle.bound_rules.specs.declared.faults.CheckFault.TheVariants as faults
 use Rattle.bound_rules.specs.Costs.{AreCosts, greater, added, added_at}
 use Rattle.bound_rules.specs.Told.{Valued, TargetValues, IsTargetValue, SaysCalled, value_in, within_limit, is_without_loads, most_cycles}
-use Rattle.bound_rules.specs.Sections.{IsSectionEdge, IsSectionNode, AreTargetValues, AreFees, SectionView, IsLacking, MeetsSection}
+use Rattle.bound_rules.specs.Sections.{IsSectionEdge, IsSectionNode, AreTargetValues, AreEntryLoads, SectionView, IsLacking, MeetsSection}
 use Rattle.bound_rules.specs.Refused.{IsWrong, NoneLacks, NoneIsWrong, SectionFails}
 use Rattle.bound_rules.specs.Examples.{Computed, inside_section, ReturnSection, ReturnSections, one_value, CallSection, CallSections}
 use Rattle.bound_rules.proofs.Graphing.{listed_graph, only_return, return_graph, no_target_of_return, nodes_of_call, raise_edge, on_edge, going_graph, nodes_of_never, never_graph, target_is_loop, invoke_target, no_target_behind}
@@ -54,7 +54,7 @@ computed = record {
 abbrev always : Option (Option ℕ) → TargetValues
 always o = λ p x. o
 
-no_fees : (t : Timing) (m : ℕ) (nodes : List (ℕ × ℤ)) → AreFees sample t (inside_section m nodes) []
+no_fees : (t : Timing) (m : ℕ) (nodes : List (ℕ × ℤ)) → AreEntryLoads sample t (inside_section m nodes) []
 no_fees t m nodes = record { long = refl; each = λ i l at. absurd (let below = at.0 in omega arith) }
 
 -- in a section without loops of which what is listed are nodes, and whose value keeps within 64 bits, nothing is misplaced
@@ -88,7 +88,7 @@ none_wrong t bound_of earlier m nodes view none are_nodes within fits u (inl mis
     well_placed view.graph nodes within fits u (subst (λ (fees : List (Option ℕ)). IsMisplaced view.graph (record { nodes = nodes; loops = [] }) [] fees u) none misplaced)
 none_wrong t bound_of earlier m nodes view none are_nodes within fits u (inr (inl wrong)) = by wrong.said
   where
-    by : Contains (listed nodes) u ⊎ IsHeld [] u → ⊥
+    by : Contains (listed nodes) u ⊎ IsInLoop [] u → ⊥
     by (inl has) = let n = are_nodes u has in wrong.none n.0 n.1 n.2
     by (inr held) = nil_contains held.holder held.among
 none_wrong t bound_of earlier m nodes view none are_nodes within fits u (inr (inr lacks)) = nil_contains lacks.headed lacks.among

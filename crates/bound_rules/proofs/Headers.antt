@@ -2,7 +2,7 @@
 use Rattle.std.proofs.Common.{◌≡◌, ℕ, zero, suc, ◌*◌, ◌/◌, ◌%◌, ◌<◌, Bool, true, false, ◌==◌, List, [], ◌∷◌, length, get_or, map, Contains, Option, Some, None, slice_index, refl, sym, ap, ◌∙◌, subst, arith, eqb-true}
 use Rattle.std.specs.Prelude.{if◌then◌else◌, unwrap_or}
 use Rattle.section_check.specs.Section.{CertifiedLoop, PricedLoop, priced}
-use Rattle.section_check.specs.Placing.{IsAt}
+use Rattle.section_check.specs.Placing.{IsEntryAt}
 use Rattle.method_flow.specs.Keeping.{BoundOf}
 use Rattle.bound_rules.specs.Fitting.{header_bound, header_bounds}
 use Rattle.bound_rules.specs.Sections.{section_bounds}
@@ -10,18 +10,18 @@ use Rattle.bound_rules.specs.Laws.{HeadersHaveBounds}
 
 -- ---- entries of lists
 
-pub at_map : {X Y : Type 0} (f : X → Y) (xs : List X) (i : ℕ) (x : X) → IsAt xs i x → IsAt (map f xs) i (f x)
+pub at_map : {X Y : Type 0} (f : X → Y) (xs : List X) (i : ℕ) (x : X) → IsEntryAt xs i x → IsEntryAt (map f xs) i (f x)
 at_map f [] i x at = absurd (let below = at.0 in omega arith)
 at_map f (y ∷ ys) zero x at = (omega arith, ap f at.1)
 at_map f (y ∷ ys) (suc i) x at = let below = at.0 in let r = at_map f ys i x (omega arith, at.1) in let lt = r.0 in (omega arith, r.1)
 
-pub index_at : (ns : List ℕ) (i n : ℕ) → IsAt ns i n → slice_index ns i ≡ n
+pub index_at : (ns : List ℕ) (i n : ℕ) → IsEntryAt ns i n → slice_index ns i ≡ n
 index_at [] i n at = absurd (let below = at.0 in omega arith)
 index_at (m ∷ ms) zero n at = at.1
 index_at (m ∷ ms) (suc i) n at = let below = at.0 in index_at ms i n (omega arith, at.1)
 
 -- the bound that is computed for a loop
-pub bound_by_header : (bound_of : BoundOf) (m : ℕ) (hs : List ℕ) (i h : ℕ) → IsAt hs i h → slice_index (header_bounds bound_of m hs) i ≡ unwrap_or (header_bound bound_of m h) 0
+pub bound_by_header : (bound_of : BoundOf) (m : ℕ) (hs : List ℕ) (i h : ℕ) → IsEntryAt hs i h → slice_index (header_bounds bound_of m hs) i ≡ unwrap_or (header_bound bound_of m h) 0
 bound_by_header bound_of m hs i h at = index_at (header_bounds bound_of m hs) i (unwrap_or (header_bound bound_of m h) 0) (at_map (λ u. unwrap_or (header_bound bound_of m u) 0) hs i h at)
 
 -- ---- headers
@@ -53,11 +53,11 @@ headers_have_bounds P t bound_of earlier s value h i l at = by (header_bound bou
 -- a loop with its price is one of the section, with its bound
 pub record IsPricedAt (ls : List CertifiedLoop) (bounds : List ℕ) (l : PricedLoop) : Type 0 where
   pub place : ℕ
-  pub at : IsAt ls place l.certified
+  pub at : IsEntryAt ls place l.certified
   pub bound : l.bound ≡ slice_index bounds place
 
 priced_place : (ls : List CertifiedLoop) (bounds : List ℕ) (loads : List (Option ℕ)) (i : ℕ) (d : PricedLoop) → i < length (priced ls bounds loads)
-    → IsAt ls i (get_or (priced ls bounds loads) i d).certified × ((get_or (priced ls bounds loads) i d).bound ≡ slice_index bounds i)
+    → IsEntryAt ls i (get_or (priced ls bounds loads) i d).certified × ((get_or (priced ls bounds loads) i d).bound ≡ slice_index bounds i)
 priced_place [] bounds loads i d below = absurd (omega arith)
 priced_place (l ∷ ls) [] loads i d below = absurd (omega arith)
 priced_place (l ∷ ls) (b ∷ bs) [] i d below = absurd (omega arith)
@@ -67,6 +67,6 @@ priced_place (l ∷ ls) (b ∷ bs) (x ∷ xs) (suc i) d below = let r = priced_p
 pub priced_at : (ls : List CertifiedLoop) (bounds : List ℕ) (loads : List (Option ℕ)) (l : PricedLoop) → Contains (priced ls bounds loads) l → IsPricedAt ls bounds l
 priced_at ls bounds loads l has =
     let r = priced_place ls bounds loads has.0 l has.1 in
-    let P : PricedLoop → Type 0 = λ k. IsAt ls has.0 k.certified in
+    let P : PricedLoop → Type 0 = λ k. IsEntryAt ls has.0 k.certified in
     let Q : PricedLoop → Type 0 = λ k. k.bound ≡ slice_index bounds has.0 in
     record { place = has.0; at = subst P has.2 r.0; bound = subst Q has.2 r.1 }

@@ -5,7 +5,7 @@ use Rattle.std.proofs.lemmas.List.{get_or_default}
 use Rattle.lists.specs.Tests.{and_left, and_right}
 use Rattle.loop_nest.specs.Nest.{NaturalLoop, IsNest}
 use Rattle.section_check.specs.Bounded.{BoundedLoop, holds}
-use Rattle.section_check.specs.Placing.{IsAt}
+use Rattle.section_check.specs.Placing.{IsEntryAt}
 use Rattle.section_check.proofs.Elements.{contains_from_holds}
 use Rattle.loop_nest.specs.Digraph.{Digraph}
 use Rattle.path_solver.specs.Reaching.{IsFlagged}
@@ -23,7 +23,7 @@ use Rattle.method_flow.specs.declared.timing.Timing.{Timing}
 use Rattle.method_flow.specs.Costs.{IsPrintedOf}
 use Rattle.bound_rules.specs.Costs.{AreCosts, added}
 use Rattle.bound_rules.specs.Fitting.{RegionFits, LoopFits, loads_of}
-use Rattle.bound_rules.specs.Numbers.{Numbers, charged_loops, no_fees, IsValue, AreCharged, AreLoads, is_in_charged, full_and_back, loops_adds, IsInside, IsLoops, IsFull, AreNumbers}
+use Rattle.bound_rules.specs.Numbers.{Numbers, charged_loops, no_fees, IsGreatestValue, AreCharged, AreLoads, is_in_charged, full_and_back, loops_adds, IsInside, IsLoops, IsFull, AreNumbers}
 use Rattle.bound_rules.specs.Numbers.IsFull.{fits, exceeds}
 use Rattle.bound_rules.specs.Laws.{ReachesStarts, CallsEnd, AreSameOf, ChargesAreOne, NumbersAreOne, PrintedIsOne}
 use Rattle.bound_rules.specs.Laws.CallsEnd.{ends}
@@ -71,7 +71,7 @@ same_charged (l ∷ ls) (k ∷ ks) (header, members, rest) (flag ∷ flags) u =
 pub record IsInCharged (ks : List NaturalLoop) (flags : List Bool) (u : ℕ) : Type 0 where
   pub place : ℕ
   pub loop : NaturalLoop
-  pub at : IsAt ks place loop
+  pub at : IsEntryAt ks place loop
   pub flagged : IsFlagged flags place
   pub has : Contains loop.members u
 
@@ -104,7 +104,7 @@ module _ (P : Program) (t : Timing) (m : ℕ) where
           let k = get_or ks i some_loop in
           let long = x.long in
           let same = same_length ls ks alike in
-          let at : IsAt ks i k = (omega arith, get_or_default ks i k some_loop (omega arith)) in
+          let at : IsEntryAt ks i k = (omega arith, get_or_default ks i k some_loop (omega arith)) in
           let r = alike_at ls ks alike i k at in
           let fits_l = ((a.each i r.0 r.1).0 is).fits in
           let fits_k = ((b.each i k at).0 is).fits in
@@ -133,7 +133,7 @@ module _ (charges : ChargesAreOne) (P : Program) (t : Timing) (bound_of : BoundO
       in
       let costs = subst (λ (g : Digraph). AreCosts P t m (IsLiveEdge P m) (λ p. added P m p N.inside) g a.costs) graph a.are_costs in
       let agree = costs_are_told P t m (λ p. added P m p N.inside) (λ p. added P m p M.inside) b.flow.graph a.costs b.costs costs b.are_costs adds in
-      let value = subst (λ (ls : List BoundedLoop). IsValue b.flow.graph a.costs ls (N.inside m)) loops (subst (λ (g : Digraph). IsValue g a.costs (charged_loops a.flow (no_fees a.flow)) (N.inside m)) graph a.value) in
+      let value = subst (λ (ls : List BoundedLoop). IsGreatestValue b.flow.graph a.costs ls (N.inside m)) loops (subst (λ (g : Digraph). IsGreatestValue g a.costs (charged_loops a.flow (no_fees a.flow)) (N.inside m)) graph a.value) in
       values_are_told P m b.flow.graph a.costs b.costs (charged_loops b.flow (no_fees b.flow)) (N.inside m) (M.inside m) b.flow.is_live agree value b.value
     where
       adds : (p : ℕ) → IsReached (IsLiveEdge P m) (At p) → added P m p N.inside ≡ added P m p M.inside
@@ -154,7 +154,7 @@ module _ (charges : ChargesAreOne) (P : Program) (t : Timing) (bound_of : BoundO
       λ p reached. ap₂ (λ (fs : List Bool) (c : Bool). choose p N c) flags (ap (λ (fs : List Bool). is_in_charged a.flow.nest fs (2 * p)) flags ∙ same_charged a.flow.nest b.flow.nest nest.1 b.flags (2 * p)) ∙ chosen b p reached (is_in_charged b.flow.nest b.flags (2 * p)) refl
       in
       let agree = costs_are_told P t m (loops_adds P t N m a.flow.nest a.flags) (loops_adds P t M m b.flow.nest b.flags) b.flow.graph a.costs b.costs costs b.are_costs adds in
-      let value = subst (λ (ls : List BoundedLoop). IsValue b.flow.graph a.costs ls (N.loops m)) loops (subst (λ (g : Digraph). IsValue g a.costs (charged_loops a.flow a.fees) (N.loops m)) graph a.value) in
+      let value = subst (λ (ls : List BoundedLoop). IsGreatestValue b.flow.graph a.costs ls (N.loops m)) loops (subst (λ (g : Digraph). IsGreatestValue g a.costs (charged_loops a.flow a.fees) (N.loops m)) graph a.value) in
       values_are_told P m b.flow.graph a.costs b.costs (charged_loops b.flow b.fees) (N.loops m) (M.loops m) b.flow.is_live agree value b.value
     where
       choose : (p : ℕ) → Numbers → Bool → ℕ

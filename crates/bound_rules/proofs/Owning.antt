@@ -3,7 +3,7 @@ use Rattle.std.proofs.Common.{◌≡◌, ℕ, List, [], ◌∷◌, length, Conta
 use Rattle.std.specs.Option.{option_map_or}
 use Rattle.lists.specs.Members.{at_head, in_tail, nil_contains}
 use Rattle.micro_flow.specs.declared.CostParams.{CostParams}
-use Rattle.micro_flow.specs.Walk.{IsGreatest, IsCost, IsRaiseCost}
+use Rattle.micro_flow.specs.Walk.{IsGreatestTime, IsCost, IsRaiseCost}
 use Rattle.opcodes.specs.Bytes.{u1}
 use Rattle.bytecode_model.specs.Program.{Program, body_of, instr_at}
 use Rattle.bytecode_model.specs.Rows as rows
@@ -21,7 +21,7 @@ pub both_hold : {X : Type 0} (o : Option X) (K L : X → Type 0) → IsSomeAnd o
 both_hold None K L k l = absurd k
 both_hold (Some x) K L k l = (x, refl, k, l)
 
-pub same_greatest : (p : CostParams) (at a b : ℕ) → IsGreatest p at a → IsGreatest p at b → a ≡ b
+pub same_greatest : (p : CostParams) (at a b : ℕ) → IsGreatestTime p at a → IsGreatestTime p at b → a ≡ b
 same_greatest p at a b x y =
     let up = x.greatest y.attained.choices y.attained.ends in
     let down = y.greatest x.attained.choices x.attained.ends in

@@ -20,7 +20,7 @@ use Rattle.bound_rules.specs.Told.{Valued, section_value}
 use Rattle.bound_rules.specs.Sections.{SectionView, IsLacking, MeetsSection, section_bounds, section_loops}
 use Rattle.bound_rules.specs.Conditions.{MeetAll, IsRight, MeetsConditions}
 use Rattle.bound_rules.specs.Refused.{IsWrong, NoneLacks, NoneIsWrong, FailsAtTarget, FailsAtNode, FailsAtEdge, FailsAtExit, SectionFails, FailsLast}
-use Rattle.bound_rules.specs.Refused.IsRefused.{in_section, at_end}
+use Rattle.bound_rules.specs.Refused.IsCertRefused.{in_section, at_end}
 use Rattle.bound_rules.specs.Laws.{FaultsAreOne, RefusedIsNotMet}
 use Rattle.bound_rules.proofs.Views.{same_full, same_fees, edges_too, exits_too, same_size, same_cost, node_too, lacks_too}
 

@@ -10,7 +10,7 @@ use Rattle.opcodes.specs.Start.{starts_of}
 use Rattle.bytecode_model.specs.Table.{row_of}
 use Rattle.lists.specs.Members.{at_head, in_tail, cons_cases, nil_contains}
 use Rattle.section_check.specs.Section.{CertifiedLoop, PricedLoop}
-use Rattle.section_check.specs.Placing.{IsAt, IsHeld, IsFaulty, IsMisplaced, ExceedsLimit, LiesIn}
+use Rattle.section_check.specs.Placing.{IsEntryAt, IsInLoop, IsFaulty, IsMisplaced, ExceedsLimit, LiesIn}
 use Rattle.section_check.specs.Placing.IsFaulty.{shares_header, leaves_header_out, crosses_another, does_not_fit, lies_in_region}
 use Rattle.section_check.specs.Placing.IsMisplaced.{lists_no_node, holds_no_node, heads_faulty, enters_aside, holds_entry, exceeds_limit}
 use Rattle.section_check.specs.Conditions.{EdgeHolds, ExitHolds, natural}
@@ -26,8 +26,8 @@ use Rattle.method_flow.specs.Costs.{IsOwnCost}
 use Rattle.method_flow.specs.Examples.{sample}
 use Rattle.bound_rules.specs.declared.faults.CheckFault.TheVariants as faults
 use Rattle.bound_rules.specs.Fitting.{RegionFits, LoopFits, header_bound}
-use Rattle.bound_rules.specs.Sections.{IsSectionNode, AreFees, IsFee, SectionView, MeetsSection}
-use Rattle.bound_rules.specs.Sections.IsFee.{fits as fee_fits}
+use Rattle.bound_rules.specs.Sections.{IsSectionNode, AreEntryLoads, IsEntryLoad, SectionView, MeetsSection}
+use Rattle.bound_rules.specs.Sections.IsEntryLoad.{fits as fee_fits}
 use Rattle.bound_rules.specs.Told.{most_cycles}
 use Rattle.bound_rules.specs.Refused.{NoneIsWrong, SectionFails}
 use Rattle.bound_rules.specs.Examples.{timing, one_value, region_section, RegionSections}
@@ -110,12 +110,12 @@ module _ (bound_of : BoundOf) (c r k : ℕ) (own_call : IsOwnCost sample timing 
   abbrev region : CertifiedLoop
   region = record { header = 0; iteration_cost = k; members = 0 ∷ 1 ∷ []; region = true }
 
-  region_fees : AreFees sample timing (region_section c r k) (Some 14 ∷ [])
+  region_fees : AreEntryLoads sample timing (region_section c r k) (Some 14 ∷ [])
   unfolding region_fits
   region_fees = record { long = refl; each = each }
     where
-      each : (i : ℕ) (l : CertifiedLoop) → IsAt (region ∷ []) i l → IsFee sample timing 3 l (slice_index_or (Some 14 ∷ []) i None)
-      each zero l at = subst (λ (x : CertifiedLoop). IsFee sample timing 3 x (Some 14)) at.1 (fee_fits refl region_fits refl)
+      each : (i : ℕ) (l : CertifiedLoop) → IsEntryAt (region ∷ []) i l → IsEntryLoad sample timing 3 l (slice_index_or (Some 14 ∷ []) i None)
+      each zero l at = subst (λ (x : CertifiedLoop). IsEntryLoad sample timing 3 x (Some 14)) at.1 (fee_fits refl region_fits refl)
       each (suc i) l at = absurd (let below = at.0 in omega arith)
 
   abbrev region_view : SectionView sample timing (one_value None) (region_section c r k)
@@ -134,7 +134,7 @@ module _ (bound_of : BoundOf) (c r k : ℕ) (own_call : IsOwnCost sample timing 
   is_region : (l : CertifiedLoop) → Contains (region ∷ []) l → region ≡ l
   is_region l has = elim (cons_cases region l [] has) [ inl same ↦ same | inr none ↦ absurd (nil_contains l none) ]
 
-  at_region : (i : ℕ) (l : CertifiedLoop) → IsAt (region ∷ []) i l → region ≡ l
+  at_region : (i : ℕ) (l : CertifiedLoop) → IsEntryAt (region ∷ []) i l → region ≡ l
   at_region i l at = is_region l (i, at.0, at.1)
 
   two_members : (u : ℕ) → Contains (0 ∷ 1 ∷ []) u → (u ≡ 0) ⊎ (u ≡ 1)
@@ -144,7 +144,7 @@ module _ (bound_of : BoundOf) (c r k : ℕ) (own_call : IsOwnCost sample timing 
         | inr more ↦ elim (cons_cases 1 u [] more) [ inl same ↦ inr (sym same) | inr none ↦ absurd (nil_contains u none) ]
       ]
 
-  held : (u : ℕ) → IsHeld (region ∷ []) u → (u ≡ 0) ⊎ (u ≡ 1)
+  held : (u : ℕ) → IsInLoop (region ∷ []) u → (u ≡ 0) ⊎ (u ≡ 1)
   held u h = two_members u (subst (λ (l : CertifiedLoop). Contains l.members u) (sym (is_region h.holder h.among)) h.inside)
 
   below : (u : ℕ) → (u ≡ 0) ⊎ (u ≡ 1) → 8 ≤ u → ⊥
@@ -156,7 +156,7 @@ module _ (bound_of : BoundOf) (c r k : ℕ) (own_call : IsOwnCost sample timing 
   node u (inr e) = (RaiseAt 0, later first (raise_edge (λ p x. Some None)), sym e)
 
   -- nothing is wrong with the region itself
-  faultless : (i : ℕ) (l : CertifiedLoop) → IsAt (region ∷ []) i l → IsFaulty (region ∷ []) (Some 14 ∷ []) i l → ⊥
+  faultless : (i : ℕ) (l : CertifiedLoop) → IsEntryAt (region ∷ []) i l → IsFaulty (region ∷ []) (Some 14 ∷ []) i l → ⊥
   faultless i l at (shares_header s) = let lt = at.0 in let lt' = s.at.0 in s.apart (omega arith)
   faultless i l at (leaves_header_out out) = out (subst (λ (x : CertifiedLoop). Contains x.members x.header) (at_region i l at) (at_head 0 (1 ∷ [])))
   faultless i l at (crosses_another other) =
@@ -192,7 +192,7 @@ module _ (bound_of : BoundOf) (c r k : ℕ) (own_call : IsOwnCost sample timing 
     placed u (inl m) = misplaced (unwrap_or (bound_of 3 0) 0 ∷ []) start_small u m
     placed u (inr (inl wrong)) = by wrong.said
       where
-        by : Contains (0 ∷ 1 ∷ []) u ⊎ IsHeld (region ∷ []) u → ⊥
+        by : Contains (0 ∷ 1 ∷ []) u ⊎ IsInLoop (region ∷ []) u → ⊥
         by (inl has) = let n = node u (two_members u has) in wrong.none n.0 n.1 n.2
         by (inr h) = let n = node u (held u h) in wrong.none n.0 n.1 n.2
     placed u (inr (inr lacks)) =

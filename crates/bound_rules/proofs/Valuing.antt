@@ -17,7 +17,7 @@ use Rattle.method_flow.specs.Live.{IsLiveEdge}
 use Rattle.method_flow.specs.Graphs.{IsLiveGraph}
 use Rattle.bound_rules.specs.Costs.{added_at}
 use Rattle.bound_rules.specs.Fitting.{header_bounds}
-use Rattle.bound_rules.specs.Numbers.{charged_loops, IsValue}
+use Rattle.bound_rules.specs.Numbers.{charged_loops, IsGreatestValue}
 use Rattle.bound_rules.specs.Laws.{AgreeOnLive, CostsAreTold, ValuesAreTold, IterationsAreTold}
 use Rattle.bound_rules.proofs.Owning.{same_own}
 
@@ -59,7 +59,7 @@ module _ (P : Program) (m : ℕ) (g : Digraph) (live : IsLiveGraph P m g) where
       let is = x.attained in
       omega arith
 
-  one_value : (costs others : List ℕ) (loops : List BoundedLoop) (a b : Option ℕ) → AgreeOnLive P m costs others → IsValue g costs loops a → IsValue g others loops b → a ≡ b
+  one_value : (costs others : List ℕ) (loops : List BoundedLoop) (a b : Option ℕ) → AgreeOnLive P m costs others → IsGreatestValue g costs loops a → IsGreatestValue g others loops b → a ≡ b
   one_value costs others loops None None agree x y = refl
   one_value costs others loops None (Some n) agree x y = absurd (x (record { exit = y.bounded.last; among = y.bounded.exit; nodes = y.walk; walk = y.bounded.walk }))
   one_value costs others loops (Some n) None agree x y = absurd (y (record { exit = x.bounded.last; among = x.bounded.exit; nodes = x.walk; walk = x.bounded.walk }))

@@ -4,7 +4,7 @@ use Rattle.std.specs.Prelude.{slice_index_or, unwrap_or}
 use Rattle.std.proofs.lemmas.List.{get_or_default}
 use Rattle.loop_nest.specs.Digraph.{Edge}
 use Rattle.section_check.specs.Section.{CertifiedLoop}
-use Rattle.section_check.specs.Placing.{IsAt}
+use Rattle.section_check.specs.Placing.{IsEntryAt}
 use Rattle.bound_cert.specs.declared.cert.CertSection.{CertSection}
 use Rattle.bytecode_model.specs.Program.{Program, body_of}
 use Rattle.method_flow.specs.Nodes.{Node, At, RaiseAt, number_of}
@@ -15,8 +15,8 @@ use Rattle.method_flow.specs.Regions.{load}
 use Rattle.bound_rules.specs.Costs.{added, added_at}
 use Rattle.bound_rules.specs.Told.{Valued, value_in, with_cycles, SaysFull, SaysCalled, is_without_loads, within_limit}
 use Rattle.bound_rules.specs.Told.SaysFull.{fits as full_fits, exceeds as full_exceeds}
-use Rattle.bound_rules.specs.Sections.{IsSectionEdge, IsSectionNode, IsFee, SectionView, IsLacking}
-use Rattle.bound_rules.specs.Sections.IsFee.{no_region, fits, exceeds}
+use Rattle.bound_rules.specs.Sections.{IsSectionEdge, IsSectionNode, IsEntryLoad, SectionView, IsLacking}
+use Rattle.bound_rules.specs.Sections.IsEntryLoad.{no_region, fits, exceeds}
 use Rattle.bound_rules.proofs.Sums.{same_loads}
 use Rattle.bound_rules.proofs.Owning.{both_hold, same_own, same_of_each, target_calls}
 
@@ -34,7 +34,7 @@ same_called P t earlier false m x a b (j, says, is) (k, says', is') = is ∙ (ap
 
 -- ---- fees
 
-same_fee : (P : Program) (t : Timing) (m : ℕ) (l : CertifiedLoop) (a b : Option ℕ) → IsFee P t m l a → IsFee P t m l b → a ≡ b
+same_fee : (P : Program) (t : Timing) (m : ℕ) (l : CertifiedLoop) (a b : Option ℕ) → IsEntryLoad P t m l a → IsEntryLoad P t m l b → a ≡ b
 same_fee P t m l a b (no_region plain is) (no_region plain' is') = is ∙ sym is'
 same_fee P t m l a b (no_region plain is) (fits region k is') = absurd (let bad : false ≡ true = sym plain ∙ region in cc)
 same_fee P t m l a b (no_region plain is) (exceeds region alone is') = absurd (let bad : false ≡ true = sym plain ∙ region in cc)
@@ -61,7 +61,7 @@ module _ (P : Program) (t : Timing) (earlier : List Valued) (s : CertSection) (h
   same_fees =
       let long = h.are_fees.long in
       same_lists None h.fees k.fees (h.are_fees.long ∙ sym k.are_fees.long) (λ i below. let l = get_or s.section.loops i some_loop in
-      let at : IsAt s.section.loops i l = (omega arith, get_or_default s.section.loops i l some_loop (omega arith)) in
+      let at : IsEntryAt s.section.loops i l = (omega arith, get_or_default s.section.loops i l some_loop (omega arith)) in
       same_fee P t s.method l (slice_index_or h.fees i None) (slice_index_or k.fees i None) (h.are_fees.each i l at) (k.are_fees.each i l at))
 
   pub same_told : (p x : ℕ) → IsSectionNode P s.method h.told (At p) → IsSectionNode P s.method k.told (At p) → IsTarget P s.method p x → h.told p x ≡ k.told p x

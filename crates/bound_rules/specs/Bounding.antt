@@ -84,15 +84,15 @@ pub data ExceedsSize (P : Program) (t : Timing) (bound_of : BoundOf) (root : ℕ
       → ExceedsSize P t bound_of root N m
 
 -- of a method that may run while the root does
-abbrev pub IsTooLarge : Program → Timing → BoundOf → (root : ℕ) → Numbers → (m : ℕ) → Type 0
-IsTooLarge P t bound_of root N m = IsWithin P root m × ExceedsSize P t bound_of root N m
+abbrev pub BoundIsTooLarge : Program → Timing → BoundOf → (root : ℕ) → Numbers → (m : ℕ) → Type 0
+BoundIsTooLarge P t bound_of root N m = IsWithin P root m × ExceedsSize P t bound_of root N m
 
 -- m is the least of them, whatever numbers are those of the methods; there is one family of them at most
 abbrev pub IsFirstTooLarge : Program → Timing → BoundOf → (root m : ℕ) → Type 0
-IsFirstTooLarge P t bound_of root m = (N : Numbers) → AreNumbers P t bound_of root N → IsLeast (IsTooLarge P t bound_of root N) (Some m)
+IsFirstTooLarge P t bound_of root m = (N : Numbers) → AreNumbers P t bound_of root N → IsLeast (BoundIsTooLarge P t bound_of root N) (Some m)
 
 abbrev pub KeepSize : Program → Timing → BoundOf → (root : ℕ) → Type 0
-KeepSize P t bound_of root = (N : Numbers) → AreNumbers P t bound_of root N → (m : ℕ) → ¬ IsTooLarge P t bound_of root N m
+KeepSize P t bound_of root = (N : Numbers) → AreNumbers P t bound_of root N → (m : ℕ) → ¬ BoundIsTooLarge P t bound_of root N m
 
 -- ---- the refusal
 

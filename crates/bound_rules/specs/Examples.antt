@@ -20,8 +20,8 @@ use Rattle.bound_rules.specs.Numbers.{Numbers}
 use Rattle.bound_rules.specs.Told.{Valued, value_in, with_cycles, within_limit, most_cycles}
 use Rattle.bound_rules.specs.Sections.{MeetsSection}
 use Rattle.bound_rules.specs.Conditions.{MeetsConditions}
-use Rattle.bound_rules.specs.Refused.{SectionFails, IsRefused}
-use Rattle.bound_rules.specs.Bounding.{IsTooLarge, IsCause}
+use Rattle.bound_rules.specs.Refused.{SectionFails, IsCertRefused}
+use Rattle.bound_rules.specs.Bounding.{BoundIsTooLarge, IsCause}
 
 -- ---- what computes
 
@@ -137,8 +137,10 @@ return_certificate c bound = record { version = 2; root = 1; sections = inside_s
 -- the last line is right where it is the dearest invoke i, the section's value c, the load of the method, and the greatest load
 pub record ReturnCertificate (bound_of : BoundOf) (c i greatest : ℕ) : Type 0 where
   pub holds : MeetsConditions sample timing bound_of (return_certificate c (Some (i + (c + 7) + greatest)))
-  pub wrong_line : (bound : Option ℕ) → bound ≢ Some (i + (c + 7) + greatest) → IsRefused sample timing bound_of (return_certificate c bound) (faults.Region 1)
-  pub no_section : (bound : Option ℕ) → IsRefused sample timing bound_of (record { version = 2; root = 1; sections = []; bound = bound }) (faults.Missing 1)
+  pub wrong_line :
+      (bound : Option ℕ) → bound ≢ Some (i + (c + 7) + greatest)
+      → IsCertRefused sample timing bound_of (return_certificate c bound) (faults.Region 1)
+  pub no_section : (bound : Option ℕ) → IsCertRefused sample timing bound_of (record { version = 2; root = 1; sections = []; bound = bound }) (faults.Missing 1)
 
 abbrev pub ReturnCertificates : Type 0
 ReturnCertificates =
@@ -155,9 +157,9 @@ pub record Refusals (t : Timing) (bound_of : BoundOf) : Type 0 where
   pub recursion : IsRecursion sample 4 (4 ∷ 5 ∷ [])
   -- the loop of method 2 has no bound
   pub missing : bound_of 2 0 ≡ None → IsCause sample t bound_of (λ m. m ≡ 2) (refusals.MissingBound 2 0)
-  pub too_large : (N : Numbers) → N.full 1 ≡ Some (2 ^ 64) → IsTooLarge sample t bound_of 1 N 1
+  pub too_large : (N : Numbers) → N.full 1 ≡ Some (2 ^ 64) → BoundIsTooLarge sample t bound_of 1 N 1
   -- only of methods that may run while the root does
-  pub elsewhere : (N : Numbers) → ¬ IsTooLarge sample t bound_of 1 N 2
+  pub elsewhere : (N : Numbers) → ¬ BoundIsTooLarge sample t bound_of 1 N 2
 
 abbrev pub RefusedBounds : Type 0
 RefusedBounds = (t : Timing) (bound_of : BoundOf) → Refusals t bound_of

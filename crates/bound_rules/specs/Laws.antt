@@ -5,7 +5,7 @@ use Rattle.loop_nest.specs.Walks.{IsHeader}
 use Rattle.loop_nest.specs.Nest.{headers_of}
 use Rattle.section_check.specs.Bounded.{BoundedLoop, cost_of}
 use Rattle.section_check.specs.Section.{CertifiedLoop}
-use Rattle.section_check.specs.Placing.{IsAt}
+use Rattle.section_check.specs.Placing.{IsEntryAt}
 use Rattle.section_check.specs.Laws.{loops_of}
 use Rattle.bound_cert.specs.declared.cert.CertSection.{CertSection}
 use Rattle.bound_cert.specs.Certificate.{Certificate}
@@ -24,11 +24,11 @@ use Rattle.method_flow.specs.Costs.{IsPrintedOf}
 use Rattle.bound_rules.specs.declared.faults.CheckFault.{CheckFault}
 use Rattle.bound_rules.specs.Costs.{AreCosts}
 use Rattle.bound_rules.specs.Fitting.{RegionFits}
-use Rattle.bound_rules.specs.Numbers.{Numbers, LiveNest, charged_loops, AreCharged, IsValue, AreNumbers, IsPrinted}
+use Rattle.bound_rules.specs.Numbers.{Numbers, LiveNest, charged_loops, AreCharged, IsGreatestValue, AreNumbers, IsPrinted}
 use Rattle.bound_rules.specs.Told.{Valued, section_value, value_in, TargetValues}
 use Rattle.bound_rules.specs.Sections.{IsSectionEdge, IsSectionNode, MeetsSection, section_bounds}
 use Rattle.bound_rules.specs.Conditions.{MeetAll, MeetsConditions}
-use Rattle.bound_rules.specs.Refused.{IsRefused}
+use Rattle.bound_rules.specs.Refused.{IsCertRefused}
 use Rattle.bound_rules.specs.Met.{AreMet, IsFound}
 
 -- ---- sections
@@ -56,7 +56,7 @@ SectionsAreFound = (P : Program) (t : Timing) (bound_of : BoundOf) (earlier : Li
 abbrev pub HeadersHaveBounds : Type 0
 HeadersHaveBounds =
     (P : Program) (t : Timing) (bound_of : BoundOf) (earlier : List Valued) (s : CertSection) (value : Option ℕ) → MeetsSection P t bound_of earlier s value
-    → (i : ℕ) (l : CertifiedLoop) → IsAt s.section.loops i l
+    → (i : ℕ) (l : CertifiedLoop) → IsEntryAt s.section.loops i l
     → (p : ℕ) × (l.header ≡ 2 * p) × (bound_of s.method p ≡ Some (slice_index (section_bounds bound_of s) i))
 
 -- ---- runs
@@ -111,7 +111,7 @@ CostsAreTold =
 abbrev pub ValuesAreTold : Type 0
 ValuesAreTold =
     (P : Program) (m : ℕ) (g : Digraph) (costs others : List ℕ) (loops : List BoundedLoop) (a b : Option ℕ) → IsLiveGraph P m g → AgreeOnLive P m costs others
-    → IsValue g costs loops a → IsValue g others loops b
+    → IsGreatestValue g costs loops a → IsGreatestValue g others loops b
     → a ≡ b
 
 -- and so is whether iterations of its loops exceed 64 bits together
@@ -184,10 +184,11 @@ ChargedLoopsAreOne =
 
 -- a certificate has one fault at most
 abbrev pub FaultsAreOne : Type 0
-FaultsAreOne = (P : Program) (t : Timing) (bound_of : BoundOf) (c : Certificate) (a b : CheckFault) → IsRefused P t bound_of c a → IsRefused P t bound_of c b
-    → a ≡ b
+FaultsAreOne =
+    (P : Program) (t : Timing) (bound_of : BoundOf) (c : Certificate) (a b : CheckFault)
+    → IsCertRefused P t bound_of c a → IsCertRefused P t bound_of c b → a ≡ b
 
 -- and none where it meets the conditions
 abbrev pub RefusedIsNotMet : Type 0
-RefusedIsNotMet = (P : Program) (t : Timing) (bound_of : BoundOf) (c : Certificate) (fault : CheckFault) → IsRefused P t bound_of c fault
+RefusedIsNotMet = (P : Program) (t : Timing) (bound_of : BoundOf) (c : Certificate) (fault : CheckFault) → IsCertRefused P t bound_of c fault
     → ¬ MeetsConditions P t bound_of c

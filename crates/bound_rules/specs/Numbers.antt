@@ -4,7 +4,7 @@ use Rattle.std.specs.Prelude.{Some, None, IsSome, option_map}
 use Rattle.loop_nest.specs.Digraph.{Digraph}
 use Rattle.loop_nest.specs.Nest.{NaturalLoop, headers_of, IsNest, IsAround}
 use Rattle.section_check.specs.Bounded.{BoundedLoop, holds, IsGreatest}
-use Rattle.section_check.specs.Placing.{IsAt}
+use Rattle.section_check.specs.Placing.{IsEntryAt}
 use Rattle.path_solver.specs.Reaching.{ReachesExit, IsFlagged}
 use Rattle.path_solver.specs.Longest.{bounded_loops}
 use Rattle.bytecode_model.specs.Program.{Program}
@@ -27,9 +27,9 @@ pub record Numbers : Type 0 where
 -- ---- greatest walks
 
 -- what the greatest walk costs that keeps the bounds, or none where no exit is reached
-abbrev pub IsValue : Digraph → List ℕ → List BoundedLoop → Option ℕ → Type 0
-IsValue g costs loops None = ¬ ReachesExit g 0
-IsValue g costs loops (Some n) = IsGreatest g costs loops n
+abbrev pub IsGreatestValue : Digraph → List ℕ → List BoundedLoop → Option ℕ → Type 0
+IsGreatestValue g costs loops None = ¬ ReachesExit g 0
+IsGreatestValue g costs loops (Some n) = IsGreatest g costs loops n
 
 -- the live graph of a method, and its loops, each of which has a bound
 pub record LiveNest (P : Program) (bound_of : BoundOf) (m : ℕ) : Type 0 where
@@ -63,12 +63,12 @@ pub record IsCharged (P : Program) (t : Timing) (m : ℕ) (nest : List NaturalLo
 -- exactly the charged loops are flagged
 pub record AreCharged (P : Program) (t : Timing) (m : ℕ) (nest : List NaturalLoop) (flags : List Bool) : Type 0 where
   pub long : length flags ≡ length nest
-  pub each : (i : ℕ) (l : NaturalLoop) → IsAt nest i l → IsFlagged flags i ↔ IsCharged P t m nest flags i l
+  pub each : (i : ℕ) (l : NaturalLoop) → IsEntryAt nest i l → IsFlagged flags i ↔ IsCharged P t m nest flags i l
 
 -- what an entry of each loop is charged: the loads of the methods that may run in it where it is charged, and else nothing
 pub record AreLoads (P : Program) (t : Timing) (m : ℕ) (nest : List NaturalLoop) (flags : List Bool) (fees : List ℕ) : Type 0 where
   pub long : length fees ≡ length nest
-  pub charged : (i : ℕ) (l : NaturalLoop) → IsAt nest i l → IsFlagged flags i → (fits : LoopFits P t m l.members) → slice_index fees i ≡ loads_of fits
+  pub charged : (i : ℕ) (l : NaturalLoop) → IsEntryAt nest i l → IsFlagged flags i → (fits : LoopFits P t m l.members) → slice_index fees i ≡ loads_of fits
   pub others : (i : ℕ) → ¬ IsFlagged flags i → slice_index fees i ≡ 0
 
 -- a charged loop has the node
@@ -92,7 +92,7 @@ pub record IsInside (P : Program) (t : Timing) (bound_of : BoundOf) (N : Numbers
   pub flow : LiveNest P bound_of m
   pub costs : List ℕ
   pub are_costs : AreCosts P t m (IsLiveEdge P m) (λ p. added P m p N.inside) flow.graph costs
-  pub value : IsValue flow.graph costs (charged_loops flow (no_fees flow)) (N.inside m)
+  pub value : IsGreatestValue flow.graph costs (charged_loops flow (no_fees flow)) (N.inside m)
 
 -- the number with the loads of charged loops, and of calls outside them
 pub record IsLoops (P : Program) (t : Timing) (bound_of : BoundOf) (N : Numbers) (m : ℕ) : Type 0 where
@@ -103,7 +103,7 @@ pub record IsLoops (P : Program) (t : Timing) (bound_of : BoundOf) (N : Numbers)
   pub are_fees : AreLoads P t m flow.nest flags fees
   pub costs : List ℕ
   pub are_costs : AreCosts P t m (IsLiveEdge P m) (loops_adds P t N m flow.nest flags) flow.graph costs
-  pub value : IsValue flow.graph costs (charged_loops flow fees) (N.loops m)
+  pub value : IsGreatestValue flow.graph costs (charged_loops flow fees) (N.loops m)
 
 -- The number with all loads: where the methods that may run fit the cache together, each is loaded once; else the method itself is loaded beside what
 -- its loops are charged.

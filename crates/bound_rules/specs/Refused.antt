@@ -81,13 +81,13 @@ FailsLast P t values c fault = ⊥
 -- ---- a certificate
 
 -- The fault of a certificate: that of the first section that fails, behind sections that meet their conditions; or what fails at the root.
-pub data IsRefused (P : Program) (t : Timing) (bound_of : BoundOf) (c : Certificate) (fault : CheckFault) : Type 0 where
+pub data IsCertRefused (P : Program) (t : Timing) (bound_of : BoundOf) (c : Certificate) (fault : CheckFault) : Type 0 where
   in_section : (before after : List CertSection) (s : CertSection) (earlier : List Valued) → c.sections ≡ before ++ s ∷ after
       → MeetAll P t bound_of [] before earlier
-      → SectionFails P t bound_of earlier s fault → IsRefused P t bound_of c fault
-  at_end : (values : List Valued) → MeetAll P t bound_of [] c.sections values → FailsLast P t values c fault → IsRefused P t bound_of c fault
+      → SectionFails P t bound_of earlier s fault → IsCertRefused P t bound_of c fault
+  at_end : (values : List Valued) → MeetAll P t bound_of [] c.sections values → FailsLast P t values c fault → IsCertRefused P t bound_of c fault
 
 -- the same, where of want of memory nothing is said
 abbrev pub IsRefusedOrMemory : Program → Timing → BoundOf → Certificate → CheckFault → Type 0
 IsRefusedOrMemory P t bound_of c NoMemory = Unit {0}
-IsRefusedOrMemory P t bound_of c fault = IsRefused P t bound_of c fault
+IsRefusedOrMemory P t bound_of c fault = IsCertRefused P t bound_of c fault

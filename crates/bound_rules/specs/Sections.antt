@@ -2,7 +2,7 @@
 use Rattle.std.specs.Prelude.{◌≡◌, ◌≢◌, ◌⊎◌, ℕ, true, false, List, length, map, slice_index_or, Contains, Option, Some, None, IsSome, unwrap_or}
 use Rattle.loop_nest.specs.Digraph.{Digraph}
 use Rattle.section_check.specs.Section.{CertifiedLoop, PricedLoop, listed, priced}
-use Rattle.section_check.specs.Placing.{IsAt, IsHeld}
+use Rattle.section_check.specs.Placing.{IsEntryAt, IsInLoop}
 use Rattle.section_check.specs.Conditions.{IsAccepted, value_of}
 use Rattle.bound_cert.specs.declared.cert.CertSection.{CertSection}
 use Rattle.bytecode_model.specs.Program.{Program, body_of}
@@ -35,14 +35,14 @@ AreTargetValues P t earlier s told = (p x : ℕ) → IsSectionNode P s.method to
 
 -- what an entry of a loop of method m pays beside the loop's iterations: for a region the loads of the methods that may run there, and none where
 -- these don't fit the cache together; for another loop 0
-pub data IsFee (P : Program) (t : Timing) (m : ℕ) (l : CertifiedLoop) (fee : Option ℕ) : Type 0 where
-  no_region : l.region ≡ false → fee ≡ Some 0 → IsFee P t m l fee
-  fits : l.region ≡ true → (together : LoopFits P t m l.members) → fee ≡ Some (loads_of together) → IsFee P t m l fee
-  exceeds : l.region ≡ true → ¬ LoopFits P t m l.members → fee ≡ None → IsFee P t m l fee
+pub data IsEntryLoad (P : Program) (t : Timing) (m : ℕ) (l : CertifiedLoop) (fee : Option ℕ) : Type 0 where
+  no_region : l.region ≡ false → fee ≡ Some 0 → IsEntryLoad P t m l fee
+  fits : l.region ≡ true → (together : LoopFits P t m l.members) → fee ≡ Some (loads_of together) → IsEntryLoad P t m l fee
+  exceeds : l.region ≡ true → ¬ LoopFits P t m l.members → fee ≡ None → IsEntryLoad P t m l fee
 
-pub record AreFees (P : Program) (t : Timing) (s : CertSection) (fees : List (Option ℕ)) : Type 0 where
+pub record AreEntryLoads (P : Program) (t : Timing) (s : CertSection) (fees : List (Option ℕ)) : Type 0 where
   pub long : length fees ≡ length s.section.loops
-  pub each : (i : ℕ) (l : CertifiedLoop) → IsAt s.section.loops i l → IsFee P t s.method l (slice_index_or fees i None)
+  pub each : (i : ℕ) (l : CertifiedLoop) → IsEntryAt s.section.loops i l → IsEntryLoad P t s.method l (slice_index_or fees i None)
 
 -- the bounds of a section's loops, 0 where none is given
 abbrev pub section_bounds : BoundOf → CertSection → List ℕ
@@ -64,7 +64,7 @@ pub record SectionView (P : Program) (t : Timing) (earlier : List Valued) (s : C
   pub costs : List ℕ
   pub are_costs : AreCosts P t s.method (IsSectionEdge P s.method told) (λ p. added P s.method p (λ x. unwrap_or (told p x) None)) graph costs
   pub fees : List (Option ℕ)
-  pub are_fees : AreFees P t s fees
+  pub are_fees : AreEntryLoads P t s fees
 
 -- an invoke among the nodes may run x, which is absent
 pub record IsLacking (P : Program) (m : ℕ) (told : TargetValues) (x : ℕ) : Type 0 where
@@ -76,7 +76,7 @@ pub record IsLacking (P : Program) (m : ℕ) (told : TargetValues) (x : ℕ) : T
 
 -- u is listed, or a member of a loop, and is no node
 pub record IsNoNode (P : Program) (s : CertSection) (told : TargetValues) (u : ℕ) : Type 0 where
-  pub said : Contains (listed s.section.nodes) u ⊎ IsHeld s.section.loops u
+  pub said : Contains (listed s.section.nodes) u ⊎ IsInLoop s.section.loops u
   pub none : (n : Node) → IsSectionNode P s.method told n → number_of n ≢ u
 
 -- u heads a loop for which no bound is given

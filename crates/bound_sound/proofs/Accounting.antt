@@ -1,6 +1,6 @@
 -- The account of a whole stay, and of an activation with the invoke before it.
 use Rattle.std.proofs.Common.{◌≡◌, ℕ, ◌+◌, ◌≤◌, List, [], ◌∷◌, ◌++◌, Option, Some, IsSome, refl, sym, ap, ◌∙◌, subst, arith}
-use Rattle.lists.specs.Lemmas.{some_is}
+use Rattle.lists.proofs.Lemmas.{some_is}
 use Rattle.lists.specs.Members.{heads}
 use Rattle.method_cache.specs.Contents.{Cache}
 use Rattle.cache_regions.specs.LookUps.{after}
@@ -19,10 +19,11 @@ use Rattle.bound_rules.specs.Told.{Valued, SaysFull}
 use Rattle.bound_rules.specs.Met.{AreMet}
 use Rattle.activations.specs.Setting.{Setting}
 use Rattle.activations.specs.Activations.{Stage, Follows}
-use Rattle.activations.specs.Steps.{HasTiming, looked_up, StepFacts}
+use Rattle.activations.specs.Steps.{looked_up, StepFacts}
+use Rattle.activations.specs.Timing.{HasTiming}
 use Rattle.activations.specs.Stays.{Stay}
 use Rattle.activations.specs.Stays.Stay.{leaves, goes, calls}
-use Rattle.activations.specs.Keeping.{ChildrenKeep}
+use Rattle.activations.specs.Children.{ChildrenKeep}
 use Rattle.bound_sound.proofs.Known.{Known, within_coded}
 use Rattle.bound_sound.proofs.Looking.{enters_looks}
 use Rattle.bound_sound.proofs.Accounts.{stall, then_ran, step_ran, Left, Account}

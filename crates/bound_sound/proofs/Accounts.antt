@@ -13,7 +13,8 @@ use Rattle.method_flow.specs.Regions.{IsWithin}
 use Rattle.method_flow.specs.declared.timing.Timing.{Timing}
 use Rattle.activations.specs.Setting.{Setting}
 use Rattle.activations.specs.Activations.{Stage}
-use Rattle.activations.specs.Steps.{HasTiming, looked_up, StepFacts}
+use Rattle.activations.specs.Steps.{looked_up, StepFacts}
+use Rattle.activations.specs.Timing.{HasTiming}
 use Rattle.activations.specs.Stays.{IsTop}
 use Rattle.bound_sound.proofs.Known.{Known}
 use Rattle.bound_sound.proofs.Sections.{SectionOf, NodeIn, charges_of}

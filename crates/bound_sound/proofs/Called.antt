@@ -30,7 +30,7 @@ use Rattle.bound_rules.specs.Sections.{section_bounds}
 use Rattle.bound_rules.specs.Met.{AreMet}
 use Rattle.activations.specs.Setting.{Setting}
 use Rattle.activations.specs.Activations.{Stage}
-use Rattle.activations.specs.Steps.{HasTiming}
+use Rattle.activations.specs.Timing.{HasTiming}
 use Rattle.bound_sound.proofs.Known.{Known, keyed, nodes_coded, within_coded, with_graph}
 use Rattle.bound_sound.proofs.Regions.{region_from, no_region, in_a_region}
 use Rattle.bound_sound.proofs.Charged.{same_blocks, same_loads, region_at, region_methods}

@@ -9,7 +9,7 @@ use Rattle.cache_regions.specs.Region.{load_stall}
 use Rattle.cache_regions.specs.LookUps.{blocks_taken}
 use Rattle.section_check.specs.Bounded.{cost_of}
 use Rattle.section_check.specs.Section.{CertifiedLoop}
-use Rattle.section_check.specs.Placing.{IsAt}
+use Rattle.section_check.specs.Placing.{IsEntryAt}
 use Rattle.section_check.specs.Placing.IsFaulty.{does_not_fit}
 use Rattle.section_check.specs.Placing.IsMisplaced.{heads_faulty}
 use Rattle.section_check.specs.Laws.{loops_of}
@@ -24,8 +24,8 @@ use Rattle.method_flow.specs.Regions.{IsWithinNodes, code_words, load, loads}
 use Rattle.method_flow.specs.Regions.IsWithinNodes.{itself}
 use Rattle.bound_rules.specs.Fitting.{LoopFits, loads_of}
 use Rattle.bound_rules.specs.Told.{Valued}
-use Rattle.bound_rules.specs.Sections.{IsFee, section_bounds, MeetsSection}
-use Rattle.bound_rules.specs.Sections.IsFee.{no_region, fits, exceeds}
+use Rattle.bound_rules.specs.Sections.{IsEntryLoad, section_bounds, MeetsSection}
+use Rattle.bound_rules.specs.Sections.IsEntryLoad.{no_region, fits, exceeds}
 use Rattle.bound_sound.proofs.Regions.{region_from, IsRegionAt, found_region, some_region, priced_loop, lists_by, list_at}
 
 -- ---- methods by their places
@@ -48,7 +48,7 @@ module _ (P : Program) (t : Timing) (words : ℕ → List ℕ) (key : ℕ → �
 -- ---- fees
 
 -- the methods whose loads an entry of the loop pays
-abbrev pub paid_methods : {P : Program} {t : Timing} {m : ℕ} {l : CertifiedLoop} {fee : Option ℕ} → IsFee P t m l fee → List ℕ
+abbrev pub paid_methods : {P : Program} {t : Timing} {m : ℕ} {l : CertifiedLoop} {fee : Option ℕ} → IsEntryLoad P t m l fee → List ℕ
 paid_methods (no_region region is) = []
 paid_methods (fits region together is) = together.methods
 paid_methods (exceeds region not is) = []
@@ -67,7 +67,7 @@ module _ (laws : SectionLaws) (P : Program) (t : Timing) (words : ℕ → List �
     (bound_of : BoundOf) (earlier : List Valued) (s : CertSection) (value : Option ℕ) (h : MeetsSection P t bound_of earlier s value) (coded : (x : ℕ) (nodes : List ℕ) → IsWithinNodes P s.method nodes x → IsSome (body_of P x)) where
   -- loop i's fee
   abbrev FeeAt : ℕ → CertifiedLoop → Type 0
-  FeeAt i l = IsFee P t s.method l (slice_index_or h.view.fees i None)
+  FeeAt i l = IsEntryLoad P t s.method l (slice_index_or h.view.fees i None)
 
   -- the methods of region i
   abbrev pub methods_at : ℕ → List ℕ
@@ -95,7 +95,7 @@ module _ (laws : SectionLaws) (P : Program) (t : Timing) (words : ℕ → List �
     pub fee : charges.fee i ≡ loads_of together
 
   -- a region of a section that is accepted fits
-  pub region_methods : (i : ℕ) (l : CertifiedLoop) → IsAt s.section.loops i l → l.region ≡ true → RegionMethods i l
+  pub region_methods : (i : ℕ) (l : CertifiedLoop) → IsEntryAt s.section.loops i l → l.region ≡ true → RegionMethods i l
   region_methods i l at region_is = by (slice_index_or h.view.fees i None) refl (list_at FeeAt (λ j x fee. paid_methods fee) s.section.loops h.view.are_fees.each i l at)
     where
       by : (o : Option ℕ) → slice_index_or h.view.fees i None ≡ o → (x : FeeAt i l) × (methods_at i ≡ paid_methods x) → RegionMethods i l

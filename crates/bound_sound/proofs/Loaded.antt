@@ -11,7 +11,8 @@ use Rattle.method_flow.specs.declared.timing.Timing.{Timing}
 use Rattle.bound_rules.specs.Fitting.{FitTogether}
 use Rattle.activations.specs.Setting.{Setting, IsSetting}
 use Rattle.activations.specs.Activations.{Stage, Follows, StaysAbove, IsActivation}
-use Rattle.activations.specs.Steps.{HasTiming, AreWords, place_of, looked_up, StepsAreTold}
+use Rattle.activations.specs.Steps.{AreWords, place_of, looked_up, StepsAreTold}
+use Rattle.activations.specs.Timing.{HasTiming}
 use Rattle.activations.specs.Keeping.{stages_of}
 use Rattle.machine_stands.specs.Comes.{found_by}
 use Rattle.bound_sound.specs.Loads.{look_ups_over, loads_over}

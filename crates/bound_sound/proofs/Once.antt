@@ -1,7 +1,7 @@
 -- An activation whose region fits the cache, and a stay in a loop whose region does, load each method at most once.
 use Rattle.std.proofs.Common.{◌≡◌, ℕ, suc, List, [], ◌∷◌, ◌++◌, length, All, Option, IsSome, refl, sym, ap, ◌∙◌, subst}
 use Rattle.std.proofs.lemmas.List.Elements.{All-nil, All-cons}
-use Rattle.lists.specs.Lemmas.{some_is}
+use Rattle.lists.proofs.Lemmas.{some_is}
 use Rattle.base.specs.Packed.{PackedHasWords}
 use Rattle.cache_regions.specs.LookUps.{EachIsLoadedOnce, LoadsFollow}
 use Rattle.opcodes.specs.Start.{IsStart}

@@ -5,7 +5,7 @@ use Rattle.std.proofs.lemmas.Bool.{or_cases, or_left, or_right, eq-eqb}
 use Rattle.lists.specs.Members.{at_head, in_tail, cons_cases, nil_contains}
 use Rattle.section_check.specs.Bounded.{BoundedLoop, holds}
 use Rattle.section_check.specs.Section.{CertifiedLoop, priced, bounded}
-use Rattle.section_check.specs.Placing.{IsAt}
+use Rattle.section_check.specs.Placing.{IsEntryAt}
 use Rattle.bound_rules.specs.Told.{is_in_region}
 
 -- ---- members
@@ -36,7 +36,7 @@ region_from i (l ∷ ls) u = if l.region then (if holds l.members u then Some i 
 -- loop i is a region that holds the node
 pub record IsRegionAt (ls : List CertifiedLoop) (u i : ℕ) : Type 0 where
   pub loop : CertifiedLoop
-  pub at : IsAt ls i loop
+  pub at : IsEntryAt ls i loop
   pub region : loop.region ≡ true
   pub inside : Contains loop.members u
 
@@ -94,7 +94,7 @@ in_a_region (l ∷ ls) i u k e = by l.region (holds l.members u) e (in_a_region 
 -- ---- loops by their places
 
 -- loop i with its price, as far as walks speak of it
-pub priced_loop : (ls : List CertifiedLoop) (bounds : List ℕ) (fees : List (Option ℕ)) (i : ℕ) (l : CertifiedLoop) → length bounds ≡ length ls → length fees ≡ length ls → IsAt ls i l
+pub priced_loop : (ls : List CertifiedLoop) (bounds : List ℕ) (fees : List (Option ℕ)) (i : ℕ) (l : CertifiedLoop) → length bounds ≡ length ls → length fees ≡ length ls → IsEntryAt ls i l
     → (b : BoundedLoop) × (i < length (map bounded (priced ls bounds fees))) × (slice_index_or (map bounded (priced ls bounds fees)) i b ≡ b) × (b.members ≡ l.members) × (b.load ≡ unwrap_or (slice_index_or fees i None) 0)
 priced_loop [] bounds fees i l e1 e2 at = let b = at.0 in absurd (omega arith)
 priced_loop (k ∷ ks) [] fees i l e1 e2 at = absurd (omega arith)
@@ -106,20 +106,20 @@ priced_loop (k ∷ ks) (b ∷ bs) (f ∷ fs) (suc i) l e1 e2 at =
     let lt = r.1 in
     (r.0, omega arith, r.2, r.3, r.4)
 
-pub at_first : (l : CertifiedLoop) (ls : List CertifiedLoop) → IsAt (l ∷ ls) 0 l
+pub at_first : (l : CertifiedLoop) (ls : List CertifiedLoop) → IsEntryAt (l ∷ ls) 0 l
 at_first l ls = (omega arith, refl)
 
-pub at_next : (l : CertifiedLoop) (ls : List CertifiedLoop) (i : ℕ) (k : CertifiedLoop) → IsAt ls i k → IsAt (l ∷ ls) (suc i) k
+pub at_next : (l : CertifiedLoop) (ls : List CertifiedLoop) (i : ℕ) (k : CertifiedLoop) → IsEntryAt ls i k → IsEntryAt (l ∷ ls) (suc i) k
 at_next l ls i k at = let b = at.0 in (omega arith, at.1)
 
 -- a list that is told of each loop, by the loop's place; past the last one it is empty
-abbrev pub lists_by : (K : ℕ → CertifiedLoop → Type 0) → ((i : ℕ) (l : CertifiedLoop) → K i l → List ℕ) → (ls : List CertifiedLoop) → ((i : ℕ) (l : CertifiedLoop) → IsAt ls i l → K i l) → ℕ → List ℕ
+abbrev pub lists_by : (K : ℕ → CertifiedLoop → Type 0) → ((i : ℕ) (l : CertifiedLoop) → K i l → List ℕ) → (ls : List CertifiedLoop) → ((i : ℕ) (l : CertifiedLoop) → IsEntryAt ls i l → K i l) → ℕ → List ℕ
 lists_by K list [] each i = []
 lists_by K list (l ∷ ls) each zero = list 0 l (each 0 l (at_first l ls))
 lists_by K list (l ∷ ls) each (suc i) = lists_by (λ j k. K (suc j) k) (λ j k. list (suc j) k) ls (λ j k at. each (suc j) k (at_next l ls j k at)) i
 
-pub list_at : (K : ℕ → CertifiedLoop → Type 0) (list : (i : ℕ) (l : CertifiedLoop) → K i l → List ℕ) (ls : List CertifiedLoop) (each : (i : ℕ) (l : CertifiedLoop) → IsAt ls i l → K i l) (i : ℕ) (l : CertifiedLoop)
-    → IsAt ls i l → (h : K i l) × (lists_by K list ls each i ≡ list i l h)
+pub list_at : (K : ℕ → CertifiedLoop → Type 0) (list : (i : ℕ) (l : CertifiedLoop) → K i l → List ℕ) (ls : List CertifiedLoop) (each : (i : ℕ) (l : CertifiedLoop) → IsEntryAt ls i l → K i l) (i : ℕ) (l : CertifiedLoop)
+    → IsEntryAt ls i l → (h : K i l) × (lists_by K list ls each i ≡ list i l h)
 list_at K list [] each i l at = let b = at.0 in absurd (omega arith)
 list_at K list (k ∷ ks) each zero l at =
     let Q : CertifiedLoop → Type 0 = λ x. (h : K 0 x) × (lists_by K list (k ∷ ks) each 0 ≡ list 0 x h) in

@@ -12,7 +12,7 @@ use Rattle.bound_rules.specs.Met.AreMet.{nothing}
 use Rattle.bound_rules.specs.Laws.{AllAreMet}
 use Rattle.activations.specs.Setting.{Setting, IsSetting}
 use Rattle.activations.specs.Activations.{Stage, IsActivation, cycles_of}
-use Rattle.activations.specs.Steps.{HasTiming}
+use Rattle.activations.specs.Timing.{HasTiming}
 use Rattle.activations.specs.Keeping.{Keeps}
 use Rattle.activations.specs.Trees.{ActivationsAreTrees, ActivationsAreWalks, StaysKeep}
 use Rattle.bound_sound.specs.Laws.{CertificatesAreSound}

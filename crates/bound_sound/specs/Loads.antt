@@ -8,7 +8,8 @@ use Rattle.method_flow.specs.declared.timing.Timing.{Timing}
 use Rattle.bound_rules.specs.Fitting.{RegionFits, LoopFits}
 use Rattle.activations.specs.Setting.{Setting, IsSetting}
 use Rattle.activations.specs.Activations.{Stage, Follows, depth, IsActivation}
-use Rattle.activations.specs.Steps.{HasTiming, AreWords, looked_up}
+use Rattle.activations.specs.Steps.{AreWords, looked_up}
+use Rattle.activations.specs.Timing.{HasTiming}
 use Rattle.activations.specs.Keeping.{node_at, stages_of}
 
 -- ---- steps, from a boundary over further ones

@@ -5,8 +5,8 @@ use Rattle.micro_sketch.proofs.Breaking.{empty}
 use Rattle.micro_flow.specs.Closed.{RaiseApart}
 use Rattle.microcode_rom.specs.declared.TheConstants.{RAISE}
 use Rattle.jop_core.specs.declared.halt.Halt.TheVariants as halts
-use Rattle.jop_core.specs.declared.tick.Tick.{Tick}
-use Rattle.jop_core.specs.declared.tick.Tick.TheVariants as ticks
+use Rattle.device_traits.specs.declared.fault.DeviceFault.{DeviceFault}
+use Rattle.device_traits.specs.declared.fault.DeviceFault.TheVariants as faults
 use Rattle.jop_core.specs.State as machine
 use Rattle.jop_core.specs.Cycle.{output_of}
 use Rattle.jop_core.specs.Scene.{begun, output_during, first_of}
@@ -17,13 +17,13 @@ use Rattle.micro_sketch.specs.StepLaws.{AreRunLaws}
 use Rattle.bytecode_typing.specs.Fits.{IsGoing}
 use Rattle.bytecode_model.specs.State.{State}
 use Rattle.bytecode_model.specs.Steps.{step}
-use Rattle.bytecode_model.specs.WellFormed.{IsAnswer}
+use Rattle.bytecode_model.specs.WellFormed.{IsInput}
 use Rattle.machine_stands.specs.StandsFor.{StandsFor}
 use Rattle.boundary.specs.declared.answer.Boundary.TheVariants as answers
 use Rattle.boundary.specs.Answers.{answer_of, answer_at_end}
 use Rattle.boundary.specs.Setting.{Setting, limits, IsSetting, Stands}
 use Rattle.boundary.specs.Session.{IsAtStep, HasEnded, EndsWith}
-use Rattle.boundary.specs.Advances.{Advances, Reaches, AfterStep, FailsToRead, FailsToWrite, FailsToShow}
+use Rattle.boundary.specs.Advances.{Advances, Reaches, AfterStep, FailsToRead, FailsToWrite, FailsToShow, Fails}
 use Rattle.boundary.specs.StageLaws.{NextStage, StagesAdvance, StagesAgree}
 use Rattle.boundary.proofs.Obeys.{Sort, Plain, Takes, Puts, Obeys, StepSort, step_sort}
 use Rattle.boundary.proofs.Landings.{comes_lands, arrived_lands, meets, Within, same_landing, broke_within}
@@ -117,13 +117,13 @@ module _ (advance : StagesAdvance) (agree : StagesAgree) (runs : AreRunLaws) (ap
   -- ---- where a call on the device failed
 
   -- the step for what was answered before, of which the way that broke off is a part
-  pub record Break (new : machine.State) (t0 t1 : Told) (tick : Tick) (b : Broke old new t0 t1 tick) : Type 0 where
-    pub byte : IsAnswer (first_of b.answers)
+  pub record Break (new : machine.State) (t0 t1 : Told) (fault : DeviceFault) (b : Broke old new t0 t1 fault) : Type 0 where
+    pub byte : IsInput (first_of b.answers)
     pub next : NextStage g old s (first_of b.answers)
     pub within : Within next.comes.answers b.answers (output_during next.comes.cycles (begun old next.comes.answers)) (output_during b.cycles (begun old b.answers)) next.comes.cycles b.cycles new
 
-  break_off : (new : machine.State) (t0 t1 : Told) (tick : Tick) (b : Broke old new t0 t1 tick) → Break new t0 t1 tick b
-  break_off new t0 t1 tick b =
+  break_off : (new : machine.State) (t0 t1 : Told) (fault : DeviceFault) (b : Broke old new t0 t1 fault) → Break new t0 t1 fault b
+  break_off new t0 t1 fault b =
       let answer = first_of b.answers in
       let byte = first_given b.answers (are_given t0.left b.before.left b.answers b.ran.device.left) in
       let n = advance g old s is st going answer byte in
@@ -131,7 +131,7 @@ module _ (advance : StagesAdvance) (agree : StagesAgree) (runs : AreRunLaws) (ap
       record {
         byte = byte;
         next = n;
-        within = broke_within runs old c.new new t0 t1 tick c.answers c.cycles b (comes_lands g.program g.places g.chip g.memory old s n.next c) (meets c.answers b.answers (taken_of g old s answer going n));
+        within = broke_within runs old c.new new t0 t1 fault c.answers c.cycles b (comes_lands g.program g.places g.chip g.memory old s n.next c) (meets c.answers b.answers (taken_of g old s answer going n));
       }
 
   -- what the step puts out on the whole way
@@ -149,20 +149,20 @@ module _ (advance : StagesAdvance) (agree : StagesAgree) (runs : AreRunLaws) (ap
       let n = advance g old s is st going answer byte in
       some_in (step g.program (limits g) answer s) n.next (K answer) n.is_next (each answer n.next n.is_next)
 
-  nothing_put : (new : machine.State) (t0 t1 : Told) (tick : Tick) (b : Broke old new t0 t1 tick) → b.answers ≡ [] → output_during b.cycles (begun old b.answers) ≡ [] → output_during b.cycles (begun old []) ≡ []
-  nothing_put new t0 t1 tick b none put = ap (λ (xs : List (Option ℕ)). output_during b.cycles (begun old xs)) (sym none) ∙ put
+  nothing_put : (new : machine.State) (t0 t1 : Told) (fault : DeviceFault) (b : Broke old new t0 t1 fault) → b.answers ≡ [] → output_during b.cycles (begun old b.answers) ≡ [] → output_during b.cycles (begun old []) ≡ []
+  nothing_put new t0 t1 fault b none put = ap (λ (xs : List (Option ℕ)). output_during b.cycles (begun old xs)) (sym none) ∙ put
 
   -- the machine is where it was
   still : (new : machine.State) → new ≡ old → Stands g new s
   still new same = subst (λ (m : machine.State). Stands g m s) (sym same) st
 
-  pub write_failed : (new : machine.State) (t0 t1 : Told) → Broke old new t0 t1 ticks.WriteFault → FailsToWrite g s old new t0 t1
-  write_failed new t0 t1 b = by_sort (step_sort g.program (limits g) s going) (break_off new t0 t1 ticks.WriteFault b)
+  write_failed : (new : machine.State) (t0 t1 : Told) → Broke old new t0 t1 faults.Output → FailsToWrite g s old new t0 t1
+  write_failed new t0 t1 b = by_sort (step_sort g.program (limits g) s going) (break_off new t0 t1 faults.Output b)
     where
-      silent : (r : Break new t0 t1 ticks.WriteFault b) → r.next.next.output ≡ s.output → FailsToWrite g s old new t0 t1
+      silent : (r : Break new t0 t1 faults.Output b) → r.next.next.output ≡ s.output → FailsToWrite g s old new t0 t1
       silent r h = absurd (b.tried.4 (no_part _ (output_of new) r.within.rest (sym (no_output (first_of b.answers) r.next h) ∙ r.within.output)).1)
 
-      on : (sort : Sort) → ((answer : Option ℕ) (t : State) → step g.program (limits g) answer s ≡ Some t → Obeys sort answer s t) → (r : Break new t0 t1 ticks.WriteFault b) → FailsToWrite g s old new t0 t1
+      on : (sort : Sort) → ((answer : Option ℕ) (t : State) → step g.program (limits g) answer s ≡ Some t → Obeys sort answer s t) → (r : Break new t0 t1 faults.Output b) → FailsToWrite g s old new t0 t1
       on Plain obeys r = silent r (obeys (first_of b.answers) r.next.next r.next.is_next).1
       on Takes obeys r = silent r (obeys (first_of b.answers) r.next.next r.next.is_next).1
       on (Puts byte) obeys r =
@@ -174,22 +174,22 @@ module _ (advance : StagesAdvance) (agree : StagesAgree) (runs : AreRunLaws) (ap
           record {
             broke = b;
             answers = none;
-            output = nothing_put new t0 t1 ticks.WriteFault b none middle.none;
+            output = nothing_put new t0 t1 faults.Output b none middle.none;
             puts = after_each (λ answer t. t.output ≡ s.output ++ output_of new) (λ answer t h. (obeys answer t h).1 ∙ ap (λ (out : List ℕ). s.output ++ out) (sym middle.is));
             same = same_write g.program g.places s st.stands.top st.stands.body s.mode going old st.stands.at new t0 t1 b;
             stands = still new (same_write g.program g.places s st.stands.top st.stands.body s.mode going old st.stands.at new t0 t1 b);
           }
 
-      by_sort : StepSort g.program (limits g) s → Break new t0 t1 ticks.WriteFault b → FailsToWrite g s old new t0 t1
+      by_sort : StepSort g.program (limits g) s → Break new t0 t1 faults.Output b → FailsToWrite g s old new t0 t1
       by_sort sort r = on sort.sort sort.obeys r
 
-  pub read_failed : (new : machine.State) (t0 t1 : Told) → Broke old new t0 t1 ticks.ReadFault → FailsToRead g s old new t0 t1
-  read_failed new t0 t1 b = by_sort (step_sort g.program (limits g) s going) (break_off new t0 t1 ticks.ReadFault b)
+  read_failed : (new : machine.State) (t0 t1 : Told) → Broke old new t0 t1 faults.Input → FailsToRead g s old new t0 t1
+  read_failed new t0 t1 b = by_sort (step_sort g.program (limits g) s going) (break_off new t0 t1 faults.Input b)
     where
-      unasked : (r : Break new t0 t1 ticks.ReadFault b) → r.next.next.answers ≡ s.answers → FailsToRead g s old new t0 t1
+      unasked : (r : Break new t0 t1 faults.Input b) → r.next.next.answers ≡ s.answers → FailsToRead g s old new t0 t1
       unasked r h = absurd (omega (arith, r.within.asks b.tried.4, ap (λ (xs : List (Option ℕ)). length xs) (no_answers (first_of b.answers) r.next h)))
 
-      on : (sort : Sort) → ((answer : Option ℕ) (t : State) → step g.program (limits g) answer s ≡ Some t → Obeys sort answer s t) → (r : Break new t0 t1 ticks.ReadFault b) → FailsToRead g s old new t0 t1
+      on : (sort : Sort) → ((answer : Option ℕ) (t : State) → step g.program (limits g) answer s ≡ Some t → Obeys sort answer s t) → (r : Break new t0 t1 faults.Input b) → FailsToRead g s old new t0 t1
       on Plain obeys r = unasked r (obeys (first_of b.answers) r.next.next r.next.is_next).0
       on (Puts byte) obeys r = unasked r (obeys (first_of b.answers) r.next.next r.next.is_next).0
       on Takes obeys r =
@@ -199,18 +199,18 @@ module _ (advance : StagesAdvance) (agree : StagesAgree) (runs : AreRunLaws) (ap
           record {
             broke = b;
             answers = none;
-            output = nothing_put new t0 t1 ticks.ReadFault b none (no_part _ (output_of new) r.within.rest (sym (no_output (first_of b.answers) r.next did.1) ∙ r.within.output)).0;
+            output = nothing_put new t0 t1 faults.Input b none (no_part _ (output_of new) r.within.rest (sym (no_output (first_of b.answers) r.next did.1) ∙ r.within.output)).0;
             takes = after_each (λ answer t. t.answers ≡ s.answers ++ answer ∷ []) (λ answer t h. (obeys answer t h).0);
             same = same_read g.program g.places s st.stands.top st.stands.body s.mode going old st.stands.at new t0 t1 b;
             stands = still new (same_read g.program g.places s st.stands.top st.stands.body s.mode going old st.stands.at new t0 t1 b);
           }
 
-      by_sort : StepSort g.program (limits g) s → Break new t0 t1 ticks.ReadFault b → FailsToRead g s old new t0 t1
+      by_sort : StepSort g.program (limits g) s → Break new t0 t1 faults.Input b → FailsToRead g s old new t0 t1
       by_sort sort r = on sort.sort sort.obeys r
 
-  pub show_failed : (new : machine.State) (t0 t1 : Told) → Broke old new t0 t1 ticks.SeenFault → FailsToShow g s old new t0 t1
+  show_failed : (new : machine.State) (t0 t1 : Told) → Broke old new t0 t1 faults.Seen → FailsToShow g s old new t0 t1
   show_failed new t0 t1 b =
-      let r = break_off new t0 t1 ticks.SeenFault b in
+      let r = break_off new t0 t1 faults.Seen b in
       let n = r.next in
       let (other, is_taken) = given_first n.comes.answers b.answers (taken_of g old s (first_of b.answers) going n) r.within.fewer in
       record {
@@ -226,3 +226,8 @@ module _ (advance : StagesAdvance) (agree : StagesAgree) (runs : AreRunLaws) (ap
           put = n.comes.put ∙ ap (λ (out : List ℕ). s.output ++ out) r.within.output;
         };
       }
+
+  pub call_failed : (fault : DeviceFault) (new : machine.State) (t0 t1 : Told) → Broke old new t0 t1 fault → Fails g fault s old new t0 t1
+  call_failed faults.Input new t0 t1 b = read_failed new t0 t1 b
+  call_failed faults.Output new t0 t1 b = write_failed new t0 t1 b
+  call_failed faults.Seen new t0 t1 b = show_failed new t0 t1 b

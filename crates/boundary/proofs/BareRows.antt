@@ -17,7 +17,7 @@ use Rattle.bytecode_model.specs.Program.{Body, NoOperand}
 use Rattle.bytecode_model.specs.Rows as rows
 use Rattle.bytecode_model.specs.Rows.{Row, Zero, One, Drop, Copy}
 use Rattle.bytecode_model.specs.Table.{row_of, of_ints}
-use Rattle.bytecode_typing.specs.Typed.{IsQuiet}
+use Rattle.bytecode_typing.specs.Typed.{RaisesNothing}
 use Rattle.bytecode_typing.specs.Bare.{depth_behind, IsIntConstant}
 
 -- a row that puts nothing out
@@ -32,7 +32,7 @@ pub record Line (op : ℕ) (t : Shape) : Type 0 where
   pub width : operands_width operands ≡ t.bytes
   pub row : Instr → Row
   pub is : (code : List ℕ) (i : Instr) → i.op ≡ op → row_of code i NoOperand ≡ Some (row i)
-  pub quiet : (i : Instr) → IsQuiet (row i)
+  pub quiet : (i : Instr) → RaisesNothing (row i)
   pub constant : (code : List ℕ) (pc : ℕ) → ((k : ℕ) → u1 code k < 2 ^ 8) → IsIntConstant (row (fixed_at code pc false operands))
   pub depth : (b : Body) (i : Instr) (d : ℕ) → t.locals ≤ b.max_locals → t.pops ≤ d → d - t.pops + t.pushes ≤ b.max_stack → depth_behind b (row i) d ≡ Some (d - t.pops + t.pushes)
   pub silent : (op ≡ 255) ⊎ ((i : Instr) → IsSilent (row i))

@@ -1,7 +1,7 @@
 -- The states of bare images have one frame of ints.
 use Rattle.std.proofs.Common.{◌≡◌, ℕ, zero, suc, Bool, true, false, ◌==◌, List, [], ◌∷◌, Some, refl, sym, ◌∙◌, ap, subst, ◌⊎◌, inl, inr, replicate}
 use Rattle.std.specs.Prelude.{IfSome, IsSomeAnd, slice_get, if◌then◌else◌}
-use Rattle.image_file.specs.Bare.{Image}
+use Rattle.image_file.specs.Bare.{BareContent}
 use Rattle.opcodes.specs.Start.{starts_of}
 use Rattle.bytecode_model.specs.declared.Value.{Value}
 use Rattle.bytecode_model.specs.declared.Value.TheVariants.{Int, Long, Ref, Null, Unset}
@@ -14,10 +14,10 @@ use Rattle.bytecode_model.specs.Rows.{Row}
 use Rattle.bytecode_model.specs.Steps.{step, row_in}
 use Rattle.bytecode_typing.specs.Tests.{AllTwo}
 use Rattle.bytecode_typing.specs.Types.{Integer, TypeFrame}
-use Rattle.bytecode_typing.specs.Typed.{Typing, Typed, IsQuiet}
+use Rattle.bytecode_typing.specs.Typed.{Typing, Typed, RaisesNothing}
 use Rattle.bytecode_typing.specs.Typings.{frame_among}
 use Rattle.bytecode_typing.specs.Bare.{bare_program, bare_typing, int_frame, int_frames, depth_after}
-use Rattle.bytecode_typing.specs.Fits.{Fits, IsGoing, FramesFit, TopFits, CallersFit, MayCall, Has, HasItem, HasDeclared, ObjectFits, numbers_of}
+use Rattle.bytecode_typing.specs.Fits.{Fits, IsGoing, FramesFit, TopFits, CallersFit, MayHaveCalled, Has, HasItem, HasDeclared, ObjectFits, numbers_of}
 use Rattle.bytecode_typing.specs.Laws.{TypedProgramsKeep, FittingStatesAreWellFormed}
 use Rattle.machine_stands.specs.Bare as bare
 use Rattle.boundary.specs.Setting.{limits, bare_setting}
@@ -71,14 +71,14 @@ typed_at b zero pc t h = let among = int_among b (starts_of b.code) 0 pc t h in 
 typed_at b (suc n) pc t h = absurd (cc)
 
 -- no quiet row calls
-never_calls : (P : Program) (r : Row) (callee : ℕ) → IsQuiet r → MayCall P r callee → ⊥
+never_calls : (P : Program) (r : Row) (callee : ℕ) → RaisesNothing r → MayHaveCalled P r callee → ⊥
 never_calls P (rows.CallStatic c) callee quiet calls = quiet
 never_calls P (rows.CallSpecial named c) callee quiet calls = quiet
 never_calls P (rows.CallVirtual named c) callee quiet calls = quiet
 never_calls P (rows.CallInterface named c) callee quiet calls = quiet
 never_calls P r callee quiet calls = calls
 
-module _ (image : Image) (n size : ℕ) (typed : Typed (bare_setting image n size).program (bare_setting image n size).types) where
+module _ (image : BareContent) (n size : ℕ) (typed : Typed (bare_setting image n size).program (bare_setting image n size).types) where
   abbrev P : Program
   P = (bare_setting image n size).program
 
@@ -93,7 +93,7 @@ module _ (image : Image) (n size : ℕ) (typed : Typed (bare_setting image n siz
   none_waits ks callee [] h = refl
   none_waits ks callee (c ∷ fs) h =
       let waits = h.0 in
-      let quiet = some_at (row_in P c.method c.pc) (waits.next, waits.row) (λ x. IsQuiet x.1) waits.at_invoke (if_at (types c.method c.pc) waits.fits.frame (λ f. IsSomeAnd (row_in P c.method c.pc) (λ x. IsQuiet x.1)) waits.fits.at_place (typed.quiet refl c.method c.pc)) in
+      let quiet = some_at (row_in P c.method c.pc) (waits.next, waits.row) (λ x. RaisesNothing x.1) waits.at_invoke (if_at (types c.method c.pc) waits.fits.frame (λ f. IsSomeAnd (row_in P c.method c.pc) (λ x. RaisesNothing x.1)) waits.fits.at_place (typed.quiet refl c.method c.pc)) in
       absurd (never_calls P waits.row callee quiet waits.may_call)
 
   -- there is no object, and no static field

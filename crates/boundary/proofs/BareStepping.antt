@@ -1,8 +1,8 @@
 -- Steps of bare images.
 use Rattle.std.proofs.Common.{◌≡◌, ℕ, zero, suc, Bool, true, false, ℤ, List, [], ◌∷◌, length, Option, Some, None, refl, sym, ◌∙◌, ap, subst, ◌⊎◌, inl, inr, ⊎_elim}
 use Rattle.std.specs.Prelude.{slice_get}
-use Rattle.lists.specs.Lemmas.{onto_some}
-use Rattle.image_file.specs.Bare.{Image}
+use Rattle.lists.proofs.Lemmas.{onto_some}
+use Rattle.image_file.specs.Bare.{BareContent}
 use Rattle.opcodes.specs.Bytes.{u1}
 use Rattle.opcodes.specs.Start.{IsStart}
 use Rattle.bytecode_model.specs.declared.Value.{Value}
@@ -14,11 +14,11 @@ use Rattle.bytecode_model.specs.Types.{NumberType, IntType, LongType, is_moved}
 use Rattle.bytecode_model.specs.State.{Frame, State}
 use Rattle.bytecode_model.specs.Program.{Program, Limits, Body, body_of}
 use Rattle.bytecode_model.specs.Rows as rows
-use Rattle.bytecode_model.specs.Rows.{Row, Takes}
+use Rattle.bytecode_model.specs.Rows.{Row, FunctionOf}
 use Rattle.bytecode_model.specs.Effects.{Effect, Stuck, Go, Make, WritePart, WriteStatic, Take, Give, Call, Leave, Raise, Fault, ArithmeticException, fault_object, effect, on, or_fault, only_if, on_top, on_number, on_numbers, number, shuffle, stored}
 use Rattle.bytecode_model.specs.Steps.{step, step_in, applied, row_at, row_in}
 use Rattle.bytecode_model.specs.WellFormed as formed
-use Rattle.bytecode_typing.specs.Typed.{IsQuiet}
+use Rattle.bytecode_typing.specs.Typed.{RaisesNothing}
 use Rattle.bytecode_typing.specs.Fits.{Fits, IsGoing, FramesFit, numbers_of}
 use Rattle.bytecode_typing.specs.Laws.{TypedProgramsKeep, FittingStatesAreWellFormed}
 use Rattle.machine_stands.specs.Bare as bare
@@ -64,7 +64,7 @@ module _ (Q : Effect → Type 0) (stuck : Q Stuck) (raise : (p : ℕ) → Q (Rai
   on_number_keeps LongType (Null ∷ rest) go h = stuck
   on_number_keeps LongType (Unset ∷ rest) go h = stuck
 
-  on_numbers_keeps : (R : Type 0) (ts : List NumberType) (f : Takes ts R) (ops : List Value) (go : R → List Value → Effect) → ((r : R) (rest : List Value) → Q (go r rest)) → Q (on_numbers R ts f ops go)
+  on_numbers_keeps : (R : Type 0) (ts : List NumberType) (f : FunctionOf ts R) (ops : List Value) (go : R → List Value → Effect) → ((r : R) (rest : List Value) → Q (go r rest)) → Q (on_numbers R ts f ops go)
   on_numbers_keeps R [] f ops go h = h f ops
   on_numbers_keeps R (t ∷ ts) f ops go h = on_number_keeps t ops (λ n rest. on_numbers R ts (f n) rest go) (λ n rest. on_numbers_keeps R ts (f n) rest go h)
 
@@ -78,7 +78,7 @@ abbrev IsUnasked : Effect → Type 0
 IsUnasked (Take pc ls ops) = ⊥
 IsUnasked e = Unit {0}
 
-still_row : (P : Program) (limits : Limits) (s : State) (f : Frame) (next : ℕ) (r : Row) → IsQuiet r → IsSilent r → IsStill (effect P limits s f next r)
+still_row : (P : Program) (limits : Limits) (s : State) (f : Frame) (next : ℕ) (r : Row) → RaisesNothing r → IsSilent r → IsStill (effect P limits s f next r)
 still_row P limits s f next rows.Nothing q h = tt
 still_row P limits s f next (rows.Push v) q h = tt
 still_row P limits s f next (rows.Compute taken given compute) q h =
@@ -97,7 +97,7 @@ still_sort (Take pc ls ops) h = absurd h
 still_sort (Give byte pc ls ops) h = absurd h
 still_sort e h = refl
 
-unasked_row : (P : Program) (limits : Limits) (s : State) (f : Frame) (next : ℕ) (r : Row) → IsQuiet r → IsUnasked (effect P limits s f next r)
+unasked_row : (P : Program) (limits : Limits) (s : State) (f : Frame) (next : ℕ) (r : Row) → RaisesNothing r → IsUnasked (effect P limits s f next r)
 unasked_row P limits s f next rows.Nothing q = tt
 unasked_row P limits s f next (rows.Push v) q = tt
 unasked_row P limits s f next (rows.Compute taken given compute) q =
@@ -126,12 +126,12 @@ no_answer (Raise p) answer s t h o = o.0
 -- ---- states of bare images
 
 -- no object is raised, since there is none
-pub not_raising : (image : Image) (n size : ℕ) (s : State) (p : ℕ) → s.mode ≡ Raising p → Fits (bare_setting image n size).program (bare_setting image n size).types (limits (bare_setting image n size)) s → ⊥
+pub not_raising : (image : BareContent) (n size : ℕ) (s : State) (p : ℕ) → s.mode ≡ Raising p → Fits (bare_setting image n size).program (bare_setting image n size).types (limits (bare_setting image n size)) s → ⊥
 not_raising image n size s p mode fits =
     let g = bare_setting image n size in
     none_raised image g.program refl g.types (numbers_of s.objects) p s.frames (subst (λ md. FramesFit g.program g.types (numbers_of s.objects) md s.frames) mode fits.frames)
 
-pub method_zero : (image : Image) (k : ℕ) (b : Body) → body_of (bare.program_of image) k ≡ Some b → (k ≡ 0) × (b ≡ bare.body_of image)
+pub method_zero : (image : BareContent) (k : ℕ) (b : Body) → body_of (bare.program_of image) k ≡ Some b → (k ≡ 0) × (b ≡ bare.body_of image)
 method_zero image zero b h = (refl, cc)
 method_zero image (suc k) b h = absurd (cc)
 
@@ -160,7 +160,7 @@ images_step programs keep well image n size m answer s t grammar stage mode byte
     ap (λ fs. step_in P (limits g) answer s fs Running) (sym st.frames) ∙ ap (λ (md : Ending). step_in P (limits g) answer s s.frames md) (sym mode) ∙ is in
     let (x, row, applies) = onto_some (row_at P f) (λ x. applied P (limits g) answer s f st.callers (effect P (limits g) s f x.0 x.1)) t steps in
     let is_row : row_in P 0 f.pc ≡ Some x = ap (λ k. row_in P k f.pc) (sym zeroth) ∙ row in
-    let quiet = some_at (row_in P 0 f.pc) x (λ x. IsQuiet x.1 × ((u1 image.code f.pc ≡ 255) ⊎ IsSilent x.1)) is_row at.1 in
+    let quiet = some_at (row_in P 0 f.pc) x (λ x. RaisesNothing x.1 × ((u1 image.code f.pc ≡ 255) ⊎ IsSilent x.1)) is_row at.1 in
     let e = effect P (limits g) s f x.0 x.1 in
     let obeys = applied_obeys P (limits g) answer s f st.callers e t applies in
     let opcode : opcode_of P s ≡ Some (u1 image.code f.pc) =

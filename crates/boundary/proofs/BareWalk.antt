@@ -6,7 +6,7 @@ use Rattle.std.proofs.lemmas.List.{drop_all}
 use Rattle.std.proofs.lemmas.Option.{slice_get_cases}
 use Rattle.image_file.specs.declared.bare.shape.Shape.{Shape}
 use Rattle.image_file.specs.Bare as image
-use Rattle.image_file.specs.Bare.{Image, IsImage, Instruction, spelled, return_code}
+use Rattle.image_file.specs.Bare.{BareContent, IsBareContent, Instruction, spelled, return_code}
 use Rattle.opcodes.specs.declared.instruction.Instr.{Instr}
 use Rattle.opcodes.specs.declared.instruction.DecodeFault.{DecodeFault}
 use Rattle.opcodes.specs.declared.instruction.DecodeFault.TheVariants.{Short}
@@ -21,7 +21,7 @@ use Rattle.bytecode_model.specs.Rows as rows
 use Rattle.bytecode_model.specs.Rows.{Row}
 use Rattle.bytecode_model.specs.Table.{row_of}
 use Rattle.bytecode_model.specs.Steps.{row_in}
-use Rattle.bytecode_typing.specs.Typed.{IsQuiet}
+use Rattle.bytecode_typing.specs.Typed.{RaisesNothing}
 use Rattle.bytecode_typing.specs.Bare.{bare_program, depth_behind, IsIntConstant, StayWithin, IsStraightLine}
 use Rattle.machine_stands.specs.Bare as bare
 use Rattle.machine_stands.specs.Simulates.{is_bare}
@@ -77,13 +77,13 @@ opcode_at code pc op o is = ap (λ k. u1 code k) (add-zero pc) ∙ is
 
 -- ---- all of them
 
-module _ (i : Image) (bytes : (k : ℕ) → slice_index i.code k < 2 ^ 8) where
+module _ (i : BareContent) (bytes : (k : ℕ) → slice_index i.code k < 2 ^ 8) where
   abbrev b : Body
   b = bare.body_of i
 
   -- the opcode is one that a bare image may have, and only impdep2 puts something out
   abbrev pub IsBareAt : (pc : ℕ) → Type 0
-  IsBareAt pc = (is_bare (u1 i.code pc) ≡ true) × IsSomeAnd (row_in (bare_program b) 0 pc) (λ x. IsQuiet x.1 × ((u1 i.code pc ≡ 255) ⊎ IsSilent x.1))
+  IsBareAt pc = (is_bare (u1 i.code pc) ≡ true) × IsSomeAnd (row_in (bare_program b) 0 pc) (λ x. RaisesNothing x.1 × ((u1 i.code pc ≡ 255) ⊎ IsSilent x.1))
 
   abbrev AreBare : List ℕ → Type 0
   AreBare [] = Unit {0}
@@ -117,7 +117,7 @@ module _ (i : Image) (bytes : (k : ℕ) → slice_index i.code k < 2 ^ 8) where
         rest = [];
         is = ap (λ (o : Option ℕ). pc ∷ starts_from most i.code o) next ∙ ap (λ (ps : List ℕ). pc ∷ ps) (no_more most);
         stays = some_row (λ x. x.1 ≡ rows.Return None) pc _ (rows.Return None) row refl;
-        each = ((ap is_bare here.byte, some_row (λ x. IsQuiet x.1 × ((u1 i.code pc ≡ 255) ⊎ IsSilent x.1)) pc _ (rows.Return None) row (tt, inr tt)), tt);
+        each = ((ap is_bare here.byte, some_row (λ x. RaisesNothing x.1 × ((u1 i.code pc ≡ 255) ⊎ IsSilent x.1)) pc _ (rows.Return None) row (tt, inr tt)), tt);
       }
 
   walk : (is : List Instruction) (pc d most : ℕ) → drop pc i.code ≡ spelled is ++ return_code ∷ [] → image.StayWithin i.max_locals i.max_stack d is → length i.code ≤ pc + most → Walked pc d (starts_from most i.code (Some pc))
@@ -152,12 +152,12 @@ module _ (i : Image) (bytes : (k : ℕ) → slice_index i.code k < 2 ^ 8) where
       record {
         rest = q ∷ further.rest;
         is = ap (λ (x : Option ℕ). pc ∷ starts_from most i.code x) next ∙ ap (λ (ps : List ℕ). pc ∷ ps) further.is;
-        stays = some_row (λ x. (x.0 ≡ q) × IsQuiet x.1 × IsIntConstant x.1 × IsSomeAnd (depth_behind b x.1 d) (λ e. StayWithin b (q ∷ further.rest) e)) pc q (line.row instr) row
+        stays = some_row (λ x. (x.0 ≡ q) × RaisesNothing x.1 × IsIntConstant x.1 × IsSomeAnd (depth_behind b x.1 d) (λ e. StayWithin b (q ∷ further.rest) e)) pc q (line.row instr) row
             (refl, line.quiet instr, line.constant i.code pc bytes, subst (λ o. IsSomeAnd o (λ e. StayWithin b (q ∷ further.rest) e)) (sym deep) further.stays);
         each = (
           (
             ap is_bare here.byte ∙ ap (λ (x : Option Shape). is_some x || j.opcode == return_code) fits.known,
-            some_row (λ x. IsQuiet x.1 × ((u1 i.code pc ≡ 255) ⊎ IsSilent x.1)) pc q (line.row instr) row (line.quiet instr, ⊎_elim (λ is. inl (here.byte ∙ is)) (λ silent. inr (silent instr)) line.silent),
+            some_row (λ x. RaisesNothing x.1 × ((u1 i.code pc ≡ 255) ⊎ IsSilent x.1)) pc q (line.row instr) row (line.quiet instr, ⊎_elim (λ is. inl (here.byte ∙ is)) (λ silent. inr (silent instr)) line.silent),
           ),
           further.each,
         );
@@ -168,7 +168,7 @@ module _ (i : Image) (bytes : (k : ℕ) → slice_index i.code k < 2 ^ 8) where
   at_index (pc ∷ pcs) q zero l e h = subst IsBareAt e h.0
   at_index (pc ∷ pcs) q (suc k) l e h = at_index pcs q k (omega arith) e h.1
 
-  module _ (grammar : IsImage i) where
+  module _ (grammar : IsBareContent i) where
     first_walk : Walked 0 0 (starts_from (length i.code) i.code (Some 0))
     first_walk = walk grammar.instructions 0 0 (length i.code) grammar.code grammar.within (omega arith)
 

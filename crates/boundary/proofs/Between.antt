@@ -1,7 +1,7 @@
 -- Where instructions begin and end.
 use Rattle.std.proofs.Common.{◌≡◌, ℕ, ◌+◌, List, length, inl, inr, Result, Ok, Err, None, refl, sym, ◌∙◌, arith, ⊎_elim}
 use Rattle.std.proofs.lemmas.Bool.{cases_lt}
-use Rattle.lists.specs.Lemmas.{none≢some}
+use Rattle.lists.proofs.Lemmas.{none≢some}
 use Rattle.opcodes.specs.declared.instruction.Instr.{Instr}
 use Rattle.opcodes.specs.declared.instruction.DecodeFault.{DecodeFault}
 use Rattle.opcodes.specs.Instruction.{decoded}

@@ -4,7 +4,7 @@ use Rattle.std.specs.Prelude.{slice_get, nat_le, nat_lt}
 use Rattle.std.specs.List.{list_all}
 use Rattle.std.proofs.lemmas.Bool.{false≢true, and_parts, and_from, le-leb, lt-ltb}
 use Rattle.lists.specs.Numbers.{is_among}
-use Rattle.lists.specs.Lemmas.{none≢some, some_same}
+use Rattle.lists.proofs.Lemmas.{none≢some, some_same}
 use Rattle.bytecode_model.specs.Types.{Kind, OfClass, OfNumbers, OfReferences}
 use Rattle.bytecode_model.specs.Program.{Program, Method, Body, Handler}
 use Rattle.bytecode_typing.specs.Tests.{Holds}

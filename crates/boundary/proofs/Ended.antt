@@ -1,7 +1,7 @@
 -- How the program ended over which a machine has halted.
 use Rattle.std.proofs.Common.{◌≡◌, ◌≢◌, ℕ, ◌+◌, ◌-◌, ◌<◌, ◌≤◌, true, List, ◌∷◌, length, Option, Some, None, refl, sym, ◌∙◌, ap, subst, arith, add-zero, ⊎_elim}
 use Rattle.std.specs.Prelude.{slice_get, slice_index}
-use Rattle.image_file.specs.Bare.{Image}
+use Rattle.image_file.specs.Bare.{BareContent}
 use Rattle.memory_timing.specs.Port.{padded}
 use Rattle.jop_core.specs.declared.halt.Halt.{Halt}
 use Rattle.jop_core.specs.declared.halt.Halt.TheVariants as halts
@@ -45,7 +45,7 @@ lie_padded ahead size whole place words l =
 linked_by : (g : Setting) (t c : ℕ) → IsSetting g → slice_get g.program.types t ≡ Some (OfClass c) → g.program.linked ≡ true
 linked_by g t c is class = ⊎_elim (λ linked. linked) (λ (image, grammar, same). absurd (none image (ap (λ (P : Program). slice_get P.types t) (sym same) ∙ class))) is.origin
   where
-    none : (image : Image) → slice_get (bare.program_of image).types t ≡ Some (OfClass c) → ⊥
+    none : (image : BareContent) → slice_get (bare.program_of image).types t ≡ Some (OfClass c) → ⊥
     none image h = cc
 
 halted_over : (m : machine.State) (number : ℕ) → m.halt ≡ halts.Uncaught → slice_index m.port.words (slice_index m.port.words (slice_index m.stack RAISED)) ≡ number → uncaught_of m ≡ Some number

@@ -3,7 +3,7 @@ use Rattle.std.proofs.Common.{◌≡◌, ℕ, zero, suc, ◌+◌, ◌-◌, ◌^�
 use Rattle.std.specs.Prelude.{IfSome, IsSomeAnd, nat_le, nat_lt, if◌then◌else◌, slice_get}
 use Rattle.std.specs.List.{flat_map}
 use Rattle.std.proofs.Math.Nat.{mul-le-mul}
-use Rattle.lists.specs.Lemmas.{onto_some}
+use Rattle.lists.proofs.Lemmas.{onto_some}
 use Rattle.base.specs.Packed.{words_for, words_of_bytes, PackedHasWords}
 use Rattle.method_cache.specs.Contents.{is_cached}
 use Rattle.micro_flow.specs.Walk.{IsCost}

@@ -16,7 +16,7 @@ use Rattle.jop_core.specs.State.{State}
 use Rattle.jop_core.specs.Operations.{popped, pushed, stored, word_at, looked_up, can_switch, switched, branch_target, holds, operated}
 use Rattle.jop_core.specs.Cycle.{byte_at, entry_of, branched, with_opd, with_nxt, with_flags, performed, waits, ran, micro_at, counted, cycle_of, asks, asks_input, body_outputs, puts, output_of, at_boundary}
 use Rattle.jop_core.specs.Scene.{Scene, begun, run, next_scene, given}
-use Rattle.jop_core.specs.declared.tick.Tick.TheVariants as ticks
+use Rattle.device_traits.specs.declared.fault.DeviceFault.TheVariants as faults
 use Rattle.device_traits.specs.Told.{Told}
 use Rattle.micro_sketch.specs.Step.{Broke}
 use Rattle.bytecode_model.specs.declared.Ending.{Ending}
@@ -350,8 +350,8 @@ keeps_at to other P pl m s f b modes.Ended going at = absurd going
 keeps_at to other P pl m s f b (modes.Uncaught c) going at = absurd going
 
 module _ (P : Program) (pl : Places) (s : bytecode.State) (f : bytecode.Frame) (b : CodeBody) (mode : Ending) (going : IsGoing mode) (old : State) (at : IsAt P pl old s f b mode) (new : State) (t0 t1 : Told) where
-  pub same_read : Broke old new t0 t1 ticks.ReadFault → new ≡ old
+  pub same_read : Broke old new t0 t1 faults.Input → new ≡ old
   same_read r = same_state reading reading_apart old new r.cycles r.answers r.ran.state r.quiet (keeps_at reading (λ e. omega (arith, e)) P pl old s f b mode going at) r.tried.0 (asks_there new r.tried.4)
 
-  pub same_write : Broke old new t0 t1 ticks.WriteFault → new ≡ old
+  pub same_write : Broke old new t0 t1 faults.Output → new ≡ old
   same_write r = same_state writing writing_apart old new r.cycles r.answers r.ran.state r.quiet (keeps_at writing (λ e. omega (arith, e)) P pl old s f b mode going at) r.tried.0 (output_there new r.tried.4)

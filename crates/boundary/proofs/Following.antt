@@ -1,9 +1,11 @@
 -- A followed run, boundary by boundary.
-use Rattle.std.proofs.Common.{◌≡◌, ℕ, ◌<◌, ◌≤◌, List, [], ◌∷◌, ◌++◌, All, refl, sym, ◌∙◌, ap, subst, arith, append-nil, ◌⊎◌}
+use Rattle.std.proofs.Common.{◌≡◌, ℕ, ◌<◌, ◌≤◌, List, [], ◌∷◌, ◌++◌, All, refl, sym, ◌∙◌, ap, subst, arith, append-nil, ◌⊎◌, Ok, Err}
+use Rattle.std.specs.declared.result.Result.{Result}
+use Rattle.device_traits.specs.declared.fault.DeviceFault.{DeviceFault}
 use Rattle.std.specs.Prelude.{if◌then◌else◌}
 use Rattle.std.specs.List.{flat_map}
 use Rattle.std.proofs.lemmas.List.Elements.{All-nil, All-cons, All-append}
-use Rattle.lists.specs.FirstLemmas.{flat_map-more}
+use Rattle.lists.proofs.FirstLemmas.{flat_map-more}
 use Rattle.jop_core.specs.State as machine
 use Rattle.jop_core.specs.Keeps.{CyclesKeep}
 use Rattle.device_traits.specs.Told.{Told}
@@ -24,13 +26,13 @@ use Rattle.boundary.specs.Answers.{answer_of, is_going}
 use Rattle.boundary.specs.Setting.{Setting, Stands}
 use Rattle.boundary.specs.Session.{Session}
 use Rattle.boundary.specs.Activations.{Stage, Follows}
-use Rattle.boundary.specs.Advances.{Advances, StepsTo, FailsToRead, FailsToWrite, FailsToShow}
-use Rattle.boundary.specs.Runs.{RunsOn, Breaks, RunsAll}
+use Rattle.boundary.specs.Advances.{Advances, StepsTo, Fails}
+use Rattle.boundary.specs.Runs.{RunsOn, IsEnd, RunsAll}
 use Rattle.boundary.specs.declared.top.TopFrame.{TopFrame}
 use Rattle.boundary.specs.Tops.{IsTopOf}
 use Rattle.boundary.specs.Followed.{here_of, seen_at, HasSmallCounts, stages_between, FollowsTo, FollowsAll}
 use Rattle.boundary.proofs.Keeping.{going_mode}
-use Rattle.boundary.proofs.Whole.{advanced, goes_so, ended_mode, uncaught_mode, run_none, run_more}
+use Rattle.boundary.proofs.Whole.{goes_so, ended_mode, uncaught_mode, run_none, run_more}
 
 -- ---- what is seen at a boundary
 
@@ -112,7 +114,7 @@ module _ {F : Type 0} (after : F → Here → F) (laws : AreRunLaws) (keep : Cyc
     under : last.machine.clock < limit
     under = omega (arith, below, ap (λ (m : machine.State). m.clock) far.run.now_is)
 
-    abbrev AllSteps : Boundary → Type 0
+    abbrev AllSteps : Result Boundary DeviceFault → Type 0
     AllSteps answer = (s : State) → Stands g now s → StepsTo g s now new t1 t2 answer
 
     -- one step more, with what is seen behind it
@@ -149,13 +151,13 @@ module _ {F : Type 0} (after : F → Here → F) (laws : AreRunLaws) (keep : Cyc
     small_over K more later seen small known =
         subst (λ hs. All HasSmallCounts hs) (sym more.heres) (All-append HasSmallCounts (seen_to g limit a far.run) (seen_at more.run.last) (far.small known) (subst (λ hs. All HasSmallCounts hs) (sym (seen known)) small))
 
-    pub followed_on : (answer : Boundary) (next : F) (top : TopFrame) → (answer ≡ answers.Bytecode) ⊎ (answer ≡ answers.Raise) → AllSteps answer
+    pub followed_on : (answer : Boundary) (next : F) (top : TopFrame) → (answer ≡ answers.Bytecode) ⊎ (answer ≡ answers.Raise) → AllSteps (Ok answer)
         → ((b : Stage) → Known → b.machine ≡ new → Follows g last b → Stands g b.machine b.state → IsTopOf b top)
         → ((b : Stage) → Known → b.machine ≡ new → Follows g last b → Stands g b.machine b.state → next ≡ after f (here_of b))
         → ((b : Stage) → b.machine ≡ new → HasSmallCounts (here_of b))
         → IsFarTop after g limit a Known first new t0 t2 next top
     followed_on answer next top on steps tops hands small =
-        let r = advanced g last.state now new t1 t2 answer on (steps last.state here) in
+        let r = steps last.state here in
         let more = reach (λ s. IsGoing s.mode) r.0 (going_mode r.0.next.mode answer r.1 (goes_so answer on)) in
         let b = more.run.last in
         let handed : Known → next ≡ after f (here_of b) = λ known. hands b known more.run.now_is more.follows more.run.run.stands in
@@ -170,23 +172,27 @@ module _ {F : Type 0} (after : F → Here → F) (laws : AreRunLaws) (keep : Cyc
           handed = λ known. (f, handed known);
         }
 
-    pub followed_ended : AllSteps answers.Halted → IsFollowed after g limit a new t0 t2 (λ s. s.mode ≡ modes.Ended) Known first f
-    followed_ended steps =
+    pub followed_ended : (answer : Boundary) → answer ≡ answers.Halted → AllSteps (Ok answer) → IsFollowed after g limit a new t0 t2 (IsEnd limit new ends.Ended) Known first f
+    followed_ended answer is steps =
         let r = steps last.state here in
-        let more = reach (λ s. s.mode ≡ modes.Ended) r.0 (ended_mode r.0.next.mode r.1) in
+        let more = reach (IsEnd limit new ends.Ended) r.0 (ended_mode r.0.next.mode (r.1 ∙ is)) in
         let none : Known → seen_at more.run.last ≡ [] = λ known. seen_ended more.run.last more.run.holds in
-        record { run = more.run; seen = come_over (λ s. s.mode ≡ modes.Ended) more [] none; small = small_over (λ s. s.mode ≡ modes.Ended) more [] none (All-nil HasSmallCounts) }
+        record { run = more.run; seen = come_over (IsEnd limit new ends.Ended) more [] none; small = small_over (IsEnd limit new ends.Ended) more [] none (All-nil HasSmallCounts) }
 
-    pub followed_uncaught : (class : ℕ) → AllSteps (answers.Uncaught class) → IsFollowed after g limit a new t0 t2 (λ s. s.mode ≡ modes.Uncaught class) Known first f
-    followed_uncaught class steps =
+    pub followed_uncaught : (answer : Boundary) (class : ℕ) → answer ≡ answers.Uncaught class → AllSteps (Ok answer) → IsFollowed after g limit a new t0 t2 (IsEnd limit new (ends.Uncaught class)) Known first f
+    followed_uncaught answer class is steps =
         let r = steps last.state here in
-        let more = reach (λ s. s.mode ≡ modes.Uncaught class) r.0 (uncaught_mode r.0.next.mode class r.1) in
+        let more = reach (IsEnd limit new (ends.Uncaught class)) r.0 (uncaught_mode r.0.next.mode class (r.1 ∙ is)) in
         let none : Known → seen_at more.run.last ≡ [] = λ known. seen_uncaught more.run.last class more.run.holds in
-        record { run = more.run; seen = come_over (λ s. s.mode ≡ modes.Uncaught class) more [] none; small = small_over (λ s. s.mode ≡ modes.Uncaught class) more [] none (All-nil HasSmallCounts) }
+        record { run = more.run; seen = come_over (IsEnd limit new (ends.Uncaught class)) more [] none; small = small_over (IsEnd limit new (ends.Uncaught class)) more [] none (All-nil HasSmallCounts) }
+
+  -- the limit is come to
+  pub followed_spent : (now : machine.State) (t0 t1 : Told) (f : F) → IsFar after g limit a Known first now t0 t1 f → limit ≤ now.clock → IsFollowed after g limit a now t0 t1 (IsEnd limit now ends.Spent) Known first f
+  followed_spent now t0 t1 f far past = record { run = record { last = far.run.last; now_is = far.run.now_is; run = far.run.run; holds = (far.run.holds, past) }; seen = far.seen; small = far.small }
 
   -- ---- a machine that has halted
 
-  pub ended_so : (told : Told) → Stands g a.machine a.state → answer_of a.state.mode ≡ answers.Halted → IsFollowed after g limit a a.machine told told (λ s. s.mode ≡ modes.Ended) Known first first
+  pub ended_so : (told : Told) → Stands g a.machine a.state → answer_of a.state.mode ≡ answers.Halted → IsFollowed after g limit a a.machine told told (IsEnd limit a.machine ends.Ended) Known first first
   unfolding run_none
   ended_so told stage is =
       let mode = ended_mode a.state.mode is in
@@ -198,7 +204,7 @@ module _ {F : Type 0} (after : F → Here → F) (laws : AreRunLaws) (keep : Cyc
       }
 
   pub uncaught_so : (told : Told) (class : ℕ) → Stands g a.machine a.state → answer_of a.state.mode ≡ answers.Uncaught class
-      → IsFollowed after g limit a a.machine told told (λ s. s.mode ≡ modes.Uncaught class) Known first first
+      → IsFollowed after g limit a a.machine told told (IsEnd limit a.machine (ends.Uncaught class)) Known first first
   unfolding run_none
   uncaught_so told class stage is =
       let mode = uncaught_mode a.state.mode class is in
@@ -211,7 +217,7 @@ module _ {F : Type 0} (after : F → Here → F) (laws : AreRunLaws) (keep : Cyc
 
 -- ---- how the run ends
 
-pub all_run : {F : Type 0} (after : F → Here → F) (limit : ℕ) (old : Session) (now : machine.State) (told told' : Told) (first f : F) (end : RunEnd) → FollowsAll after limit old now told told' first f end → RunsAll limit old.machine now told told' end
+pub all_run : {F : Type 0} (after : F → Here → F) (limit : ℕ) (old : Session) (now : machine.State) (told told' : Told) (first f : F) (end : Result RunEnd DeviceFault) → FollowsAll after limit old now told told' first f end → RunsAll limit old.machine now told told' end
 unfolding FollowsAll RunsAll
 all_run after limit old now told told' first f end follows = λ g s is stands. (follows g s is stands).runs
 
@@ -222,38 +228,24 @@ module _ {F : Type 0} (after : F → Here → F) (g : Setting) (limit : ℕ) (ol
   abbrev IsAt : (State → Type 0) → Type 0
   IsAt K = IsFollowed after g limit start now t0 t1 K (AreMethods g.program g.places old.methods) first f
 
-  pub to_ended : IsAt (λ t. t.mode ≡ modes.Ended) → FollowsTo after g limit old s now t0 t1 first f ends.Ended
-  to_ended h = record { runs = h.run; follower_is = h.seen; small = h.small }
-
-  pub to_uncaught : (class : ℕ) → IsAt (λ t. t.mode ≡ modes.Uncaught class) → FollowsTo after g limit old s now t0 t1 first f (ends.Uncaught class)
-  to_uncaught class h = record { runs = h.run; follower_is = h.seen; small = h.small }
-
-  pub to_spent : IsAt (λ t. IsGoing t.mode) → limit ≤ now.clock → FollowsTo after g limit old s now t0 t1 first f ends.Spent
-  to_spent h past = record { runs = (h.run, past); follower_is = h.seen; small = h.small }
+  pub to_end : (end : RunEnd) → IsAt (IsEnd limit now end) → FollowsTo after g limit old s now t0 t1 first f (Ok end)
+  to_end end h = record { runs = h.run; follower_is = h.seen; small = h.small }
 
   -- a call on the device failed in the next step
-  module _ (new : machine.State) (t2 : Told) (far : IsAt (λ t. IsGoing t.mode)) (below : now.clock < limit) where
-    fails : (K : State → (old new : machine.State) → (before after : Told) → Type 0) → ((t : State) → Stands g now t → K t now new t1 t2) → Breaks g limit start new t0 t2 K
-    fails K all =
-        let last = far.run.last in
-        let stands : Stands g now last.state = subst (λ m. Stands g m last.state) far.run.now_is far.run.run.stands in
-        record {
+  pub to_fault : (new : machine.State) (t2 : Told) → IsAt (λ t. IsGoing t.mode) → now.clock < limit → (fault : DeviceFault) → ((t : State) → Stands g now t → Fails g fault t now new t1 t2)
+      → FollowsTo after g limit old s new t0 t2 first f (Err fault)
+  to_fault new t2 far below fault all =
+      let last = far.run.last in
+      let stands : Stands g now last.state = subst (λ m. Stands g m last.state) far.run.now_is far.run.run.stands in
+      record {
+        runs = record {
           last = last;
           before = t1;
           run = far.run.run;
           going = far.run.holds;
           below = omega (arith, below, ap (λ (m : machine.State). m.clock) far.run.now_is);
-          fails = subst (λ m. K last.state m new t1 t2) (sym far.run.now_is) (all last.state stands);
-        }
-
-    pub to_read : ((t : State) → Stands g now t → FailsToRead g t now new t1 t2) → FollowsTo after g limit old s new t0 t2 first f ends.ReadFault
-    unfolding fails
-    to_read all = record { runs = fails (FailsToRead g) all; follower_is = far.seen; small = far.small }
-
-    pub to_write : ((t : State) → Stands g now t → FailsToWrite g t now new t1 t2) → FollowsTo after g limit old s new t0 t2 first f ends.WriteFault
-    unfolding fails
-    to_write all = record { runs = fails (FailsToWrite g) all; follower_is = far.seen; small = far.small }
-
-    pub to_show : ((t : State) → Stands g now t → FailsToShow g t now new t1 t2) → FollowsTo after g limit old s new t0 t2 first f ends.SeenFault
-    unfolding fails
-    to_show all = record { runs = fails (FailsToShow g) all; follower_is = far.seen; small = far.small }
+          fails = subst (λ m. Fails g fault last.state m new t1 t2) (sym far.run.now_is) (all last.state stands);
+        };
+        follower_is = far.seen;
+        small = far.small;
+      }

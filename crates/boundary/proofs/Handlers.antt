@@ -14,7 +14,7 @@ use Rattle.frame_types.specs.Frames as maps
 use Rattle.frame_types.proofs.SearchLemmas.{among_contains}
 use Rattle.lists.specs.Lists.{onto}
 use Rattle.lists.specs.Numbers.{is_among}
-use Rattle.lists.specs.Lemmas.{none≢some, map_some, index_there}
+use Rattle.lists.proofs.Lemmas.{none≢some, map_some, index_there}
 use Rattle.bytecode_model.specs.Types.{Kind, OfClass, same_kind}
 use Rattle.bytecode_model.specs.Program.{Method, Body, Handler, type_number}
 use Rattle.bytecode_typing.specs.Types.{TypeFrame}

@@ -2,7 +2,7 @@
 use Rattle.std.proofs.Common.{◌≡◌, ℕ, suc, ◌+◌, ◌<◌, ◌≤◌, Bool, true, false, List, [], ◌∷◌, ◌++◌, length, reverse, Option, Some, None, refl, sym, ◌∙◌, ap, subst, arith, length-append}
 use Rattle.std.specs.Prelude.{sum_by, slice_get, IsSomeAnd, if◌then◌else◌}
 use Rattle.std.proofs.lemmas.List.{length-reverse}
-use Rattle.lists.specs.Lemmas.{onto_some, some_same}
+use Rattle.lists.proofs.Lemmas.{onto_some, some_same}
 use Rattle.jop_core.specs.declared.places.TheConstants.{STACK}
 use Rattle.jop_core.specs.State as machine
 use Rattle.bytecode_model.specs.declared.Value.{Value}

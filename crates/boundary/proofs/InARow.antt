@@ -1,10 +1,11 @@
 -- The boundaries of a run are in a row.
-use Rattle.std.proofs.Common.{◌≡◌, ℕ, zero, suc, List, [], ◌∷◌, ◌++◌, refl, sym, ◌∙◌, ap, subst, append_assoc}
+use Rattle.std.proofs.Common.{◌≡◌, ℕ, zero, suc, List, [], ◌∷◌, ◌++◌, Ok, Err, refl, sym, ◌∙◌, ap, subst, append_assoc}
+use Rattle.std.specs.declared.result.Result.{Result}
+use Rattle.device_traits.specs.declared.fault.DeviceFault.{DeviceFault}
 use Rattle.jop_core.specs.State as machine
 use Rattle.device_traits.specs.Told.{Told}
 use Rattle.bytecode_typing.specs.Fits.{IsGoing}
 use Rattle.boundary.specs.declared.runs.RunEnd.{RunEnd}
-use Rattle.boundary.specs.declared.runs.RunEnd.TheVariants as ends
 use Rattle.boundary.specs.Setting.{Setting, Stands}
 use Rattle.boundary.specs.Activations.{Stage, Follows}
 use Rattle.boundary.specs.Runs.{Goes, RunsTo}
@@ -41,13 +42,9 @@ module _ (g : Setting) where
           ends = refl;
         }
 
-    in_a_row : (now : machine.State) (told told' : Told) (end : RunEnd) (runs : RunsTo g limit a now told told' end) → IsRow g a (stages_of g limit a now told told' end runs)
-    in_a_row now told told' ends.Ended r = (between r.run.steps r.last r.run.stages r.run.stands).is
-    in_a_row now told told' (ends.Uncaught c) r = (between r.run.steps r.last r.run.stages r.run.stands).is
-    in_a_row now told told' ends.Spent r = (between r.0.run.steps r.0.last r.0.run.stages r.0.run.stands).is
-    in_a_row now told told' ends.ReadFault r = (between r.run.steps r.last r.run.stages r.run.stands).is
-    in_a_row now told told' ends.WriteFault r = (between r.run.steps r.last r.run.stages r.run.stands).is
-    in_a_row now told told' ends.SeenFault r = (between r.run.steps r.last r.run.stages r.run.stands).is
+    in_a_row : (now : machine.State) (told told' : Told) (end : Result RunEnd DeviceFault) (runs : RunsTo g limit a now told told' end) → IsRow g a (stages_of g limit a now told told' end runs)
+    in_a_row now told told' (Ok end) r = (between r.run.steps r.last r.run.stages r.run.stands).is
+    in_a_row now told told' (Err fault) r = (between r.run.steps r.last r.run.stages r.run.stands).is
 
 pub runs_are_in_a_row : RunsAreInARow
 runs_are_in_a_row g limit a now told told' end runs = in_a_row g limit a now told told' end runs

@@ -5,9 +5,9 @@ use Rattle.micro_sketch.proofs.Stepping.{below_or_from}
 use Rattle.jop_core.specs.State as machine
 use Rattle.jop_core.specs.Cycle.{at_boundary, asks_input, output_of}
 use Rattle.jop_core.specs.Scene.{Scene, begun, run, next_scene, left_over, first_of, output_during}
-use Rattle.jop_core.specs.declared.tick.Tick.{Tick}
+use Rattle.device_traits.specs.declared.fault.DeviceFault.{DeviceFault}
 use Rattle.device_traits.specs.Told.{Told}
-use Rattle.micro_sketch.specs.Step.{IsQuiet, Arrived, Broke}
+use Rattle.micro_sketch.specs.Step.{HasNoBoundary, Arrived, Broke}
 use Rattle.micro_sketch.specs.StepLaws.{AreRunLaws, UsesUp}
 use Rattle.bytecode_model.specs.State.{State}
 use Rattle.bytecode_model.specs.Program.{Program}
@@ -20,7 +20,7 @@ pub record Lands (old : machine.State) (answers : List (Option ℕ)) (cycles : �
   pub ran : (more : List (Option ℕ)) → (run cycles (begun old (answers ++ more))).state ≡ new
   pub left : (more : List (Option ℕ)) → (run cycles (begun old (answers ++ more))).answers ≡ more
   pub boundary : at_boundary new ≡ true
-  pub quiet : IsQuiet cycles old answers
+  pub quiet : HasNoBoundary cycles old answers
 
 pub comes_lands : (P : Program) (pl : Places) (n size : ℕ) (m : machine.State) (s s' : State) (c : ComesTo P pl n size m s s') → Lands m c.answers c.cycles c.new
 comes_lands P pl n size m s s' c = record { positive = c.positive; ran = c.ran; left = c.left; boundary = c.boundary; quiet = c.quiet }
@@ -59,8 +59,8 @@ pub record Within (taken given : List (Option ℕ)) (whole part : List ℕ) (cyc
 
 module _ (laws : AreRunLaws) where
   -- a run that leaves what stands behind its answers is at no boundary before its last, whatever stands there
-  quiet_more : (old : machine.State) (answers : List (Option ℕ)) (cycles bound : ℕ) → UsesUp cycles (begun old answers) → bound ≤ suc cycles → IsQuiet bound old answers
-      → (more : List (Option ℕ)) → IsQuiet bound old (answers ++ more)
+  quiet_more : (old : machine.State) (answers : List (Option ℕ)) (cycles bound : ℕ) → UsesUp cycles (begun old answers) → bound ≤ suc cycles → HasNoBoundary bound old answers
+      → (more : List (Option ℕ)) → HasNoBoundary bound old (answers ++ more)
   quiet_more old answers cycles bound uses most quiet more i below =
       let apart : cycles ≡ suc i + (cycles - suc i) = omega (arith, below, most) in
       let U : ℕ → Type 0 = λ k. UsesUp k (begun old answers) in
@@ -68,7 +68,7 @@ module _ (laws : AreRunLaws) where
 
   module _ (old new new' : machine.State) (taken given : List (Option ℕ)) (cycles cycles' : ℕ) (first : Lands old taken cycles new) (meet : Meet taken given) where
     -- no boundary comes earlier on another run with the same answers, as far as it was quiet
-    not_before : (bound : ℕ) → UsesUp cycles' (begun old given) → bound ≤ suc cycles' → IsQuiet bound old given → cycles < bound → ⊥
+    not_before : (bound : ℕ) → UsesUp cycles' (begun old given) → bound ≤ suc cycles' → HasNoBoundary bound old given → cycles < bound → ⊥
     not_before bound uses most quiet below =
         let p = first.positive in
         let place : suc (cycles - 1) ≡ cycles = omega arith in
@@ -107,9 +107,9 @@ module _ (laws : AreRunLaws) where
       }
 
   -- the way that broke off is a part of the whole
-  pub broke_within : (old whole new : machine.State) (t0 t1 : Told) (tick : Tick) (taken : List (Option ℕ)) (cycles : ℕ) (b : Broke old new t0 t1 tick) → Lands old taken cycles whole → Meet taken b.answers
+  pub broke_within : (old whole new : machine.State) (t0 t1 : Told) (fault : DeviceFault) (taken : List (Option ℕ)) (cycles : ℕ) (b : Broke old new t0 t1 fault) → Lands old taken cycles whole → Meet taken b.answers
       → Within taken b.answers (output_during cycles (begun old taken)) (output_during b.cycles (begun old b.answers)) cycles b.cycles new
-  broke_within old whole new t0 t1 tick taken cycles b first meet =
+  broke_within old whole new t0 t1 fault taken cycles b first meet =
       let j = b.cycles in
       let given = b.answers in
       let below : j < cycles =

@@ -1,10 +1,12 @@
 -- Activations take cycles.
-use Rattle.std.proofs.Common.{◌≡◌, ℕ, zero, suc, ◌+◌, ◌<◌, List, [], ◌∷◌, ◌++◌, ap, arith}
+use Rattle.std.proofs.Common.{◌≡◌, ℕ, zero, suc, ◌+◌, ◌<◌, List, [], ◌∷◌, ◌++◌, Ok, Err, ap, arith}
 use Rattle.jop_core.specs.State as machine
 use Rattle.jop_core.specs.Cycle.{asks_input}
 use Rattle.jop_core.specs.Keeps.{CyclesKeep}
 use Rattle.jop_core.specs.Scene.{Scene, next_scene, given, begun, run}
 use Rattle.device_traits.specs.Told.{Told}
+use Rattle.std.specs.declared.result.Result.{Result}
+use Rattle.device_traits.specs.declared.fault.DeviceFault.{DeviceFault}
 use Rattle.bytecode_model.specs.State.{State}
 use Rattle.boundary.specs.declared.answer.Boundary.{Boundary}
 use Rattle.boundary.specs.declared.answer.Boundary.TheVariants as answers
@@ -23,15 +25,12 @@ module _ (keep : CyclesKeep) where
       let ends = ap (λ (m : machine.State). m.clock) (a.ran.state []) in
       omega (arith, ends, clock_after a.comes.cycles (begun old (a.comes.answers ++ [])), a.comes.positive)
 
-  pub passes_time : (g : Setting) (s : State) (old new : machine.State) (t0 t1 : Told) (answer : Boundary) → StepsTo g s old new t0 t1 answer → PassesTime old new answer
-  passes_time g s old new t0 t1 answers.Bytecode h = clock_rises g s old new t0 t1 h.0
-  passes_time g s old new t0 t1 answers.Raise h = clock_rises g s old new t0 t1 h.0
-  passes_time g s old new t0 t1 answers.Halted h = tt
-  passes_time g s old new t0 t1 (answers.Uncaught c) h = tt
-  passes_time g s old new t0 t1 answers.ReadFault h = tt
-  passes_time g s old new t0 t1 answers.WriteFault h = tt
-  passes_time g s old new t0 t1 answers.SeenFault h = tt
-  passes_time g s old new t0 t1 answers.Stopped h = h
+  pub passes_time : (g : Setting) (s : State) (old new : machine.State) (t0 t1 : Told) (answer : Result Boundary DeviceFault) → StepsTo g s old new t0 t1 answer → PassesTime old new answer
+  passes_time g s old new t0 t1 (Ok answers.Bytecode) h = clock_rises g s old new t0 t1 h.0
+  passes_time g s old new t0 t1 (Ok answers.Raise) h = clock_rises g s old new t0 t1 h.0
+  passes_time g s old new t0 t1 (Ok answers.Halted) h = tt
+  passes_time g s old new t0 t1 (Ok (answers.Uncaught c)) h = tt
+  passes_time g s old new t0 t1 (Err fault) h = tt
 
   step_takes : (g : Setting) (a b : Stage) → Follows g a b → a.machine.clock < b.machine.clock
   step_takes g a b f =

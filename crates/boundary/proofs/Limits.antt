@@ -3,13 +3,13 @@ use Rattle.std.proofs.Common.{◌≡◌, ℕ, ◌≤◌, Bool, true, false, List
 use Rattle.std.specs.Prelude.{nat_le, if◌then◌else◌}
 use Rattle.std.proofs.lemmas.Bool.{leb-true}
 use Rattle.lists.specs.Lists.{first_some}
-use Rattle.lists.specs.Lemmas.{none≢some}
+use Rattle.lists.proofs.Lemmas.{none≢some}
 use Rattle.class_pool.specs.declared.class.ClassFile.{ClassFile}
 use Rattle.program_tables.specs.Numbers.{types_of}
 use Rattle.image_words.specs.Slots.{interface_methods}
 use Rattle.image_words.specs.Regions.{image_words_of}
 use Rattle.image_words.specs.Limits.{coded_methods, most_types, most_interface_methods, most_methods, most_words, IsWithinLimits}
-use Rattle.image_builder.specs.Passed.{Passed, passed}
+use Rattle.image_builder.specs.Passed.{CountPastLimit, passed}
 use Rattle.image_builder.specs.declared.fault.Counted.{Counted}
 use Rattle.image_builder.specs.declared.fault.Counted.TheVariants.{Types, InterfaceMethods, Methods, Words}
 use Rattle.image_layout.specs.Layout.{first_passed}
@@ -18,7 +18,7 @@ first_none : {A : Type 0} (o : Option A) (os : List (Option A)) → first_some (
 first_none None os h = (refl, h)
 first_none (Some x) os h = absurd (none≢some x (sym h))
 
-chosen : (what : Counted) (count limit : ℕ) (b : Bool) → nat_le count limit ≡ b → ◌≡◌ {A = Option Passed} (if b then None else Some (what, count, limit)) None → count ≤ limit
+chosen : (what : Counted) (count limit : ℕ) (b : Bool) → nat_le count limit ≡ b → ◌≡◌ {A = Option CountPastLimit} (if b then None else Some (what, count, limit)) None → count ≤ limit
 chosen what count limit true e h = leb-true count limit e
 chosen what count limit false e h = absurd (none≢some (what, count, limit) (sym h))
 

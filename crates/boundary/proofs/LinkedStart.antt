@@ -2,7 +2,7 @@
 use Rattle.std.proofs.Common.{◌≡◌, ℕ, ◌+◌, ◌-◌, ◌*◌, ◌/◌, ◌%◌, ◌^◌, ◌<◌, ◌≤◌, Bool, true, false, if◌then◌else◌, List, [], ◌∷◌, ◌++◌, Option, Some, None, map, length, refl, sym, ◌∙◌, ap, subst, arith, add-zero, append-nil, length-append}
 use Rattle.std.specs.Prelude.{slice_get, slice_index, slice_range, IsTrue}
 use Rattle.std.specs.List.{flat_map}
-use Rattle.lists.specs.Lemmas.{onto_some}
+use Rattle.lists.proofs.Lemmas.{onto_some}
 use Rattle.base.specs.Packed.{words_for, words_of_bytes, PackedHasBytes, PackedHasWords}
 use Rattle.method_cache.specs.Contents.{empty, can_load}
 use Rattle.jop_core.specs.Operations.{code_place, code_words}
@@ -24,7 +24,7 @@ use Rattle.bytecode_typing.specs.Laws.{FittingStatesAreWellFormed, TheBootStateF
 use Rattle.image_facts.specs.Within.{LieAt}
 use Rattle.image_facts.specs.Laws.{WordsAreRead, RangesAreRead, LieThrough, FixedWordsLie, WordsEnd}
 use Rattle.image_facts.specs.Places.{Places, image_of, image_words, object_place}
-use Rattle.image_facts.specs.Says.{IsCode, SaysAll, SaysLinked, argument_words, handler_words, header_words, method_words}
+use Rattle.image_facts.specs.Says.{IsCode, SaysAll, SaysLinked, argument_words_of, handler_words, header_words, method_words}
 use Rattle.machine_stands.specs.StandsFor.{StandsFor}
 use Rattle.boundary.specs.Linked.{LinkedRunsBegin}
 use Rattle.boundary.specs.Setting.{limits}
@@ -136,18 +136,18 @@ starts laws P pl k b says is_method is_body code alike =
     let long : length words ≡ 4 + (length hs + length cs) = omega (arith, length-append hs cs) in
     let word = λ (j : ℕ) (h : j < length words). laws.read image place words j lies h in
     let limits : slice_index image place ≡ b.max_locals * 2 ^ 16 + b.max_stack = ap (λ (j : ℕ). slice_index image j) (sym (add-zero place)) ∙ word 0 (omega (arith, long)) in
-    let counts : slice_index image (place + 1) ≡ argument_words k * 2 ^ 16 + words_for (length b.code) = word 1 (omega (arith, long)) in
+    let counts : slice_index image (place + 1) ≡ argument_words_of k * 2 ^ 16 + words_for (length b.code) = word 1 (omega (arith, long)) in
     let entries : slice_index image (place + 3) ≡ length b.handlers = word 3 (omega (arith, long)) in
     let few : words_for (length b.code) < 2 ^ 16 = omega (arith, code.short) in
     let lower = halves b.max_locals b.max_stack said.max_stack in
     let count : code_words image (slice_index image 1) ≡ words_for (length b.code) =
-    ap (λ (j : ℕ). slice_index image (j + 1) % 2 ^ 16) boot ∙ ap (λ (j : ℕ). j % 2 ^ 16) counts ∙ (halves (argument_words k) (words_for (length b.code)) few).1 in
+    ap (λ (j : ℕ). slice_index image (j + 1) % 2 ^ 16) boot ∙ ap (λ (j : ℕ). j % 2 ^ 16) counts ∙ (halves (argument_words_of k) (words_for (length b.code)) few).1 in
     let behind : code_place image (slice_index image 1) ≡ place + (4 + length hs) =
     ap (λ (j : ℕ). j + 4 + 3 * slice_index image (j + 3)) boot ∙ omega (arith, entries, handlers_count P b.handlers) in
     let part : LieAt words (4 + length hs) cs = record {
-      before = (b.max_locals * 2 ^ 16 + b.max_stack) ∷ (argument_words k * 2 ^ 16 + words_for (length b.code)) ∷ pl.pool k.owner ∷ length b.handlers ∷ hs;
+      before = (b.max_locals * 2 ^ 16 + b.max_stack) ∷ (argument_words_of k * 2 ^ 16 + words_for (length b.code)) ∷ pl.pool k.owner ∷ length b.handlers ∷ hs;
       after = [];
-      split = ap (λ (ws : List ℕ). (b.max_locals * 2 ^ 16 + b.max_stack) ∷ (argument_words k * 2 ^ 16 + words_for (length b.code)) ∷ pl.pool k.owner ∷ length b.handlers ∷ (hs ++ ws)) (sym (append-nil cs));
+      split = ap (λ (ws : List ℕ). (b.max_locals * 2 ^ 16 + b.max_stack) ∷ (argument_words_of k * 2 ^ 16 + words_for (length b.code)) ∷ pl.pool k.owner ∷ length b.handlers ∷ (hs ++ ws)) (sym (append-nil cs));
       place_is = omega arith;
     } in
     let code_lies = laws.through image place words (4 + length hs) cs lies part in

@@ -1,5 +1,8 @@
 -- All states for which a machine stands go on alike.
-use Rattle.std.proofs.Common.{◌≡◌, ◌≢◌, ℕ, ◌+◌, Option, Some, None, refl, sym, ◌∙◌, ap, subst, arith}
+use Rattle.std.proofs.Common.{◌≡◌, ◌≢◌, ℕ, ◌+◌, Option, Some, None, Ok, Err, refl, sym, ◌∙◌, ap, subst, arith}
+use Rattle.std.specs.Prelude.{IfOk}
+use Rattle.std.specs.declared.result.Result.{Result}
+use Rattle.device_traits.specs.declared.fault.DeviceFault.{DeviceFault}
 use Rattle.jop_core.specs.declared.halt.Halt.TheVariants as halts
 use Rattle.jop_core.specs.State as machine
 use Rattle.bytecode_model.specs.declared.Ending.{Ending}
@@ -36,18 +39,16 @@ modes_agree agree laws m g h s t is_g is_h st_g st_h waits = by_mode s.mode refl
     by_mode modes.Ended e = let st = st_g.stands in ended (λ running. let clash : halts.Ended ≡ halts.Running = sym (at_mode g.program g.places m s st.top st.body modes.Ended e st.at) ∙ running in cc)
     by_mode (modes.Uncaught c) e = let st = st_g.stands in ended (λ running. let clash : halts.Uncaught ≡ halts.Running = sym (at_mode g.program g.places m s st.top st.body (modes.Uncaught c) e st.at).halted ∙ running in cc)
 
-all_alike : StagesAgree → EndLaws → (n : ℕ) (r : Session) → IsInStep n r → AllGoOnSo r.machine r.mode
-all_alike agree laws n r here g s is stage = modes_agree agree laws r.machine here.setting g here.state s here.is_setting is here.stands stage here.waits ∙ here.mode
+all_alike : StagesAgree → EndLaws → (n : ℕ) (r : Session) (answer : Boundary) → r.mode ≡ Ok answer → IsInStep n r → AllGoOnSo r.machine answer
+all_alike agree laws n r answer e here g s is stage =
+    modes_agree agree laws r.machine here.setting g here.state s here.is_setting is here.stands stage here.waits ∙ same (answer_of here.state.mode) answer (here.mode ∙ e)
+  where
+    same : (a b : Boundary) → ◌≡◌ {A = Result Boundary DeviceFault} (Ok a) (Ok b) → a ≡ b
+    same a b h = cc
 
-in_step : (n : ℕ) (r : Session) (mode : Boundary) → mode ≢ answers.Stopped → KeepsStep n r mode → IsInStep n r
-in_step n r answers.Bytecode h kept = kept
-in_step n r answers.Raise h kept = kept
-in_step n r answers.Halted h kept = kept
-in_step n r (answers.Uncaught c) h kept = kept
-in_step n r answers.ReadFault h kept = kept
-in_step n r answers.WriteFault h kept = kept
-in_step n r answers.SeenFault h kept = kept
-in_step n r answers.Stopped h kept = absurd (h refl)
+by_mode : StagesAgree → EndLaws → (n : ℕ) (r : Session) (mode : Result Boundary DeviceFault) → r.mode ≡ mode → KeepsStep n r mode → IfOk mode (AllGoOnSo r.machine)
+by_mode agree laws n r (Ok answer) e kept = all_alike agree laws n r answer e kept
+by_mode agree laws n r (Err fault) e kept = tt
 
-pub all_go_on_so : StagesAgree → EndLaws → (n : ℕ) (r now : Session) → r ≡ now → KeepsStep n r r.mode → r.mode ≢ answers.Stopped → AllGoOnSo now.machine r.mode
-all_go_on_so agree laws n r now is kept going = subst (λ (z : Session). AllGoOnSo z.machine r.mode) is (all_alike agree laws n r (in_step n r r.mode going kept))
+pub all_go_on_so : StagesAgree → EndLaws → (n : ℕ) (r now : Session) → r ≡ now → KeepsStep n r r.mode → IfOk r.mode (AllGoOnSo now.machine)
+all_go_on_so agree laws n r now is kept = subst (λ (z : Session). IfOk r.mode (AllGoOnSo z.machine)) is (by_mode agree laws n r r.mode refl kept)

@@ -1,6 +1,8 @@
 -- What a run's machine shows.
-use Rattle.std.proofs.Common.{◌≡◌, ℕ, List, [], length, true, ◌∙◌, sym, ap, subst, refl, ⊎_elim}
-use Rattle.std.specs.Prelude.{sum_by, IsSomeAnd, Some, None}
+use Rattle.std.proofs.Common.{◌≡◌, ℕ, List, [], length, Bool, true, false, ◌∙◌, sym, ap, subst, refl, ⊎_elim}
+use Rattle.std.specs.Prelude.{sum_by, IsSomeAnd, Some, None, Ok, Err}
+use Rattle.std.specs.declared.result.Result.{Result}
+use Rattle.device_traits.specs.declared.fault.DeviceFault.{DeviceFault}
 use Rattle.opcodes.specs.Bytes.{u1}
 use Rattle.image_facts.specs.declared.method.CodedMethod.{CodedMethod}
 use Rattle.jop_core.specs.State as machine
@@ -18,16 +20,29 @@ use Rattle.machine_frames.specs.Shows as frames
 use Rattle.machine_frames.specs.Shows.{Shows, IsShown, IsRunning, EachRunning, IsRaising, EachRaising, top_frame}
 use Rattle.boundary.specs.declared.answer.Boundary.{Boundary}
 use Rattle.boundary.specs.declared.answer.Boundary.TheVariants as answers
-use Rattle.boundary.specs.Answers.{answer_of, is_going, IsGoing}
+use Rattle.boundary.specs.Answers.{answer_of, goes_on, is_raise, IsGoing}
 use Rattle.boundary.specs.Opcodes.{next_opcode, opcode_in}
 use Rattle.boundary.specs.Setting.{Setting, limits}
 use Rattle.boundary.specs.Session.{Session, IsStateOf, IsInStep, KeepsStep, EachState, EachTop}
 use Rattle.boundary.specs.StageLaws.{StagesAgree}
-use Rattle.boundary.proofs.Keeping.{going_mode, going_step}
+use Rattle.boundary.proofs.Keeping.{going_state, going_step}
 use Rattle.boundary.proofs.Stages.{some_in}
 
-goes_so : (mode : Boundary) → IsGoing mode → is_going mode ≡ true
-goes_so mode going = ⊎_elim (λ e. ap is_going e) (λ e. ap is_going e) going
+abbrev pub ok : Boundary → Result Boundary DeviceFault
+ok answer = Ok answer
+
+pub raise_so : (mode : Result Boundary DeviceFault) (b : Bool) → b ≡ is_raise mode → b ≡ true → mode ≡ ok answers.Raise
+raise_so (Ok answers.Raise) b is on = refl
+raise_so (Ok answers.Bytecode) b is on = let clash : false ≡ true = sym is ∙ on in absurd (cc)
+raise_so (Ok answers.Halted) b is on = let clash : false ≡ true = sym is ∙ on in absurd (cc)
+raise_so (Ok (answers.Uncaught c)) b is on = let clash : false ≡ true = sym is ∙ on in absurd (cc)
+raise_so (Err fault) b is on = let clash : false ≡ true = sym is ∙ on in absurd (cc)
+
+pub not_raise : (mode : Result Boundary DeviceFault) (b : Bool) → b ≡ is_raise mode → b ≡ false → mode ≡ ok answers.Raise → ⊥
+not_raise mode b is off raise = let clash : true ≡ false = sym (ap is_raise raise) ∙ sym is ∙ off in cc
+
+goes_so : (mode : Result Boundary DeviceFault) → IsGoing mode → goes_on mode ≡ true
+goes_so mode going = ⊎_elim (λ e. ap goes_on e) (λ e. ap goes_on e) going
 
 pub shows : FittingStatesAreWellFormed → (g : Setting) (methods : List CodedMethod) (m : machine.State) (s : State) → IsStateOf g methods m s → Shows methods m g.program g.places g.chip g.memory s
 shows well g methods m s h = record { says = h.is_setting.says; methods_are = h.methods_are; stands = h.stands.stands; formed = well g.program g.types (limits g) h.is_setting.typed s h.stands.fits }
@@ -44,19 +59,20 @@ module _ (well : FittingStatesAreWellFormed) (n : ℕ) (r : Session) (going : Is
       (record { program = g.program; places = g.places; memory = g.memory; state = here.state; shows = subst (λ k. Shows r.methods r.machine g.program g.places k g.memory here.state) here.chip (shows well g r.methods r.machine here.state is) }, refl)
 
   -- each state goes on as is known of the run
-  pub each_mode : StagesAgree → (g : Setting) (s : State) → IsStateOf g r.methods r.machine s → answer_of s.mode ≡ r.mode
+  pub each_mode : StagesAgree → (g : Setting) (s : State) → IsStateOf g r.methods r.machine s → Ok (answer_of s.mode) ≡ r.mode
   each_mode agree g s h =
-      agree r.machine (record { setting = here.setting; is_setting = here.is_setting; state = here.state; stands = here.stands; going = going_mode here.state.mode r.mode here.mode (goes_so r.mode going); waits = here.waits }) g s h.is_setting h.stands
+      ap ok
+      (agree r.machine (record { setting = here.setting; is_setting = here.is_setting; state = here.state; stands = here.stands; going = going_state here.state.mode r.mode here.mode (goes_so r.mode going); waits = here.waits }) g s h.is_setting h.stands)
       ∙ here.mode
 
 -- what a mode is, by how it goes on
-pub is_running : (mode : Ending) → answer_of mode ≡ answers.Bytecode → mode ≡ Running
+pub is_running : (mode : Ending) → ok (answer_of mode) ≡ ok answers.Bytecode → mode ≡ Running
 is_running Running e = refl
 is_running (Raising p) e = absurd (cc)
 is_running Ended e = absurd (cc)
 is_running (Uncaught c) e = absurd (cc)
 
-pub is_raising : (mode : Ending) → answer_of mode ≡ answers.Raise → (p : ℕ) × (mode ≡ Raising p)
+pub is_raising : (mode : Ending) → ok (answer_of mode) ≡ ok answers.Raise → (p : ℕ) × (mode ≡ Raising p)
 is_raising Running e = absurd (cc)
 is_raising (Raising p) e = (p, refl)
 is_raising Ended e = absurd (cc)
@@ -75,11 +91,11 @@ opcode_stands P pl n size m s st mode =
 
 -- the session as it is seen, and the methods as they are lent
 module _ (well : FittingStatesAreWellFormed) (agree : StagesAgree) (n : ℕ) (r now : Session) (is : r ≡ now) (going : IsGoing now.mode) (kept : KeepsStep n r r.mode) (methods : List CodedMethod) (same : methods ≡ r.methods) where
-  goes_on : IsGoing r.mode
-  goes_on = subst (λ (z : Session). IsGoing z.mode) (sym is) going
+  going_now : IsGoing r.mode
+  going_now = subst (λ (z : Session). IsGoing z.mode) (sym is) going
 
-  with_state : (h : IsShown n methods r.machine) × (h.state ≡ (here well n r goes_on kept).state)
-  with_state = subst (λ zs. (h : IsShown n zs r.machine) × (h.state ≡ (here well n r goes_on kept).state)) (sym same) (shown well n r goes_on kept)
+  with_state : (h : IsShown n methods r.machine) × (h.state ≡ (here well n r going_now kept).state)
+  with_state = subst (λ zs. (h : IsShown n zs r.machine) × (h.state ≡ (here well n r going_now kept).state)) (sym same) (shown well n r going_now kept)
 
   pub is_shown : IsShown n methods r.machine
   is_shown = with_state.0
@@ -95,39 +111,39 @@ module _ (well : FittingStatesAreWellFormed) (agree : StagesAgree) (n : ℕ) (r 
 
   -- ---- where it runs
 
-  module _ (not_raising : r.mode ≡ answers.Raise → ⊥) where
-    bytecode : r.mode ≡ answers.Bytecode
-    bytecode = ⊎_elim (λ e. e) (λ e. absurd (not_raising e)) goes_on
+  module _ (not_raising : r.mode ≡ ok answers.Raise → ⊥) where
+    bytecode : r.mode ≡ ok answers.Bytecode
+    bytecode = ⊎_elim (λ e. e) (λ e. absurd (not_raising e)) going_now
 
     pub running_state : IsRunning n methods r.machine
-    running_state = let (h, e) = with_state in (h, ap (λ (s : State). s.mode) e ∙ is_running (here well n r goes_on kept).state.mode ((here well n r goes_on kept).mode ∙ bytecode))
+    running_state = let (h, e) = with_state in (h, ap (λ (s : State). s.mode) e ∙ is_running (here well n r going_now kept).state.mode ((here well n r going_now kept).mode ∙ bytecode))
 
     pub each_running : (K : Frame → Type 0) → EachRunning methods r.machine K → EachTop now K
     each_running K each = each_with (λ s. IsSomeAnd (top_frame s.frames) K) (λ g s h.
-        each g.program g.places g.chip g.memory s (shows well g methods r.machine s (subst (λ zs. IsStateOf g zs r.machine s) (sym same) h)) (is_running s.mode (each_mode well n r goes_on kept agree g s h ∙ bytecode)))
+        each g.program g.places g.chip g.memory s (shows well g methods r.machine s (subst (λ zs. IsStateOf g zs r.machine s) (sym same) h)) (is_running s.mode (each_mode well n r going_now kept agree g s h ∙ bytecode)))
 
     pub opcode_read : (g : Setting) (s : State) → IsStateOf g now.methods now.machine s → next_opcode g.program s ≡ Some r.machine.opcode
     opcode_read = each_of (λ g s. next_opcode g.program s ≡ Some r.machine.opcode) (λ g s h.
-        opcode_stands g.program g.places g.chip g.memory r.machine s h.stands.stands (is_running s.mode (each_mode well n r goes_on kept agree g s h ∙ bytecode)))
+        opcode_stands g.program g.places g.chip g.memory r.machine s h.stands.stands (is_running s.mode (each_mode well n r going_now kept agree g s h ∙ bytecode)))
 
   -- ---- where an object is raised
 
-  module _ (raise : r.mode ≡ answers.Raise) where
+  module _ (raise : r.mode ≡ ok answers.Raise) where
     pub raising_state : IsRaising n methods r.machine
     raising_state =
         let (h, e) = with_state in
-        let (p, mode) = is_raising (here well n r goes_on kept).state.mode ((here well n r goes_on kept).mode ∙ raise) in
+        let (p, mode) = is_raising (here well n r going_now kept).state.mode ((here well n r going_now kept).mode ∙ raise) in
         (h, p, ap (λ (s : State). s.mode) e ∙ mode)
 
     pub each_raising : (K : Frame → Type 0) → EachRaising methods r.machine K → EachTop now K
     each_raising K each = each_with (λ s. IsSomeAnd (top_frame s.frames) K) (λ g s h.
-        let (p, mode) = is_raising s.mode (each_mode well n r goes_on kept agree g s h ∙ raise) in
+        let (p, mode) = is_raising s.mode (each_mode well n r going_now kept agree g s h ∙ raise) in
         each g.program g.places g.chip g.memory s (shows well g methods r.machine s (subst (λ zs. IsStateOf g zs r.machine s) (sym same) h)) p mode)
 
     -- the top frame has no operands
     pub none_left : EachTop now (λ f. sum_by value_words f.operands ≡ 0)
     none_left = each_with (λ s. IsSomeAnd (top_frame s.frames) (λ f. sum_by value_words f.operands ≡ 0)) (λ g s h.
-        let (p, mode) = is_raising s.mode (each_mode well n r goes_on kept agree g s h ∙ raise) in
+        let (p, mode) = is_raising s.mode (each_mode well n r going_now kept agree g s h ∙ raise) in
         let formed = well g.program g.types (limits g) h.is_setting.typed s h.stands.fits in
         let none : top_operands s.frames ≡ [] = (subst (λ md. ModeFits (length s.objects) s.frames md) mode formed.mode).1 in
         let st = h.stands.stands in
@@ -135,4 +151,4 @@ module _ (well : FittingStatesAreWellFormed) (agree : StagesAgree) (n : ℕ) (r 
 
     -- none of an instruction
     pub no_opcode : (g : Setting) (s : State) → IsStateOf g now.methods now.machine s → next_opcode g.program s ≡ None
-    no_opcode = each_of (λ g s. next_opcode g.program s ≡ None) (λ g s h. let (p, mode) = is_raising s.mode (each_mode well n r goes_on kept agree g s h ∙ raise) in ap (opcode_in g.program s) mode)
+    no_opcode = each_of (λ g s. next_opcode g.program s ≡ None) (λ g s h. let (p, mode) = is_raising s.mode (each_mode well n r going_now kept agree g s h ∙ raise) in ap (opcode_in g.program s) mode)

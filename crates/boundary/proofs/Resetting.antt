@@ -9,7 +9,7 @@ use Rattle.std.proofs.Math.Nat.{mod-eq_of_lt}
 use Rattle.std.proofs.lemmas.List.{get_or_append_left, take-replicate, length-replicate}
 use Rattle.std.proofs.Math.Seq.{drop-append_seam, take-append_seam}
 use Rattle.machine_stands.proofs.Beginning.{cache_is, cached_one, contents_are, least}
-use Rattle.lists.specs.Lemmas.{onto_some}
+use Rattle.lists.proofs.Lemmas.{onto_some}
 use Rattle.stack_cache.specs.Size.{IsSize}
 use Rattle.microcode_rom.specs.declared.TheConstants.{CONSTANTS as NUMBERS}
 use Rattle.jop_core.specs.declared.places.TheConstants.{CONSTANTS, STACK}

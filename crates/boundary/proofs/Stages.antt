@@ -12,7 +12,7 @@ use Rattle.jop_core.specs.State as machine
 use Rattle.jop_core.specs.Scene.{first_of}
 use Rattle.device_traits.specs.Told.{IsGiven}
 use Rattle.micro_sketch.specs.Ends.{AreGiven}
-use Rattle.image_file.specs.Bare.{Image}
+use Rattle.image_file.specs.Bare.{BareContent}
 use Rattle.bytecode_model.specs.declared.Ending.{Ending}
 use Rattle.bytecode_model.specs.declared.Ending.TheVariants.{Running, Raising, Ended, Uncaught}
 use Rattle.bytecode_model.specs.State.{Frame, State}
@@ -22,7 +22,7 @@ use Rattle.bytecode_model.specs.Program.{Program, Body, body_of, is_of, throwabl
 use Rattle.bytecode_model.specs.Supported.{RowsAreOfTheirOpcodes}
 use Rattle.bytecode_model.specs.Steps.{step}
 use Rattle.bytecode_model.specs.WellFormed as formed
-use Rattle.bytecode_model.specs.WellFormed.{IsAnswer, IsWellFormed}
+use Rattle.bytecode_model.specs.WellFormed.{IsInput, IsWellFormed}
 use Rattle.bytecode_typing.specs.Tests.{Holds}
 use Rattle.bytecode_typing.specs.Typed.{Typing}
 use Rattle.bytecode_typing.specs.Fits.{Fits, FramesFit, IsGoing, IsThrowable, numbers_of}
@@ -118,14 +118,14 @@ goes_alike (Uncaught c) (Uncaught d) e h = h
 -- ---- programs in which objects are raised
 
 -- of a bare image there is no object
-none_thrown : (image : Image) (ks : List ℕ) (p : ℕ) → IsThrowable (bare.program_of image) ks p → ⊥
+none_thrown : (image : BareContent) (ks : List ℕ) (p : ℕ) → IsThrowable (bare.program_of image) ks p → ⊥
 none_thrown image ks p h = by_get (slice_get ks p) h
   where
     by_get : (o : Option ℕ) → IsSomeAnd (onto o (λ t. slice_get (bare.program_of image).types t)) (λ k. Holds (is_of (bare.program_of image) k (OfClass throwable_class))) → ⊥
     by_get None h = h
     by_get (Some t) h = h
 
-pub none_raised : (image : Image) (P : Program) → P ≡ bare.program_of image → (types : Typing) (ks : List ℕ) (p : ℕ) (fs : List Frame) → FramesFit P types ks (Raising p) fs → ⊥
+pub none_raised : (image : BareContent) (P : Program) → P ≡ bare.program_of image → (types : Typing) (ks : List ℕ) (p : ℕ) (fs : List Frame) → FramesFit P types ks (Raising p) fs → ⊥
 none_raised image P is types ks p [] h = h
 none_raised image P is types ks p (f ∷ fs) h = none_thrown image ks p (subst (λ P. IsThrowable P ks p) is h.0.2)
 
@@ -138,7 +138,7 @@ linked_at g s p mode is fits =
 
 -- ---- the step
 
-body_is : (image : Image) (P : Program) (k : ℕ) (b : Body) → P ≡ bare.program_of image → body_of P k ≡ Some b → b ≡ bare.body_of image
+body_is : (image : BareContent) (P : Program) (k : ℕ) (b : Body) → P ≡ bare.program_of image → body_of P k ≡ Some b → b ≡ bare.body_of image
 body_is image P k b e h = only k (ap (λ (P : Program). body_of P k) (sym e) ∙ h)
   where
     only : (k : ℕ) → body_of (bare.program_of image) k ≡ Some b → b ≡ bare.body_of image
@@ -199,11 +199,11 @@ stages_advance laws g m s is st going answer byte =
 
 -- ---- the answers that it takes
 
-pub given_answers : (answer : Option ℕ) → IsGiven answer → IsAnswer answer
+pub given_answers : (answer : Option ℕ) → IsGiven answer → IsInput answer
 given_answers None h = tt
 given_answers (Some byte) h = h
 
-pub first_given : (answers : List (Option ℕ)) → AreGiven answers → IsAnswer (first_of answers)
+pub first_given : (answers : List (Option ℕ)) → AreGiven answers → IsInput (first_of answers)
 first_given [] h = tt
 first_given (answer ∷ answers) h = given_answers answer h.0
 

@@ -1,12 +1,16 @@
 -- A run that begins.
-use Rattle.std.proofs.Common.{◌≡◌, ℕ, List, Option, Some, map, refl, sym, ap, subst}
+use Rattle.std.proofs.Common.{◌≡◌, ℕ, List, Option, Some, Ok, map, refl, sym, ap, subst}
 use Rattle.std.specs.Prelude.{slice_get}
-use Rattle.lists.specs.Lemmas.{onto_some}
+use Rattle.lists.proofs.Lemmas.{onto_some}
 use Rattle.stack_cache.specs.Size.{IsSize}
 use Rattle.memory_timing.specs.declared.Config.{Config}
-use Rattle.image_file.specs.Bare.{Image, IsImage}
+use Rattle.image_file.specs.Bare.{BareContent, IsBareContent}
+use Rattle.std.specs.declared.result.Result.{Result}
+use Rattle.device_traits.specs.declared.fault.DeviceFault.{DeviceFault}
+use Rattle.boundary.specs.declared.answer.Boundary.{Boundary}
 use Rattle.jop_core.specs.State as machine
 use Rattle.jop_core.specs.Reset.{CanStart, bare_reset, linked_reset}
+use Rattle.bytecode_model.specs.declared.Ending.{Ending}
 use Rattle.bytecode_model.specs.declared.Ending.TheVariants.{Running}
 use Rattle.bytecode_model.specs.Types.{default}
 use Rattle.bytecode_model.specs.State.{State}
@@ -37,7 +41,7 @@ begins_at g reset m is h = subst (Begins g) (sym is) h
 
 -- a run that begins is in step
 begun_step : (methods : List CodedMethod) (g : Setting) (m : machine.State) → IsSetting g → AreMethods g.program g.places methods → Begins g m → HasWaits m
-    → IsInStep g.chip (record { machine = m; methods = methods; mode = answers.Bytecode })
+    → IsInStep g.chip (record { machine = m; methods = methods; mode = Ok answers.Bytecode })
 begun_step methods g m is are begins waits = record {
   setting = g;
   is_setting = is;
@@ -45,12 +49,12 @@ begun_step methods g m is are begins waits = record {
   methods = are;
   state = begins.boot;
   stands = begins.stands;
-  mode = ap answer_of (boot_runs g.program begins.boot begins.is_boot);
+  mode = ap (λ (state : Ending). let ok : Result Boundary DeviceFault = Ok (answer_of state) in ok) (boot_runs g.program begins.boot begins.is_boot);
   waits = waits;
 }
 
-pub step_begins : BareImagesArePrograms → (n : ℕ) (image : Image) (config : Config) (methods : List CodedMethod) (m : machine.State) → IsImage image → AreMethods (program_of image) bare_places methods
-    → m ≡ bare_reset n image config → Begins (bare_setting image n config.memory) m → IsInStep n (record { machine = m; methods = methods; mode = answers.Bytecode })
+pub step_begins : BareImagesArePrograms → (n : ℕ) (image : BareContent) (config : Config) (methods : List CodedMethod) (m : machine.State) → IsBareContent image → AreMethods (program_of image) bare_places methods
+    → m ≡ bare_reset n image config → Begins (bare_setting image n config.memory) m → IsInStep n (record { machine = m; methods = methods; mode = Ok answers.Bytecode })
 step_begins programs n image config methods m grammar are is begins =
     let W : machine.State → Type 0 = λ z. HasWaits z in
     begun_step methods (bare_setting image n config.memory) m (programs image n config.memory grammar) are begins (subst W (sym is) (record { read = config.most_read; write = config.most_write }))
@@ -69,9 +73,9 @@ linked_begins begin n words config m is g held chip words_are =
     subst (λ (z : machine.State). Begins g z) (sym is) (subst (λ (ws : List ℕ). M n ws) (sym words_are) (subst (λ (k : ℕ). M k (image_of g.program g.places)) chip (begin g config held).1))
 
 pub linked_step : LinkedRunsBegin → (n : ℕ) (words : List ℕ) (methods : List CodedMethod) (config : Config) (m : machine.State) → IsHeldImage n words methods config → m ≡ linked_reset n words config
-    → IsInStep n (record { machine = m; methods = methods; mode = answers.Bytecode })
+    → IsInStep n (record { machine = m; methods = methods; mode = Ok answers.Bytecode })
 linked_step begin n words methods config m linked is =
     let W : machine.State → Type 0 = λ z. HasWaits z in
     let step = begun_step methods linked.setting m linked.held.is_setting linked.methods_are (linked_begins begin n words config m is linked.setting linked.held linked.chip linked.words_are)
     (subst W (sym is) (record { read = config.most_read; write = config.most_write })) in
-    subst (λ k. IsInStep k (record { machine = m; methods = methods; mode = answers.Bytecode })) linked.chip step
+    subst (λ k. IsInStep k (record { machine = m; methods = methods; mode = Ok answers.Bytecode })) linked.chip step

@@ -1,5 +1,8 @@
 -- A traced run, boundary by boundary.
-use Rattle.std.proofs.Common.{◌≡◌, ◌≢◌, ℕ, ◌<◌, Bool, List, [], ◌++◌, Option, None, refl, sym, ◌∙◌, ap, subst, arith, ◌⊎◌, ⊎_elim}
+use Rattle.std.proofs.Common.{◌≡◌, ℕ, ◌<◌, ◌≤◌, Bool, List, [], ◌++◌, Option, None, Ok, Err, refl, sym, ◌∙◌, ap, subst, arith, ◌⊎◌}
+use Rattle.std.specs.declared.result.Result.{Result}
+use Rattle.device_traits.specs.declared.fault.DeviceFault.{DeviceFault}
+use Rattle.device_traits.specs.declared.fault.DeviceFault.TheVariants as faults
 use Rattle.std.specs.List.{flat_map}
 use Rattle.outside.specs.Outside.{Grew}
 use Rattle.outside.specs.Growing.{Grew-refl, Grew-trans}
@@ -11,19 +14,20 @@ use Rattle.device_traits.specs.Told.{Told, Note, silent, Attended, GivesEach}
 use Rattle.micro_sketch.specs.Step.{RanCycles}
 use Rattle.micro_sketch.specs.StepLaws.{AreRunLaws}
 use Rattle.run_devices.specs.Lines.{note_line}
-use Rattle.run_devices.specs.Traced.{LineIsPut}
-use Rattle.bytecode_model.specs.declared.Ending.TheVariants as modes
+use Rattle.run_devices.specs.Traced.{LineIsPut, PutsLine}
 use Rattle.bytecode_model.specs.State.{State}
 use Rattle.bytecode_typing.specs.Fits as states
 use Rattle.boundary.specs.declared.answer.Boundary.{Boundary}
 use Rattle.boundary.specs.declared.answer.Boundary.TheVariants as answers
-use Rattle.boundary.specs.Answers.{answer_of, mode_after, IsGoing}
+use Rattle.boundary.specs.Answers.{answer_of}
+use Rattle.boundary.specs.declared.runs.RunEnd.TheVariants as ends
+use Rattle.boundary.specs.Runs.{IsEnd}
 use Rattle.image_facts.specs.Methods.{AreMethods}
 use Rattle.boundary.specs.Setting.{Setting, Stands}
 use Rattle.boundary.specs.Session.{Session, IsStateOf}
 use Rattle.boundary.specs.Activations.{Stage}
 use Rattle.boundary.specs.Advances.{Advances, Reaches, StepsTo}
-use Rattle.boundary.specs.Traces.{unnoted, run_text, stage_line, IsTraced, TracesOn, AfterLine, AtWrite, StepTraces, StepTracesAll, TraceBreaks}
+use Rattle.boundary.specs.Traces.{unnoted, run_text, stage_line, IsTraced, TracesOn, AfterLine, AtBoundary, AtWrite, StepTraces, StepTracesAll, TracesTo}
 use Rattle.boundary.proofs.Keeping.{going_mode}
 use Rattle.boundary.proofs.Whole.{goes_so, ended_mode, uncaught_mode, run_none, run_more}
 
@@ -71,13 +75,6 @@ stage_is b now e = ap (λ (m : machine.State). let c : Stage = record { machine 
 abbrev pub Far : (cycles : Bool) → (names : List (List ℕ)) → (g : Setting) → (limit : ℕ) → (a : Stage) → (now : machine.State) → (told told' : Told) → Type 0
 Far cycles names g limit a now told told' = TracesOn cycles names g limit a now told told' (λ s. states.IsGoing s.mode)
 
--- the step reached a boundary at which the machine goes on
-went_on : (names : List (List ℕ)) (g : Setting) (a : Stage) (now : machine.State) (t0 t1 : Told) (answer : Boundary) → (answer ≡ answers.Bytecode) ⊎ (answer ≡ answers.Raise) → StepTraces names g a now t0 t1 answer
-    → AfterLine names g a now t0 t1 (λ s old new before after. Reaches g s old new before after answer)
-went_on names g a now t0 t1 answer going =
-    let K : Boundary → Type 0 = λ b. StepTraces names g a now t0 t1 b → AfterLine names g a now t0 t1 (λ s old new before after. Reaches g s old new before after b) in
-    ⊎_elim (λ e. subst K (sym e) (λ h. h)) (λ e. subst K (sym e) (λ h. h)) going
-
 module _ (laws : AreRunLaws) (keep : CyclesKeep) (cycles : Bool) (names : List (List ℕ)) (g : Setting) (limit : ℕ) where
   pub traced_none : (a : Stage) (told : Told) → Stands g a.machine a.state → IsTraced cycles names g limit a a told told
   unfolding run_none
@@ -110,10 +107,10 @@ module _ (laws : AreRunLaws) (keep : CyclesKeep) (cycles : Bool) (names : List (
     under = omega (arith, below, ap (λ (m : machine.State). m.clock) far.now_is)
 
     -- by what is said of a step from each state for which the machine stands
-    abbrev AllSteps : Boundary → Type 0
+    abbrev AllSteps : Result Boundary DeviceFault → Type 0
     AllSteps answer = (s : State) → Stands g now s → StepTraces names g (record { machine = now; state = s }) new t1 t2 answer
 
-    from_last : (answer : Boundary) → AllSteps answer → StepTraces names g far.last new t1 t2 answer
+    from_last : (answer : Result Boundary DeviceFault) → AllSteps answer → StepTraces names g far.last new t1 t2 answer
     from_last answer steps = subst (λ (b : Stage). StepTraces names g b new t1 t2 answer) (sym (stage_is far.last now far.now_is)) (steps far.last.state here)
 
     reach : (K : State → Type 0) (answer : Boundary) (w : AfterLine names g far.last new t1 t2 (λ s old m before after. Reaches g s old m before after answer)) → K w.holds.0.next → TracesOn cycles names g limit a new t0 t2 K
@@ -124,47 +121,50 @@ module _ (laws : AreRunLaws) (keep : CyclesKeep) (cycles : Bool) (names : List (
       holds = holds;
     }
 
-    pub far_on : (answer : Boundary) → (answer ≡ answers.Bytecode) ⊎ (answer ≡ answers.Raise) → AllSteps answer → Far cycles names g limit a new t0 t2
+    pub far_on : (answer : Boundary) → (answer ≡ answers.Bytecode) ⊎ (answer ≡ answers.Raise) → AllSteps (Ok answer) → Far cycles names g limit a new t0 t2
     far_on answer on steps =
-        let w = went_on names g far.last new t1 t2 answer on (from_last answer steps) in
+        let w = from_last (Ok answer) steps in
         reach (λ s. states.IsGoing s.mode) answer w (going_mode w.holds.0.next.mode answer w.holds.1 (goes_so answer on))
 
-    pub far_ended : AllSteps answers.Halted → TracesOn cycles names g limit a new t0 t2 (λ s. s.mode ≡ modes.Ended)
-    far_ended steps = let w = from_last answers.Halted steps in reach (λ s. s.mode ≡ modes.Ended) answers.Halted w (ended_mode w.holds.0.next.mode w.holds.1)
+    pub far_ended : (answer : Boundary) → answer ≡ answers.Halted → AllSteps (Ok answer) → TracesTo cycles names g limit a new t0 t2 (Ok ends.Ended)
+    far_ended answer is steps = let w = from_last (Ok answer) steps in reach (IsEnd limit new ends.Ended) answer w (ended_mode w.holds.0.next.mode (w.holds.1 ∙ is))
 
-    pub far_uncaught : (class : ℕ) → AllSteps (answers.Uncaught class) → TracesOn cycles names g limit a new t0 t2 (λ s. s.mode ≡ modes.Uncaught class)
-    far_uncaught class steps = let w = from_last (answers.Uncaught class) steps in reach (λ s. s.mode ≡ modes.Uncaught class) (answers.Uncaught class) w (uncaught_mode w.holds.0.next.mode class w.holds.1)
+    pub far_uncaught : (answer : Boundary) (class : ℕ) → answer ≡ answers.Uncaught class → AllSteps (Ok answer) → TracesTo cycles names g limit a new t0 t2 (Ok (ends.Uncaught class))
+    far_uncaught answer class is steps = let w = from_last (Ok answer) steps in reach (IsEnd limit new (ends.Uncaught class)) answer w (uncaught_mode w.holds.0.next.mode class (w.holds.1 ∙ is))
 
-    pub far_broken : (fault : Boundary) → AllSteps fault → TraceBreaks cycles names g limit a new t0 t2 fault
-    far_broken fault steps = record { last = far.last; before = t1; traced = far.traced; going = far.holds; below = under; fails = from_last fault steps }
+    pub far_broken : (fault : DeviceFault) → AllSteps (Err fault) → TracesTo cycles names g limit a new t0 t2 (Err fault)
+    far_broken fault steps = record { last = far.last; before = t1; traced = far.traced; going = far.holds; below = under; fails = from_last (Err fault) steps }
+
+  -- the limit is come to
+  pub far_spent : (a : Stage) (now : machine.State) (t0 t1 : Told) → Far cycles names g limit a now t0 t1 → limit ≤ now.clock → TracesTo cycles names g limit a now t0 t1 (Ok ends.Spent)
+  far_spent a now t0 t1 far past = record { last = far.last; now_is = far.now_is; traced = far.traced; holds = (far.holds, past) }
 
   -- ---- a machine that has halted
 
-  pub ended_at_once : (a : Stage) (told : Told) → Stands g a.machine a.state → answer_of a.state.mode ≡ answers.Halted → TracesOn cycles names g limit a a.machine told told (λ s. s.mode ≡ modes.Ended)
+  pub ended_at_once : (a : Stage) (told : Told) → Stands g a.machine a.state → answer_of a.state.mode ≡ answers.Halted → TracesTo cycles names g limit a a.machine told told (Ok ends.Ended)
   ended_at_once a told stage is = record { last = a; now_is = refl; traced = traced_none a told stage; holds = ended_mode a.state.mode is }
 
-  pub uncaught_at_once : (a : Stage) (told : Told) (class : ℕ) → Stands g a.machine a.state → answer_of a.state.mode ≡ answers.Uncaught class → TracesOn cycles names g limit a a.machine told told (λ s. s.mode ≡ modes.Uncaught class)
+  pub uncaught_at_once : (a : Stage) (told : Told) (class : ℕ) → Stands g a.machine a.state → answer_of a.state.mode ≡ answers.Uncaught class → TracesTo cycles names g limit a a.machine told told (Ok (ends.Uncaught class))
   uncaught_at_once a told class stage is = record { last = a; now_is = refl; traced = traced_none a told stage; holds = uncaught_mode a.state.mode class is }
 
 -- ---- one step
 
--- a step behind its line, where no state was refused
-pub step_traced : (names : List (List ℕ)) (g : Setting) (a : Stage) (now : machine.State) (t0 t1 t2 : Told) (answer : Boundary) → answer ≢ answers.SeenFault → LineIsPut t0 t1 (stage_line names g a) → StepsTo g a.state a.machine now t1 t2 answer
-    → StepTraces names g a now t0 t2 answer
-step_traced names g a now t0 t1 t2 answers.Bytecode h line step = record { begun = t1; line = line; holds = step }
-step_traced names g a now t0 t1 t2 answers.Raise h line step = record { begun = t1; line = line; holds = step }
-step_traced names g a now t0 t1 t2 answers.Halted h line step = record { begun = t1; line = line; holds = step }
-step_traced names g a now t0 t1 t2 (answers.Uncaught c) h line step = record { begun = t1; line = line; holds = step }
-step_traced names g a now t0 t1 t2 answers.ReadFault h line step = record { begun = t1; line = line; holds = step }
-step_traced names g a now t0 t1 t2 answers.WriteFault h line step = AtWrite (record { begun = t1; line = line; holds = step })
-step_traced names g a now t0 t1 t2 answers.SeenFault h line step = absurd (h refl)
-step_traced names g a now t0 t1 t2 answers.Stopped h line step = step
+-- a line that isn't put is one that failed
+pub line_failed : (names : List (List ℕ)) (g : Setting) (a : Stage) (t0 t1 : Told) (fault : DeviceFault) → PutsLine {T = ℕ} t0 t1 (stage_line names g a) (Err fault) → StepTraces names g a a.machine t0 t1 (Err fault)
+line_failed names g a t0 t1 faults.Input put = absurd put
+line_failed names g a t0 t1 faults.Output put = AtBoundary refl put
+line_failed names g a t0 t1 faults.Seen put = absurd put
 
-pub mode_stays : (answer mode : Boundary) → IsGoing answer → mode ≡ mode_after answer → mode ≡ answer
-mode_stays answer mode going is = is ∙ ⊎_elim (λ e. ap mode_after e ∙ sym e) (λ e. ap mode_after e ∙ sym e) going
+-- a step behind its line
+pub step_traced : (names : List (List ℕ)) (g : Setting) (a : Stage) (now : machine.State) (t0 t1 t2 : Told) (answer : Result Boundary DeviceFault) → LineIsPut t0 t1 (stage_line names g a) → StepsTo g a.state a.machine now t1 t2 answer
+    → StepTraces names g a now t0 t2 answer
+step_traced names g a now t0 t1 t2 (Ok answer) line step = record { begun = t1; line = line; holds = step }
+step_traced names g a now t0 t1 t2 (Err faults.Input) line step = record { begun = t1; line = line; holds = step }
+step_traced names g a now t0 t1 t2 (Err faults.Output) line step = AtWrite (record { begun = t1; line = line; holds = step })
+step_traced names g a now t0 t1 t2 (Err faults.Seen) line step = record { begun = t1; line = line; holds = step }
 
 -- what is said of a step, at a state for which a run's machine stands
-pub all_steps : (names : List (List ℕ)) (g : Setting) (s : State) (first r : Session) (new : machine.State) (t0 t1 : Told) (answer : Boundary) → r.methods ≡ first.methods → IsStateOf g first.methods first.machine s → StepTracesAll names r new t0 t1 answer
+pub all_steps : (names : List (List ℕ)) (g : Setting) (s : State) (first r : Session) (new : machine.State) (t0 t1 : Told) (answer : Result Boundary DeviceFault) → r.methods ≡ first.methods → IsStateOf g first.methods first.machine s → StepTracesAll names r new t0 t1 answer
     → (t : State) → Stands g r.machine t → StepTraces names g (record { machine = r.machine; state = t }) new t0 t1 answer
 unfolding StepTracesAll
 all_steps names g s first r new t0 t1 answer same is steps t stands =

@@ -1,5 +1,8 @@
 -- A run, boundary by boundary.
-use Rattle.std.proofs.Common.{◌≡◌, ◌≢◌, ℕ, suc, ◌+◌, ◌<◌, true, List, [], ◌++◌, Option, refl, sym, ◌∙◌, ap, subst, arith, add-zero, append-nil, append_assoc, ◌⊎◌, ⊎_elim}
+use Rattle.std.proofs.Common.{◌≡◌, ℕ, suc, ◌+◌, ◌<◌, ◌≤◌, true, false, List, [], ◌++◌, Option, Ok, Err, refl, sym, ◌∙◌, ap, subst, arith, add-zero, append-nil, append_assoc, ◌⊎◌, inl, inr, ⊎_elim}
+use Rattle.std.specs.Prelude.{IfOk}
+use Rattle.std.specs.declared.result.Result.{Result}
+use Rattle.device_traits.specs.declared.fault.DeviceFault.{DeviceFault}
 use Rattle.jop_core.specs.State as machine
 use Rattle.jop_core.specs.Keeps.{CyclesKeep}
 use Rattle.jop_core.specs.Scene.{Scene, begun, run, output_during}
@@ -14,11 +17,13 @@ use Rattle.bytecode_typing.specs.Fits.{IsGoing}
 use Rattle.machine_stands.specs.StandsFor.{StandsFor}
 use Rattle.boundary.specs.declared.answer.Boundary.{Boundary}
 use Rattle.boundary.specs.declared.answer.Boundary.TheVariants as answers
-use Rattle.boundary.specs.Answers.{answer_of, is_going, mode_after, IsUnbroken}
-use Rattle.boundary.specs.Setting.{Setting, Stands}
+use Rattle.boundary.specs.Answers.{answer_of, is_going, goes_on, IsGoing as GoesOn}
+use Rattle.boundary.specs.declared.runs.RunEnd.TheVariants as ends
+use Rattle.boundary.specs.Setting.{Setting, IsSetting, Stands}
+use Rattle.boundary.specs.Session.{AllGoOnSo}
 use Rattle.boundary.specs.Activations.{Stage, Follows}
-use Rattle.boundary.specs.Advances.{Advances, Reaches, StepsTo}
-use Rattle.boundary.specs.Runs.{Goes, IsRun, RunsOn, Breaks}
+use Rattle.boundary.specs.Advances.{Advances, StepsTo, Fails}
+use Rattle.boundary.specs.Runs.{Goes, IsRun, RunsOn, IsEnd, RunsTo}
 use Rattle.boundary.proofs.Answered.{reached}
 use Rattle.boundary.proofs.Keeping.{going_mode}
 use Rattle.boundary.proofs.Lasting.{clock_after}
@@ -41,25 +46,20 @@ uncaught_mode (modes.Raising p) class h = absurd (cc)
 uncaught_mode modes.Ended class h = absurd (cc)
 uncaught_mode (modes.Uncaught c) class h = let same : c ≡ class = cc in ap (λ (k : ℕ). modes.Uncaught k) same
 
--- an answer at which the machine goes on
-pub advanced : (g : Setting) (s : State) (old new : machine.State) (t0 t1 : Told) (answer : Boundary) → (answer ≡ answers.Bytecode) ⊎ (answer ≡ answers.Raise) → StepsTo g s old new t0 t1 answer → Reaches g s old new t0 t1 answer
-advanced g s old new t0 t1 answer going =
-    let K : Boundary → Type 0 = λ b. StepsTo g s old new t0 t1 b → Reaches g s old new t0 t1 b in
-    ⊎_elim (λ e. subst K (sym e) (λ h. h)) (λ e. subst K (sym e) (λ h. h)) going
-
 pub goes_so : (answer : Boundary) → (answer ≡ answers.Bytecode) ⊎ (answer ≡ answers.Raise) → is_going answer ≡ true
 goes_so answer going = ⊎_elim (λ e. ap is_going e) (λ e. ap is_going e) going
 
-pub mode_goes : (answer : Boundary) → (answer ≡ answers.Bytecode) ⊎ (answer ≡ answers.Raise) → is_going (mode_after answer) ≡ true
-mode_goes answer going = ⊎_elim (λ e. ap (λ (b : Boundary). is_going (mode_after b)) e) (λ e. ap (λ (b : Boundary). is_going (mode_after b)) e) going
+pub mode_goes : (mode : Result Boundary DeviceFault) → GoesOn mode → goes_on mode ≡ true
+mode_goes mode going = ⊎_elim (λ e. ap goes_on e) (λ e. ap goes_on e) going
 
--- what goes on isn't stopped, and all states for which it is read are going
-pub not_stopped : (answer read : Boundary) → (answer ≡ answers.Bytecode) ⊎ (answer ≡ answers.Raise) → read ≡ answer → read ≢ answers.Stopped
-not_stopped answer read going is stopped =
-    ⊎_elim (λ e. let clash : answers.Bytecode ≡ answers.Stopped = sym e ∙ sym is ∙ stopped in cc) (λ e. let clash : answers.Raise ≡ answers.Stopped = sym e ∙ sym is ∙ stopped in cc) going
+-- a run that has come to a boundary at which the machine goes on
+pub goes_from : (mode : Result Boundary DeviceFault) (answer : Boundary) → mode ≡ Ok answer → (answer ≡ answers.Bytecode) ⊎ (answer ≡ answers.Raise) → GoesOn mode
+goes_from mode answer is going = let M : Boundary → Type 0 = λ b. mode ≡ Ok b in ⊎_elim (λ e. inl (subst M e is)) (λ e. inr (subst M e is)) going
 
-pub state_goes : (mode : Ending) (answer read : Boundary) → (answer ≡ answers.Bytecode) ⊎ (answer ≡ answers.Raise) → read ≡ answer → answer_of mode ≡ read → IsGoing mode
-state_goes mode answer read going is e = going_mode mode answer (e ∙ is) (goes_so answer going)
+-- all states are going for which it is read
+pub state_goes : (mode read : Result Boundary DeviceFault) → GoesOn mode → read ≡ mode → (m : machine.State) → IfOk read (AllGoOnSo m) → (g : Setting) (s : State) → IsSetting g → Stands g m s → IsGoing s.mode
+state_goes mode (Ok answer) going is m all g s is_g stands = going_mode s.mode answer (all g s is_g stands) (ap goes_on is ∙ mode_goes mode going)
+state_goes mode (Err fault) going is m all g s is_g stands = let clash : false ≡ true = ap goes_on is ∙ mode_goes mode going in absurd (cc)
 
 -- the run goes on
 abbrev pub Far : (g : Setting) → (limit : ℕ) → (a : Stage) → (now : machine.State) → (told told' : Told) → Type 0
@@ -129,7 +129,7 @@ module _ (laws : AreRunLaws) (keep : CyclesKeep) where
     under = omega (arith, below, ap (λ (m : machine.State). m.clock) far.now_is)
 
     -- by what is said of a step from each state for which the machine stands
-    abbrev AllSteps : Boundary → Type 0
+    abbrev AllSteps : Result Boundary DeviceFault → Type 0
     AllSteps answer = (s : State) → Stands g now s → StepsTo g s now new t1 t2 answer
 
     reach : (K : State → Type 0) (v : Advances g far.last.state now new t1 t2) → K v.next → RunsOn g limit a new t0 t2 K
@@ -137,38 +137,33 @@ module _ (laws : AreRunLaws) (keep : CyclesKeep) where
         let V : machine.State → Type 0 = λ m. (w : Advances g far.last.state m new t1 t2) → K w.next → RunsOn g limit a new t0 t2 K in
         subst V far.now_is (λ w k. record { last = record { machine = new; state = w.next }; now_is = refl; run = run_more g limit a far.last new t0 t1 t2 far.run far.holds under w; holds = k }) v holds
 
-    pub far_on : (answer : Boundary) → (answer ≡ answers.Bytecode) ⊎ (answer ≡ answers.Raise) → AllSteps answer → Far g limit a new t0 t2
-    far_on answer on steps =
-        let r = advanced g far.last.state now new t1 t2 answer on (steps far.last.state here) in
-        reach (λ s. IsGoing s.mode) r.0 (going_mode r.0.next.mode answer r.1 (goes_so answer on))
+    pub far_on : (answer : Boundary) → (answer ≡ answers.Bytecode) ⊎ (answer ≡ answers.Raise) → AllSteps (Ok answer) → Far g limit a new t0 t2
+    far_on answer on steps = let r = steps far.last.state here in reach (λ s. IsGoing s.mode) r.0 (going_mode r.0.next.mode answer r.1 (goes_so answer on))
 
-    pub far_ended : AllSteps answers.Halted → RunsOn g limit a new t0 t2 (λ s. s.mode ≡ modes.Ended)
-    far_ended steps = let r = steps far.last.state here in reach (λ s. s.mode ≡ modes.Ended) r.0 (ended_mode r.0.next.mode r.1)
+    pub far_ended : (answer : Boundary) → answer ≡ answers.Halted → AllSteps (Ok answer) → RunsTo g limit a new t0 t2 (Ok ends.Ended)
+    far_ended answer is steps = let r = steps far.last.state here in reach (IsEnd limit new ends.Ended) r.0 (ended_mode r.0.next.mode (r.1 ∙ is))
 
-    pub far_uncaught : (class : ℕ) → AllSteps (answers.Uncaught class) → RunsOn g limit a new t0 t2 (λ s. s.mode ≡ modes.Uncaught class)
-    far_uncaught class steps = let r = steps far.last.state here in reach (λ s. s.mode ≡ modes.Uncaught class) r.0 (uncaught_mode r.0.next.mode class r.1)
+    pub far_uncaught : (answer : Boundary) (class : ℕ) → answer ≡ answers.Uncaught class → AllSteps (Ok answer) → RunsTo g limit a new t0 t2 (Ok (ends.Uncaught class))
+    far_uncaught answer class is steps = let r = steps far.last.state here in reach (IsEnd limit new (ends.Uncaught class)) r.0 (uncaught_mode r.0.next.mode class (r.1 ∙ is))
 
-    pub far_broken : (K : State → (old new : machine.State) → (before after : Told) → Type 0) → ((s : State) → Stands g now s → K s now new t1 t2) → Breaks g limit a new t0 t2 K
-    far_broken K fails = record {
+    pub far_broken : (fault : DeviceFault) → AllSteps (Err fault) → RunsTo g limit a new t0 t2 (Err fault)
+    far_broken fault fails = record {
       last = far.last;
       before = t1;
       run = far.run;
       going = far.holds;
       below = under;
-      fails = subst (λ m. K far.last.state m new t1 t2) (sym far.now_is) (fails far.last.state here);
+      fails = subst (λ m. Fails g fault far.last.state m new t1 t2) (sym far.now_is) (fails far.last.state here);
     }
+
+-- the limit is come to
+pub far_spent : (g : Setting) (limit : ℕ) (a : Stage) (now : machine.State) (t0 t1 : Told) → Far g limit a now t0 t1 → limit ≤ now.clock → RunsTo g limit a now t0 t1 (Ok ends.Spent)
+far_spent g limit a now t0 t1 far past = record { last = far.last; now_is = far.now_is; run = far.run; holds = (far.holds, past) }
 
 -- a run of a machine that has halted
 module _ (laws : AreRunLaws) (keep : CyclesKeep) where
-  pub ended_at_once : (g : Setting) (limit : ℕ) (a : Stage) (told : Told) → Stands g a.machine a.state → answer_of a.state.mode ≡ answers.Halted → RunsOn g limit a a.machine told told (λ s. s.mode ≡ modes.Ended)
+  pub ended_at_once : (g : Setting) (limit : ℕ) (a : Stage) (told : Told) → Stands g a.machine a.state → answer_of a.state.mode ≡ answers.Halted → RunsTo g limit a a.machine told told (Ok ends.Ended)
   ended_at_once g limit a told stage is = record { last = a; now_is = refl; run = run_none laws keep g limit a told stage; holds = ended_mode a.state.mode is }
 
-  pub uncaught_at_once : (g : Setting) (limit : ℕ) (a : Stage) (told : Told) (class : ℕ) → Stands g a.machine a.state → answer_of a.state.mode ≡ answers.Uncaught class → RunsOn g limit a a.machine told told (λ s. s.mode ≡ modes.Uncaught class)
+  pub uncaught_at_once : (g : Setting) (limit : ℕ) (a : Stage) (told : Told) (class : ℕ) → Stands g a.machine a.state → answer_of a.state.mode ≡ answers.Uncaught class → RunsTo g limit a a.machine told told (Ok (ends.Uncaught class))
   uncaught_at_once g limit a told class stage is = record { last = a; now_is = refl; run = run_none laws keep g limit a told stage; holds = uncaught_mode a.state.mode class is }
-
--- no fault is unbroken
-pub broken : (answer : Boundary) → (answer ≡ answers.ReadFault) ⊎ ((answer ≡ answers.WriteFault) ⊎ ((answer ≡ answers.SeenFault) ⊎ (answer ≡ answers.Stopped))) → IsUnbroken answer → ⊥
-broken answer h unbroken =
-    ⊎_elim (λ e. subst IsUnbroken e unbroken)
-    (λ h1. ⊎_elim (λ e. subst IsUnbroken e unbroken)
-    (λ h2. ⊎_elim (λ e. subst IsUnbroken e unbroken) (λ e. subst IsUnbroken e unbroken) h2) h1) h

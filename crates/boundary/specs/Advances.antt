@@ -1,15 +1,17 @@
 -- One step of the machine and of the bytecode together.
-use Rattle.std.specs.Prelude.{◌≡◌, ℕ, ◌<◌, List, [], ◌∷◌, ◌++◌, Some, IsSomeAnd}
+use Rattle.std.specs.Prelude.{◌≡◌, ℕ, ◌<◌, List, [], ◌∷◌, ◌++◌, Some, IsSomeAnd, Ok, Err}
 use Rattle.std.specs.declared.option.Option.{Option}
+use Rattle.std.specs.declared.result.Result.{Result}
+use Rattle.device_traits.specs.declared.fault.DeviceFault.{DeviceFault}
+use Rattle.device_traits.specs.declared.fault.DeviceFault.TheVariants as faults
 use Rattle.device_traits.specs.Told.{Told}
-use Rattle.jop_core.specs.declared.tick.Tick.TheVariants as ticks
 use Rattle.jop_core.specs.State as machine
 use Rattle.jop_core.specs.Cycle.{output_of}
 use Rattle.jop_core.specs.Scene.{begun, first_of, output_during}
 use Rattle.micro_sketch.specs.Step.{RanCycles, Broke}
 use Rattle.bytecode_model.specs.State.{State}
 use Rattle.bytecode_model.specs.Steps.{step}
-use Rattle.bytecode_model.specs.WellFormed.{IsAnswer}
+use Rattle.bytecode_model.specs.WellFormed.{IsInput}
 use Rattle.bytecode_typing.specs.Fits.{Fits}
 use Rattle.machine_stands.specs.Comes.{ComesTo}
 use Rattle.boundary.specs.declared.answer.Boundary.{Boundary}
@@ -21,7 +23,7 @@ use Rattle.boundary.specs.Setting.{Setting, limits, IsSetting, Stands}
 -- bytes that it puts out, and was handed each state of the machine from which a cycle was done.
 pub record Advances (g : Setting) (s : State) (old new : machine.State) (told told' : Told) : Type 0 where
   pub answer : Option ℕ
-  pub byte : IsAnswer answer
+  pub byte : IsInput answer
   pub next : State
   pub is_next : step g.program (limits g) answer s ≡ Some next
   pub fits : Fits g.program g.types (limits g) next
@@ -38,12 +40,12 @@ Reaches g s old new told told' answer = (a : Advances g s old new told told') ×
 
 -- whatever the input answers, the step holds this of the next state
 abbrev pub AfterStep : Setting → State → (Option ℕ → State → Type 0) → Type 0
-AfterStep g s K = (answer : Option ℕ) → IsAnswer answer → IsSomeAnd (step g.program (limits g) answer s) (K answer)
+AfterStep g s K = (answer : Option ℕ) → IsInput answer → IsSomeAnd (step g.program (limits g) answer s) (K answer)
 
 -- these answers were given, and these bytes put out, before the call that failed: they are the first of what the step takes and puts out
 pub record IsPart (g : Setting) (s : State) (answers : List (Option ℕ)) (output : List ℕ) : Type 0 where
   pub answer : Option ℕ
-  pub byte : IsAnswer answer
+  pub byte : IsInput answer
   pub next : State
   pub is_next : step g.program (limits g) answer s ≡ Some next
   pub other_answers : List (Option ℕ)
@@ -53,7 +55,7 @@ pub record IsPart (g : Setting) (s : State) (answers : List (Option ℕ)) (outpu
 
 -- The machine is where it was, about to ask for the answer that the step takes, and nothing was answered or put out before. It still stands for the state.
 pub record FailsToRead (g : Setting) (s : State) (old new : machine.State) (told told' : Told) : Type 0 where
-  pub broke : Broke old new told told' ticks.ReadFault
+  pub broke : Broke old new told told' faults.Input
   pub answers : broke.answers ≡ []
   pub output : output_during broke.cycles (begun old []) ≡ []
   pub takes : AfterStep g s (λ answer t. t.answers ≡ s.answers ++ answer ∷ [])
@@ -62,7 +64,7 @@ pub record FailsToRead (g : Setting) (s : State) (old new : machine.State) (told
 
 -- The machine is where it was, about to put out the byte that the step puts out, and nothing was answered or put out before. It still stands for the state.
 pub record FailsToWrite (g : Setting) (s : State) (old new : machine.State) (told told' : Told) : Type 0 where
-  pub broke : Broke old new told told' ticks.WriteFault
+  pub broke : Broke old new told told' faults.Output
   pub answers : broke.answers ≡ []
   pub output : output_during broke.cycles (begun old []) ≡ []
   pub puts : AfterStep g s (λ answer t. t.output ≡ s.output ++ output_of new)
@@ -71,25 +73,27 @@ pub record FailsToWrite (g : Setting) (s : State) (old new : machine.State) (tol
 
 -- The machine stands where its state was handed to the device.
 pub record FailsToShow (g : Setting) (s : State) (old new : machine.State) (told told' : Told) : Type 0 where
-  pub broke : Broke old new told told' ticks.SeenFault
+  pub broke : Broke old new told told' faults.Seen
   pub part : IsPart g s broke.answers (output_during broke.cycles (begun old broke.answers))
+
+-- by the call
+abbrev pub Fails : Setting → DeviceFault → State → (old new : machine.State) → (told told' : Told) → Type 0
+Fails g faults.Input s old new told told' = FailsToRead g s old new told told'
+Fails g faults.Output s old new told told' = FailsToWrite g s old new told told'
+Fails g faults.Seen s old new told told' = FailsToShow g s old new told told'
 
 -- ---- by the answer
 
-abbrev pub StepsTo : (g : Setting) → State → (old new : machine.State) → (told told' : Told) → Boundary → Type 0
-StepsTo g s old new told told' answers.ReadFault = FailsToRead g s old new told told'
-StepsTo g s old new told told' answers.WriteFault = FailsToWrite g s old new told told'
-StepsTo g s old new told told' answers.SeenFault = FailsToShow g s old new told told'
-StepsTo g s old new told told' answers.Stopped = ⊥
-StepsTo g s old new told told' answer = Reaches g s old new told told' answer
+abbrev pub StepsTo : (g : Setting) → State → (old new : machine.State) → (told told' : Told) → Result Boundary DeviceFault → Type 0
+StepsTo g s old new told told' (Ok answer) = Reaches g s old new told told' answer
+StepsTo g s old new told told' (Err fault) = Fails g fault s old new told told'
 
--- A step that goes on takes some cycles, and isn't answered as one that was stopped before.
-abbrev pub PassesTime : (old new : machine.State) → Boundary → Type 0
-PassesTime old new answers.Bytecode = old.clock < new.clock
-PassesTime old new answers.Raise = old.clock < new.clock
-PassesTime old new answers.Stopped = ⊥
+-- A step that goes on takes some cycles.
+abbrev pub PassesTime : (old new : machine.State) → Result Boundary DeviceFault → Type 0
+PassesTime old new (Ok answers.Bytecode) = old.clock < new.clock
+PassesTime old new (Ok answers.Raise) = old.clock < new.clock
 PassesTime old new answer = Unit {0}
 
 -- so it is for each program and state for which the machine stood
-abbrev pub StepsAll : (old new : machine.State) → (told told' : Told) → Boundary → Type 0
+abbrev pub StepsAll : (old new : machine.State) → (told told' : Told) → Result Boundary DeviceFault → Type 0
 StepsAll old new told told' answer = (g : Setting) (s : State) → IsSetting g → Stands g old s → StepsTo g s old new told told' answer

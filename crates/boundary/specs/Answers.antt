@@ -1,6 +1,8 @@
 -- What is answered of the states of a program.
-use Rattle.std.specs.Prelude.{◌≡◌, ◌⊎◌, ℕ, Bool, true, false, Some, None}
+use Rattle.std.specs.Prelude.{◌≡◌, ◌⊎◌, ℕ, Bool, true, false, Some, None, Ok, Err}
 use Rattle.std.specs.declared.option.Option.{Option}
+use Rattle.std.specs.declared.result.Result.{Result}
+use Rattle.device_traits.specs.declared.fault.DeviceFault.{DeviceFault}
 use Rattle.bytecode_model.specs.declared.Ending.{Ending}
 use Rattle.bytecode_model.specs.declared.Ending.TheVariants.{Running, Raising, Ended, Uncaught}
 use Rattle.boundary.specs.declared.answer.Boundary.{Boundary}
@@ -19,26 +21,21 @@ is_going answers.Bytecode = true
 is_going answers.Raise = true
 is_going answer = false
 
--- a state whose frames can be asked for
-abbrev pub IsGoing : Boundary → Type 0
-IsGoing answer = (answer ≡ answers.Bytecode) ⊎ (answer ≡ answers.Raise)
+-- so a run goes on, on which no call on the device has failed
+abbrev pub goes_on : Result Boundary DeviceFault → Bool
+goes_on (Ok answer) = is_going answer
+goes_on (Err fault) = false
+
+-- an object is raised
+abbrev pub is_raise : Result Boundary DeviceFault → Bool
+is_raise (Ok answers.Raise) = true
+is_raise mode = false
+
+-- a run whose frames can be asked for
+abbrev pub IsGoing : Result Boundary DeviceFault → Type 0
+IsGoing mode = (mode ≡ Ok answers.Bytecode) ⊎ (mode ≡ Ok answers.Raise)
 
 -- of a machine that has halted: over an object of a class, or because the program returned
 abbrev pub answer_at_end : (class : Option ℕ) → Boundary
 answer_at_end None = answers.Halted
 answer_at_end (Some c) = answers.Uncaught c
-
--- no call has answered a fault
-abbrev pub IsUnbroken : Boundary → Type 0
-IsUnbroken answers.Bytecode = Unit {0}
-IsUnbroken answers.Raise = Unit {0}
-IsUnbroken answers.Halted = Unit {0}
-IsUnbroken (answers.Uncaught c) = Unit {0}
-IsUnbroken answer = ⊥
-
--- after a fault no call goes on
-abbrev pub mode_after : Boundary → Boundary
-mode_after answers.ReadFault = answers.Stopped
-mode_after answers.WriteFault = answers.Stopped
-mode_after answers.SeenFault = answers.Stopped
-mode_after answer = answer

@@ -1,6 +1,8 @@
 -- What is seen of a run at its boundaries, and what a follower comes to over that.
-use Rattle.std.specs.Prelude.{◌≡◌, ℕ, zero, suc, ◌^◌, ◌<◌, if◌then◌else◌, List, [], ◌∷◌, ◌++◌, length, All, Some, None}
+use Rattle.std.specs.Prelude.{◌≡◌, ℕ, zero, suc, ◌^◌, ◌<◌, if◌then◌else◌, List, [], ◌∷◌, ◌++◌, length, All, Some, None, Ok, Err}
 use Rattle.std.specs.List.{flat_map}
+use Rattle.std.specs.declared.result.Result.{Result}
+use Rattle.device_traits.specs.declared.fault.DeviceFault.{DeviceFault}
 use Rattle.jop_core.specs.State as machine
 use Rattle.device_traits.specs.Told.{Told}
 use Rattle.bytecode_model.specs.State.{State}
@@ -10,7 +12,6 @@ use Rattle.machine_frames.specs.Shows.{top_frame}
 use Rattle.run_follower.specs.declared.here.Here.{Here}
 use Rattle.run_follower.specs.Following.{followed}
 use Rattle.boundary.specs.declared.runs.RunEnd.{RunEnd}
-use Rattle.boundary.specs.declared.runs.RunEnd.TheVariants as ends
 use Rattle.boundary.specs.Answers.{answer_of, is_going}
 use Rattle.boundary.specs.Setting.{Setting, IsSetting, Stands}
 use Rattle.boundary.specs.Session.{Session}
@@ -39,24 +40,20 @@ stages_between g limit a zero b goes = b ∷ []
 stages_between g limit a (suc n) b (mid, goes, going, below, follows) = stages_between g limit a n mid goes ++ b ∷ []
 
 -- those of a run, up to its last one, however it ends
-abbrev pub stages_of : (g : Setting) → (limit : ℕ) → (a : Stage) → (now : machine.State) → (told told' : Told) → (end : RunEnd)
+abbrev pub stages_of : (g : Setting) → (limit : ℕ) → (a : Stage) → (now : machine.State) → (told told' : Told) → (end : Result RunEnd DeviceFault)
     → RunsTo g limit a now told told' end → List Stage
-stages_of g limit a now told told' ends.Ended r = stages_between g limit a r.run.steps r.last r.run.stages
-stages_of g limit a now told told' (ends.Uncaught c) r = stages_between g limit a r.run.steps r.last r.run.stages
-stages_of g limit a now told told' ends.Spent r = stages_between g limit a r.0.run.steps r.0.last r.0.run.stages
-stages_of g limit a now told told' ends.ReadFault r = stages_between g limit a r.run.steps r.last r.run.stages
-stages_of g limit a now told told' ends.WriteFault r = stages_between g limit a r.run.steps r.last r.run.stages
-stages_of g limit a now told told' ends.SeenFault r = stages_between g limit a r.run.steps r.last r.run.stages
+stages_of g limit a now told told' (Ok end) r = stages_between g limit a r.run.steps r.last r.run.stages
+stages_of g limit a now told told' (Err fault) r = stages_between g limit a r.run.steps r.last r.run.stages
 
 -- all that is seen of a run
-abbrev pub seen_of : (g : Setting) → (limit : ℕ) → (a : Stage) → (now : machine.State) → (told told' : Told) → (end : RunEnd)
+abbrev pub seen_of : (g : Setting) → (limit : ℕ) → (a : Stage) → (now : machine.State) → (told told' : Told) → (end : Result RunEnd DeviceFault)
     → RunsTo g limit a now told told' end → List Here
 seen_of g limit a now told told' end runs = flat_map seen_at (stages_of g limit a now told told' end runs)
 
 -- The run ends so, and where the program's methods are those of the machine, the follower has come over all that was seen from one to the other, whose
 -- counts have 64 bits.
 pub record FollowsTo {F : Type 0} (after : F → Here → F) (g : Setting) (limit : ℕ) (old : Session) (s : State) (now : machine.State) (told told' : Told)
-    (follower follower' : F) (end : RunEnd) : Type 0 where
+    (follower follower' : F) (end : Result RunEnd DeviceFault) : Type 0 where
   pub runs : RunsTo g limit (record { machine = old.machine; state = s }) now told told' end
   pub follower_is : AreMethods g.program g.places old.methods
       → follower' ≡ followed after follower (seen_of g limit (record { machine = old.machine; state = s }) now told told' end runs)
@@ -65,7 +62,7 @@ pub record FollowsTo {F : Type 0} (after : F → Here → F) (g : Setting) (limi
 
 -- so it is from each state of a program for which the machine stood
 unfoldable pub FollowsAll : {F : Type 0} → (after : F → Here → F) → (limit : ℕ) → (old : Session) → (now : machine.State) → (told told' : Told)
-    → (follower follower' : F) → RunEnd → Type 0
+    → (follower follower' : F) → Result RunEnd DeviceFault → Type 0
 FollowsAll after limit old now told told' follower follower' end = (g : Setting) (s : State) → IsSetting g → Stands g old.machine s
     → FollowsTo after g limit old s now told told' follower follower' end
 
@@ -86,5 +83,6 @@ pub record IsRow (g : Setting) (a : Stage) (stages : List Stage) : Type 0 where
 -- the boundaries of which what is seen of a run is seen are in a row, from the first one on
 abbrev pub RunsAreInARow : Type 0
 RunsAreInARow =
-    (g : Setting) (limit : ℕ) (a : Stage) (now : machine.State) (told told' : Told) (end : RunEnd) (runs : RunsTo g limit a now told told' end)
+    (g : Setting) (limit : ℕ) (a : Stage) (now : machine.State) (told told' : Told) (end : Result RunEnd DeviceFault)
+    (runs : RunsTo g limit a now told told' end)
     → IsRow g a (stages_of g limit a now told told' end runs)

@@ -1,6 +1,8 @@
 -- The run of a program and of the machine together, from one boundary to a later one (JVM Specification SE 8, 2.10 and 2.11).
-use Rattle.std.specs.Prelude.{◌≡◌, ℕ, zero, suc, ◌+◌, ◌<◌, ◌≤◌, List, ◌++◌, Some, None, slice_get}
+use Rattle.std.specs.Prelude.{◌≡◌, ℕ, zero, suc, ◌+◌, ◌<◌, ◌≤◌, List, ◌++◌, Some, None, Ok, Err, slice_get}
 use Rattle.std.specs.declared.option.Option.{Option}
+use Rattle.std.specs.declared.result.Result.{Result}
+use Rattle.device_traits.specs.declared.fault.DeviceFault.{DeviceFault}
 use Rattle.jop_core.specs.State as machine
 use Rattle.jop_core.specs.Scene.{begun, output_during}
 use Rattle.device_traits.specs.Told.{Told}
@@ -13,7 +15,7 @@ use Rattle.boundary.specs.declared.runs.RunEnd.{RunEnd}
 use Rattle.boundary.specs.declared.runs.RunEnd.TheVariants as ends
 use Rattle.boundary.specs.Setting.{Setting, limits, IsSetting, Stands}
 use Rattle.boundary.specs.Activations.{Stage, Follows}
-use Rattle.boundary.specs.Advances.{FailsToRead, FailsToWrite, FailsToShow}
+use Rattle.boundary.specs.Advances.{Fails}
 
 -- the input that gave these answers: question k got answer k
 abbrev pub input_of : (answers : List (Option ℕ)) → ℕ → Option ℕ
@@ -55,16 +57,18 @@ pub record Breaks (g : Setting) (limit : ℕ) (a : Stage) (now : machine.State) 
   pub below : last.machine.clock < limit
   pub fails : K last.state last.machine now before told'
 
--- how the run ends
-abbrev pub RunsTo : (g : Setting) → (limit : ℕ) → (a : Stage) → (now : machine.State) → (told told' : Told) → RunEnd → Type 0
-RunsTo g limit a now told told' ends.Ended = RunsOn g limit a now told told' (λ s. s.mode ≡ modes.Ended)
-RunsTo g limit a now told told' (ends.Uncaught c) = RunsOn g limit a now told told' (λ s. s.mode ≡ modes.Uncaught c)
-RunsTo g limit a now told told' ends.Spent = RunsOn g limit a now told told' (λ s. IsGoing s.mode) × (limit ≤ now.clock)
-RunsTo g limit a now told told' ends.ReadFault = Breaks g limit a now told told' (FailsToRead g)
-RunsTo g limit a now told told' ends.WriteFault = Breaks g limit a now told told' (FailsToWrite g)
-RunsTo g limit a now told told' ends.SeenFault = Breaks g limit a now told told' (FailsToShow g)
+-- of the state and the machine to which a run has come that ends so
+abbrev pub IsEnd : (limit : ℕ) → (now : machine.State) → RunEnd → State → Type 0
+IsEnd limit now ends.Ended s = s.mode ≡ modes.Ended
+IsEnd limit now (ends.Uncaught c) s = s.mode ≡ modes.Uncaught c
+IsEnd limit now ends.Spent s = IsGoing s.mode × (limit ≤ now.clock)
+
+-- how the run ends, or which call on the device failed
+abbrev pub RunsTo : (g : Setting) → (limit : ℕ) → (a : Stage) → (now : machine.State) → (told told' : Told) → Result RunEnd DeviceFault → Type 0
+RunsTo g limit a now told told' (Ok end) = RunsOn g limit a now told told' (IsEnd limit now end)
+RunsTo g limit a now told told' (Err fault) = Breaks g limit a now told told' (Fails g fault)
 
 -- so it is from each state of a program for which the machine stood
-unfoldable pub RunsAll : (limit : ℕ) → (old now : machine.State) → (told told' : Told) → RunEnd → Type 0
+unfoldable pub RunsAll : (limit : ℕ) → (old now : machine.State) → (told told' : Told) → Result RunEnd DeviceFault → Type 0
 RunsAll limit old now told told' end = (g : Setting) (s : State) → IsSetting g → Stands g old s
     → RunsTo g limit (record { machine = old; state = s }) now told told' end

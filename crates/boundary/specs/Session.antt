@@ -1,6 +1,8 @@
 -- What a run of the machine is seen as.
-use Rattle.std.specs.Prelude.{◌≡◌, ◌≢◌, ℕ, ◌≤◌, Bool, List, Some, IsSomeAnd}
+use Rattle.std.specs.Prelude.{◌≡◌, ◌≢◌, ℕ, ◌≤◌, Bool, List, Some, IsSomeAnd, Ok, Err}
 use Rattle.std.specs.declared.option.Option.{Option}
+use Rattle.std.specs.declared.result.Result.{Result}
+use Rattle.device_traits.specs.declared.fault.DeviceFault.{DeviceFault}
 use Rattle.memory_timing.specs.declared.TheConstants.{MAX_WAIT}
 use Rattle.jop_core.specs.declared.halt.Halt.TheVariants as halts
 use Rattle.jop_core.specs.State as machine
@@ -8,18 +10,17 @@ use Rattle.bytecode_model.specs.State.{Frame, State}
 use Rattle.bytecode_model.specs.Steps.{boot_state}
 use Rattle.bytecode_typing.specs.Fits.{IsGoing}
 use Rattle.boundary.specs.declared.answer.Boundary.{Boundary}
-use Rattle.boundary.specs.declared.answer.Boundary.TheVariants as answers
-use Rattle.boundary.specs.Answers.{answer_of, answer_at_end, is_going}
+use Rattle.boundary.specs.Answers.{answer_of, answer_at_end, goes_on}
 use Rattle.image_facts.specs.declared.method.CodedMethod.{CodedMethod}
 use Rattle.image_facts.specs.Methods.{AreMethods}
 use Rattle.machine_frames.specs.Shows.{top_frame}
 use Rattle.boundary.specs.Setting.{Setting, IsSetting, Stands}
 
--- The machine, the methods with code of the program that it runs, and how the state goes on for which it stands, or that the run has stopped.
+-- The machine, the methods with code of the program that it runs, and how the state goes on for which it stands, or which call on the device failed.
 pub record Session : Type 0 where
   pub machine : machine.State
   pub methods : List CodedMethod
-  pub mode : Boundary
+  pub mode : Result Boundary DeviceFault
 
 -- the machine stands for the state of a program whose methods with code are these
 pub record IsStateOf (g : Setting) (methods : List CodedMethod) (m : machine.State) (s : State) : Type 0 where
@@ -40,17 +41,17 @@ pub record IsInStep (n : ℕ) (r : Session) : Type 0 where
   pub methods : AreMethods setting.program setting.places r.methods
   pub state : State
   pub stands : Stands setting r.machine state
-  pub mode : answer_of state.mode ≡ r.mode
+  pub mode : Ok (answer_of state.mode) ≡ r.mode
   pub waits : HasWaits r.machine
 
--- unless a call has answered a fault
-abbrev pub KeepsStep : (n : ℕ) → Session → (mode : Boundary) → Type 0
-KeepsStep n r answers.Stopped = Unit {0}
-KeepsStep n r mode = IsInStep n r
+-- unless a call on the device has failed
+abbrev pub KeepsStep : (n : ℕ) → Session → (mode : Result Boundary DeviceFault) → Type 0
+KeepsStep n r (Ok answer) = IsInStep n r
+KeepsStep n r (Err fault) = Unit {0}
 
 -- the machine goes on to the next boundary
 abbrev pub goes : Session → Bool
-goes r = is_going r.mode
+goes r = goes_on r.mode
 
 -- the machine is about to run an instruction of some program, or to look for a handler there
 pub record IsAtStep (m : machine.State) : Type 0 where

@@ -5,7 +5,7 @@ use Rattle.jop_core.specs.State as machine
 use Rattle.micro_sketch.specs.Ends.{EndsSoon}
 use Rattle.bytecode_model.specs.State.{State}
 use Rattle.bytecode_model.specs.Steps.{step}
-use Rattle.bytecode_model.specs.WellFormed.{IsAnswer}
+use Rattle.bytecode_model.specs.WellFormed.{IsInput}
 use Rattle.bytecode_typing.specs.Fits.{Fits, IsGoing}
 use Rattle.machine_stands.specs.Comes.{ComesTo}
 use Rattle.boundary.specs.Answers.{answer_of}
@@ -22,7 +22,7 @@ pub record NextStage (g : Setting) (m : machine.State) (s : State) (answer : Opt
 -- From an instruction, or from the raise routine, the machine comes to the next state, whatever the input answers.
 abbrev pub StagesAdvance : Type 0
 StagesAdvance = (g : Setting) (m : machine.State) (s : State) → IsSetting g → Stands g m s → IsGoing s.mode
-    → (answer : Option ℕ) → IsAnswer answer → NextStage g m s answer
+    → (answer : Option ℕ) → IsInput answer → NextStage g m s answer
 
 -- States of programs for which a machine stands go on alike, where one of them does.
 abbrev pub StagesAgree : Type 0

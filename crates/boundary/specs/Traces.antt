@@ -1,28 +1,28 @@
 -- The run of the machine with its trace: at each boundary from which a step is begun a line, and then the lines of what the device notes in the step.
-use Rattle.std.specs.Prelude.{◌≡◌, ℕ, zero, suc, ◌<◌, ◌≤◌, Bool, List, [], ◌++◌, length, map, sum_by, slice_get, Some, None, Vec}
+use Rattle.std.specs.Prelude.{◌≡◌, ℕ, zero, suc, ◌<◌, Bool, List, [], ◌++◌, length, map, sum_by, slice_get, Some, None, Ok, Err, Vec}
 use Rattle.std.specs.List.{flat_map}
 use Rattle.std.specs.declared.alloc.Global.{Global}
+use Rattle.std.specs.declared.result.Result.{Result}
+use Rattle.device_traits.specs.declared.fault.DeviceFault.{DeviceFault}
+use Rattle.device_traits.specs.declared.fault.DeviceFault.TheVariants as faults
 use Rattle.outside.specs.Outside.{Grew}
 use Rattle.jop_core.specs.State as machine
 use Rattle.jop_core.specs.Scene.{begun, notes_during}
 use Rattle.device_traits.specs.Told.{Told, silent}
 use Rattle.run_devices.specs.Lines.{step_line, step_name, note_line}
 use Rattle.run_devices.specs.Traced.{LineIsPut, LineFails}
-use Rattle.bytecode_model.specs.declared.Ending.TheVariants as modes
 use Rattle.bytecode_model.specs.State.{State}
 use Rattle.bytecode_model.specs.Sizes.{value_words}
 use Rattle.bytecode_typing.specs.Fits.{IsGoing}
 use Rattle.machine_frames.specs.Shows.{top_frame}
 use Rattle.boundary.specs.declared.answer.Boundary.{Boundary}
-use Rattle.boundary.specs.declared.answer.Boundary.TheVariants as answers
 use Rattle.boundary.specs.declared.runs.RunEnd.{RunEnd}
-use Rattle.boundary.specs.declared.runs.RunEnd.TheVariants as ends
 use Rattle.boundary.specs.Opcodes.{next_opcode}
 use Rattle.boundary.specs.Setting.{Setting}
 use Rattle.boundary.specs.Session.{Session, IsStateOf}
 use Rattle.boundary.specs.Activations.{Stage, Follows}
 use Rattle.boundary.specs.Advances.{Reaches, FailsToRead, FailsToWrite, FailsToShow}
-use Rattle.boundary.specs.Runs.{Goes, IsRun}
+use Rattle.boundary.specs.Runs.{Goes, IsRun, IsEnd}
 
 -- ---- the text
 
@@ -85,49 +85,43 @@ pub record AfterLine (names : List (List ℕ)) (g : Setting) (a : Stage) (now : 
   pub line : LineIsPut told begun (stage_line names g a)
   pub holds : K a.state a.machine now begun told'
 
--- A line failed: that of the boundary, with the machine there, or behind it that of a byte or of a cycle.
+-- A line failed: that of the boundary, with the machine there, or behind it that of a byte.
 pub data OutputFails (names : List (List ℕ)) (g : Setting) (a : Stage) (now : machine.State) (told told' : Told) : Type 0 where
   AtBoundary : now ≡ a.machine → LineFails told told' (stage_line names g a) → OutputFails names g a now told told'
   AtWrite : AfterLine names g a now told told' (FailsToWrite g) → OutputFails names g a now told told'
-  AtCycle : AfterLine names g a now told told' (FailsToShow g) → OutputFails names g a now told told'
 
--- where a step from a comes to, by the answer at the next boundary
-abbrev pub StepTraces : (names : List (List ℕ)) → (g : Setting) → (a : Stage) → (now : machine.State) → (told told' : Told) → Boundary → Type 0
-StepTraces names g a now told told' answers.ReadFault = AfterLine names g a now told told' (FailsToRead g)
-StepTraces names g a now told told' answers.WriteFault = OutputFails names g a now told told'
-StepTraces names g a now told told' answers.SeenFault = ⊥
-StepTraces names g a now told told' answers.Stopped = ⊥
-StepTraces names g a now told told' answer = AfterLine names g a now told told' (λ s old new before after. Reaches g s old new before after answer)
+-- where a step from a comes to, by the answer at the next boundary; a line of a cycle that fails is a state that could not be handed over
+abbrev pub StepTraces : (names : List (List ℕ)) → (g : Setting) → (a : Stage) → (now : machine.State) → (told told' : Told) → Result Boundary DeviceFault
+    → Type 0
+StepTraces names g a now told told' (Ok answer) = AfterLine names g a now told told' (λ s old new before after. Reaches g s old new before after answer)
+StepTraces names g a now told told' (Err faults.Input) = AfterLine names g a now told told' (FailsToRead g)
+StepTraces names g a now told told' (Err faults.Output) = OutputFails names g a now told told'
+StepTraces names g a now told told' (Err faults.Seen) = AfterLine names g a now told told' (FailsToShow g)
 
 -- so it is from each state for which the machine stood, of a program with these methods
-unfoldable pub StepTracesAll : (names : List (List ℕ)) → (old : Session) → (now : machine.State) → (told told' : Told) → Boundary → Type 0
+unfoldable pub StepTracesAll : (names : List (List ℕ)) → (old : Session) → (now : machine.State) → (told told' : Told) → Result Boundary DeviceFault → Type 0
 StepTracesAll names old now told told' answer = (g : Setting) (s : State) → IsStateOf g old.methods old.machine s
     → StepTraces names g (record { machine = old.machine; state = s }) now told told' answer
 
 -- the traced run came to a boundary from which a step was begun, where a call on the device failed
 pub record TraceBreaks (cycles : Bool) (names : List (List ℕ)) (g : Setting) (limit : ℕ) (a : Stage) (now : machine.State) (told told' : Told)
-    (fault : Boundary) : Type 0 where
+    (fault : DeviceFault) : Type 0 where
   pub last : Stage
   pub before : Told
   pub traced : IsTraced cycles names g limit a last told before
   pub going : IsGoing last.state.mode
   pub below : last.machine.clock < limit
-  pub fails : StepTraces names g last now before told' fault
+  pub fails : StepTraces names g last now before told' (Err fault)
 
 -- ---- how the traced run ends
 
--- A line of a cycle that fails is a write that fails.
 abbrev pub TracesTo : (cycles : Bool) → (names : List (List ℕ)) → (g : Setting) → (limit : ℕ) → (a : Stage) → (now : machine.State) → (told told' : Told)
-    → RunEnd → Type 0
-TracesTo cycles names g limit a now told told' ends.Ended = TracesOn cycles names g limit a now told told' (λ s. s.mode ≡ modes.Ended)
-TracesTo cycles names g limit a now told told' (ends.Uncaught c) = TracesOn cycles names g limit a now told told' (λ s. s.mode ≡ modes.Uncaught c)
-TracesTo cycles names g limit a now told told' ends.Spent = TracesOn cycles names g limit a now told told' (λ s. IsGoing s.mode) × (limit ≤ now.clock)
-TracesTo cycles names g limit a now told told' ends.ReadFault = TraceBreaks cycles names g limit a now told told' answers.ReadFault
-TracesTo cycles names g limit a now told told' ends.WriteFault = TraceBreaks cycles names g limit a now told told' answers.WriteFault
-TracesTo cycles names g limit a now told told' ends.SeenFault = ⊥
+    → Result RunEnd DeviceFault → Type 0
+TracesTo cycles names g limit a now told told' (Ok end) = TracesOn cycles names g limit a now told told' (IsEnd limit now end)
+TracesTo cycles names g limit a now told told' (Err fault) = TraceBreaks cycles names g limit a now told told' fault
 
 -- so it is from each state for which the machine stood, of a program with these methods
-unfoldable pub TracesAll : (cycles : Bool) → (names : List (List ℕ)) → (limit : ℕ) → (old : Session) → (now : machine.State) → (told told' : Told) → RunEnd
-    → Type 0
+unfoldable pub TracesAll : (cycles : Bool) → (names : List (List ℕ)) → (limit : ℕ) → (old : Session) → (now : machine.State) → (told told' : Told)
+    → Result RunEnd DeviceFault → Type 0
 TracesAll cycles names limit old now told told' end = (g : Setting) (s : State) → IsStateOf g old.methods old.machine s
     → TracesTo cycles names g limit (record { machine = old.machine; state = s }) now told told' end

@@ -1,6 +1,6 @@
-//! What a run of the machine answers.
+//! Where a run of the machine stands.
 
-/// What a call that goes on to the next boundary answers.
+/// How a run goes on from a boundary.
 #[derive(Clone, Copy, PartialEq, Eq)]
 pub enum Boundary {
     /// The machine is about to run an instruction.
@@ -11,12 +11,4 @@ pub enum Boundary {
     Halted,
     /// An object of the class of this number had no handler.
     Uncaught(u32),
-    /// The device's `input` failed. The machine is about to ask for it.
-    ReadFault,
-    /// The device's `output` failed. The machine is about to put its byte.
-    WriteFault,
-    /// The device's `seen` failed. The machine stands where it was handed.
-    SeenFault,
-    /// An earlier call answered a fault.
-    Stopped,
 }

@@ -1,7 +1,7 @@
 //! A whole run of the machine, with a follower that is handed what is seen at each boundary.
-ghost use Rattle.std.specs.Prelude.{◌≡◌, ◌≢◌, ◌<◌, ◌^◌};
+ghost use Rattle.std.specs.Prelude.{◌≡◌, ◌≢◌, ◌<◌, ◌^◌, IsOk};
 ghost use Rattle.bytecode_model.specs.State.{State};
-ghost use Rattle.boundary.specs.Answers.{IsGoing, IsUnbroken};
+ghost use Rattle.boundary.specs.Answers.{IsGoing};
 ghost use Rattle.boundary.specs.Followed.{FollowsAll, HasSmallCounts, here_of};
 ghost use Rattle.boundary.specs.Runs.{RunsAll};
 ghost use Rattle.boundary.specs.Session.{IsStateOf};
@@ -13,8 +13,8 @@ use crate::answer::Boundary;
 use crate::running::Running;
 use crate::runs::RunEnd;
 use crate::top::{TopFrame, other_top_frame, top_frame};
-use jop_core::Devices;
 use jop_core::laws::cycles_keep;
+use jop_core::{DeviceFault, Devices};
 use machine_stands::frames_have_room;
 use micro_sketch::laws::runs_add_up;
 use run_follower::{Follower, Here};
@@ -26,8 +26,8 @@ pub fn run_followed<const N: usize, D: Devices, F: Follower>(
     device: &mut D,
     limit: u64,
     follower: &mut F,
-) -> RunEnd
-    requires unbroken { IsUnbroken running.old.mode }
+) -> Result<RunEnd, DeviceFault>
+    requires unbroken { IsOk running.old.mode }
     requires few { limit < 2 ^ 63 }
     ensures runs { RunsAll limit running.old.machine running.new.machine (D.told device.old) (D.told device.new) result }
     ensures follows { FollowsAll F.after limit running.old running.new.machine (D.told device.old) (D.told device.new) follower.old follower.new result }
@@ -37,12 +37,10 @@ pub fn run_followed<const N: usize, D: Devices, F: Follower>(
     // The laws are for the proof.
     runs_add_up();
     cycles_keep();
-    match running.mode() {
+    match running.mode()? {
         Boundary::Bytecode | Boundary::Raise => follow_to_end(running, device, limit, follower),
-        Boundary::Halted => RunEnd::Ended,
-        Boundary::Uncaught(class) => RunEnd::Uncaught(class),
-        Boundary::ReadFault | Boundary::WriteFault | Boundary::SeenFault | Boundary::Stopped =>
-            unreachable!(),
+        Boundary::Halted => Ok(RunEnd::Ended),
+        Boundary::Uncaught(class) => Ok(RunEnd::Uncaught(class)),
     }
 }
 
@@ -52,7 +50,7 @@ fn follow_to_end<const N: usize, D: Devices, F: Follower>(
     device: &mut D,
     limit: u64,
     follower: &mut F,
-) -> RunEnd
+) -> Result<RunEnd, DeviceFault>
     requires going { IsGoing running.old.mode }
     requires few { limit < 2 ^ 63 }
     ensures runs { RunsAll limit running.old.machine running.new.machine (D.told device.old) (D.told device.new) result }
@@ -67,19 +65,15 @@ fn follow_to_end<const N: usize, D: Devices, F: Follower>(
     let mut top = top_frame(running);
     follower.at(here(running, top));
     while running.machine().clock() < limit {
-        match running.bytecode(device) {
+        match running.bytecode(device)? {
             Boundary::Bytecode | Boundary::Raise => {
                 top = hand_on(running, top, follower);
             }
-            Boundary::Halted => return RunEnd::Ended,
-            Boundary::Uncaught(class) => return RunEnd::Uncaught(class),
-            Boundary::ReadFault => return RunEnd::ReadFault,
-            Boundary::WriteFault => return RunEnd::WriteFault,
-            Boundary::SeenFault => return RunEnd::SeenFault,
-            Boundary::Stopped => unreachable!(),
+            Boundary::Halted => return Ok(RunEnd::Ended),
+            Boundary::Uncaught(class) => return Ok(RunEnd::Uncaught(class)),
         }
     }
-    RunEnd::Spent
+    Ok(RunEnd::Spent)
 }
 
 /// Hands on what is seen at the boundary at which a run stands, and answers its top frame, by that of the boundary before: a step that moves

@@ -1,6 +1,6 @@
 //! The methods that a run knows.
 ghost use Rattle.std.specs.Prelude.{◌≡◌, length};
-ghost use Rattle.image_file.specs.Bare.{IsImage};
+ghost use Rattle.image_file.specs.Bare.{IsBareContent};
 ghost use Rattle.image_facts.specs.Methods.{AreMethods};
 ghost use Rattle.image_facts.specs.Places.{bare_places};
 ghost use Rattle.machine_stands.specs.Bare.{program_of};
@@ -23,7 +23,7 @@ impl<'a> Methods<'a> {
     /// The method of a bare image, which has no words: it is at place 0.
     pub fn of_bare(image: &'a Bare) -> Self
         ensures methods { AreMethods (program_of image.now) bare_places (methods_of result) }
-        ensures image { IsImage image.now }
+        ensures image { IsBareContent image.now }
         ensures one { length (methods_of result) ≡ 1 }
     {
         Methods::One(CodedMethod {

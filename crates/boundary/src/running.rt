@@ -1,9 +1,9 @@
 //! A run of the machine.
-ghost use Rattle.std.specs.Prelude.{◌≡◌, ◌≢◌, ◌<◌, ◌^◌, true, false, length, IfOk};
+ghost use Rattle.std.specs.Prelude.{◌≡◌, ◌<◌, ◌^◌, true, false, length, IfOk};
 ghost use Rattle.stack_cache.specs.Size.{IsSize};
 ghost use Rattle.jop_core.specs.Reset.{CanStartBare, bare_reset, linked_reset};
 ghost use Rattle.image_facts.specs.Methods.{AreMethods};
-ghost use Rattle.boundary.specs.Answers.{is_going, mode_after};
+ghost use Rattle.boundary.specs.Answers.{goes_on, is_raise};
 ghost use Rattle.boundary.specs.Setting.{bare_setting};
 ghost use Rattle.boundary.specs.Linked.{IsHeldImage, BeginsEach};
 ghost use Rattle.boundary.specs.Session.{goes, Begins, IsAtStep, HasEnded, EndsWith, AllGoOnSo};
@@ -21,7 +21,7 @@ use base::NoMemory;
 use bytecode_typing::fitting_states_are_well_formed;
 use image_facts::CodedMethod;
 use jop_core::laws::cycles_keep;
-use jop_core::{Bare, Config, Devices, Machine};
+use jop_core::{Bare, Config, DeviceFault, Devices, Machine};
 use micro_flow::laws::entries_are_reached_by_dispatch;
 use micro_sketch::laws::runs_add_up;
 use micro_sketch::step::{Stepped, to_boundary};
@@ -38,7 +38,8 @@ pub struct Running<'a, const N: usize> {
     machine: Machine<N>,
     // Of the program that it runs.
     methods: Methods<'a>,
-    mode: Boundary,
+    // How it goes on, or the call on the device that failed.
+    mode: Result<Boundary, DeviceFault>,
 }
 
 impl<'a, const N: usize> Model for Running<'a, N> {
@@ -58,7 +59,7 @@ impl<'a, const N: usize> Running<'a, N> {
         requires size { IsSize N }
         requires room { CanStartBare image.now config }
         ensures machine { IfOk result (λ r. r.machine ≡ bare_reset N image.now config) }
-        ensures mode { IfOk result (λ r. r.mode ≡ Boundary.Bytecode) }
+        ensures mode { IfOk result (λ r. r.mode ≡ Ok Boundary.Bytecode) }
         ensures methods { let g = bare_setting image.now N config.memory in IfOk result (λ r. AreMethods g.program g.places r.methods) }
         ensures one { IfOk result (λ r. length r.methods ≡ 1) }
         ensures begins { IfOk result (λ r. Begins (bare_setting image.now N config.memory) r.machine) }
@@ -71,7 +72,7 @@ impl<'a, const N: usize> Running<'a, N> {
             Ok(machine) => Ok(Running {
                 machine,
                 methods,
-                mode: Boundary::Bytecode,
+                mode: Ok(Boundary::Bytecode),
             }),
             Err(fault) => Err(fault),
         }
@@ -86,7 +87,7 @@ impl<'a, const N: usize> Running<'a, N> {
         config: Config,
     ) -> Result<Self, NoMemory>
         requires program { IsHeldImage N words.now methods.now config }
-        ensures starts { IfOk result (λ r. r ≡ record { machine = linked_reset N words.now config; methods = methods.now; mode = Boundary.Bytecode }) }
+        ensures starts { IfOk result (λ r. r ≡ record { machine = linked_reset N words.now config; methods = methods.now; mode = Ok Boundary.Bytecode }) }
         ensures begins { IfOk result (λ r. BeginsEach N words.now config r.machine) }
     {
         // The law is for the proof.
@@ -95,7 +96,7 @@ impl<'a, const N: usize> Running<'a, N> {
             Ok(machine) => Ok(Running {
                 machine,
                 methods: Methods::All(methods),
-                mode: Boundary::Bytecode,
+                mode: Ok(Boundary::Bytecode),
             }),
             Err(fault) => Err(fault),
         }
@@ -108,10 +109,10 @@ impl<'a, const N: usize> Running<'a, N> {
         &self.machine
     }
 
-    /// How the state goes on for which the machine stands, or `Stopped`.
-    pub fn mode(&self) -> Boundary
+    /// How the state goes on for which the machine stands, or which call on the device failed.
+    pub fn mode(&self) -> Result<Boundary, DeviceFault>
         ensures is { result ≡ self.now.mode }
-        ensures all { result ≢ Boundary.Stopped → AllGoOnSo self.now.machine result }
+        ensures all { IfOk result (AllGoOnSo self.now.machine) }
     {
         // The laws are for the proof.
         stages_agree();
@@ -123,21 +124,23 @@ impl<'a, const N: usize> Running<'a, N> {
         self.mode
     }
 
-    /// Goes on to the next boundary: by an instruction, or by one frame in which a handler is looked for. At the end it
-    /// answers that again, and after a fault `Stopped`; then nothing changes.
-    pub fn bytecode<D: Devices>(&mut self, device: &mut D) -> Boundary
+    /// Goes on to the next boundary: by an instruction, or by one frame in which a handler is looked for. At the end, and
+    /// after a fault, it answers that again; then nothing changes. After a fault of `input` or `output` the machine is about
+    /// to make that call; after one of `seen` it stands where it was handed.
+    pub fn bytecode<D: Devices>(&mut self, device: &mut D) -> Result<Boundary, DeviceFault>
         requires clock { self.old.machine.clock < 2 ^ 63 }
         ensures steps { goes self.old ≡ true → StepsAll self.old.machine self.new.machine (D.told device.old) (D.told device.new) result }
         ensures time { goes self.old ≡ true → PassesTime self.old.machine self.new.machine result }
-        ensures after { goes self.old ≡ true → (self.new.methods ≡ self.old.methods) × (self.new.mode ≡ mode_after result) }
-        ensures rests { goes self.old ≡ false → (result ≡ self.old.mode) × (self.new ≡ self.old) × (device.new ≡ device.old) }
+        ensures mode { self.new.mode ≡ result }
+        ensures methods { self.new.methods ≡ self.old.methods }
+        ensures rests { goes self.old ≡ false → (self.new ≡ self.old) × (device.new ≡ device.old) }
         ensures names { D.names device.new ≡ D.names device.old }
     {
-        if is_going(self.mode) {
+        if goes_on(self.mode) {
             // The law is for the proof.
             cycles_keep();
             let answer = go_on(&mut self.machine, device);
-            follow(&mut self.mode, answer);
+            self.mode = answer;
             return answer;
         }
         self.mode
@@ -145,29 +148,30 @@ impl<'a, const N: usize> Running<'a, N> {
 }
 
 /// Whether the machine goes on.
-fn is_going(mode: Boundary) -> bool
-    ensures { result ≡ is_going mode }
+fn goes_on(mode: Result<Boundary, DeviceFault>) -> bool
+    ensures { result ≡ goes_on mode }
 {
     match mode {
-        Boundary::Bytecode | Boundary::Raise => true,
+        Ok(Boundary::Bytecode | Boundary::Raise) => true,
         _ => false,
     }
 }
 
-/// How a run goes on after an answer.
-fn follow(mode: &mut Boundary, answer: Boundary)
-    ensures { mode.new ≡ mode_after answer }
+/// Whether an object is raised.
+fn is_raise(mode: Result<Boundary, DeviceFault>) -> bool
+    ensures { result ≡ is_raise mode }
 {
-    match answer {
-        Boundary::ReadFault | Boundary::WriteFault | Boundary::SeenFault => {
-            *mode = Boundary::Stopped;
-        }
-        _ => *mode = answer,
+    match mode {
+        Ok(Boundary::Raise) => true,
+        _ => false,
     }
 }
 
 /// Goes on from an instruction or a raise, up to the next boundary.
-fn go_on<const N: usize, D: Devices>(machine: &mut Machine<N>, device: &mut D) -> Boundary
+fn go_on<const N: usize, D: Devices>(
+    machine: &mut Machine<N>,
+    device: &mut D,
+) -> Result<Boundary, DeviceFault>
     requires stands { IsAtStep machine.old }
     requires clock { machine.old.clock < 2 ^ 63 }
     ensures steps { StepsAll machine.old machine.new (D.told device.old) (D.told device.new) result }
@@ -179,16 +183,13 @@ fn go_on<const N: usize, D: Devices>(machine: &mut Machine<N>, device: &mut D) -
     stages_end_soon();
     runs_add_up();
     entries_are_reached_by_dispatch();
-    match to_boundary(machine, device) {
-        Stepped::Next => Boundary::Bytecode,
-        Stepped::Raise => Boundary::Raise,
+    match to_boundary(machine, device)? {
+        Stepped::Next => Ok(Boundary::Bytecode),
+        Stepped::Raise => Ok(Boundary::Raise),
         Stepped::Halted => match class_uncaught(machine) {
-            None => Boundary::Halted,
-            Some(class) => Boundary::Uncaught(class),
+            None => Ok(Boundary::Halted),
+            Some(class) => Ok(Boundary::Uncaught(class)),
         },
-        Stepped::ReadFault => Boundary::ReadFault,
-        Stepped::WriteFault => Boundary::WriteFault,
-        Stepped::SeenFault => Boundary::SeenFault,
     }
 }
 

@@ -1,15 +1,15 @@
 //! A whole run of the machine: to the program's end, or to the last cycle.
-ghost use Rattle.std.specs.Prelude.{◌≡◌, ◌<◌, ◌^◌};
-ghost use Rattle.boundary.specs.Answers.{IsGoing, IsUnbroken};
+ghost use Rattle.std.specs.Prelude.{◌≡◌, ◌<◌, ◌^◌, IsOk};
+ghost use Rattle.boundary.specs.Answers.{IsGoing};
 ghost use Rattle.boundary.specs.Runs.{RunsAll};
 
 use crate::answer::Boundary;
 use crate::running::Running;
-use jop_core::Devices;
 use jop_core::laws::cycles_keep;
+use jop_core::{DeviceFault, Devices};
 use micro_sketch::laws::runs_add_up;
 
-/// How a run ends.
+/// How a run ends, where no call on the device failed.
 #[derive(Clone, Copy, PartialEq, Eq)]
 pub enum RunEnd {
     /// The program returned from boot.
@@ -18,12 +18,6 @@ pub enum RunEnd {
     Uncaught(u32),
     /// At a boundary the clock was at least the limit.
     Spent,
-    /// The device's `input` failed.
-    ReadFault,
-    /// The device's `output` failed.
-    WriteFault,
-    /// The device's `seen` failed.
-    SeenFault,
 }
 
 /// Goes on until the program has ended, the clock is at least the limit at a boundary, or a call on the device fails. It
@@ -32,8 +26,8 @@ pub fn run<const N: usize, D: Devices>(
     running: &mut Running<'_, N>,
     device: &mut D,
     limit: u64,
-) -> RunEnd
-    requires unbroken { IsUnbroken running.old.mode }
+) -> Result<RunEnd, DeviceFault>
+    requires unbroken { IsOk running.old.mode }
     requires few { limit < 2 ^ 63 }
     ensures runs { RunsAll limit running.old.machine running.new.machine (D.told device.old) (D.told device.new) result }
     ensures methods { running.new.methods ≡ running.old.methods }
@@ -42,12 +36,10 @@ pub fn run<const N: usize, D: Devices>(
     // The laws are for the proof.
     runs_add_up();
     cycles_keep();
-    match running.mode() {
+    match running.mode()? {
         Boundary::Bytecode | Boundary::Raise => go_to_end(running, device, limit),
-        Boundary::Halted => RunEnd::Ended,
-        Boundary::Uncaught(class) => RunEnd::Uncaught(class),
-        Boundary::ReadFault | Boundary::WriteFault | Boundary::SeenFault | Boundary::Stopped =>
-            unreachable!(),
+        Boundary::Halted => Ok(RunEnd::Ended),
+        Boundary::Uncaught(class) => Ok(RunEnd::Uncaught(class)),
     }
 }
 
@@ -56,7 +48,7 @@ fn go_to_end<const N: usize, D: Devices>(
     running: &mut Running<'_, N>,
     device: &mut D,
     limit: u64,
-) -> RunEnd
+) -> Result<RunEnd, DeviceFault>
     requires going { IsGoing running.old.mode }
     requires few { limit < 2 ^ 63 }
     ensures runs { RunsAll limit running.old.machine running.new.machine (D.told device.old) (D.told device.new) result }
@@ -68,15 +60,11 @@ fn go_to_end<const N: usize, D: Devices>(
     cycles_keep();
     let _mode = running.mode();
     while running.machine().clock() < limit {
-        match running.bytecode(device) {
+        match running.bytecode(device)? {
             Boundary::Bytecode | Boundary::Raise => {}
-            Boundary::Halted => return RunEnd::Ended,
-            Boundary::Uncaught(class) => return RunEnd::Uncaught(class),
-            Boundary::ReadFault => return RunEnd::ReadFault,
-            Boundary::WriteFault => return RunEnd::WriteFault,
-            Boundary::SeenFault => return RunEnd::SeenFault,
-            Boundary::Stopped => unreachable!(),
+            Boundary::Halted => return Ok(RunEnd::Ended),
+            Boundary::Uncaught(class) => return Ok(RunEnd::Uncaught(class)),
         }
     }
-    RunEnd::Spent
+    Ok(RunEnd::Spent)
 }

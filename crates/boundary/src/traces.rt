@@ -1,7 +1,7 @@
 //! A run of the machine with its trace: a line at each boundary from which a step is begun, and the lines of what the device
 //! notes in the step.
-ghost use Rattle.std.specs.Prelude.{◌≡◌, ◌≢◌, ◌<◌, ◌≤◌, ◌^◌, length};
-ghost use Rattle.boundary.specs.Answers.{IsGoing, IsUnbroken};
+ghost use Rattle.std.specs.Prelude.{◌≡◌, ◌<◌, ◌≤◌, ◌^◌, length, IsOk};
+ghost use Rattle.boundary.specs.Answers.{IsGoing};
 ghost use Rattle.boundary.specs.Setting.{Setting};
 ghost use Rattle.boundary.specs.Session.{IsStateOf};
 ghost use Rattle.bytecode_model.specs.State.{State};
@@ -20,14 +20,14 @@ use outside::{Sink, Source};
 use run_devices::{AtBoundary, TraceDevice};
 
 /// The same as [`run`](crate::run), with its trace: before each step the line of its boundary is put. The names are those of
-/// the methods with code, by number. Where a line fails, the run ends in a `WriteFault`.
+/// the methods with code, by number. Where the line of a boundary fails, that is a fault of `output`.
 pub fn trace<'i, 'o, const N: usize, S: Source, O: Sink>(
     running: &mut Running<'_, N>,
     names: &[Vec<u8>],
     device: &mut TraceDevice<'i, 'o, S, O>,
     limit: u64,
-) -> RunEnd
-    requires unbroken { IsUnbroken running.old.mode }
+) -> Result<RunEnd, DeviceFault>
+    requires unbroken { IsOk running.old.mode }
     requires few { limit < 2 ^ 63 }
     requires named { length running.old.methods ≤ length names.now }
     ensures traces { TracesAll device.old.cycles (texts names.now) limit running.old running.new.machine
@@ -38,12 +38,10 @@ pub fn trace<'i, 'o, const N: usize, S: Source, O: Sink>(
     // The laws are for the proof.
     runs_add_up();
     cycles_keep();
-    match running.mode() {
+    match running.mode()? {
         Boundary::Bytecode | Boundary::Raise => trace_to_end(running, names, device, limit),
-        Boundary::Halted => RunEnd::Ended,
-        Boundary::Uncaught(class) => RunEnd::Uncaught(class),
-        Boundary::ReadFault | Boundary::WriteFault | Boundary::SeenFault | Boundary::Stopped =>
-            unreachable!(),
+        Boundary::Halted => Ok(RunEnd::Ended),
+        Boundary::Uncaught(class) => Ok(RunEnd::Uncaught(class)),
     }
 }
 
@@ -53,7 +51,7 @@ fn trace_to_end<'i, 'o, const N: usize, S: Source, O: Sink>(
     names: &[Vec<u8>],
     device: &mut TraceDevice<'i, 'o, S, O>,
     limit: u64,
-) -> RunEnd
+) -> Result<RunEnd, DeviceFault>
     requires going { IsGoing running.old.mode }
     requires few { limit < 2 ^ 63 }
     requires named { length running.old.methods ≤ length names.now }
@@ -67,42 +65,33 @@ fn trace_to_end<'i, 'o, const N: usize, S: Source, O: Sink>(
     cycles_keep();
     let _mode = running.mode();
     while running.machine().clock() < limit {
-        match trace_step(running, names, device) {
+        match trace_step(running, names, device)? {
             Boundary::Bytecode | Boundary::Raise => {}
-            Boundary::Halted => return RunEnd::Ended,
-            Boundary::Uncaught(class) => return RunEnd::Uncaught(class),
-            Boundary::ReadFault => return RunEnd::ReadFault,
-            Boundary::WriteFault => return RunEnd::WriteFault,
-            Boundary::SeenFault | Boundary::Stopped => unreachable!(),
+            Boundary::Halted => return Ok(RunEnd::Ended),
+            Boundary::Uncaught(class) => return Ok(RunEnd::Uncaught(class)),
         }
     }
-    RunEnd::Spent
+    Ok(RunEnd::Spent)
 }
 
-/// Puts the line of the boundary and goes on to the next one. A line that fails is a write that fails.
+/// Puts the line of the boundary and goes on to the next one.
 fn trace_step<'i, 'o, const N: usize, S: Source, O: Sink>(
     running: &mut Running<'_, N>,
     names: &[Vec<u8>],
     device: &mut TraceDevice<'i, 'o, S, O>,
-) -> Boundary
+) -> Result<Boundary, DeviceFault>
     requires going { IsGoing running.old.mode }
     requires clock { running.old.machine.clock < 2 ^ 63 }
     requires named { length running.old.methods ≤ length names.now }
     ensures steps { StepTracesAll (texts names.now) running.old running.new.machine (⟦<TraceDevice<'i, 'o, S, O> as Devices>⟧.told device.old)
         (⟦<TraceDevice<'i, 'o, S, O> as Devices>⟧.told device.new) result }
     ensures time { PassesTime running.old.machine running.new.machine result }
-    ensures shown { result ≢ Boundary.SeenFault }
     ensures mode { IsGoing result → running.new.mode ≡ result }
     ensures methods { running.new.methods ≡ running.old.methods }
     ensures names { ⟦<TraceDevice<'i, 'o, S, O> as Devices>⟧.names device.new ≡ ⟦<TraceDevice<'i, 'o, S, O> as Devices>⟧.names device.old }
 {
-    if let Err(_) = put_line(running, names, device) {
-        return Boundary::WriteFault;
-    }
-    match running.bytecode(device) {
-        Boundary::SeenFault => Boundary::WriteFault,
-        answer => answer,
-    }
+    put_line(running, names, device)?;
+    running.bytecode(device)
 }
 
 /// Puts the line of the boundary.

@@ -7,23 +7,23 @@ use Rattle.std.proofs.lemmas.Bool.{eqb-true, ltb-false, false≢true}
 use Rattle.std.proofs.lemmas.List.{map-append}
 use Rattle.std.proofs.lemmas.List.Folds.{list_all-append}
 use Rattle.lists.specs.Lists.{onto}
-use Rattle.lists.specs.Lemmas.{none≢some, some_same}
+use Rattle.lists.proofs.Lemmas.{none≢some, some_same}
 use Rattle.base.specs.Reading.{◌>>=◌, whole}
 use Rattle.class_pool.specs.declared.entry.Entry.{Entry}
 use Rattle.class_pool.specs.declared.entry.Entry.TheVariants as entries
-use Rattle.class_pool.specs.Grammar.{entry_at, is_class, class_name_of}
+use Rattle.class_pool.specs.Grammar.{entry_at, is_class, class_name_of, text_at}
 use Rattle.class_pool.specs.Found.{stack_map_of}
 use Rattle.class_pool.specs.Reading.{number_in}
-use Rattle.class_lookup.specs.Parts.{text_at, class_text}
+use Rattle.class_lookup.specs.Parts.{class_text}
 use Rattle.class_file.specs.InsideReading.{many_in, counted_in}
 use Rattle.frame_types.specs.declared.types.VarType.TheVariants.{Object, Uninitialized}
 use Rattle.frame_types.specs.declared.read.Change.{Change}
 use Rattle.frame_types.specs.declared.read.Change.TheVariants.{OneItem, Append, Full}
 use Rattle.frame_types.specs.declared.read.MapEntry.{MapEntry}
 use Rattle.frame_types.specs.Table as types
-use Rattle.frame_types.specs.Table.{object_in, uninitialized_in, tagged_in, one_item_in, append_in, change_in, with_offset, map_entry_in, table_in, table_or_none, entries_of}
+use Rattle.frame_types.specs.Table.{object_in, uninitialized_in, tagged_in, one_item_in, append_in, change_in, with_offset, map_entry_in, table_in, table_or_none}
 use Rattle.program_tables.specs.FrameClasses as classes
-use Rattle.program_tables.specs.FrameClasses.{Part, many, counted, behind_delta, whole_table, frame_classes, classes_in_frames}
+use Rattle.program_tables.specs.FrameClasses.{Part, many, counted, behind_delta, whole_table, frame_classes}
 use Rattle.bytecode_meaning.specs.Readings.{names_in_type, names_in_change, names_in, PartsAgree, ReadingsAgree}
 
 abbrev Names : Type 0

@@ -7,7 +7,7 @@ use Rattle.bytecode_model.specs.Types.{NumberType, IntType, LongType, Moved, is_
 use Rattle.bytecode_model.specs.State.{Frame, State}
 use Rattle.bytecode_model.specs.Program.{Program, Limits}
 use Rattle.bytecode_model.specs.Rows as rows
-use Rattle.bytecode_model.specs.Rows.{Row, Takes, Width, Form}
+use Rattle.bytecode_model.specs.Rows.{Row, FunctionOf}
 use Rattle.bytecode_model.specs.Effects.{Effect, Stuck, Go, Make, WritePart, WriteStatic, Take, Give, Call, Leave, Raise, ArithmeticException, effect, on, or_fault, only_if, on_top, on_number, on_numbers, same, same_bool, is_instance, at_offset, branch, offset_of_key, stored, incremented, shuffle, number}
 
 abbrev pub IsQuiet : Effect → Type 0
@@ -48,7 +48,7 @@ on_number_quiet LongType (Ref p ∷ rest) go h = tt
 on_number_quiet LongType (Null ∷ rest) go h = tt
 on_number_quiet LongType (Unset ∷ rest) go h = tt
 
-on_numbers_quiet : (R : Type 0) (ts : List NumberType) (f : Takes ts R) (ops : List Value) (go : R → List Value → Effect)
+on_numbers_quiet : (R : Type 0) (ts : List NumberType) (f : FunctionOf ts R) (ops : List Value) (go : R → List Value → Effect)
     → ((r : R) (rest : List Value) → IsQuiet (go r rest)) → IsQuiet (on_numbers R ts f ops go)
 on_numbers_quiet R [] r ops go h = h r ops
 on_numbers_quiet R (t ∷ ts) f ops go h = on_number_quiet t ops (λ n rest. on_numbers R ts (f n) rest go) (λ n rest. on_numbers_quiet R ts (f n) rest go h)
@@ -61,7 +61,7 @@ branch_quiet f next true offset ops = at_offset_quiet f offset ops
 branch_quiet f next false offset ops = tt
 
 -- a function that always gives a number
-abbrev pub IsTotal : (ts : List NumberType) → Takes ts (Option ℤ) → Type 0
+abbrev pub IsTotal : (ts : List NumberType) → FunctionOf ts (Option ℤ) → Type 0
 IsTotal [] None = ⊥
 IsTotal [] (Some n) = Unit {0}
 IsTotal (t ∷ ts) f = (n : ℤ) → IsTotal ts (f n)
@@ -88,7 +88,7 @@ IsQuietRow rows.Read = Unit {0}
 IsQuietRow rows.Write = Unit {0}
 IsQuietRow r = ⊥
 
-computed_quiet : (P : Program) (limits : Limits) (s : State) (f : Frame) (next : ℕ) (given : NumberType) (ts : List NumberType) (compute : Takes ts (Option ℤ)) (ops : List Value)
+computed_quiet : (P : Program) (limits : Limits) (s : State) (f : Frame) (next : ℕ) (given : NumberType) (ts : List NumberType) (compute : FunctionOf ts (Option ℤ)) (ops : List Value)
     → IsTotal ts compute → IsQuiet (on_numbers (Option ℤ) ts compute ops (λ r rest. or_fault ArithmeticException r (λ n. Go next f.locals (number given n ∷ rest))))
 computed_quiet P limits s f next given [] None ops total = absurd total
 computed_quiet P limits s f next given [] (Some n) ops total = tt

@@ -14,7 +14,7 @@ use Rattle.bytecode_model.specs.Program.{Program, Limits, Method, kind_of, type_
 use Rattle.bytecode_model.specs.Sizes.{object_words, made_words}
 use Rattle.bytecode_model.specs.Numbers.{is_equal, low_bits}
 use Rattle.bytecode_model.specs.Rows as rows
-use Rattle.bytecode_model.specs.Rows.{Row, Takes, Width, Form}
+use Rattle.bytecode_model.specs.Rows.{Row, FunctionOf, Width, Form}
 use Rattle.bytecode_model.specs.Slots as slots
 
 -- The place goes on to pc, and these are the local variables and the operands then. A new object, one that is read or the byte that the input gives is pushed.
@@ -82,7 +82,7 @@ on_number LongType (Long n ∷ rest) go = go n rest
 on_number t ops go = Stuck
 
 -- what a function gives for the numbers on top, the topmost first
-abbrev pub on_numbers : (R : Type 0) (taken : List NumberType) → Takes taken R → List Value → (R → List Value → Effect) → Effect
+abbrev pub on_numbers : (R : Type 0) (taken : List NumberType) → FunctionOf taken R → List Value → (R → List Value → Effect) → Effect
 on_numbers R [] r ops go = go r ops
 on_numbers R (t ∷ ts) f ops go = on_number t ops (λ n rest. on_numbers R ts (f n) rest go)
 

@@ -5,9 +5,9 @@ use Rattle.bytecode_model.specs.declared.Value.{Value}
 use Rattle.bytecode_model.specs.Types.{NumberType, Kind, Moved}
 
 -- functions of so many numbers
-abbrev pub Takes : List NumberType → Type 0 → Type 0
-Takes [] R = R
-Takes (t ∷ ts) R = ℤ → Takes ts R
+abbrev pub FunctionOf : List NumberType → Type 0 → Type 0
+FunctionOf [] R = R
+FunctionOf (t ∷ ts) R = ℤ → FunctionOf ts R
 
 -- how many words an item of the operand stack takes
 pub data Width : Type 0 where
@@ -25,9 +25,9 @@ pub data Row : Type 0 where
   Nothing : Row
   Push : Value → Row
   -- a number of those taken; where there is none, an ArithmeticException
-  Compute : (taken : List NumberType) → (given : NumberType) → Takes taken (Option ℤ) → Row
+  Compute : (taken : List NumberType) → (given : NumberType) → FunctionOf taken (Option ℤ) → Row
   -- to the offset where the test holds
-  Branch : (taken : List NumberType) → Takes taken Bool → (offset : ℤ) → Row
+  Branch : (taken : List NumberType) → FunctionOf taken Bool → (offset : ℤ) → Row
   -- where two references are the same, or aren't
   BranchSame : (wanted : Bool) → (offset : ℤ) → Row
   -- where a reference is null, or isn't

@@ -13,7 +13,7 @@ use Rattle.bytecode_model.specs.Program.{Operand, AnInt, ALong, AString, AStatic
 use Rattle.bytecode_model.specs.Numbers.{sum, difference, product, negated, quotient, remainder, bitwise, shifted_left, shifted_right, shifted_right_unsigned}
 use Rattle.bytecode_model.specs.Numbers.{compared, unchanged, narrowed, as_char, is_equal, is_unequal, is_less, is_at_least, is_greater, is_at_most}
 use Rattle.bytecode_model.specs.Rows as rows
-use Rattle.bytecode_model.specs.Rows.{Row, Takes, Zero, One, Two, Drop, Copy, Swap}
+use Rattle.bytecode_model.specs.Rows.{Row, Zero, One, Two, Drop, Copy, Swap}
 
 -- an opcode with its mnemonic, and its row by the code, the instruction and what its pool entry means; none where these aren't of the form that it needs
 pub record Meaning : Type 0 where

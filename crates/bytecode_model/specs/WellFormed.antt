@@ -27,9 +27,9 @@ AreValues objects [] = Unit {0}
 AreValues objects (v ∷ vs) = IsValue objects v × AreValues objects vs
 
 -- what the input may answer: a byte, or its end
-abbrev pub IsAnswer : Option ℕ → Type 0
-IsAnswer None = Unit {0}
-IsAnswer (Some byte) = byte < 256
+abbrev pub IsInput : Option ℕ → Type 0
+IsInput None = Unit {0}
+IsInput (Some byte) = byte < 256
 
 -- among the local variables a Long is followed by an unset one
 abbrev pub AreSpaced : List Value → Type 0

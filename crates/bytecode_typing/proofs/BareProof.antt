@@ -15,16 +15,16 @@ use Rattle.bytecode_model.specs.Types.{IntType, Numeric, Numbers}
 use Rattle.bytecode_model.specs.Program.{Program, Method, Body, as_instr, object_class}
 use Rattle.bytecode_model.specs.Slots.{stored, spread, padded}
 use Rattle.bytecode_model.specs.Rows as rows
-use Rattle.bytecode_model.specs.Rows.{Row, Takes, Width, Zero, One, Two, Form, Drop, Copy, Swap}
+use Rattle.bytecode_model.specs.Rows.{Row, Zero, One, Drop, Copy}
 use Rattle.bytecode_model.specs.Steps.{row_in}
 use Rattle.bytecode_typing.specs.Tests.{Holds}
 use Rattle.bytecode_typing.specs.Types.{VarType, Top, Integer, TypeFrame, is_long_type, type_words, stack_words, type_of}
 use Rattle.bytecode_typing.specs.Assignable.{flows_to}
 use Rattle.bytecode_typing.specs.Rules as rule
-use Rattle.bytecode_typing.specs.Rules.{Checked, Leaves, need, found}
+use Rattle.bytecode_typing.specs.Rules.{Checked, need, found}
 use Rattle.bytecode_typing.specs.Checks.{row_check}
 use Rattle.bytecode_typing.specs.Walk.{first_types, handlers_hold}
-use Rattle.bytecode_typing.specs.Typed.{Typed, IsTypedAt, IsTypedMethod, IsChecked, GoesOn, IsQuiet}
+use Rattle.bytecode_typing.specs.Typed.{Typed, IsTypedAt, IsTypedMethod, IsChecked, GoesOn, RaisesNothing}
 use Rattle.bytecode_typing.specs.Typings.{frame_among}
 use Rattle.bytecode_typing.specs.Bare.{bare_method, bare_program, depth_behind, IsIntConstant, StayWithin, IsStraightLine, int_frame, depth_after, int_frames, bare_typing}
 use Rattle.bytecode_typing.specs.Lawful.{Lawful, IsResolvedRow}
@@ -109,7 +109,7 @@ module _ (b : Body) where
 
   -- ---- the rows at the starts
 
-  constant_row : (m : Method) (row : Row) → IsQuiet row → IsIntConstant row → (d e : ℕ) → depth_behind b row d ≡ Some e → IsResolvedRow P m row
+  constant_row : (m : Method) (row : Row) → RaisesNothing row → IsIntConstant row → (d e : ℕ) → depth_behind b row d ≡ Some e → IsResolvedRow P m row
   constant_row m (rows.Push (Int i)) q c d e h = c
   constant_row m (rows.Push (Long i)) q c d e h = absurd (cc)
   constant_row m (rows.Push (Ref p)) q c d e h = absurd (cc)
@@ -125,7 +125,7 @@ module _ (b : Body) where
   constant_row m row q c d e h = absurd q
 
   abbrev IsBareAt : Row → Type 0
-  IsBareAt row = IsQuiet row × ((m : Method) → IsResolvedRow P m row)
+  IsBareAt row = RaisesNothing row × ((m : Method) → IsResolvedRow P m row)
 
   return_row : (row : Row) → row ≡ rows.Return None → IsBareAt row
   return_row row e = subst IsBareAt (sym e) (tt, λ m. tt)
@@ -383,10 +383,10 @@ module _ (b : Body) (are_starts : AreStarts b.code) (within : (pc : ℕ) → Who
           subst (λ (c : Body). IsTypedMethod B 0 m c (bare_typing b 0)) same (subst (λ (m : Method). IsTypedMethod B 0 m b (bare_typing b 0)) (sym is) method_typed)
       one (suc n) m c em ec = absurd (cc)
 
-      quiet_at : (o : Option TypeFrame) (pc : ℕ) → IfSome o (IsTypedAt B 0 (bare_method b) b (bare_typing b 0) pc) → IfSome o (λ f. IsSomeAnd (row_in B 0 pc) (λ x. IsQuiet x.1))
+      quiet_at : (o : Option TypeFrame) (pc : ℕ) → IfSome o (IsTypedAt B 0 (bare_method b) b (bare_typing b 0) pc) → IfSome o (λ f. IsSomeAnd (row_in B 0 pc) (λ x. RaisesNothing x.1))
       quiet_at None pc h = tt
       quiet_at (Some f) pc h = some_in (row_in B 0 pc) _ _ (start_bare b bare pc h.start) (λ x g. g.0)
 
-      still : (n pc : ℕ) → IfSome (bare_typing b n pc) (λ f. IsSomeAnd (row_in B n pc) (λ x. IsQuiet x.1))
+      still : (n pc : ℕ) → IfSome (bare_typing b n pc) (λ f. IsSomeAnd (row_in B n pc) (λ x. RaisesNothing x.1))
       still zero pc = quiet_at (bare_typing b 0 pc) pc (method_typed.places pc)
       still (suc n) pc = tt

@@ -21,11 +21,11 @@ use Rattle.bytecode_typing.specs.Tests.{Holds, AllTwo}
 use Rattle.bytecode_typing.specs.Types.{VarType, Top, NullReference, UninitializedThis, Uninitialized, ReferenceTo, TypeFrame, is_long_type, is_reference_type, is_initialized, type_of, result_types, substituted}
 use Rattle.bytecode_typing.specs.Assignable.{flows_to}
 use Rattle.bytecode_typing.specs.Rules as rule
-use Rattle.bytecode_typing.specs.Rules.{Checked, Leaves, need, found, on_type, on_argument_types}
+use Rattle.bytecode_typing.specs.Rules.{Checked, on_type, on_argument_types}
 use Rattle.bytecode_typing.specs.Checks.{made_at, seen, is_class, is_own_class, is_seen_as, may_begin, begun, init_check, super_check, row_check}
 use Rattle.bytecode_typing.specs.Walk.{this_types, first_types}
 use Rattle.bytecode_typing.specs.Typed.{Typing, Typed, IsChecked, GoesOn}
-use Rattle.bytecode_typing.specs.Fits.{may_be, kind_in, Has, HasItem, HasDeclared, PartsFit, ObjectFits, numbers_of, IsThrowable, MayCall, Waits}
+use Rattle.bytecode_typing.specs.Fits.{may_be, kind_in, Has, HasItem, HasDeclared, PartsFit, ObjectFits, numbers_of, IsThrowable, MayHaveCalled, Waits}
 use Rattle.bytecode_typing.specs.Lawful.{Lawful, IsThere, IsStaticCall, IsSpecialCall, IsVirtualCall, IsInterfaceCall}
 use Rattle.bytecode_typing.proofs.Relations.{is_true, from_true, both_left, both_right, some_in, some_is, some_at, at_some, there_at, onto_is, onto_back, OptTwo, retype_two, padded_two, spread_two}
 use Rattle.bytecode_typing.proofs.Spaced.{from_spaced, begin_spaced, padded_length}
@@ -138,7 +138,7 @@ module _ (P : Program) (types : Typing) (law : Lawful P) (typed : Typed P types)
   see u = seen P f.method m u
 
   -- the caller behind its invoke
-  waits : (callee : ℕ) (row : Row) (k : Method) (g : TypeFrame) (rest : List VarType) (ops : List Value) → row_in P f.method f.pc ≡ Some (next, row) → MayCall P row callee → slice_get P.methods callee ≡ Some k → Holds (flows_to P g (types f.method next)) → AllTwo (Has P f.method m ks) g.locals f.locals → g.stack ≡ result_types k.result ++ rest → AllTwo (HasItem P f.method m ks) rest ops → Waits P types ks callee (record f { operands = ops })
+  waits : (callee : ℕ) (row : Row) (k : Method) (g : TypeFrame) (rest : List VarType) (ops : List Value) → row_in P f.method f.pc ≡ Some (next, row) → MayHaveCalled P row callee → slice_get P.methods callee ≡ Some k → Holds (flows_to P g (types f.method next)) → AllTwo (Has P f.method m ks) g.locals f.locals → g.stack ≡ result_types k.result ++ rest → AllTwo (HasItem P f.method m ks) rest ops → Waits P types ks callee (record f { operands = ops })
   waits callee row k g rest ops er may ek fl h eg ho = record {
     fits = record {
       method = m;
@@ -229,7 +229,7 @@ module _ (P : Program) (types : Typing) (law : Lawful P) (typed : Typed P types)
   method_class named k c (OfReferences l) ek call h = no_array_method named k c _ ek call h
 
   -- a receiver of the class cl runs the method that the class selects
-  selected_fits : (c : ℕ) (row : Row) (k : Method) (cl p : ℕ) (o : Object) (kind : Kind) (args : List Value) (rest : List VarType) (ops : List Value) → row_in P f.method f.pc ≡ Some (next, row) → ((callee : ℕ) → P.select cl c ≡ Some callee → MayCall P row callee) → slice_get P.methods c ≡ Some k → k.has_this ≡ true → k.is_init ≡ false → Holds (P.extends cl k.owner) → slice_get s.objects p ≡ Some o → kind_of P o ≡ Some kind → kind ≡ OfClass cl → PartsFit P ks kind o.parts
+  selected_fits : (c : ℕ) (row : Row) (k : Method) (cl p : ℕ) (o : Object) (kind : Kind) (args : List Value) (rest : List VarType) (ops : List Value) → row_in P f.method f.pc ≡ Some (next, row) → ((callee : ℕ) → P.select cl c ≡ Some callee → MayHaveCalled P row callee) → slice_get P.methods c ≡ Some k → k.has_this ≡ true → k.is_init ≡ false → Holds (P.extends cl k.owner) → slice_get s.objects p ≡ Some o → kind_of P o ≡ Some kind → kind ≡ OfClass cl → PartsFit P ks kind o.parts
       → AllTwo (HasDeclared P ks) k.parameters args → Holds (flows_to P (record t { locals = t.locals; stack = result_types k.result ++ rest }) (types f.method next)) → AllTwo (HasItem P f.method m ks) rest ops → Fit (on (selected P (kind_of P o) c) (λ callee. Call callee (Ref p ∷ args) ops))
   selected_fits c row k cl p o kind args rest ops er may ek st other x eo ekind is parts a fl h =
       let concrete = (subst (λ kind. PartsFit P ks kind o.parts) is parts).0 in

@@ -6,14 +6,14 @@ use Rattle.bytecode_model.specs.Types.{OfClass}
 use Rattle.bytecode_model.specs.State.{Object, Frame, State}
 use Rattle.bytecode_model.specs.Program.{Program, Limits, Method, Body, is_of, throwable_class}
 use Rattle.bytecode_model.specs.Rows as rows
-use Rattle.bytecode_model.specs.Rows.{Row, Takes}
+use Rattle.bytecode_model.specs.Rows.{Row}
 use Rattle.bytecode_model.specs.Effects.{Effect, Fault, ArithmeticException, fault_object, effect}
 use Rattle.bytecode_model.specs.Steps.{row_in}
 use Rattle.bytecode_model.specs.WellFormed.{AreSpaced}
 use Rattle.bytecode_typing.specs.Tests.{Holds, AllTwo}
 use Rattle.bytecode_typing.specs.Types.{TypeFrame}
 use Rattle.bytecode_typing.specs.Checks.{row_check}
-use Rattle.bytecode_typing.specs.Typed.{Typing, Typed, IsChecked, GoesOn, IsTotal, IsQuiet}
+use Rattle.bytecode_typing.specs.Typed.{Typing, Typed, IsChecked, GoesOn, IsTotal, RaisesNothing}
 use Rattle.bytecode_typing.specs.Fits.{Has, HasItem, HasDeclared, ObjectFits, BeginWith, numbers_of, IsThrowable}
 use Rattle.bytecode_typing.specs.Lawful.{Lawful, IsResolvedRow}
 use Rattle.bytecode_typing.proofs.Relations.{some_is}
@@ -39,7 +39,7 @@ module _ (P : Program) (types : Typing) (law : Lawful P) (typed : Typed P types)
   abbrev RowChecked : Row → Type 0
   RowChecked row = IsChecked (row_check P f.method m b (types f.method) f.pc t row) (GoesOn P (types f.method) next)
 
-  quiet_fits : (row : Row) → IsQuiet row → IsResolvedRow P m row → RowChecked row → Fit (effect P limits s f next row)
+  quiet_fits : (row : Row) → RaisesNothing row → IsResolvedRow P m row → RowChecked row → Fit (effect P limits s f next row)
   quiet_fits rows.Nothing q r c = plain.nothing_fits P types law limits s m b f t count spaced hl hs next c
   quiet_fits (rows.Push v) q r c = plain.push_fits P types law limits s m b f t count spaced hl hs next v start r c
   quiet_fits (rows.Compute taken given compute) q r c =
@@ -90,6 +90,6 @@ module _ (P : Program) (types : Typing) (law : Lawful P) (typed : Typed P types)
     linked_fits rows.Read er r c = plain.read_fits P types law limits s m b f t count spaced hl hs next c
     linked_fits rows.Write er r c = plain.write_fits P types law limits s m b f t count spaced hl hs next c
 
-  pub row_fits : (linked : Bool) (row : Row) → P.linked ≡ linked → (P.linked ≡ false → IsQuiet row) → row_in P f.method f.pc ≡ Some (next, row) → IsResolvedRow P m row → RowChecked row → Fit (effect P limits s f next row)
+  pub row_fits : (linked : Bool) (row : Row) → P.linked ≡ linked → (P.linked ≡ false → RaisesNothing row) → row_in P f.method f.pc ≡ Some (next, row) → IsResolvedRow P m row → RowChecked row → Fit (effect P limits s f next row)
   row_fits true row e q er r c = linked_fits (raised P law s.objects e start) row er r c
   row_fits false row e q er r c = quiet_fits row (q e) r c

@@ -18,7 +18,7 @@ use Rattle.bytecode_typing.specs.Tests.{Holds, AllTwo, all_two}
 use Rattle.bytecode_typing.specs.Types.{VarType, TypeFrame, is_long_type, type_words, stack_words, type_of, result_types}
 use Rattle.bytecode_typing.specs.Assignable.{is_assignable, is_assignable_item, keeps_flag, flows_to}
 use Rattle.bytecode_typing.specs.Typed.{Typing, Typed, IsTypedAt}
-use Rattle.bytecode_typing.specs.Fits.{Has, HasItem, HasDeclared, HasEach, PartsFit, ObjectFits, BeginWith, numbers_of, FrameFits, TopFits, MayCall, Waits, CallersFit, FramesFit, Fits}
+use Rattle.bytecode_typing.specs.Fits.{Has, HasItem, HasDeclared, HasEach, PartsFit, ObjectFits, BeginWith, numbers_of, FrameFits, TopFits, MayHaveCalled, Waits, CallersFit, FramesFit, Fits}
 use Rattle.bytecode_typing.proofs.Relations.{both_left, both_right, some_in, some_at, there_at, onto_is}
 use Rattle.bytecode_typing.proofs.Hierarchy.{kind_below}
 use Rattle.bytecode_typing.proofs.Values.{bool_same, declared_value, declared_long, declared_set, has_value}
@@ -178,7 +178,7 @@ module _ (P : Program) (types : Typing) (typed : Typed P types) (ks : List ℕ) 
   callers_formed callee [] h = tt
   callers_formed callee (f ∷ fs) h = (caller_formed callee f h.0, callers_formed f.method fs h.1)
 
-  calls : (row : Row) (callee : ℕ) → MayCall P row callee → is_call row ≡ true
+  calls : (row : Row) (callee : ℕ) → MayHaveCalled P row callee → is_call row ≡ true
   calls (CallStatic c) callee h = refl
   calls (CallSpecial named c) callee h = refl
   calls (CallVirtual named c) callee h = refl

@@ -18,7 +18,7 @@ use Rattle.bytecode_model.specs.Sizes.{value_words, object_words, made_words, he
 use Rattle.bytecode_model.specs.Table.{row_of}
 use Rattle.bytecode_model.specs.Effects.{Effect, Stuck, Go, Make, WritePart, WriteStatic, Take, Give, Call, Leave, Raise, StackOverflowError, fault_object, effect}
 use Rattle.bytecode_model.specs.Steps.{first_frame, with_top, raising, with_result, resumed, left, written, applied, row_in, handler_for, class_of, unwound, step_in, step, run_from}
-use Rattle.bytecode_model.specs.WellFormed.{AreSpaced, IsAnswer, first_method}
+use Rattle.bytecode_model.specs.WellFormed.{AreSpaced, IsInput, first_method}
 use Rattle.bytecode_typing.specs.Tests.{Holds, AllTwo}
 use Rattle.bytecode_typing.specs.Types.{VarType, ReferenceTo, TypeFrame, result_types}
 use Rattle.bytecode_typing.specs.Assignable.{flows_to}
@@ -197,7 +197,7 @@ module _ (P : Program) (types : Typing) (law : Lawful P) (typed : Typed P types)
       going g (f ∷ callers) s.answers s.output h (subst (λ (c : ℕ). Waits P types ks c f) (sym is) w, hc) eb (leb-true (frames_words P (g ∷ f ∷ callers)) limits.frames e)
   room_fits f g callers c false e is h w hc eb l over = raise_fits f callers (fault_object StackOverflowError) w.fits hc eb l over
 
-  module _ (answer : Option ℕ) (is_answer : IsAnswer answer) (f : Frame) (m : Method) (b : Body) (callers : List Frame) (em : slice_get P.methods f.method ≡ Some m) (eb : m.body ≡ Some b) (top : TopFits P types ks f) (hc : CallersFit P types ks f.method callers) (boot : first_method (f ∷ callers) ≡ Some P.boot) (room : frames_words P (f ∷ callers) ≤ limits.frames) where
+  module _ (answer : Option ℕ) (is_answer : IsInput answer) (f : Frame) (m : Method) (b : Body) (callers : List Frame) (em : slice_get P.methods f.method ≡ Some m) (eb : m.body ≡ Some b) (top : TopFits P types ks f) (hc : CallersFit P types ks f.method callers) (boot : first_method (f ∷ callers) ≡ Some P.boot) (room : frames_words P (f ∷ callers) ≤ limits.frames) where
     gone : (answers : List (Option ℕ)) (output : List ℕ) (pc : ℕ) (ls ops : List Value) → IsGoing P types f.method m b ks pc ls ops → Fitting (record s { frames = record f { pc = pc; locals = ls; operands = ops } ∷ callers; answers = answers; output = output; mode = Running })
     gone answers output pc ls ops g =
         going (record f { pc = pc; locals = ls; operands = ops }) callers answers output (top_of P types m b f ks pc ls ops em eb g) hc (first_same (record f { pc = pc; locals = ls; operands = ops }) f callers refl ∙ boot) room
@@ -317,7 +317,7 @@ module _ (P : Program) (types : Typing) (law : Lawful P) (typed : Typed P types)
   typed_at : (n pc : ℕ) (m : Method) (b : Body) (t : TypeFrame) → slice_get P.methods n ≡ Some m → m.body ≡ Some b → types n pc ≡ Some t → IsTypedAt P n m b (types n) pc t
   typed_at n pc m b t em eb et = there_at (types n pc) t _ et ((typed.methods n m b em eb).places pc)
 
-  step_fits : (answer : Option ℕ) → IsAnswer answer → (mode : Ending) (frames : List Frame) → Going mode → FramesFit P types ks mode frames → first_method frames ≡ Some P.boot → frames_words P frames ≤ limits.frames → IsSomeAnd (step_in P limits answer s frames mode) Fitting
+  step_fits : (answer : Option ℕ) → IsInput answer → (mode : Ending) (frames : List Frame) → Going mode → FramesFit P types ks mode frames → first_method frames ≡ Some P.boot → frames_words P frames ≤ limits.frames → IsSomeAnd (step_in P limits answer s frames mode) Fitting
   step_fits answer ia Running (f ∷ callers) g h e l =
       let top = h.0 in
       let fr = top.fits in
@@ -342,12 +342,12 @@ module _ (P : Program) (types : Typing) (law : Lawful P) (typed : Typed P types)
   step_fits answer ia Ended (f ∷ fs) g h e l = absurd g
   step_fits answer ia (Uncaught c) (f ∷ fs) g h e l = absurd g
 
-pub keeps : (P : Program) (types : Typing) (limits : Limits) → Lawful P → Typed P types → (s : State) → Going s.mode → Fits P types limits s → (answer : Option ℕ) → IsAnswer answer → IsSomeAnd (step P limits answer s) (Fits P types limits)
+pub keeps : (P : Program) (types : Typing) (limits : Limits) → Lawful P → Typed P types → (s : State) → Going s.mode → Fits P types limits s → (answer : Option ℕ) → IsInput answer → IsSomeAnd (step P limits answer s) (Fits P types limits)
 keeps P types limits law typed s g h answer ia = step_fits P types law typed limits s h.objects h.first h.statics h.heap_sum answer ia s.mode s.frames g h.frames h.boot h.frame_sum
 
 -- ---- runs
 
-going_on : (P : Program) (types : Typing) (limits : Limits) → Lawful P → Typed P types → (t : State) → Fits P types limits t → (answer : Option ℕ) → IsAnswer answer → (o : Option State) → step P limits answer t ≡ o → IfSome o (Fits P types limits)
+going_on : (P : Program) (types : Typing) (limits : Limits) → Lawful P → Typed P types → (t : State) → Fits P types limits t → (answer : Option ℕ) → IsInput answer → (o : Option State) → step P limits answer t ≡ o → IfSome o (Fits P types limits)
 going_on P types limits law typed t h answer ia o e = by_mode t.mode refl
   where
     is_there : (o : Option State) → IsSomeAnd o (Fits P types limits) → IfSome o (Fits P types limits)
@@ -371,7 +371,7 @@ going_on P types limits law typed t h answer ia o e = by_mode t.mode refl
     by_mode Ended em = let n : o ≡ None = sym e ∙ ap (λ (mode : Ending). step_in P limits answer t t.frames mode) em ∙ none t.frames in subst (λ o. IfSome o (Fits P types limits)) (sym n) tt
     by_mode (Uncaught c) em = let n : o ≡ None = sym e ∙ ap (λ (mode : Ending). step_in P limits answer t t.frames mode) em ∙ caught c t.frames in subst (λ o. IfSome o (Fits P types limits)) (sym n) tt
 
-pub runs_fit : (P : Program) (types : Typing) (limits : Limits) → Lawful P → Typed P types → (input : ℕ → Option ℕ) → ((k : ℕ) → IsAnswer (input k)) → (s : State) → Fits P types limits s → (n : ℕ) → Fits P types limits (run_from P limits input s n)
+pub runs_fit : (P : Program) (types : Typing) (limits : Limits) → Lawful P → Typed P types → (input : ℕ → Option ℕ) → ((k : ℕ) → IsInput (input k)) → (s : State) → Fits P types limits s → (n : ℕ) → Fits P types limits (run_from P limits input s n)
 unfolding run_from
 runs_fit P types limits law typed input answers s h zero = h
 runs_fit P types limits law typed input answers s h (suc n) =

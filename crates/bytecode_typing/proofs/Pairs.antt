@@ -8,16 +8,16 @@ use Rattle.bytecode_model.specs.Lists.{replaced}
 use Rattle.bytecode_model.specs.Types.{NumberType, IntType, LongType, Declared}
 use Rattle.bytecode_model.specs.State.{Object, Frame, State}
 use Rattle.bytecode_model.specs.Program.{Program, Limits, Method, Body, kind_of}
-use Rattle.bytecode_model.specs.Rows.{Takes}
+use Rattle.bytecode_model.specs.Rows.{FunctionOf}
 use Rattle.bytecode_model.specs.Sizes.{value_words, object_words, made_words}
 use Rattle.bytecode_model.specs.Effects.{Effect, Stuck, Go, Make, WritePart, WriteStatic, Take, Give, Call, Leave, Raise, StackOverflowError, fault_object, on, only_if, on_top, on_number, on_numbers, on_values}
 use Rattle.bytecode_model.specs.Steps.{first_frame, answered}
-use Rattle.bytecode_model.specs.WellFormed.{AreSpaced, IsAnswer}
+use Rattle.bytecode_model.specs.WellFormed.{AreSpaced, IsInput}
 use Rattle.bytecode_typing.specs.Tests.{Holds, AllTwo, all_two}
 use Rattle.bytecode_typing.specs.Types.{VarType, Integer, LongInteger, TypeFrame, is_reference_type, type_of}
 use Rattle.bytecode_typing.specs.Assignable.{is_assignable, is_assignable_item, keeps_flag, flows_to}
 use Rattle.bytecode_typing.specs.Rules as rule
-use Rattle.bytecode_typing.specs.Rules.{Rule, Checked, Fails, Leaves, need, found, on_type, on_reference, is_number_type, on_number_types, on_argument_types}
+use Rattle.bytecode_typing.specs.Rules.{Rule, Checked, need, found, on_type, is_number_type, on_number_types, on_argument_types}
 use Rattle.bytecode_typing.specs.Checks.{seen}
 use Rattle.bytecode_typing.specs.Typed.{Typing, IsChecked}
 use Rattle.bytecode_typing.specs.Fits.{Has, HasItem, HasDeclared, HasResult, PartsFit, ObjectFits, numbers_of, IsThrowable, TopFits, Waits}
@@ -73,7 +73,7 @@ EffectFits P types limits s m b f (WritePart p k v pc ls ops) = IsWrite P s.obje
 EffectFits P types limits s m b f (WriteStatic k v pc ls ops) =
     IsSomeAnd (slice_get P.statics k) (λ d. HasDeclared P (numbers_of s.objects) d v) × IsGoing P types f.method m b (numbers_of s.objects) pc ls ops
 EffectFits P types limits s m b f (Take pc ls ops) =
-    (answer : Option ℕ) → IsAnswer answer → IsGoing P types f.method m b (numbers_of s.objects) pc ls (answered answer ∷ ops)
+    (answer : Option ℕ) → IsInput answer → IsGoing P types f.method m b (numbers_of s.objects) pc ls (answered answer ∷ ops)
 EffectFits P types limits s m b f (Give byte pc ls ops) = IsGoing P types f.method m b (numbers_of s.objects) pc ls ops
 EffectFits P types limits s m b f (Call c args ops) =
     Begins P types (numbers_of s.objects) c args × Waits P types (numbers_of s.objects) c (record f { operands = ops }) × IsThrowable P (numbers_of s.objects) (fault_object StackOverflowError)
@@ -136,7 +136,7 @@ module _ (P : Program) (types : Typing) (law : Lawful P) (n : ℕ) (m : Method) 
         let (a, l) = need_checked K (is_number_type t u) rule.Stack (c ts) k in number_one t u v vs then_ a h.0 (λ x. next x ts vs h.1 l)
 
     -- a function of numbers; W holds of it and of what is left of it
-    pub numbers_fit : (R : Type 0) (W : (ns : List NumberType) → Takes ns R → Type 0) → ((t : NumberType) (ns : List NumberType) (g : Takes (t ∷ ns) R) (x : ℤ) → W (t ∷ ns) g → W ns (g x)) → (ns : List NumberType) (g : Takes ns R) (c : List VarType → Checked) (ts : List VarType) (vs : List Value) (then_ : R → List Value → Effect) → W ns g → AllTwo (HasItem P n m ks) ts vs → IsChecked (on_number_types ns ts c) K
+    pub numbers_fit : (R : Type 0) (W : (ns : List NumberType) → FunctionOf ns R → Type 0) → ((t : NumberType) (ns : List NumberType) (g : FunctionOf (t ∷ ns) R) (x : ℤ) → W (t ∷ ns) g → W ns (g x)) → (ns : List NumberType) (g : FunctionOf ns R) (c : List VarType → Checked) (ts : List VarType) (vs : List Value) (then_ : R → List Value → Effect) → W ns g → AllTwo (HasItem P n m ks) ts vs → IsChecked (on_number_types ns ts c) K
         → ((r : R) (rest : List VarType) (ops : List Value) → W [] r → AllTwo (HasItem P n m ks) rest ops → IsChecked (c rest) K → G (then_ r ops)) → G (on_numbers R ns g vs then_)
     numbers_fit R W step [] g c ts vs then_ w h k next = next g ts vs w h k
     numbers_fit R W step (t ∷ ns) g c [] vs then_ w h k next = absurd k

@@ -7,7 +7,7 @@ use Rattle.opcodes.specs.declared.instruction.DecodeFault.{DecodeFault}
 use Rattle.opcodes.specs.Instruction.{decoded}
 use Rattle.opcodes.specs.Start.{first_bad, IsStart, IsFirstBad}
 use Rattle.lists.specs.Lists.{onto}
-use Rattle.lists.specs.Lemmas.{none≢some, some_in}
+use Rattle.lists.proofs.Lemmas.{none≢some, some_in}
 use Rattle.lists.specs.Members.{cons_cases, nil_contains}
 use Rattle.bytecode_model.specs.Program.{as_instr}
 use Rattle.bytecode_model.specs.Steps.{row_in}

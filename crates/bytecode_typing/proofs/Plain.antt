@@ -14,15 +14,14 @@ use Rattle.bytecode_model.specs.Program.{Program, Limits, Method, Body, kind_of}
 use Rattle.bytecode_model.specs.Numbers.{is_equal}
 use Rattle.bytecode_model.specs.Slots.{shuffle, stored}
 use Rattle.bytecode_model.specs.Rows as rows
-use Rattle.bytecode_model.specs.Rows.{Row, Takes, Form, Width}
+use Rattle.bytecode_model.specs.Rows.{Row, FunctionOf, Form, Width}
 use Rattle.bytecode_model.specs.Effects.{Effect, Go, ArithmeticException, fault, on, or_fault, only_if, number, same, same_bool, incremented, at_offset, branch, offset_of_key, effect}
 use Rattle.bytecode_model.specs.Steps.{answered}
-use Rattle.bytecode_model.specs.WellFormed.{AreSpaced, IsAnswer}
+use Rattle.bytecode_model.specs.WellFormed.{AreSpaced, IsInput}
 use Rattle.bytecode_typing.specs.Tests.{Holds, AllTwo}
 use Rattle.bytecode_typing.specs.Types.{VarType, Top, Integer, NullReference, UninitializedThis, Uninitialized, ReferenceTo, TypeFrame, is_long_type, is_reference_type, number_type, type_of, moves, moved_words}
 use Rattle.bytecode_typing.specs.Assignable.{flows_to}
 use Rattle.bytecode_typing.specs.Rules as rule
-use Rattle.bytecode_typing.specs.Rules.{Checked, Leaves, need, found}
 use Rattle.bytecode_typing.specs.Checks.{seen, constant_type, reference_or_top, reaches, frame_at, with_types, is_seen_for, return_check, row_check}
 use Rattle.bytecode_typing.specs.Typed.{Typing, IsChecked, GoesOn}
 use Rattle.bytecode_typing.specs.Fits.{Has, HasItem, HasDeclared, HasResult, numbers_of, may_be, BeginWith}
@@ -114,7 +113,7 @@ module _ (P : Program) (types : Typing) (law : Lawful P) (limits : Limits) (s : 
   pub push_fits : (v : Value) → BeginWith P.first_objects s.objects → IsConstant P v → RowChecked (rows.Push v) → Fit (effect P limits s f next (rows.Push v))
   push_fits v start h c = goes_on next (constant_type P v ∷ t.stack) (v ∷ f.operands) c.3 (constant_item P law f.method m s.objects v start h, hs)
 
-  pub compute_fits : (W : (ns : List NumberType) → Takes ns (Option ℤ) → Type 0) → ((u : NumberType) (ns : List NumberType) (g : Takes (u ∷ ns) (Option ℤ)) (x : ℤ) → W (u ∷ ns) g → W ns (g x)) → (taken : List NumberType) (given : NumberType) (compute : Takes taken (Option ℤ)) → W taken compute → (W [] None → Fit (fault ArithmeticException)) → RowChecked (rows.Compute taken given compute) → Fit (effect P limits s f next (rows.Compute taken given compute))
+  pub compute_fits : (W : (ns : List NumberType) → FunctionOf ns (Option ℤ) → Type 0) → ((u : NumberType) (ns : List NumberType) (g : FunctionOf (u ∷ ns) (Option ℤ)) (x : ℤ) → W (u ∷ ns) g → W ns (g x)) → (taken : List NumberType) (given : NumberType) (compute : FunctionOf taken (Option ℤ)) → W taken compute → (W [] None → Fit (fault ArithmeticException)) → RowChecked (rows.Compute taken given compute) → Fit (effect P limits s f next (rows.Compute taken given compute))
   compute_fits W step taken given compute w none c =
       numbers_fit P types law f.method m b ks Fit K (Option ℤ) W step taken compute _ t.stack f.operands _ w hs c (λ r rest ops w h c. result r rest ops w h c.3)
     where
@@ -135,7 +134,7 @@ module _ (P : Program) (types : Typing) (law : Lawful P) (limits : Limits) (s : 
   branch_fits true offset st ops fl on_ h = reach offset st ops fl h
   branch_fits false offset st ops fl on_ h = goes_on next st ops on_ h
 
-  pub compare_fits : (taken : List NumberType) (test : Takes taken Bool) (offset : ℤ) → RowChecked (rows.Branch taken test offset) → Fit (effect P limits s f next (rows.Branch taken test offset))
+  pub compare_fits : (taken : List NumberType) (test : FunctionOf taken Bool) (offset : ℤ) → RowChecked (rows.Branch taken test offset) → Fit (effect P limits s f next (rows.Branch taken test offset))
   compare_fits taken test offset c =
       numbers_fit P types law f.method m b ks Fit K Bool (λ ns g. Unit {0}) (λ u ns g x w. tt) taken test _ t.stack f.operands _ tt hs c (λ r rest ops w h c. branch_fits r offset rest ops c.2 c.3 h)
 
@@ -252,7 +251,7 @@ module _ (P : Program) (types : Typing) (law : Lawful P) (limits : Limits) (s : 
   pub read_fits : RowChecked rows.Read → Fit (effect P limits s f next rows.Read)
   read_fits c = λ answer is. goes_on next (Integer ∷ t.stack) (answered answer ∷ f.operands) c.3 (answer_item answer is, hs)
     where
-      answer_item : (answer : Option ℕ) → IsAnswer answer → HasItem P f.method m ks Integer (answered answer)
+      answer_item : (answer : Option ℕ) → IsInput answer → HasItem P f.method m ks Integer (answered answer)
       answer_item None is = (fits_signed_from_abs w32 (negsuc 0) (omega arith), refl)
       answer_item (Some byte) is = (fits_signed_from_abs w32 (pos byte) (omega (arith, is)), refl)
 

@@ -19,9 +19,10 @@ use Rattle.bytecode_model.specs.Table.{row_of}
 use Rattle.bytecode_model.specs.Steps.{row_in}
 use Rattle.bytecode_typing.specs.Tests.{Holds, all_two}
 use Rattle.bytecode_typing.specs.Types.{VarType, Top, Integer, LongInteger, NullReference, UninitializedThis, Uninitialized, ReferenceTo, TypeFrame, type_of, stack_words, is_long_type, is_reference_type, moves}
-use Rattle.bytecode_typing.specs.Assignable.{is_assignable_kind, is_assignable, is_assignable_item, same_bool, keeps_flag, flows_to}
+use Rattle.bytecode_typing.specs.Assignable.{is_assignable_kind, is_assignable, is_assignable_item, keeps_flag, flows_to}
+use Rattle.bytecode_model.specs.Effects.{same_bool}
 use Rattle.bytecode_typing.specs.Rules as rule
-use Rattle.bytecode_typing.specs.Rules.{Rule, Checked, Fails, Leaves, need, found, on_type, on_reference, is_number_type, on_number_types}
+use Rattle.bytecode_typing.specs.Rules.{Rule, Checked, Fails, Leaves, need, on_type, on_reference, is_number_type, on_number_types}
 use Rattle.bytecode_typing.specs.Checks.{with_types, frame_at, reaches, is_seen_for, is_seen_as, return_check, row_check}
 use Rattle.bytecode_typing.specs.Walk.{Verdict, Breaks, Passes, unless_broken, on_frame, incoming, merges, falls_through, is_formed, has_room, caught_kind, is_throwable, covers, is_handled, handlers_hold, settled, on_row, on_instr, verdict_at, this_types, begins_uninitialized, first_types, Walked, walked}
 use Rattle.bytecode_typing.specs.Typed.{Typing, IsChecked, GoesOn, IsTypedAt, IsTypedMethod, Typed}

@@ -9,7 +9,8 @@ use Rattle.bytecode_model.specs.Program.{Program, Method}
 use Rattle.bytecode_model.specs.WellFormed.{IsValue}
 use Rattle.bytecode_typing.specs.Tests.{Holds, AllTwo, all_two}
 use Rattle.bytecode_typing.specs.Types.{VarType, Top, Integer, LongInteger, NullReference, UninitializedThis, Uninitialized, ReferenceTo, is_long_type, type_of, moves, substituted}
-use Rattle.bytecode_typing.specs.Assignable.{is_assignable, is_assignable_item, same_bool}
+use Rattle.bytecode_typing.specs.Assignable.{is_assignable, is_assignable_item}
+use Rattle.bytecode_model.specs.Effects.{same_bool}
 use Rattle.bytecode_typing.specs.Checks.{made_at, as_reference, seen}
 use Rattle.bytecode_typing.specs.Fits.{may_be, kind_in, Has, HasItem, HasDeclared}
 use Rattle.bytecode_typing.specs.Lawful.{Lawful}

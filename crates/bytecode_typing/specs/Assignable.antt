@@ -1,10 +1,11 @@
 -- Which type may stand for which: JVM Specification SE 8, 4.10.1.2 and 4.10.1.4.
-use Rattle.std.specs.Prelude.{◌==◌, Bool, true, false, not, ◌&&◌, ◌||◌, Option, Some, None}
+use Rattle.std.specs.Prelude.{◌==◌, Bool, true, false, ◌&&◌, ◌||◌, Option, Some, None}
 use Rattle.bytecode_model.specs.Types.{Kind, OfClass, OfReferences}
 use Rattle.bytecode_model.specs.Program.{Program, is_of}
 use Rattle.bytecode_typing.specs.Tests.{all_two}
 use Rattle.bytecode_typing.specs.Types.{VarType, Top, Integer, LongInteger, NullReference, UninitializedThis, Uninitialized, ReferenceTo, TypeFrame}
 use Rattle.bytecode_typing.specs.Types.{is_long_type}
+use Rattle.bytecode_model.specs.Effects.{same_bool}
 
 -- The verifier takes every class for an interface (4.10.1.2: an interface is treated like Object); of arrays it asks for a true supertype.
 -- What runs asks `is_of` instead.
@@ -24,10 +25,6 @@ is_assignable P (ReferenceTo k) (ReferenceTo l) = is_assignable_kind P k l
 is_assignable P UninitializedThis UninitializedThis = true
 is_assignable P (Uninitialized p) (Uninitialized q) = p == q
 is_assignable P t u = false
-
-abbrev pub same_bool : Bool → Bool → Bool
-same_bool true b = b
-same_bool false b = not b
 
 -- for an item of the operand stack, which keeps its words
 abbrev pub is_assignable_item : Program → VarType → VarType → Bool

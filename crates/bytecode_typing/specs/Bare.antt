@@ -10,7 +10,7 @@ use Rattle.bytecode_model.specs.Rows as rows
 use Rattle.bytecode_model.specs.Rows.{Row, Zero, One, Drop, Copy}
 use Rattle.bytecode_model.specs.Steps.{row_in}
 use Rattle.bytecode_typing.specs.Types.{Integer, TypeFrame}
-use Rattle.bytecode_typing.specs.Typed.{Typing, IsQuiet}
+use Rattle.bytecode_typing.specs.Typed.{Typing, RaisesNothing}
 use Rattle.bytecode_typing.specs.Typings.{frame_among}
 
 abbrev pub bare_method : Body → Method
@@ -66,7 +66,7 @@ abbrev pub StayWithin : Body → (places : List ℕ) → (depth : ℕ) → Type 
 StayWithin b [] d = ⊥
 StayWithin b (pc ∷ []) d = IsSomeAnd (row_in (bare_program b) 0 pc) (λ x. x.1 ≡ rows.Return None)
 StayWithin b (pc ∷ q ∷ qs) d =
-    IsSomeAnd (row_in (bare_program b) 0 pc) (λ x. (x.0 ≡ q) × IsQuiet x.1 × IsIntConstant x.1
+    IsSomeAnd (row_in (bare_program b) 0 pc) (λ x. (x.0 ≡ q) × RaisesNothing x.1 × IsIntConstant x.1
     × IsSomeAnd (depth_behind b x.1 d) (λ e. StayWithin b (q ∷ qs) e))
 
 -- the body of a bare image

@@ -114,12 +114,12 @@ pub record TopFits (P : Program) (types : Typing) (ks : List ℕ) (f : Frame) : 
   pub operands : AllTwo (HasItem P f.method fits.method ks) fits.frame.stack f.operands
 
 -- the row may have made a frame of the method
-abbrev pub MayCall : Program → Row → (callee : ℕ) → Type 0
-MayCall P (CallStatic c) callee = c ≡ callee
-MayCall P (CallSpecial named c) callee = c ≡ callee
-MayCall P (CallVirtual named c) callee = (receiver : ℕ) × (P.select receiver c ≡ Some callee)
-MayCall P (CallInterface named c) callee = (receiver : ℕ) × (P.select receiver c ≡ Some callee)
-MayCall P r callee = ⊥
+abbrev pub MayHaveCalled : Program → Row → (callee : ℕ) → Type 0
+MayHaveCalled P (CallStatic c) callee = c ≡ callee
+MayHaveCalled P (CallSpecial named c) callee = c ≡ callee
+MayHaveCalled P (CallVirtual named c) callee = (receiver : ℕ) × (P.select receiver c ≡ Some callee)
+MayHaveCalled P (CallInterface named c) callee = (receiver : ℕ) × (P.select receiver c ≡ Some callee)
+MayHaveCalled P r callee = ⊥
 
 -- A caller stands at an invoke that may have made the callee's frame. Its operands are what is left below the arguments, and with the callee's result on them
 -- control goes on behind the invoke.
@@ -128,7 +128,7 @@ pub record Waits (P : Program) (types : Typing) (ks : List ℕ) (callee : ℕ) (
   pub next : ℕ
   pub row : Row
   pub at_invoke : row_in P f.method f.pc ≡ Some (next, row)
-  pub may_call : MayCall P row callee
+  pub may_call : MayHaveCalled P row callee
   pub after : TypeFrame
   pub rest : List VarType
   pub flows : Holds (flows_to P after (types f.method next))

@@ -5,7 +5,7 @@ use Rattle.bytecode_model.specs.State.{State}
 use Rattle.bytecode_model.specs.Program.{Program, Limits, Method, Body, body_of}
 use Rattle.bytecode_model.specs.Sizes.{body_words}
 use Rattle.bytecode_model.specs.Steps.{step, boot_state, run_from}
-use Rattle.bytecode_model.specs.WellFormed.{IsAnswer, IsWellFormed}
+use Rattle.bytecode_model.specs.WellFormed.{IsInput, IsWellFormed}
 use Rattle.bytecode_typing.specs.Types.{TypeFrame}
 use Rattle.bytecode_typing.specs.Rules.{Rule}
 use Rattle.bytecode_typing.specs.Walk.{Failed, Frames, walked}
@@ -19,12 +19,12 @@ use Rattle.bytecode_typing.specs.Bare.{IsStraightLine, bare_program, bare_typing
 abbrev pub TypedProgramsKeep : Type 0
 TypedProgramsKeep =
     (P : Program) (types : Typing) (limits : Limits) → Lawful P → Typed P types
-    → (s : State) → IsGoing s.mode → Fits P types limits s → (answer : Option ℕ) → IsAnswer answer → IsSomeAnd (step P limits answer s) (Fits P types limits)
+    → (s : State) → IsGoing s.mode → Fits P types limits s → (answer : Option ℕ) → IsInput answer → IsSomeAnd (step P limits answer s) (Fits P types limits)
 
 -- so each state of a run from a state that fits does, where the input gives bytes and its end
 abbrev pub TypedRunsFit : Type 0
 TypedRunsFit =
-    (P : Program) (types : Typing) (limits : Limits) → Lawful P → Typed P types → (input : ℕ → Option ℕ) → ((k : ℕ) → IsAnswer (input k))
+    (P : Program) (types : Typing) (limits : Limits) → Lawful P → Typed P types → (input : ℕ → Option ℕ) → ((k : ℕ) → IsInput (input k))
     → (s : State) → Fits P types limits s → (n : ℕ) → Fits P types limits (run_from P limits input s n)
 
 -- a state that fits is well formed

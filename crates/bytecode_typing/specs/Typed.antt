@@ -5,7 +5,7 @@ use Rattle.opcodes.specs.Start.{IsStart}
 use Rattle.bytecode_model.specs.Types.{NumberType}
 use Rattle.bytecode_model.specs.Program.{Program, Method, Body}
 use Rattle.bytecode_model.specs.Rows as rows
-use Rattle.bytecode_model.specs.Rows.{Row, Takes}
+use Rattle.bytecode_model.specs.Rows.{Row, FunctionOf}
 use Rattle.bytecode_model.specs.Steps.{row_in}
 use Rattle.bytecode_typing.specs.Tests.{Holds}
 use Rattle.bytecode_typing.specs.Types.{TypeFrame, stack_words}
@@ -40,22 +40,22 @@ pub record IsTypedMethod (P : Program) (n : ℕ) (m : Method) (b : Body) (frames
   pub places : (pc : ℕ) → IfSome (frames pc) (IsTypedAt P n m b frames pc)
 
 -- the function gives a number whatever it is given
-abbrev pub IsTotal : (taken : List NumberType) → Takes taken (Option ℤ) → Type 0
+abbrev pub IsTotal : (taken : List NumberType) → FunctionOf taken (Option ℤ) → Type 0
 IsTotal [] r = IsSomeAnd r (λ n. Unit {0})
 IsTotal (t ∷ ts) compute = (n : ℤ) → IsTotal ts (compute n)
 
 -- a row that raises nothing: what a program has that comes of no class files, and so has no objects to raise
-abbrev pub IsQuiet : Row → Type 0
-IsQuiet rows.Nothing = Unit {0}
-IsQuiet (rows.Push v) = Unit {0}
-IsQuiet (rows.Compute taken given compute) = IsTotal taken compute
-IsQuiet (rows.Load sort k) = Unit {0}
-IsQuiet (rows.Store sort k) = Unit {0}
-IsQuiet (rows.Shuffle form upper lower) = Unit {0}
-IsQuiet (rows.Return given) = Unit {0}
-IsQuiet rows.Write = Unit {0}
-IsQuiet r = ⊥
+abbrev pub RaisesNothing : Row → Type 0
+RaisesNothing rows.Nothing = Unit {0}
+RaisesNothing (rows.Push v) = Unit {0}
+RaisesNothing (rows.Compute taken given compute) = IsTotal taken compute
+RaisesNothing (rows.Load sort k) = Unit {0}
+RaisesNothing (rows.Store sort k) = Unit {0}
+RaisesNothing (rows.Shuffle form upper lower) = Unit {0}
+RaisesNothing (rows.Return given) = Unit {0}
+RaisesNothing rows.Write = Unit {0}
+RaisesNothing r = ⊥
 
 pub record Typed (P : Program) (types : Typing) : Type 0 where
   pub methods : (n : ℕ) (m : Method) (b : Body) → slice_get P.methods n ≡ Some m → m.body ≡ Some b → IsTypedMethod P n m b (types n)
-  pub quiet : P.linked ≡ false → (n pc : ℕ) → IfSome (types n pc) (λ f. IsSomeAnd (row_in P n pc) (λ x. IsQuiet x.1))
+  pub quiet : P.linked ≡ false → (n pc : ℕ) → IfSome (types n pc) (λ f. IsSomeAnd (row_in P n pc) (λ x. RaisesNothing x.1))

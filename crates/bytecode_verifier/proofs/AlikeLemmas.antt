@@ -7,11 +7,11 @@ use Rattle.std.proofs.lemmas.Bool.{false≢true, eqb-true, eq-eqb, cond-true, an
 use Rattle.std.proofs.lemmas.List.{take-append-drop}
 use Rattle.std.proofs.lemmas.List.Folds.{list_all-append, list_any-append}
 use Rattle.lists.specs.Lists.{onto, index_of}
-use Rattle.lists.specs.Lemmas.{none≢some, some_same, onto_some, index_found, index_there}
+use Rattle.lists.proofs.Lemmas.{none≢some, some_same, onto_some, index_found, index_there}
 use Rattle.class_pool.specs.declared.class.Code.{Code}
 use Rattle.class_pool.specs.declared.class.Member.{Member}
 use Rattle.class_pool.specs.declared.class.ClassFile.{ClassFile}
-use Rattle.class_pool.specs.Grammar.{class_name_of}
+use Rattle.class_pool.specs.Grammar.{class_name_of, text_at}
 use Rattle.descriptors.specs.declared.descriptor.FieldType.{FieldType}
 use Rattle.descriptors.specs.declared.descriptor.MethodType.{MethodType}
 use Rattle.descriptors.specs.Descriptors.{IsType, IsMethodDescriptor}
@@ -19,7 +19,7 @@ use Rattle.descriptors.specs.Names.{is_class_name}
 use Rattle.descriptors.specs.Parsing as descriptors
 use Rattle.class_rules.specs.Rules.{IsRightMethod}
 use Rattle.class_rules.specs.Grammar.{IsClass}
-use Rattle.class_lookup.specs.Parts.{text_at, same_text, name_of}
+use Rattle.class_lookup.specs.Parts.{same_text, name_of}
 use Rattle.class_lookup.specs.Hierarchy.{find_class}
 use Rattle.class_lookup.specs.Laws.{Comparisons}
 use Rattle.program_tables.specs.declared.refusal.Item.{Item}

@@ -20,7 +20,8 @@ use Rattle.descriptors.specs.Descriptors.{letter_of, behind_letter, type_units, 
 use Rattle.descriptors.specs.Names.{is_class_name}
 use Rattle.descriptors.specs.Parsing as descriptors
 use Rattle.descriptors.specs.Parsing.{field_in}
-use Rattle.class_lookup.specs.Parts.{text_at, same_text, name_of, signature_of, is_static, is_init}
+use Rattle.class_lookup.specs.Parts.{same_text, name_of, signature_of, is_static, is_init}
+use Rattle.class_pool.specs.Grammar.{text_at}
 use Rattle.class_lookup.specs.Hierarchy.{find_class}
 use Rattle.bytecode_model.specs.Types.{IntType, LongType, Kind, OfClass, OfNumbers, Declared, Numeric, Reference}
 use Rattle.bytecode_model.specs.Program.{Method}

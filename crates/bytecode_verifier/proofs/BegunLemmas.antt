@@ -3,7 +3,7 @@ use Rattle.std.proofs.Common.{◌≡◌, ℕ, Bool, List, [], ◌∷◌, map, So
 use Rattle.std.specs.Prelude.{if◌then◌else◌}
 use Rattle.class_pool.specs.declared.class.ClassFile.{ClassFile}
 use Rattle.class_pool.specs.declared.class.Code.{Code}
-use Rattle.lists.specs.Lemmas.{some_same}
+use Rattle.lists.proofs.Lemmas.{some_same}
 use Rattle.frame_types.specs.declared.types.VarType as names
 use Rattle.frame_types.specs.declared.steps.FirstLocal.{FirstLocal}
 use Rattle.frame_types.specs.Locals.{first_locals}

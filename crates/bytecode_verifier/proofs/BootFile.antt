@@ -11,7 +11,7 @@ use Rattle.class_pool.specs.declared.entry.Entry.{Entry}
 use Rattle.class_pool.specs.declared.class.Body.TheVariants as bodies
 use Rattle.class_pool.specs.declared.class.Member.{Member}
 use Rattle.class_pool.specs.declared.class.ClassFile.{ClassFile}
-use Rattle.class_pool.specs.Grammar.{entry_at, utf8_of, class_name_of, name_and_type_of}
+use Rattle.class_pool.specs.Grammar.{entry_at, utf8_of, class_name_of, name_and_type_of, text_at}
 use Rattle.class_making.specs.declared.item.Item.{Item}
 use Rattle.class_making.specs.declared.item.Item.TheVariants.{Text, Class, Method}
 use Rattle.class_making.specs.declared.plan.Piece.{Piece}
@@ -21,7 +21,7 @@ use Rattle.class_making.specs.Laws.{PlansHaveEntries, ItemsAreFew}
 use Rattle.core_classes.specs.Core as core
 use Rattle.core_classes.specs.Core.{object_name, string_name, no_arguments, call_pieces, main_pieces, boot_pieces, boot_method, boot_plan, boot}
 use Rattle.core_classes.specs.Laws.{BootSaysPlan}
-use Rattle.class_lookup.specs.Parts.{text_at, class_text, name_of, superclass_name}
+use Rattle.class_lookup.specs.Parts.{class_text, name_of, superclass_name}
 use Rattle.lists.specs.Lists.{onto}
 use Rattle.program_tables.specs.Core.{boot_name}
 use Rattle.program_tables.specs.Instructions as named

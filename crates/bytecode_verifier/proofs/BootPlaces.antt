@@ -5,7 +5,7 @@ use Rattle.std.specs.Option.{option_to_list}
 use Rattle.std.specs.List.{range_with_len, enumerate_from, filter, flat_map}
 use Rattle.lists.specs.Lists.{first_some}
 use Rattle.lists.specs.Numbers.{reached}
-use Rattle.lists.specs.Lemmas.{some_same, index_found, index_there}
+use Rattle.lists.proofs.Lemmas.{some_same, index_found, index_there}
 use Rattle.class_pool.specs.declared.class.ClassFile.{ClassFile}
 use Rattle.class_lookup.specs.Parts.{Signature, is_init}
 use Rattle.class_lookup.specs.Hierarchy.{superclass, superinterfaces, is_interface, superclasses, with_superinterfaces, all_superinterfaces}

@@ -5,12 +5,13 @@ use Rattle.std.specs.Option.{option_map, option_map_or}
 use Rattle.std.specs.Cmp.Lexicographic.{same_text as texts_same}
 use Rattle.std.proofs.lemmas.Option.{slice_get_within}
 use Rattle.lists.specs.Lists.{onto}
-use Rattle.lists.specs.Lemmas.{index_found, map_some, onto_some}
+use Rattle.lists.proofs.Lemmas.{index_found, map_some, onto_some}
 use Rattle.class_pool.specs.declared.class.Code.{Code}
 use Rattle.class_pool.specs.declared.class.Member.{Member}
 use Rattle.class_pool.specs.declared.class.ClassFile.{ClassFile}
 use Rattle.core_classes.specs.Linkage.{DeclaresStatic}
-use Rattle.class_lookup.specs.Parts.{Signature, signature_of, text_at, class_text, is_static, is_init, same_text, same_signature}
+use Rattle.class_lookup.specs.Parts.{Signature, signature_of, class_text, is_static, is_init, same_text, same_signature}
+use Rattle.class_pool.specs.Grammar.{text_at}
 use Rattle.class_lookup.specs.Hierarchy.{find_class}
 use Rattle.class_lookup.specs.Lookup.{Place, declared_in, declared_method, find_method}
 use Rattle.descriptors.specs.Parsing.{primitive_in, split_in, class_in, element_in, type_from, types_in, field_in, result_in, method_in as method_type_in}

@@ -22,7 +22,8 @@ use Rattle.class_making.specs.Laws.{PlansHaveEntries, ItemsAreFew}
 use Rattle.core_classes.specs.Core.{core, string_name, call_pieces, main_pieces, boot_pieces, boot_plan, empty_init, object_plan, interface_plan, length_method, char_at_method, string_plan, plain_init, keeping_init, get_message_method, throwable_plan, handing_init, error_plan, error_plans, read_method, write_method, io_plan, first_plans, core_plans}
 use Rattle.core_classes.specs.Laws.{BootSaysPlan}
 use Rattle.core_classes.specs.Linkage.{DeclaresStatic, initializer, main_signature}
-use Rattle.class_lookup.specs.Parts.{Signature, text_at, is_static, is_init}
+use Rattle.class_lookup.specs.Parts.{Signature, is_static, is_init}
+use Rattle.class_pool.specs.Grammar.{text_at}
 use Rattle.class_lookup.specs.Hierarchy.{supertypes}
 use Rattle.descriptors.specs.Parsing.{primitive_in, split_in, class_in, element_in, type_from, types_in, field_in, result_in, method_in as method_type_in}
 use Rattle.opcodes.specs.declared.instruction.Instr.{Instr}

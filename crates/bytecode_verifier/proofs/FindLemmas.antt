@@ -2,7 +2,7 @@
 use Rattle.std.proofs.Common.{◌≡◌, ℕ, suc, Bool, true, false, List, Option, Some, None, sym, ap}
 use Rattle.std.specs.Prelude.{if◌then◌else◌}
 use Rattle.lists.specs.Lists.{onto}
-use Rattle.lists.specs.Lemmas.{none≢some, some_same}
+use Rattle.lists.proofs.Lemmas.{none≢some, some_same}
 use Rattle.bytecode_model.specs.Types.{Kind, OfReferences}
 use Rattle.program_tables.specs.Kinds.{arrays_of}
 use Rattle.bytecode_model.specs.Rows.{Row}

@@ -4,7 +4,7 @@ use Rattle.std.specs.Prelude.{IfSome}
 use Rattle.std.specs.Option.{option_map}
 use Rattle.opcodes.specs.declared.instruction.Instr.{Instr}
 use Rattle.lists.specs.Lists.{onto}
-use Rattle.lists.specs.Lemmas.{none≢some, some_same, onto_some}
+use Rattle.lists.proofs.Lemmas.{none≢some, some_same, onto_some}
 use Rattle.bytecode_model.specs.Program.{Program, Operand, body_of, as_instr, instr_at}
 use Rattle.opcodes.specs.Instruction.{decoded}
 use Rattle.bytecode_model.specs.Rows as rows

@@ -10,7 +10,7 @@ use Rattle.class_pool.specs.declared.entry.Entry.{Entry}
 use Rattle.frame_types.specs.declared.steps.EntryType.{EntryType}
 use Rattle.frame_types.specs.Steps.{named}
 use Rattle.bytecode_typing.specs.Types.{VarType, Top, is_long_type}
-use Rattle.lists.specs.Lemmas.{some_same}
+use Rattle.lists.proofs.Lemmas.{some_same}
 use Rattle.verifier_types.specs.declared.types.VarType as codes
 use Rattle.verifier_types.specs.Seen.{type_seen, types_seen}
 use Rattle.verifier_types.specs.Locals.{HasListsOf, LocalTable, filled, with_types, changed_types}

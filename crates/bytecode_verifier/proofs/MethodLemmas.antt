@@ -12,7 +12,7 @@ use Rattle.class_rules.specs.Grammar.{IsClass}
 use Rattle.class_rules.specs.Found.{MethodsHaveCode}
 use Rattle.class_lookup.specs.Lookup.{Place, method_at}
 use Rattle.lists.specs.Lists.{onto}
-use Rattle.lists.specs.Lemmas.{none≢some, map_some, onto_some}
+use Rattle.lists.proofs.Lemmas.{none≢some, map_some, onto_some}
 use Rattle.bytecode_model.specs.Program as model
 use Rattle.bytecode_model.specs.Program.{Method, Body}
 use Rattle.frame_types.specs.Frames.{frames_of}

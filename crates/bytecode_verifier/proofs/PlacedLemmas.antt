@@ -12,7 +12,7 @@ use Rattle.opcodes.specs.declared.instruction.DecodeFault.{DecodeFault}
 use Rattle.opcodes.specs.Instruction.{decoded}
 use Rattle.opcodes.specs.Start.{IsStart, starts_of, AreStarts}
 use Rattle.lists.specs.Lists.{onto}
-use Rattle.lists.specs.Lemmas.{none≢some, onto_some}
+use Rattle.lists.proofs.Lemmas.{none≢some, onto_some}
 use Rattle.lists.specs.Members.{cons_cases, nil_contains}
 use Rattle.bytecode_model.specs.Lists.{natural}
 use Rattle.bytecode_model.specs.Types.{IntType, LongType, Declared, Numeric, Reference, Moved, Numbers, References}

@@ -10,7 +10,7 @@ use Rattle.class_pool.specs.declared.class.Code.{Code}
 use Rattle.class_pool.specs.declared.entry.Entry.{Entry}
 use Rattle.bytecode_model.specs.Types.{Kind}
 use Rattle.lists.specs.Lists.{onto}
-use Rattle.lists.specs.Lemmas.{none≢some, some_same}
+use Rattle.lists.proofs.Lemmas.{none≢some, some_same}
 use Rattle.frame_types.specs.declared.types.VarType as names
 use Rattle.frame_types.specs.declared.types.VarType.TheVariants as name
 use Rattle.frame_types.specs.declared.types.TypeFrame as frames

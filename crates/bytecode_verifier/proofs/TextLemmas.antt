@@ -6,10 +6,11 @@ use Rattle.class_pool.specs.declared.entry.Entry.{Entry}
 use Rattle.class_pool.specs.declared.entry.Entry.TheVariants as entries
 use Rattle.class_pool.specs.declared.class.ClassFile.{ClassFile}
 use Rattle.class_pool.specs.Found.{code_of}
-use Rattle.class_lookup.specs.Parts.{same_text, text_at}
+use Rattle.class_lookup.specs.Parts.{same_text}
+use Rattle.class_pool.specs.Grammar.{text_at}
 use Rattle.class_lookup.specs.Lookup.{Place, same_place, find_field, find_method, method_at}
 use Rattle.lists.specs.Lists.{onto, index_of}
-use Rattle.lists.specs.Lemmas.{index_found}
+use Rattle.lists.proofs.Lemmas.{index_found}
 use Rattle.bytecode_model.specs.declared.Value.TheVariants.{Ref}
 use Rattle.bytecode_model.specs.State.{Object}
 use Rattle.bytecode_model.specs.Program.{Operand, NoOperand, AnInt, ALong, AString, AStatic, AField, AMethod, AType, kind_of}

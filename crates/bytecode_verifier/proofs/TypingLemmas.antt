@@ -11,7 +11,7 @@ use Rattle.class_pool.specs.declared.class.ClassFile.{ClassFile}
 use Rattle.class_pool.specs.Found.{otherwise}
 use Rattle.class_rules.specs.Found.{MethodsHaveCode}
 use Rattle.lists.specs.Lists.{onto}
-use Rattle.lists.specs.Lemmas.{none≢some}
+use Rattle.lists.proofs.Lemmas.{none≢some}
 use Rattle.bytecode_model.specs.Types.{Kind}
 use Rattle.bytecode_model.specs.Program.{Method, Body}
 use Rattle.frame_types.specs.declared.types.VarType as names

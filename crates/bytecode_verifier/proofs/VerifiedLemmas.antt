@@ -8,7 +8,7 @@ use Rattle.class_pool.specs.declared.class.Code.{Code}
 use Rattle.class_pool.specs.declared.class.ClassFile.{ClassFile}
 use Rattle.class_pool.specs.Found.{otherwise}
 use Rattle.class_rules.specs.Found.{MethodsHaveCode}
-use Rattle.lists.specs.Lemmas.{none≢some, some_same, some_is, some_in}
+use Rattle.lists.proofs.Lemmas.{none≢some, some_same, some_is, some_in}
 use Rattle.lists.specs.Members.{at_head, in_tail, cons_cases, nil_contains}
 use Rattle.bytecode_model.specs.Program.{Method, Body}
 use Rattle.frame_types.specs.declared.types.Frames.{Frames}

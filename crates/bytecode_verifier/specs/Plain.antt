@@ -6,14 +6,14 @@ use Rattle.bytecode_model.specs.declared.Value.{Value}
 use Rattle.bytecode_model.specs.declared.Value.TheVariants.{Int, Long, Ref, Null, Unset}
 use Rattle.bytecode_model.specs.Types.{NumberType}
 use Rattle.bytecode_model.specs.Rows as rows
-use Rattle.bytecode_model.specs.Rows.{Row, Takes}
+use Rattle.bytecode_model.specs.Rows.{Row, FunctionOf}
 use Rattle.bytecode_typing.specs.Rules as rule
 use Rattle.bytecode_typing.specs.Rules.{Checked, Fails}
 use Rattle.bytecode_typing.specs.Types.{TypeFrame}
 use Rattle.verifier_types.specs.Site.{Site, check_at}
 
 -- whatever is taken, this
-abbrev pub any_of : {R : Type 0} → (taken : List NumberType) → R → Takes taken R
+abbrev pub any_of : {R : Type 0} → (taken : List NumberType) → R → FunctionOf taken R
 any_of [] r = r
 any_of (t ∷ ts) r = λ n. any_of ts r
 

@@ -6,7 +6,7 @@ abbrev pub AreDistinct : List ℕ → Type 0
 AreDistinct ms = AllPairs (λ a b. a ≢ b) ms
 
 -- numbers of some of so many methods, each once
-pub record AreMembers (methods : ℕ) (members : List ℕ) : Type 0 where
+pub record AreRegionMembers (methods : ℕ) (members : List ℕ) : Type 0 where
   pub few : length members < 2 ^ 16
   pub within : All (λ m. m < methods) members
   pub distinct : AreDistinct members

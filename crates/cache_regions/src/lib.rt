@@ -2,14 +2,14 @@
 #![tactic(auto)]
 
 ghost use Rattle.std.specs.Prelude.{◌≡◌, ◌≤◌, ◌↔◌, IsTrue, length};
-ghost use Rattle.cache_regions.specs.Region.{AreMembers, FitsCache, stall_of};
+ghost use Rattle.cache_regions.specs.Region.{AreRegionMembers, FitsCache, stall_of};
 
 pub mod laws;
 
 /// Whether methods can all be in a cache of so many blocks at once. `sizes` has the blocks that each
 /// method takes, by its number.
 pub fn fits(sizes: &[u32], members: &[u32], blocks: u32) -> bool
-    requires { AreMembers (length sizes.now) members.now }
+    requires { AreRegionMembers (length sizes.now) members.now }
     ensures { IsTrue result ↔ FitsCache sizes.now members.now blocks }
 {
     let mut taken = 0u64;
@@ -22,7 +22,7 @@ pub fn fits(sizes: &[u32], members: &[u32], blocks: u32) -> bool
 /// The cycles that the loads of methods stall, each of them once, where a read waits `r` cycles
 /// (JOP Reference Handbook, "Method Cache"). `words` has the code words of each method, by its number.
 pub fn load_sum(words: &[u32], members: &[u32], r: u32) -> u64
-    requires members { AreMembers (length words.now) members.now }
+    requires members { AreRegionMembers (length words.now) members.now }
     requires wait { r ≤ 63 }
     ensures { result ≡ stall_of r words.now members.now }
 {

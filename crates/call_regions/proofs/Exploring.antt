@@ -9,7 +9,7 @@ use Rattle.method_cache.specs.Contents.{blocks_for}
 use Rattle.std.proofs.lemmas.List.{append-nil, append_assoc, get_or_append_left}
 use Rattle.std.proofs.lemmas.List.Elements.{All-contains, Contains-append_left}
 use Rattle.std.proofs.lemmas.Option.{slice_get-get_or, slice_get_within, get_or_from_slice_get}
-use Rattle.lists.specs.Lemmas.{some_same}
+use Rattle.lists.proofs.Lemmas.{some_same}
 use Rattle.method_flow.specs.Flow.{Flow, Coded}
 use Rattle.call_regions.specs.Tables.{IsOfTable, IsTargetOf, Runs, IsReached, words_of, blocks_in}
 use Rattle.call_regions.specs.Tables.IsReached.{given, later}

@@ -10,7 +10,7 @@ use Rattle.bytecode_model.specs.Rows as rows
 use Rattle.bytecode_model.specs.Rows.{Row}
 use Rattle.bytecode_model.specs.Steps.{row_in}
 use Rattle.bytecode_model.specs.WellFormed.{is_call}
-use Rattle.lists.specs.Lemmas.{onto_some, some_same, some_is, some_in, holds_at}
+use Rattle.lists.proofs.Lemmas.{onto_some, some_same, some_is, some_in, holds_at}
 use Rattle.lists.specs.Members.{at_head, in_tail, cons_cases, nil_contains, map_contains}
 use Rattle.method_flow.specs.declared.flow.Call.{Call}
 use Rattle.method_flow.specs.Calls.{targets_of_row, IsTarget, IsCall, IsStartOf}

@@ -1,7 +1,7 @@
 -- An order of the table is one of the program, and so is a cycle.
 use Rattle.std.proofs.Common.{◌≡◌, ℕ, zero, suc, ◌+◌, ◌-◌, ◌<◌, List, [], ◌∷◌, length, get_or, take, All, Contains, Some, is_some, refl, sym, ap, subst, inl, inr, arith}
 use Rattle.std.specs.Prelude.{slice_get}
-use Rattle.lists.specs.Lemmas.{some_is}
+use Rattle.lists.proofs.Lemmas.{some_is}
 use Rattle.lists.specs.Members.{at_head, cons_cases, nil_contains}
 use Rattle.bytecode_model.specs.Program.{Program, Body, body_of}
 use Rattle.opcodes.specs.Start.{IsStart}

@@ -2,7 +2,7 @@
 use Rattle.std.proofs.Common.{◌≡◌, ◌≢◌, ℕ, ◌<◌, Bool, List, [], ◌∷◌, ◌++◌, length, set, drop, replicate, All, Contains, Option, Some, None, MatchOption, refl, sym, ap, ◌∙◌, subst, inl, inr, arith}
 use Rattle.std.proofs.lemmas.Bool.{cases_eq, cases_lt, false≢true}
 use Rattle.std.proofs.lemmas.List.{length-set, length-replicate, get_or-set_same, get_or-set_other, get_or-replicate, get_or_past}
-use Rattle.lists.specs.Lemmas.{some_same, none≢some}
+use Rattle.lists.proofs.Lemmas.{some_same, none≢some}
 use Rattle.lists.specs.Members.{at_head, cons_cases, nil_contains}
 use Rattle.method_flow.specs.declared.flow.Call.{Call}
 use Rattle.std.specs.Prelude.{slice_get}

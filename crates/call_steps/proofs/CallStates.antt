@@ -22,7 +22,6 @@ use Rattle.bytecode_model.specs.Effects.{Call, fault_object, StackOverflowError}
 use Rattle.bytecode_model.specs.Steps.{applied, taken_types, with_top, raising}
 use Rattle.image_facts.specs.Places.{Places, object_place, end_of, pool_of}
 use Rattle.image_facts.specs.Says as says
-use Rattle.image_facts.specs.Says.{SaysAll, SaysLinked, Means, MeansMethod}
 use Rattle.machine_stands.specs.Frames.{FrameWords, AreOperands, AreFrames, Saves, stacked, sp_over, vp_over}
 use Rattle.machine_stands.specs.StandsFor.{limits_of}
 use Rattle.machine_stands.specs.Comes.{params, ComesTo}
@@ -36,7 +35,7 @@ use Rattle.machine_stands.specs.Again.{registers_of}
 use Rattle.machine_stands.specs.Reading.{IsAtRow}
 use Rattle.machine_stands.specs.Shown.{Shows}
 use Rattle.call_steps.specs.Method as record_at
-use Rattle.call_steps.specs.Method.{with_method, looked_up, as_it_stands}
+use Rattle.call_steps.specs.Method.{with_method}
 use Rattle.call_steps.specs.Entry.{sum_with, fits_at, CanEnter, enter, overflow_at, Enters}
 use Rattle.call_steps.specs.Coming.{IsRead, RowEnters, CallsCome}
 use Rattle.call_steps.proofs.Arguments.{Entered, entered, arguments_words, turned_words, arguments_fit, reversed}
@@ -95,7 +94,7 @@ module _ (laws : CallLaws) (P : Program) (pl : Places) (n size : ℕ) (m : machi
   -- they are as many words as the method takes
   pub record Counts (c : Callee) (a : Given c) : Type 0 where
     pub values : length a.arguments ≡ sum_by value_words taken
-    pub arguments : length a.arguments ≡ says.argument_words c.method
+    pub arguments : length a.arguments ≡ says.argument_words_of c.method
     pub most : length a.arguments ≤ c.body.max_locals
     pub others : length a.others ≤ h.stands.body.max_stack
 

@@ -15,7 +15,7 @@ use Rattle.bytecode_model.specs.WellFormed.{IsWellFormed}
 use Rattle.image_facts.specs.Within.{LieAt}
 use Rattle.image_facts.specs.Places.{Places, words_with}
 use Rattle.image_facts.specs.Says as says
-use Rattle.image_facts.specs.Says.{Says, SaysAll, SaysLinked, SaysMethod, IsCode, method_words, handler_words}
+use Rattle.image_facts.specs.Says.{Says, SaysAll, SaysLinked, IsCode, method_words, handler_words}
 use Rattle.image_facts.specs.Laws.{FixedWordsLie, ListsGoOn, LieThrough, RangesAreRead}
 use Rattle.memory_timing.specs.Port.{padded}
 use Rattle.machine_stands.specs.StandsFor.{StandsFor, limits_of}
@@ -96,7 +96,7 @@ read_here laws P pl n size m s st y well says_all linked j k b method body body_
     let r3 = read 3 (omega arith) in
     let first : slice_index memory place ≡ b.max_locals * 2 ^ 16 + b.max_stack = ap (λ (i : ℕ). slice_index memory i) (sym (add-zero place)) ∙ r0.1 in
     let few : words_for (length b.code) < 2 ^ 16 = few_words (length b.code) code.short in
-    let count : code_words memory place ≡ length cs = ap (λ (w : ℕ). w % 2 ^ 16) r1.1 ∙ low_half (says.argument_words k) (words_for (length b.code)) few ∙ sym (laws.packed b.code) in
+    let count : code_words memory place ≡ length cs = ap (λ (w : ℕ). w % 2 ^ 16) r1.1 ∙ low_half (says.argument_words_of k) (words_for (length b.code)) few ∙ sym (laws.packed b.code) in
     let lies : LieAt memory place ws =
     subst (λ (zs : List ℕ). LieAt zs place ws) (sym st.memory)
     (lie_padded laws.ahead size (words_with P pl s.statics s.objects) place ws (laws.fixed P pl s.statics s.objects place ws well.statics said.words)) in
@@ -111,7 +111,7 @@ read_here laws P pl n size m s st y well says_all linked j k b method body body_
       stack = ap (λ (w : ℕ). w % 2 ^ 16) first ∙ low_half b.max_locals b.max_stack said.max_stack;
       few_locals = said.max_locals;
       few_operands = said.max_stack;
-      arguments = ap (λ (w : ℕ). w / 2 ^ 16) r1.1 ∙ high_half (says.argument_words k) (words_for (length b.code)) few;
+      arguments = ap (λ (w : ℕ). w / 2 ^ 16) r1.1 ∙ high_half (says.argument_words_of k) (words_for (length b.code)) few;
       pool_is = r2.1;
       is_method = record { limits = omega (arith, first, both_halves b.max_locals b.max_stack said.max_locals said.max_stack); place = omega (arith, r2.0, small); found = both_tests _ _ can fits };
       code = ap (λ (i : ℕ). slice_range memory i (i + code_words memory place)) at

@@ -4,7 +4,7 @@ use Rattle.std.specs.Prelude.{slice_get, slice_index, All, IfSome, IsSomeAnd}
 use Rattle.std.proofs.lemmas.Option.{none-some}
 use Rattle.std.proofs.lemmas.List.{get_or-drop, length-reverse, reverse-append, reverse-reverse}
 use Rattle.std.proofs.lemmas.List.Sums.{sum_by-cons}
-use Rattle.lists.specs.Lemmas.{holds_at, onto_some, some_is, some_same}
+use Rattle.lists.proofs.Lemmas.{holds_at, onto_some, some_is, some_same}
 use Rattle.base.specs.Packed.{words_of_bytes}
 use Rattle.stack_cache.specs.Size.{IsSize}
 use Rattle.method_cache.specs.Contents.{Cache, is_cached, loaded}

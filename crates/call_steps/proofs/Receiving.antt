@@ -5,7 +5,7 @@ use Rattle.std.specs.List.{sum_by}
 use Rattle.std.proofs.lemmas.Option.{none-some}
 use Rattle.std.proofs.lemmas.List.Sums.{sum_by-cons, sum_by-append}
 use Rattle.machine_stands.proofs.Defined.{on_defined, only_if_defined}
-use Rattle.lists.specs.Lemmas.{some_same}
+use Rattle.lists.proofs.Lemmas.{some_same}
 use mathlib.Core.List.{reverse_aux, reverse_aux-eq}
 use Rattle.opcodes.specs.Bytes.{u2}
 use Rattle.opcodes.specs.Form.{Operands, UnsignedShort, UnsignedByte, one}
@@ -23,7 +23,7 @@ use Rattle.bytecode_model.specs.Table.{row_of, by_method}
 use Rattle.bytecode_model.specs.Effects.{Effect, Call, IncompatibleClassChangeError, fault, on, only_if, on_values, on_object, on_receiver, has_class, selected, effect}
 use Rattle.bytecode_model.specs.Steps.{applied}
 use Rattle.image_facts.specs.Words.{declared_words}
-use Rattle.image_facts.specs.Says.{argument_words}
+use Rattle.image_facts.specs.Says.{argument_words_of}
 use Rattle.call_steps.specs.Tables.{TableCall, Invokevirtual, Invokespecial, Invokeinterface, table_code}
 use Rattle.machine_stands.specs.Reading.{operands_of}
 
@@ -188,7 +188,7 @@ received P limits answer s f callers s' op named t next h =
     }
 
 -- its arguments are these and the receiver
-pub arguments_are : (k : Method) → k.has_this ≡ true → argument_words k ≡ 1 + sum_by declared_words k.parameters
+pub arguments_are : (k : Method) → k.has_this ≡ true → argument_words_of k ≡ 1 + sum_by declared_words k.parameters
 arguments_are k h = ap (λ (b : Bool). sum_by declared_words (if b then Reference (OfClass k.owner) ∷ k.parameters else k.parameters)) h ∙ sum_by-cons declared_words (Reference (OfClass k.owner)) k.parameters
 
 -- ---- the method that is chosen

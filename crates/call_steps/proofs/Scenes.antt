@@ -3,7 +3,7 @@ use Rattle.std.proofs.Common.{◌≡◌, ℕ, ◌+◌, ◌-◌, ◌*◌, ◌%◌
 use Rattle.std.specs.Prelude.{slice_index, IsSomeAnd}
 use Rattle.std.proofs.lemmas.List.{get_or-drop}
 use Rattle.std.proofs.lemmas.List.Sums.{sum_by-cons}
-use Rattle.lists.specs.Lemmas.{holds_at}
+use Rattle.lists.proofs.Lemmas.{holds_at}
 use Rattle.stack_cache.specs.Size.{IsSize}
 use Rattle.method_cache.specs.Contents.{Cache, is_cached, loaded}
 use Rattle.micro_flow.specs.declared.CostParams.{CostParams}

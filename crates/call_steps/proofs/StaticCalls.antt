@@ -4,7 +4,7 @@ use Rattle.std.specs.Prelude.{slice_get, slice_index, IsSome}
 use Rattle.std.proofs.Math.Nat.{mod-eq_of_lt}
 use Rattle.std.proofs.lemmas.Option.{none-some}
 use Rattle.machine_stands.proofs.Defined.{on_defined}
-use Rattle.lists.specs.Lemmas.{holds_at, onto_some, some_same}
+use Rattle.lists.proofs.Lemmas.{holds_at, onto_some, some_same}
 use Rattle.opcodes.specs.declared.instruction.Instr.{Instr}
 use Rattle.opcodes.specs.Bytes.{u1, u2}
 use Rattle.opcodes.specs.Form.{one, UnsignedShort}

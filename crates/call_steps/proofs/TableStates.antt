@@ -10,7 +10,7 @@ use Rattle.stack_cache.specs.Size.{IsSize}
 use Rattle.std.proofs.lemmas.List.Sums.{sum_by-cons, sum_by-append}
 use Rattle.machine_stands.proofs.Seeing.{parts_same}
 use Rattle.machine_stands.proofs.Defined.{class_is, object_at, on_defined}
-use Rattle.lists.specs.Lemmas.{holds_at, onto_some, some_is, some_same}
+use Rattle.lists.proofs.Lemmas.{holds_at, onto_some, some_is, some_same}
 use Rattle.opcodes.specs.declared.instruction.Instr.{Instr}
 use Rattle.opcodes.specs.Bytes.{u1, u2}
 use Rattle.opcodes.specs.Reading.{plain_instr}
@@ -165,10 +165,10 @@ module _ (laws : StateLaws) (P : Program) (pl : Places) (n size : ℕ) (m : mach
       record { means = subst (λ (a : ℕ). M a (second_word x)) (sym first) (subst (λ (b : ℕ). M e.first b) (sym second) means) }
 
   -- the words of its arguments
-  taken_is : (c : Named) → taken_words op x ≡ says.argument_words c.is.method
+  taken_is : (c : Named) → taken_words op x ≡ says.argument_words_of c.is.method
   taken_is c = of op (entry_of c).means
     where
-      of : (o : TableCall) → MeansMethod P pl (table_code o) c.named c.t c.is.method (first_word x) (second_word x) → taken_words o x ≡ says.argument_words c.is.method
+      of : (o : TableCall) → MeansMethod P pl (table_code o) c.named c.t c.is.method (first_word x) (second_word x) → taken_words o x ≡ says.argument_words_of c.is.method
       of Invokevirtual means = (means.virtual refl).0
       of Invokeinterface means = (means.interface refl).0
       of Invokespecial means =

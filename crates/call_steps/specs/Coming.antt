@@ -36,7 +36,7 @@ pub record IsRead (P : Program) (pl : Places) (x : Sketch) (k : Method) (b : Bod
   pub stack : max_stack x.memory m ≡ b.max_stack
   pub few_locals : b.max_locals < 2 ^ 16
   pub few_operands : b.max_stack < 2 ^ 16
-  pub arguments : argument_words x.memory m ≡ says.argument_words k
+  pub arguments : argument_words x.memory m ≡ says.argument_words_of k
   pub pool_is : pool x.memory m ≡ pl.pool k.owner
   pub is_method : IsMethod x m
   pub code : found_words x m ≡ words_of_bytes b.code

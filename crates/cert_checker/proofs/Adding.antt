@@ -5,12 +5,12 @@ use Rattle.std.specs.List.Sorted.{IsStrictlyIncreasing}
 use Rattle.std.proofs.lemmas.Bool.{cases_lt, cases_order}
 use Rattle.std.proofs.lemmas.List.{get_or-map, get_or-set_same, get_or-set_other, length-set, length-map}
 use Rattle.std.proofs.lemmas.Option.{slice_get_within, get_or_from_slice_get}
-use Rattle.lists.specs.Lemmas.{some_same}
+use Rattle.lists.proofs.Lemmas.{some_same}
 use Rattle.lists.specs.Members.{rising_apart}
 use Rattle.method_flow.specs.declared.flow.Call.{Call}
 use Rattle.method_flow.specs.Flow.{places_of}
 use Rattle.cert_checker.specs.declared.summaries.Summary.{Summary}
-use Rattle.cert_checker.specs.Prepared.{AreAdded}
+use Rattle.cert_checker.specs.Prepared.{AreCostsOf}
 
 -- it is added at the first i of the calls
 pub record AreAddedTo (own : List ℕ) (calls : List Call) (summaries : List Summary) (i : ℕ) (costs : List ℕ) : Type 0 where
@@ -75,7 +75,7 @@ added_more own calls summaries i costs c s sum rise ci si inside is h = record {
       ∙ h.others u (λ k e early ek. apart k e (omega arith) ek);
 }
 
-pub added_all : (own : List ℕ) (calls : List Call) (summaries : List Summary) (i : ℕ) (costs : List ℕ) → length calls ≤ i → AreAddedTo own calls summaries i costs → AreAdded own calls summaries costs
+pub added_all : (own : List ℕ) (calls : List Call) (summaries : List Summary) (i : ℕ) (costs : List ℕ) → length calls ≤ i → AreAddedTo own calls summaries i costs → AreCostsOf own calls summaries costs
 added_all own calls summaries i costs all h = record {
   long = h.long;
   at_calls = λ k c s ck sk. let below = slice_get_within calls k c ck in h.at_calls k c s (omega arith) ck sk;

@@ -12,24 +12,24 @@ use Rattle.method_flow.specs.Keeping.{BoundOf}
 use Rattle.method_flow.specs.declared.timing.Timing.{Timing}
 use Rattle.flow_graph.specs.Reach.{flag_at}
 use Rattle.bound_rules.specs.Told.{Valued}
-use Rattle.bound_rules.specs.Sections.{AreFees, IsLacking, IsNoNode, MeetsSection, SectionView, section_bounds}
+use Rattle.bound_rules.specs.Sections.{AreEntryLoads, IsLacking, IsNoNode, MeetsSection, SectionView, section_bounds}
 use Rattle.bound_rules.specs.Refused.{IsWrong}
 use Rattle.cert_checker.specs.Prepared.{IsPrepared, IsUnflagged}
 use Rattle.cert_checker.specs.Answer.{FailsOrMemory, joined}
 use Rattle.method_flow.specs.Flow.{IsFlowOf}
 use Rattle.bound_rules.specs.declared.faults.CheckFault.{CheckFault}
 use Rattle.bound_rules.specs.Refused.{FailsAtTarget}
-use Rattle.cert_checker.specs.Setting.{Setting}
+use Rattle.cert_checker.specs.Setting.{CheckSetting}
 use Rattle.cert_checker.specs.Section.{AnswersFor, IsWrongBeside, PreparedMeets, PreparedFails, bounds_in}
 use Rattle.cert_checker.specs.declared.prepared.Prepared.{Prepared}
-use Rattle.section_check.specs.LeastLemmas.{least_either}
+use Rattle.section_check.proofs.LeastLemmas.{least_either}
 
 bool_false : (b : Bool) → (b ≡ true → ⊥) → b ≡ false
 bool_false true not = elim (not refl) [ ]
 bool_false false not = refl
 
 -- what a section is checked with, by what is prepared and its fees
-abbrev pub view_of : (P : Program) (t : Timing) (earlier : List Valued) (s : CertSection) (p : Prepared) (fees : List (Option ℕ)) → IsSome (body_of P s.method) → IsPrepared P t earlier s p → AreFees P t s fees
+abbrev pub view_of : (P : Program) (t : Timing) (earlier : List Valued) (s : CertSection) (p : Prepared) (fees : List (Option ℕ)) → IsSome (body_of P s.method) → IsPrepared P t earlier s p → AreEntryLoads P t s fees
     → SectionView P t earlier s
 view_of P t earlier s p fees coded h are = record {
   coded = coded;
@@ -57,7 +57,7 @@ unflagged P t earlier s p h u nn =
 
 -- the least wrong node is the lesser of the least that is misplaced and the least beside
 wrong_least : (P : Program) (t : Timing) (bound_of : BoundOf) (earlier : List Valued) (s : CertSection) (p : Prepared) (fees : List (Option ℕ)) (coded : IsSome (body_of P s.method)) (h : IsPrepared P t earlier s p)
-    (are : AreFees P t s fees) (beside misplaced : Option ℕ) → IsLeast (IsWrongBeside bound_of s p.nodes.items) beside → IsLeast (IsMisplaced p.graph s.section (section_bounds bound_of s) fees) misplaced
+    (are : AreEntryLoads P t s fees) (beside misplaced : Option ℕ) → IsLeast (IsWrongBeside bound_of s p.nodes.items) beside → IsLeast (IsMisplaced p.graph s.section (section_bounds bound_of s) fees) misplaced
     → IsLeast (IsWrong bound_of (view_of P t earlier s p fees coded h are)) (lesser_of beside misplaced)
 wrong_least P t bound_of earlier s p fees coded h are beside misplaced hb hm =
     least_either (IsWrongBeside bound_of s p.nodes.items) (IsMisplaced p.graph s.section (section_bounds bound_of s) fees) (IsWrong bound_of (view_of P t earlier s p fees coded h are)) beside misplaced
@@ -68,7 +68,7 @@ wrong_least P t bound_of earlier s p fees coded h are beside misplaced hb hm =
 
 -- where nn node is wrong and the potentials are accepted, the section meets its conditions
 pub joined_meets : (P : Program) (t : Timing) (bound_of : BoundOf) (earlier : List Valued) (s : CertSection) (p : Prepared) (fees : List (Option ℕ)) (coded : IsSome (body_of P s.method)) (h : IsPrepared P t earlier s p)
-    (are : AreFees P t s fees) (wrong : Option ℕ) (answer : Result (Option ℕ) SectionFault) → p.absent ≡ None → IsLeast (IsWrongBeside bound_of s p.nodes.items) wrong
+    (are : AreEntryLoads P t s fees) (wrong : Option ℕ) (answer : Result (Option ℕ) SectionFault) → p.absent ≡ None → IsLeast (IsWrongBeside bound_of s p.nodes.items) wrong
     → Answers p.graph p.costs.items s.section (section_bounds bound_of s) fees answer → IfOk (joined s.method wrong answer) (MeetsSection P t bound_of earlier s)
 joined_meets P t bound_of earlier s p fees coded h are None (Ok value) absent hb a =
     let none = wrong_least P t bound_of earlier s p fees coded h are None None hb a.0.placed in
@@ -90,7 +90,7 @@ joined_meets P t bound_of earlier s p fees coded h are (Some w) (Err (faults.Exi
 
 -- else it fails as is answered
 pub joined_fails : (P : Program) (t : Timing) (bound_of : BoundOf) (earlier : List Valued) (s : CertSection) (p : Prepared) (fees : List (Option ℕ)) (coded : IsSome (body_of P s.method)) (h : IsPrepared P t earlier s p)
-    (are : AreFees P t s fees) (wrong : Option ℕ) (answer : Result (Option ℕ) SectionFault) → p.absent ≡ None → IsLeast (IsWrongBeside bound_of s p.nodes.items) wrong
+    (are : AreEntryLoads P t s fees) (wrong : Option ℕ) (answer : Result (Option ℕ) SectionFault) → p.absent ≡ None → IsLeast (IsWrongBeside bound_of s p.nodes.items) wrong
     → Answers p.graph p.costs.items s.section (section_bounds bound_of s) fees answer → IfErr (joined s.method wrong answer) (FailsOrMemory P t bound_of earlier s)
 joined_fails P t bound_of earlier s p fees coded h are None (Ok value) absent hb a = tt
 joined_fails P t bound_of earlier s p fees coded h are None (Err (faults.Member u)) absent hb a =
@@ -110,17 +110,17 @@ joined_fails P t bound_of earlier s p fees coded h are (Some w) (Err (faults.Exi
 
 -- ---- for each program of the table
 
-met_for : (set : Setting) (s : CertSection) (p : Prepared) (r : Result (Option ℕ) CheckFault)
+met_for : (set : CheckSetting) (s : CertSection) (p : Prepared) (r : Result (Option ℕ) CheckFault)
     → ((P : Program) (earlier : List Valued) → IsFlowOf P set.flow → IsPrepared P set.timing earlier s p → IfOk r (MeetsSection P set.timing (bounds_in set) earlier s)) → IfOk r (PreparedMeets set s p)
 met_for set s p (Ok value) h = h
 met_for set s p (Err fault) h = tt
 
-fails_for : (set : Setting) (s : CertSection) (p : Prepared) (r : Result (Option ℕ) CheckFault)
+fails_for : (set : CheckSetting) (s : CertSection) (p : Prepared) (r : Result (Option ℕ) CheckFault)
     → ((P : Program) (earlier : List Valued) → IsFlowOf P set.flow → IsPrepared P set.timing earlier s p → IfErr r (FailsOrMemory P set.timing (bounds_in set) earlier s)) → IfErr r (PreparedFails set s p)
 fails_for set s p (Ok value) h = tt
 fails_for set s p (Err fault) h = h
 
-module _ (set : Setting) (s : CertSection) (p : Prepared) (answer : Result (Option ℕ) SectionFault) (below : s.method < length set.flow.methods) (answers : (P : Program) → IsFlowOf P set.flow → AnswersFor P set s p answer) where
+module _ (set : CheckSetting) (s : CertSection) (p : Prepared) (answer : Result (Option ℕ) SectionFault) (below : s.method < length set.flow.methods) (answers : (P : Program) → IsFlowOf P set.flow → AnswersFor P set s p answer) where
   -- x is the least absent method that an invoke among the nodes may run
   pub missing_fails : (x : ℕ) → p.absent ≡ Some x → (P : Program) (earlier : List Valued) → IsFlowOf P set.flow → IsPrepared P set.timing earlier s p → FailsAtTarget P set.timing earlier s x
   missing_fails x is P earlier of h =
@@ -146,8 +146,8 @@ module _ (set : Setting) (s : CertSection) (p : Prepared) (answer : Result (Opti
         joined_fails P set.timing (bounds_in set) earlier s p a.fees ((of.coded s.method).1 below) h a.are_fees wrong answer none least a.answers))
 
 -- the answer to the potentials, by the lists that are at hand
-pub answers_for : {E : Type 0} (set : Setting) (s : CertSection) (p : Prepared) (costs bounds : List ℕ) (fees loads : List (Option ℕ)) (r : Result (Result (Option ℕ) SectionFault) E) → costs ≡ p.costs.items
-    → bounds ≡ section_bounds (bounds_in set) s → loads ≡ fees → ((P : Program) → IsFlowOf P set.flow → AreFees P set.timing s fees) → IfOk r (Answers p.graph costs s.section bounds loads)
+pub answers_for : {E : Type 0} (set : CheckSetting) (s : CertSection) (p : Prepared) (costs bounds : List ℕ) (fees loads : List (Option ℕ)) (r : Result (Result (Option ℕ) SectionFault) E) → costs ≡ p.costs.items
+    → bounds ≡ section_bounds (bounds_in set) s → loads ≡ fees → ((P : Program) → IsFlowOf P set.flow → AreEntryLoads P set.timing s fees) → IfOk r (Answers p.graph costs s.section bounds loads)
     → IfOk r (λ answer. (P : Program) → IsFlowOf P set.flow → AnswersFor P set s p answer)
 answers_for set s p costs bounds fees loads (Err e) same_costs same_bounds same_fees are h = tt
 answers_for set s p costs bounds fees loads (Ok answer) same_costs same_bounds same_fees are h =

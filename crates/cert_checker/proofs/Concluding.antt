@@ -14,10 +14,10 @@ use Rattle.bound_rules.specs.declared.faults.CheckFault.{CheckFault}
 use Rattle.bound_rules.specs.declared.faults.CheckFault.TheVariants.{Missing, Member, Edge, Exit, Region, NoMemory}
 use Rattle.bound_rules.specs.Told.{Valued, section_value}
 use Rattle.bound_rules.specs.Conditions.{MeetAll, MeetsConditions}
-use Rattle.bound_rules.specs.Refused.{SectionFails, FailsLast, IsRefused, IsRefusedOrMemory}
-use Rattle.bound_rules.specs.Refused.IsRefused.{in_section, at_end}
+use Rattle.bound_rules.specs.Refused.{SectionFails, FailsLast, IsCertRefused, IsRefusedOrMemory}
+use Rattle.bound_rules.specs.Refused.IsCertRefused.{in_section, at_end}
 use Rattle.bound_rules.specs.Laws.{OneMoreMeets}
-use Rattle.cert_checker.specs.Setting.{Setting, SectionValues}
+use Rattle.cert_checker.specs.Setting.{CheckSetting, SectionValues}
 use Rattle.cert_checker.specs.Answer.{FailsAmong, Meets, Refuses}
 use Rattle.cert_checker.specs.Section.{IsRightLast, AddsSection, AllMeetFor, SomeFailFor, FailsFor, LastFailsFor, LastMeetsFor, bounds_in}
 
@@ -37,10 +37,10 @@ pub meets_conditions : (P : Program) (t : Timing) (bound_of : BoundOf) (c : Cert
 meets_conditions P t bound_of c values sections last = record { values = values; sections = sections; coded = last.coded; full = last.full; says = last.says; right = last.right }
 
 -- a section that fails, behind sections that meet their conditions
-section_refused : (P : Program) (t : Timing) (bound_of : BoundOf) (c : Certificate) (fault : CheckFault) (ss : List CertSection) → ss ≡ c.sections → FailsAmong P t bound_of ss fault → IsRefused P t bound_of c fault
+section_refused : (P : Program) (t : Timing) (bound_of : BoundOf) (c : Certificate) (fault : CheckFault) (ss : List CertSection) → ss ≡ c.sections → FailsAmong P t bound_of ss fault → IsCertRefused P t bound_of c fault
 section_refused P t bound_of c fault ss same x = in_section x.before x.after x.section x.earlier (sym same ∙ x.split) x.meet x.fails
 
-pub sections_refused : (P : Program) (set : Setting) (c : Certificate) (fault : CheckFault) (ss : List CertSection) → IsFlowOf P set.flow → ss ≡ c.sections → SomeFailFor set ss fault → IsRefusedOrMemory P set.timing (bounds_in set) c fault
+pub sections_refused : (P : Program) (set : CheckSetting) (c : Certificate) (fault : CheckFault) (ss : List CertSection) → IsFlowOf P set.flow → ss ≡ c.sections → SomeFailFor set ss fault → IsRefusedOrMemory P set.timing (bounds_in set) c fault
 sections_refused P set c (Missing m) ss of same fails = section_refused P set.timing (bounds_in set) c (Missing m) ss same (fails P of)
 sections_refused P set c (Member m u) ss of same fails = section_refused P set.timing (bounds_in set) c (Member m u) ss same (fails P of)
 sections_refused P set c (Edge m u v) ss of same fails = section_refused P set.timing (bounds_in set) c (Edge m u v) ss same (fails P of)
@@ -61,7 +61,7 @@ last_refused P t bound_of c NoMemory values meet fails = tt
 -- ---- the sections one behind the other
 
 -- with one more that meets its conditions
-pub sections_more : OneMoreMeets → (set : Setting) (ss : List CertSection) (i : ℕ) (s : CertSection) (old new : SectionValues) → i < length ss → s ≡ get_or ss i s → AllMeetFor set (take i ss) old.valued
+pub sections_more : OneMoreMeets → (set : CheckSetting) (ss : List CertSection) (i : ℕ) (s : CertSection) (old new : SectionValues) → i < length ss → s ≡ get_or ss i s → AllMeetFor set (take i ss) old.valued
     → AddsSection set s old new → AllMeetFor set (take (i + 1) ss) new.valued
 sections_more one set ss i s old new below is meet adds =
     λ P of.
@@ -71,7 +71,7 @@ sections_more one set ss i s old new below is meet adds =
     subst V (sym (ap (λ (v : SectionValues). v.valued) adds.added)) (subst Z (sym taken) (one P set.timing (bounds_in set) [] (take i ss) old.valued s adds.value (meet P of) (adds.meets P of)))
 
 -- with one more that fails
-among : (set : Setting) (ss : List CertSection) (i : ℕ) (s : CertSection) (valued : List Valued) (fault : CheckFault) → i < length ss → s ≡ get_or ss i s → AllMeetFor set (take i ss) valued
+among : (set : CheckSetting) (ss : List CertSection) (i : ℕ) (s : CertSection) (valued : List Valued) (fault : CheckFault) → i < length ss → s ≡ get_or ss i s → AllMeetFor set (take i ss) valued
     → ((P : Program) → IsFlowOf P set.flow → SectionFails P set.timing (bounds_in set) valued s fault) → (P : Program) → IsFlowOf P set.flow → FailsAmong P set.timing (bounds_in set) ss fault
 among set ss i s valued fault below is meet fails =
     λ P of. record {
@@ -84,7 +84,7 @@ among set ss i s valued fault below is meet fails =
       fails = fails P of;
     }
 
-pub section_fails : (set : Setting) (ss : List CertSection) (i : ℕ) (s : CertSection) (valued : List Valued) (fault : CheckFault) → i < length ss → s ≡ get_or ss i s → AllMeetFor set (take i ss) valued
+pub section_fails : (set : CheckSetting) (ss : List CertSection) (i : ℕ) (s : CertSection) (valued : List Valued) (fault : CheckFault) → i < length ss → s ≡ get_or ss i s → AllMeetFor set (take i ss) valued
     → FailsFor set valued s fault → SomeFailFor set ss fault
 section_fails set ss i s valued (Missing m) below is meet fails = among set ss i s valued (Missing m) below is meet fails
 section_fails set ss i s valued (Member m u) below is meet fails = among set ss i s valued (Member m u) below is meet fails
@@ -93,19 +93,19 @@ section_fails set ss i s valued (Exit m u) below is meet fails = among set ss i 
 section_fails set ss i s valued (Region m) below is meet fails = among set ss i s valued (Region m) below is meet fails
 section_fails set ss i s valued NoMemory below is meet fails = tt
 
-pub all_sections : (set : Setting) (ss : List CertSection) (i : ℕ) (valued : List Valued) → length ss ≤ i → AllMeetFor set (take i ss) valued → AllMeetFor set ss valued
+pub all_sections : (set : CheckSetting) (ss : List CertSection) (i : ℕ) (valued : List Valued) → length ss ≤ i → AllMeetFor set (take i ss) valued → AllMeetFor set ss valued
 all_sections set ss i valued past meet = let Z : List CertSection → Type 0 = λ zs. AllMeetFor set zs valued in subst Z (take_all i ss past) meet
 
 -- ---- by the parts of what is known
 
-at_parts : (set : Setting) (f : Flow) (b : List LoopBound) (t : Timing) (Q : Flow → BoundOf → Timing → Type 0) → set.flow ≡ f → set.bounds ≡ b → set.timing ≡ t → Q set.flow (bounds_in set) set.timing → Q f (bounds_of f b) t
+at_parts : (set : CheckSetting) (f : Flow) (b : List LoopBound) (t : Timing) (Q : Flow → BoundOf → Timing → Type 0) → set.flow ≡ f → set.bounds ≡ b → set.timing ≡ t → Q set.flow (bounds_in set) set.timing → Q f (bounds_of f b) t
 at_parts set f b t Q same_flow same_bounds same_timing h =
     let B : List LoopBound → Type 0 = λ x. Q set.flow (bounds_of set.flow x) set.timing in
     let T : Timing → Type 0 = λ x. Q set.flow (bounds_of set.flow b) x in
     let F : Flow → Type 0 = λ x. Q x (bounds_of x b) t in
     subst F same_flow (subst T same_timing (subst B same_bounds h))
 
-module _ (set : Setting) (f : Flow) (b : List LoopBound) (t : Timing) (c : Certificate) (parts : (set.flow ≡ f) × (set.bounds ≡ b) × (set.timing ≡ t)) where
+module _ (set : CheckSetting) (f : Flow) (b : List LoopBound) (t : Timing) (c : Certificate) (parts : (set.flow ≡ f) × (set.bounds ≡ b) × (set.timing ≡ t)) where
   pub sections_refuse : (fault : CheckFault) (ss : List CertSection) → ss ≡ c.sections → SomeFailFor set ss fault → Refuses f (bounds_of f b) t c fault
   sections_refuse fault ss same fails =
       at_parts set f b t (λ f B t. Refuses f B t c fault) parts.0 parts.1 parts.2

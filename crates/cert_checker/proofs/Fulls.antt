@@ -10,7 +10,7 @@ use Rattle.node_costs.proofs.Loading.{load_of_method}
 use Rattle.bound_rules.specs.Told.{Valued, value_in, with_cycles, SaysFull, SaysCalled}
 use Rattle.bound_rules.specs.Told.SaysFull.{fits as full_fits, exceeds as full_exceeds}
 use Rattle.cert_checker.specs.declared.task.Fit.{Fit}
-use Rattle.cert_checker.specs.Setting.{Setting, IsSetting, IsFit, full_by, full_of, FullIsSaid}
+use Rattle.cert_checker.specs.Setting.{CheckSetting, IsCheckSetting, IsFit, full_by, full_of, FullIsSaid}
 use Rattle.cert_checker.specs.Setting.IsFit.{fits, exceeds}
 use Rattle.cert_checker.specs.Telling.{called_by}
 
@@ -22,7 +22,7 @@ entry_at xs i below =
       | inr past ↦ let le = past.0 in absurd (omega arith)
     ]
 
-by_fit : (s : Setting) (P : Program) (earlier : List Valued) (m : ℕ) (fit : Fit) → method_load s.timing.read s.flow.methods m ≡ load P s.timing.read m → IsFit P s.timing m fit
+by_fit : (s : CheckSetting) (P : Program) (earlier : List Valued) (m : ℕ) (fit : Fit) → method_load s.timing.read s.flow.methods m ≡ load P s.timing.read m → IsFit P s.timing m fit
     → SaysFull P s.timing earlier m (full_by s earlier m (Some fit))
 by_fit s P earlier m fit same (fits together is) = full_fits together (ap (λ (f : Fit). full_by s earlier m (Some f)) is)
 by_fit s P earlier m fit same (exceeds alone is) =
@@ -36,7 +36,7 @@ full_is_said s P earlier m set of below =
     subst S (sym fit.1) (by_fit s P earlier m fit.0 (load_of_method s.flow s.timing.read P of m below) (set.fits.each P of m fit.0 fit.1))
 
 -- what is said of it where another method calls it
-pub called_is_said : (s : Setting) (P : Program) (earlier : List Valued) (without_loads : Bool) (m x : ℕ) → IsSetting s → IsFlowOf P s.flow → m < length s.flow.methods → x < length s.flow.methods
+pub called_is_said : (s : CheckSetting) (P : Program) (earlier : List Valued) (without_loads : Bool) (m x : ℕ) → IsCheckSetting s → IsFlowOf P s.flow → m < length s.flow.methods → x < length s.flow.methods
     → SaysCalled P s.timing earlier without_loads m x (called_by s earlier without_loads m x)
 called_is_said s P earlier true m x set of caller target = refl
 called_is_said s P earlier false m x set of caller target =

@@ -3,9 +3,9 @@ use Rattle.std.proofs.Common.{◌≡◌, ℕ, ◌+◌, ◌*◌, ◌<◌, ◌≤�
 use Rattle.std.specs.Prelude.{slice_get}
 use Rattle.std.proofs.lemmas.Bool.{cases_lt, both_ways}
 use Rattle.std.proofs.lemmas.Option.{slice_get_within}
-use Rattle.lists.specs.Lemmas.{none≢some, some_same}
+use Rattle.lists.proofs.Lemmas.{none≢some, some_same}
 use Rattle.section_check.specs.Least.{IsLeast, lesser_of}
-use Rattle.section_check.specs.LeastLemmas.{least_same, least_either}
+use Rattle.section_check.proofs.LeastLemmas.{least_same, least_either}
 use Rattle.method_flow.specs.declared.flow.Call.{Call}
 use Rattle.flow_graph.specs.Reach.{flag_at}
 use Rattle.cert_checker.specs.declared.summaries.Summary.{Summary}

@@ -2,7 +2,7 @@
 use Rattle.std.proofs.Common.{◌≡◌, ℕ, ◌<◌, ◌^◌, true, false, List, length, Option, Some, IsSome, sym, ap, ◌∙◌, subst, arith}
 use Rattle.std.specs.Prelude.{IsTrue, nat_eq}
 use Rattle.std.proofs.lemmas.Bool.{eqb-true, eq-eqb}
-use Rattle.lists.specs.Lemmas.{some_same}
+use Rattle.lists.proofs.Lemmas.{some_same}
 use Rattle.bytecode_model.specs.Program.{Program, body_of}
 use Rattle.method_flow.specs.Costs.{IsPrintedOf}
 use Rattle.method_flow.specs.Flow.{Flow, IsFlowOf}
@@ -10,11 +10,11 @@ use Rattle.method_flow.specs.declared.timing.Timing.{Timing}
 use Rattle.bound_rules.specs.Conditions.{IsRight}
 use Rattle.bound_rules.specs.Laws.{PrintedIsTold}
 use Rattle.bound_rules.specs.Told.{Valued, SaysFull}
-use Rattle.cert_checker.specs.Setting.{Setting, IsSetting, full_of}
+use Rattle.cert_checker.specs.Setting.{CheckSetting, IsCheckSetting, full_of}
 use Rattle.cert_checker.proofs.Fulls.{full_is_said}
 
 -- what is said of a root in the table
-pub root_said : (set : Setting) (valued : List Valued) (root other count : ℕ) (flow : Flow) (full said : Option (Option ℕ)) → IsSetting set → root ≡ other → flow ≡ set.flow → count ≡ length flow.methods → root < count
+pub root_said : (set : CheckSetting) (valued : List Valued) (root other count : ℕ) (flow : Flow) (full said : Option (Option ℕ)) → IsCheckSetting set → root ≡ other → flow ≡ set.flow → count ≡ length flow.methods → root < count
     → full ≡ full_of set valued root → full ≡ said → (P : Program) → IsFlowOf P set.flow → IsSome (body_of P other) × SaysFull P set.timing valued other said
 root_said set valued root other count flow full said form same_root same_flow counted below is_full is P of =
     let R : ℕ → Type 0 = λ m. IsSome (body_of P m) × SaysFull P set.timing valued m said in

@@ -5,7 +5,7 @@ use Rattle.std.proofs.lemmas.Bool.{cases_lt, leb-true}
 use Rattle.std.proofs.lemmas.Option.{slice_get_within}
 use Rattle.std.proofs.lemmas.List.{get_or_past}
 use Rattle.std.proofs.lemmas.List.Elements.{All-contains, All-get_or}
-use Rattle.lists.specs.Lemmas.{none≢some, some_same, holds_at}
+use Rattle.lists.proofs.Lemmas.{none≢some, some_same, holds_at}
 use Rattle.lists.specs.Members.{nil_contains}
 use Rattle.opcodes.specs.Start.{IsStart, AreStarts}
 use Rattle.bytecode_model.specs.Program.{Program}
@@ -17,7 +17,7 @@ use Rattle.node_costs.specs.Costs.{AreOwnCosts}
 use Rattle.bound_cert.specs.declared.cert.CertSection.{CertSection}
 use Rattle.bound_rules.specs.Costs.{greatest_of}
 use Rattle.bound_rules.specs.Told.{Valued, TargetValues, within_limit, most_cycles, is_without_loads}
-use Rattle.cert_checker.specs.Setting.{Setting, IsSetting}
+use Rattle.cert_checker.specs.Setting.{CheckSetting, IsCheckSetting}
 use Rattle.cert_checker.specs.Telling.{called_by, told_by, AreSummaries}
 use Rattle.cert_checker.specs.Prepared.{IsPreparedWith, IsPrepared, FitsLimit, OnMethod}
 use Rattle.cert_checker.specs.declared.prepared.Prepared.{Prepared}
@@ -68,7 +68,7 @@ small_own own h u =
       | inr past ↦ let P : ℕ → Type 0 = λ c. c < 2 ^ 61 in subst P (sym (get_or_past own u 0 past)) (lit< tt)
     ]
 
-pub limit_kept : (set : Setting) (earlier : List Valued) (s : CertSection) (own : List ℕ) (calls : List Call) (summaries : List Summary) → All (λ c. c < 2 ^ 61) own
+pub limit_kept : (set : CheckSetting) (earlier : List Valued) (s : CertSection) (own : List ℕ) (calls : List Call) (summaries : List Summary) → All (λ c. c < 2 ^ 61) own
     → AreSummaries (told_by set earlier s own) set.flow calls summaries → FitsLimit calls summaries own
 limit_kept set earlier s own calls summaries small are i c sum c_at s_at =
     by (greatest_of (value_at c) (targets_of_call set.flow c)) refl (greatest_is (value_at c) (targets_of_call set.flow c))
@@ -91,18 +91,18 @@ limit_kept set earlier s own calls summaries small are i c sum c_at s_at =
 -- ---- a section
 
 -- what the calls are told, by the tables that are at hand
-pub summaries_at : (set : Setting) (earlier : List Valued) (s : CertSection) (k : Coded) (own others : List ℕ) (ss ts : List Summary) → slice_get set.flow.methods s.method ≡ Some k → others ≡ own → ts ≡ ss
+pub summaries_at : (set : CheckSetting) (earlier : List Valued) (s : CertSection) (k : Coded) (own others : List ℕ) (ss ts : List Summary) → slice_get set.flow.methods s.method ≡ Some k → others ≡ own → ts ≡ ss
     → OnMethod set s (λ k. AreSummaries (told_by set earlier s others) set.flow k.calls ss) → AreSummaries (told_by set earlier s own) set.flow k.calls ts
 summaries_at set earlier s k own others ss ts is same_own same on =
     let O : List ℕ → Type 0 = λ o. AreSummaries (told_by set earlier s o) set.flow k.calls ts in
     let S : List Summary → Type 0 = λ xs. AreSummaries (told_by set earlier s others) set.flow k.calls xs in
     subst O same_own (subst S (sym same) (holds_at (slice_get set.flow.methods s.method) k (λ k. AreSummaries (told_by set earlier s others) set.flow k.calls ss) is on))
 
-module _ (starts : (code : List ℕ) → AreStarts code) (kinds : RowsAreOfTheirKinds) (set : Setting) (earlier : List Valued) (s : CertSection) (k : Coded) (own : List ℕ) (summaries : List Summary) (p : Prepared) where
+module _ (starts : (code : List ℕ) → AreStarts code) (kinds : RowsAreOfTheirKinds) (set : CheckSetting) (earlier : List Valued) (s : CertSection) (k : Coded) (own : List ℕ) (summaries : List Summary) (p : Prepared) where
   abbrev told : TargetValues
   told = told_by set earlier s own
 
-  pub prepared_by : IsSetting set → IsFlow set.flow → IsCoded k → slice_get set.flow.methods s.method ≡ Some k → ((P : Program) (n : ℕ) → IsCodedOf P n k → AreOwnCosts P set.timing n k.code own)
+  pub prepared_by : IsCheckSetting set → IsFlow set.flow → IsCoded k → slice_get set.flow.methods s.method ≡ Some k → ((P : Program) (n : ℕ) → IsCodedOf P n k → AreOwnCosts P set.timing n k.code own)
       → AreSummaries told set.flow k.calls summaries → IsPreparedWith k own summaries p → (P : Program) → IsFlowOf P set.flow → IsPrepared P set.timing earlier s p
   prepared_by setting form c is owned are h P of =
       let n = s.method in

@@ -4,9 +4,9 @@ use Rattle.std.specs.Prelude.{slice_get}
 use Rattle.std.proofs.lemmas.Bool.{cases_lt}
 use Rattle.std.proofs.lemmas.List.{get_or_append_left, get_or_push, length_push}
 use Rattle.std.proofs.lemmas.Option.{slice_get-get_or, slice_get_within, get_or_from_slice_get}
-use Rattle.lists.specs.Lemmas.{some_same}
-use Rattle.section_check.specs.Placing.{IsAt}
-use Rattle.section_check.specs.LeastLemmas.{same_at}
+use Rattle.lists.proofs.Lemmas.{some_same}
+use Rattle.section_check.specs.Placing.{IsEntryAt}
+use Rattle.section_check.proofs.LeastLemmas.{same_at}
 
 -- what stands at a place of the longer list stood there before, or is the new item
 pub push_cases : {Y : Type 0} (ys : List Y) (y z : Y) (i : ℕ) → slice_get (ys ++ y ∷ []) i ≡ Some z → (slice_get ys i ≡ Some z) ⊎ ((i ≡ length ys) × (y ≡ z))
@@ -39,7 +39,7 @@ agrees_more {X} {Y} R xs ys i x y long at agrees before = λ k u v ku kv.
 
 -- each item of the first n of one list stands so to what is read at its place in another
 abbrev pub EachReads : {X Y : Type 0} → (X → Y → Type 0) → (none : Y) → List X → List Y → ℕ → Type 0
-EachReads {X} {Y} R none xs ys n = (i : ℕ) (x : X) → i < n → IsAt xs i x → R x (get_or ys i none)
+EachReads {X} {Y} R none xs ys n = (i : ℕ) (x : X) → i < n → IsEntryAt xs i x → R x (get_or ys i none)
 
 pub reads_more : {X Y : Type 0} (R : X → Y → Type 0) (none : Y) (xs : List X) (ys : List Y) (n : ℕ) (x : X) (y : Y) → length ys ≡ n → x ≡ get_or xs n x → R x y → EachReads R none xs ys n → EachReads R none xs (ys ++ y ∷ []) (n + 1)
 reads_more {X} {Y} R none xs ys n x y long at agrees before = λ i u early ui.

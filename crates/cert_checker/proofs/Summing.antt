@@ -5,10 +5,10 @@ use Rattle.std.specs.List.Sorted.{IsStrictlyIncreasing}
 use Rattle.std.proofs.lemmas.Bool.{cases_lt, cond-true, cond-false, lt-ltb, le-ltb}
 use Rattle.std.proofs.lemmas.List.{take_more, get_or-take, length-take-le}
 use Rattle.std.proofs.lemmas.List.Elements.{Contains-append_left, Contains-push, Contains-push_cases}
-use Rattle.lists.specs.Lemmas.{none≢some, some_same}
+use Rattle.lists.proofs.Lemmas.{none≢some, some_same}
 use Rattle.lists.specs.Members.{nil_contains, place_of, rising_pair}
 use Rattle.section_check.specs.Least.{IsLeast}
-use Rattle.section_check.specs.LeastLemmas.{least_same}
+use Rattle.section_check.proofs.LeastLemmas.{least_same}
 use Rattle.bound_rules.specs.Costs.{greater, greatest_of}
 use Rattle.cert_checker.specs.declared.summaries.Summary.{Summary}
 use Rattle.cert_checker.specs.Telling.{IsSummary, summary_with}

@@ -4,7 +4,7 @@ use Rattle.std.specs.Prelude.{◌↔◌, slice_get, unwrap_or}
 use Rattle.std.proofs.lemmas.Option.{slice_get-map, slice_get_within}
 use Rattle.std.proofs.lemmas.Bool.{cases_lt}
 use Rattle.std.specs.Option.{option_map}
-use Rattle.lists.specs.Lemmas.{some_same, holds_at}
+use Rattle.lists.proofs.Lemmas.{some_same, holds_at}
 use Rattle.lists.specs.Members.{has_or_not, map_contains}
 use Rattle.section_check.specs.Least.{IsLeast}
 use Rattle.loop_nest.specs.Digraph.{Digraph}
@@ -28,7 +28,7 @@ use Rattle.bound_rules.specs.Costs.{added, added_at, AreCosts, greatest_of}
 use Rattle.bound_rules.specs.Told.{TargetValues}
 use Rattle.bound_rules.specs.Sections.{IsSectionEdge, IsSectionNode, IsLacking}
 use Rattle.cert_checker.specs.Telling.{IsSummary, AreSummaries}
-use Rattle.cert_checker.specs.Prepared.{AreComeTo, AreAdded, IsAbsentAt}
+use Rattle.cert_checker.specs.Prepared.{AreComeTo, AreCostsOf, IsAbsentAt}
 use Rattle.cert_checker.specs.declared.summaries.Summary.{Summary}
 use Rattle.cert_checker.proofs.Fulls.{entry_at}
 use Rattle.bound_rules.proofs.Greatest.{same_members, none_greatest}
@@ -205,7 +205,7 @@ module _ (starts : (code : List ℕ) → AreStarts code) (kinds : RowsAreOfTheir
   abbrev adds : ℕ → ℕ
   adds p = added P n p (value_at p)
 
-  module _ (t : Timing) (own costs : List ℕ) (owned : AreOwnCosts P t n k.code own) (h : AreAdded own k.calls summaries costs) where
+  module _ (t : Timing) (own costs : List ℕ) (owned : AreOwnCosts P t n k.code own) (h : AreCostsOf own k.calls summaries costs) where
     added_is : (i : ℕ) (d : Call) (s : Summary) (p : ℕ) → slice_get k.calls i ≡ Some d → d.place ≡ p → IsSummary (told d.place) (targets_of_call f d) s → s.added ≡ adds p
     added_is i d s p at place sum =
         let T : (x a : ℕ) → Type 0 = λ x a. IsTarget P n a x in

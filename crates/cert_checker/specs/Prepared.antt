@@ -4,7 +4,7 @@ use Rattle.std.specs.Prelude.{unwrap_or}
 use Rattle.std.specs.Option.{IsSomeAnd}
 use Rattle.loop_nest.specs.Digraph.{Digraph, Edge}
 use Rattle.section_check.specs.Least.{IsLeast}
-use Rattle.section_check.specs.Placing.{IsHeld}
+use Rattle.section_check.specs.Placing.{IsInLoop}
 use Rattle.section_check.specs.Section.{Certified, listed}
 use Rattle.bound_cert.specs.declared.cert.CertSection.{CertSection}
 use Rattle.bytecode_model.specs.Program.{Program}
@@ -18,7 +18,7 @@ use Rattle.flow_graph.specs.Where.{IsEdgeWhere}
 use Rattle.bound_rules.specs.Costs.{added, AreCosts}
 use Rattle.bound_rules.specs.Told.{Valued, TargetValues}
 use Rattle.bound_rules.specs.Sections.{IsSectionEdge, IsSectionNode, AreTargetValues, IsLacking}
-use Rattle.cert_checker.specs.Setting.{Setting}
+use Rattle.cert_checker.specs.Setting.{CheckSetting}
 use Rattle.cert_checker.specs.declared.prepared.Prepared.{Prepared}
 use Rattle.cert_checker.specs.declared.summaries.Summary.{Summary}
 
@@ -32,7 +32,7 @@ pub record AreComeTo (g : Digraph) (flags : List Bool) : Type 0 where
   pub each : (u : ℕ) → (flag_at flags u ≡ true) ↔ IsComeTo g u
 
 -- costs to which so much is added at each of the calls
-pub record AreAdded (own : List ℕ) (calls : List Call) (summaries : List Summary) (costs : List ℕ) : Type 0 where
+pub record AreCostsOf (own : List ℕ) (calls : List Call) (summaries : List Summary) (costs : List ℕ) : Type 0 where
   pub long : length costs ≡ length own
   pub at_calls : (i : ℕ) (c : Call) (s : Summary) → slice_get calls i ≡ Some c → slice_get summaries i ≡ Some s
       → slice_index costs (2 * c.place) ≡ slice_index own (2 * c.place) + s.added
@@ -54,13 +54,13 @@ FitsLimit calls summaries own =
     (i : ℕ) (c : Call) (s : Summary) → slice_get calls i ≡ Some c → slice_get summaries i ≡ Some s → slice_index own (2 * c.place) + s.added < 2 ^ 64
 
 -- this holds of the section's method
-abbrev pub OnMethod : Setting → CertSection → (Coded → Type 0) → Type 0
+abbrev pub OnMethod : CheckSetting → CertSection → (Coded → Type 0) → Type 0
 OnMethod set s Holds = IsSomeAnd (slice_get set.flow.methods s.method) Holds
 
 -- the graph of a method where its calls go on as they are told, the costs with what they are told, the nodes, and the least absent target
 pub record IsPreparedWith (k : Coded) (own : List ℕ) (summaries : List Summary) (p : Prepared) : Type 0 where
   pub graph : (P : Program) (m : ℕ) → IsCodedOf P m k → IsGraphBy (IsEdgeWhere P m k.calls (map (λ s. s.goes_on) summaries)) P m p.graph
-  pub costs : AreAdded own k.calls summaries p.costs.items
+  pub costs : AreCostsOf own k.calls summaries p.costs.items
   pub nodes : AreComeTo p.graph p.nodes.items
   pub absent : IsLeast (IsAbsentAt k.calls summaries p.nodes.items) p.absent
 
@@ -78,4 +78,4 @@ pub record IsPrepared (P : Program) (t : Timing) (earlier : List Valued) (s : Ce
 
 -- u is listed, or a member of a loop, and isn't flagged as a node
 abbrev pub IsUnflagged : Certified → (flags : List Bool) → ℕ → Type 0
-IsUnflagged c flags u = (Contains (listed c.nodes) u ⊎ IsHeld c.loops u) × (flag_at flags u ≡ false)
+IsUnflagged c flags u = (Contains (listed c.nodes) u ⊎ IsInLoop c.loops u) × (flag_at flags u ≡ false)

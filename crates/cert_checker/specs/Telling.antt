@@ -9,20 +9,20 @@ use Rattle.method_flow.specs.declared.flow.Call.{Call}
 use Rattle.method_flow.specs.Flow.{Coded, Flow, targets_of_call}
 use Rattle.node_costs.specs.Costs.{method_load}
 use Rattle.bound_rules.specs.Costs.{greatest_of}
-use Rattle.bound_rules.specs.Told.{Valued, TargetValues, value_in, with_cycles, within_limit, is_in_region, is_without_loads}
-use Rattle.cert_checker.specs.Setting.{Setting, full_of}
+use Rattle.bound_rules.specs.Told.{Value, Valued, TargetValues, value_in, with_cycles, within_limit, is_in_region, is_without_loads}
+use Rattle.cert_checker.specs.Setting.{CheckSetting, full_of}
 use Rattle.cert_checker.specs.declared.telling.Teller.{Teller}
 use Rattle.cert_checker.specs.declared.summaries.Summary.{Summary}
 
 -- ---- one call
 
 -- what is said of the method x where m calls it
-abbrev pub called_by : Setting → List Valued → (without_loads : Bool) → (caller target : ℕ) → Option (Option ℕ)
+abbrev pub called_by : CheckSetting → List Valued → (without_loads : Bool) → (caller target : ℕ) → Option Value
 called_by s earlier true m x = value_in true x earlier
 called_by s earlier false m x = with_cycles (method_load s.timing.read s.flow.methods m) (full_of s earlier x)
 
 -- what the invoke at a place of the section is told, where these are the own costs of the method's nodes
-abbrev pub told_by : Setting → List Valued → CertSection → (own : List ℕ) → TargetValues
+abbrev pub told_by : CheckSetting → List Valued → CertSection → (own : List ℕ) → TargetValues
 told_by set earlier s own p x = within_limit (slice_index own (2 * p)) (called_by set earlier (is_without_loads s p) s.method x)
 
 -- the same by the tables that are at hand
@@ -32,13 +32,13 @@ told t = told_by t.task.now t.values.now.valued t.section.now t.own.now
 -- ---- the targets of a call
 
 -- Of the targets of a call, by what the call is told of each: the least that is absent, whether one isn't told never, and the greatest of the numbers.
-pub record IsSummary (told : (target : ℕ) → Option (Option ℕ)) (targets : List ℕ) (s : Summary) : Type 0 where
+pub record IsSummary (told : (target : ℕ) → Option Value) (targets : List ℕ) (s : Summary) : Type 0 where
   pub absent : IsLeast (λ x. Contains targets x × (told x ≡ None)) s.absent
   pub goes_on : (s.goes_on ≡ true) ↔ ((x : ℕ) × Contains targets x × (told x ≢ Some None))
   pub added : s.added ≡ unwrap_or (greatest_of (λ x. unwrap_or (told x) None) targets) 0
 
 -- with what is told of one target more, which is above the others
-abbrev pub summary_with : Summary → (target : ℕ) → Option (Option ℕ) → Summary
+abbrev pub summary_with : Summary → (target : ℕ) → Option Value → Summary
 summary_with s x (Some (Some n)) = record { absent = s.absent; goes_on = true; added = max s.added n }
 summary_with s x (Some None) = s
 summary_with s x None = record { absent = option_or s.absent (Some x); goes_on = true; added = s.added }

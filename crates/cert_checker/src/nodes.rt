@@ -1,7 +1,7 @@
 //! The nodes of a section: those to which control comes, and numbers that a section says and that are none.
 ghost use Rattle.std.specs.Prelude.{◌≡◌, IfOk, Contains, false};
 ghost use Rattle.section_check.specs.Least.{IsLeast};
-ghost use Rattle.section_check.specs.Placing.{IsHeld};
+ghost use Rattle.section_check.specs.Placing.{IsInLoop};
 ghost use Rattle.section_check.specs.Section.{listed, MembersRise};
 ghost use Rattle.std.specs.List.Sorted.{IsStrictlyIncreasing};
 ghost use Rattle.flow_graph.specs.Reach.{flag_at};
@@ -62,7 +62,7 @@ fn first_member(members: &[u32], flags: &[bool]) -> Option<u32>
 /// The least member of a loop that isn't flagged.
 fn first_held(loops: &[CertLoop], flags: &[bool]) -> Option<u32>
     requires { MembersRise loops.now }
-    ensures { IsLeast (λ u. IsHeld loops.now u × (flag_at flags.now u ≡ false)) result }
+    ensures { IsLeast (λ u. IsInLoop loops.now u × (flag_at flags.now u ≡ false)) result }
 {
     let mut least = None;
     for l in loops {

@@ -3,7 +3,7 @@ ghost use Rattle.std.specs.Prelude.{◌≡◌, ◌*◌, ◌<◌, All, IfOk, leng
 ghost use Rattle.std.specs.List.Sorted.{IsStrictlyIncreasing};
 ghost use Rattle.bytecode_model.specs.Program.{Program};
 ghost use Rattle.method_flow.specs.Flow.{IsFlowOf, places_of};
-ghost use Rattle.cert_checker.specs.Prepared.{AreAdded, FitsLimit, IsPrepared, IsPreparedWith, OnMethod};
+ghost use Rattle.cert_checker.specs.Prepared.{AreCostsOf, FitsLimit, IsPrepared, IsPreparedWith, OnMethod};
 ghost use Rattle.cert_checker.specs.Telling.{AreSummaries, told_by};
 
 use super::absent::least_absent;
@@ -37,7 +37,7 @@ fn add(costs: &mut [u64], calls: &[Call], summaries: &[Summary])
     requires rising { IsStrictlyIncreasing (places_of calls.now) }
     requires inside { All (λ c. 2 * c.place < length costs.old) calls.now }
     requires small { FitsLimit calls.now summaries.now costs.old }
-    ensures { AreAdded costs.old calls.now summaries.now costs.new }
+    ensures { AreCostsOf costs.old calls.now summaries.now costs.new }
 {
     for i in 0..calls.len() {
         costs[2 * calls[i].place as usize] += summaries[i].added;

@@ -5,7 +5,7 @@ ghost use Rattle.method_flow.specs.Flow.{IsFlowOf};
 ghost use Rattle.section_check.specs.Least.{IsLeast};
 ghost use Rattle.node_costs.specs.Costs.{bounds_of};
 ghost use Rattle.bound_rules.specs.Fitting.{header_bound};
-ghost use Rattle.bound_rules.specs.Sections.{AreFees, IsFee, LacksBound, section_bounds};
+ghost use Rattle.bound_rules.specs.Sections.{AreEntryLoads, IsEntryLoad, LacksBound, section_bounds};
 ghost use Rattle.section_check.specs.Section.{HeadersRise};
 ghost use Rattle.cert_checker.specs.Setting.{IsRegionFee};
 
@@ -74,7 +74,7 @@ fn region_loads(
 /// What an entry of a loop of a method pays beside the loop's iterations.
 fn fee(alloc: Global, task: &Task<'_>, m: u32, l: &CertLoop) -> Result<Option<u64>, NoMemory>
     requires { m < length task.now.flow.methods }
-    ensures { IfOk result (λ fee. (P : Program) → IsFlowOf P task.now.flow → IsFee P task.now.timing m l.now fee) }
+    ensures { IfOk result (λ fee. (P : Program) → IsFlowOf P task.now.flow → IsEntryLoad P task.now.timing m l.now fee) }
 {
     if l.region() {
         region_loads(alloc, task, m, l.members())
@@ -87,7 +87,7 @@ fn fee(alloc: Global, task: &Task<'_>, m: u32, l: &CertLoop) -> Result<Option<u6
 pub fn fees(alloc: Global, task: &Task<'_>, s: &CertSection) -> Result<Vec<Option<u64>>, NoMemory>
     requires { s.now.method < length task.now.flow.methods }
     ensures long { IfOk result (λ fees. length fees.items ≡ length s.now.section.loops) }
-    ensures each { IfOk result (λ fees. (P : Program) → IsFlowOf P task.now.flow → AreFees P task.now.timing s.now fees.items) }
+    ensures each { IfOk result (λ fees. (P : Program) → IsFlowOf P task.now.flow → AreEntryLoads P task.now.timing s.now fees.items) }
 {
     let mut fees = Vec::new(alloc);
     for l in s.section.loops() {

@@ -3,7 +3,7 @@ ghost use Rattle.std.specs.Prelude.{◌≡◌, ◌<◌, ℕ, length, IfOk, Some,
 ghost use Rattle.bytecode_model.specs.Program.{Program};
 ghost use Rattle.method_flow.specs.Flow.{IsFlowOf};
 ghost use Rattle.node_costs.specs.Costs.{bounds_of};
-ghost use Rattle.cert_checker.specs.Setting.{Setting, IsFit, AreFits, IsTiming};
+ghost use Rattle.cert_checker.specs.Setting.{CheckSetting, IsFit, AreFits, IsTiming};
 
 use base::NoMemory;
 use call_regions::{Region, region};
@@ -33,13 +33,13 @@ pub struct Task<'a> {
 }
 
 impl<'a> Model for Task<'a> {
-    ghost use Rattle.cert_checker.specs.Setting.{Setting, IsSetting};
+    ghost use Rattle.cert_checker.specs.Setting.{CheckSetting, IsCheckSetting};
 
-    ghost Value = { Setting };
+    ghost Value = { CheckSetting };
 
     ghost view = { λ a. record { flow = a.flow.now; bounds = a.bounds.now; timing = a.timing; fits = a.fits.items } };
 
-    ghost invariant = { λ a. IsSetting (record { flow = a.flow.now; bounds = a.bounds.now; timing = a.timing; fits = a.fits.items }) };
+    ghost invariant = { λ a. IsCheckSetting (record { flow = a.flow.now; bounds = a.bounds.now; timing = a.timing; fits = a.fits.items }) };
 }
 
 /// Whether all that may run while the method `m` does fits the cache together.
@@ -69,7 +69,7 @@ fn fits(alloc: Global, f: &FlowProgram, t: Timing) -> Result<Vec<Fit>, NoMemory>
 impl<'a> Task<'a> {
     ghost use Rattle.std.specs.Prelude.{◌≡◌, ◌<◌, ℕ, length, IfOk, Some, slice_get};
     ghost use Rattle.node_costs.specs.Costs.{bounds_of};
-    ghost use Rattle.cert_checker.specs.Setting.{IsTiming, IsSetting};
+    ghost use Rattle.cert_checker.specs.Setting.{IsTiming, IsCheckSetting};
 
     /// What is found of a program. It takes memory for a word of each method.
     pub fn new(
@@ -95,7 +95,7 @@ impl<'a> Task<'a> {
     /// The program.
     pub fn flow(&self) -> &FlowProgram
         ensures flow { result.now ≡ self.now.flow }
-        ensures form { IsSetting self.now }
+        ensures form { IsCheckSetting self.now }
     {
         self.flow
     }
@@ -103,7 +103,7 @@ impl<'a> Task<'a> {
     /// The timing of the machine.
     pub fn timing(&self) -> Timing
         ensures timing { result ≡ self.now.timing }
-        ensures form { IsSetting self.now }
+        ensures form { IsCheckSetting self.now }
     {
         self.timing
     }

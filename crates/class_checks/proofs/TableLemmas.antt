@@ -5,8 +5,7 @@ use Rattle.std.specs.Option.{option_map}
 use Rattle.std.proofs.lemmas.Option.{slice_get-map, slice_get_past}
 use Rattle.class_pool.specs.declared.entry.Entry.{Entry}
 use Rattle.class_pool.specs.declared.entry.Entry.TheVariants as entries
-use Rattle.class_pool.specs.Grammar.{utf8_of}
-use Rattle.class_lookup.specs.Parts.{text_at}
+use Rattle.class_pool.specs.Grammar.{utf8_of, text_at}
 use Rattle.program_tables.specs.declared.refusal.Item.{Item}
 use Rattle.descriptors.specs.Parsing.{field_in, method_in, type_from}
 use Rattle.class_checks.specs.Descriptors.{of_entry, field_item, method_item}

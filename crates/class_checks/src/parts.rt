@@ -1,8 +1,7 @@
 //! Parts of a pool (JVM Specification SE 8, 4.4).
 ghost use Rattle.std.specs.Prelude.{◌≡◌, option_map};
 ghost use Rattle.std.specs.Option.{option_copied};
-ghost use Rattle.class_pool.specs.Grammar.{entry_at};
-ghost use Rattle.class_lookup.specs.Parts.{text_at};
+ghost use Rattle.class_pool.specs.Grammar.{entry_at, text_at};
 ghost use Rattle.program_tables.specs.Instructions.{signature_in};
 
 use class_pool::{Entry, Pool};

@@ -1,6 +1,6 @@
 //! What isn't supported of the texts of a pool, each read once, however many members and instructions name it.
 ghost use Rattle.std.specs.Prelude.{◌≡◌, ℕ, List, [], Option, None, map, IfOk};
-ghost use Rattle.class_lookup.specs.Parts.{text_at};
+ghost use Rattle.class_pool.specs.Grammar.{text_at};
 ghost use Rattle.program_tables.specs.declared.refusal.Item.{Item};
 ghost use Rattle.class_checks.specs.Descriptors.{field_item, method_item, of_entry, AreItems};
 

@@ -22,10 +22,10 @@ use Rattle.class_pool.specs.declared.kind.Owner.TheVariants as owners
 use Rattle.class_pool.specs.declared.kind.Kind.{Kind}
 use Rattle.class_pool.specs.declared.kind.Kind.TheVariants as kinds
 use Rattle.class_pool.specs.Kind.{kind_of}
-use Rattle.class_pool.specs.ClassSpelling.{Named, counted, framed, code_bytes, body_bytes, attribute_bytes, member_bytes, inside_bytes}
-use Rattle.class_file.specs.Parts.{identity_bytes, members_bytes, identity_of, members_of, IsIdentity, AreMembers}
+use Rattle.class_pool.specs.ClassSpelling.{NamedParts, counted, framed, code_bytes, body_bytes, attribute_bytes, member_bytes, inside_bytes}
+use Rattle.class_file.specs.Parts.{identity_bytes, members_bytes, identity_of, members_of, IsIdentity, AreReadMembers}
 use Rattle.class_file.specs.InsideGrammar.{IsInsideOf, OneInside}
-use Rattle.class_pool.specs.Structure.{IsHalf, IsCode, HasKind, IsAttribute, IsMember, IsInside}
+use Rattle.class_pool.specs.Structure.{IsHalf, HasCodeRange, HasKind, IsAttribute, HasMemberRange, HasPartsInRange}
 use Rattle.base.specs.Reading.{whole}
 use Rattle.class_file.specs.InsideReading.{counted_in, named_in, code_in, body_in, attribute_in, member_in, identity_in, members_in, class_of, inside_in}
 use Rattle.class_file.proofs.PartLaws.{IsTaken, IsAgain, step, counted_takes, counted_again, named_frame, named_again, code_takes, code_again, whole_is}
@@ -44,7 +44,7 @@ body_takes kinds.Code bytes body small e =
     let t = code_takes bytes a.0.0 a.0.1 small a.1 in
     let w = whole_is a.0 b.0 b.1 in
     let P : Body → Type 0 = λ y. (bytes ≡ body_bytes y) × HasKind kinds.Code y in
-    subst P (same_some (Code b.0) body b.2) (all_of code_bytes bytes a.0.0 b.0 a.0.1 t.0 w.0 w.1, subst IsCode w.0 t.1)
+    subst P (same_some (Code b.0) body b.2) (all_of code_bytes bytes a.0.0 b.0 a.0.1 t.0 w.0 w.1, subst HasCodeRange w.0 t.1)
 body_takes kinds.ConstantValue bytes body small e =
     let a = bind_some (number_in 2 bytes) (λ found. whole found >>= λ constant. Some (ConstantValue constant)) body e in
     let b = bind_some (whole a.0) (λ constant. Some (ConstantValue constant)) body a.2 in
@@ -90,14 +90,14 @@ attribute_takes owner pool bytes attribute rest small e =
 attribute_again : (owner : Owner) (pool : List Entry) → IsAgain attribute_bytes (IsAttribute owner pool) (attribute_in owner pool)
 unfolding attribute_in
 attribute_again owner pool a rest fits =
-    let last = λ (found : Named × List ℕ) (body : Body). let x : Attribute = record { name = found.0.0; body = body } in let p : Attribute × List ℕ = (x, found.1) in Some p in
-    let named : Named × List ℕ = ((a.name, body_bytes a.body), rest) in
+    let last = λ (found : NamedParts × List ℕ) (body : Body). let x : Attribute = record { name = found.0.0; body = body } in let p : Attribute × List ℕ = (x, found.1) in Some p in
+    let named : NamedParts × List ℕ = ((a.name, body_bytes a.body), rest) in
     step named_in (λ found. body_in (kind_of owner pool found.0.0) found.0.1 >>= last found) (attribute_bytes a ++ rest) named (named_again (a.name, body_bytes a.body) rest (fits.name, fits.size))
     ∙ ap (λ (read : Option Body). read >>= last named) (body_again (kind_of owner pool a.name) a.body fits.body)
 
 -- ---- members
 
-member_takes : (owner : Owner) (pool : List Entry) → IsTaken member_bytes (IsMember owner pool) (member_in owner pool)
+member_takes : (owner : Owner) (pool : List Entry) → IsTaken member_bytes (HasMemberRange owner pool) (member_in owner pool)
 unfolding member_in
 member_takes owner pool bytes member rest small e =
     let last = λ (f n d : ℕ) (k : List Attribute × List ℕ). let x : Member = record { flags = f; name = n; descriptor = d; attributes = k.0 } in let p : Member × List ℕ = (x, k.1) in Some p in
@@ -113,10 +113,10 @@ member_takes owner pool bytes member rest small e =
     let e13 = Takes-then a.0.1 (u2 b.0.0) b.0.1 (u2 d.0.0 ++ counted attribute_bytes k.0.0) k.0.1 t1.0 e23 in
     let e03 = Takes-then bytes (u2 a.0.0) a.0.1 (u2 b.0.0 ++ (u2 d.0.0 ++ counted attribute_bytes k.0.0)) k.0.1 t0.0 e13 in
     let made : Member × List ℕ = (record { flags = a.0.0; name = b.0.0; descriptor = d.0.0; attributes = k.0.0 }, k.0.1) in
-    let P : Member × List ℕ → Type 0 = λ p. Takes bytes (member_bytes p.0) p.1 × IsMember owner pool p.0 in
+    let P : Member × List ℕ → Type 0 = λ p. Takes bytes (member_bytes p.0) p.1 × HasMemberRange owner pool p.0 in
     subst P (same_some made (member, rest) k.2) (e03, record { flags = t0.1; name = t1.1; descriptor = t2.1; attributes = t3.1 })
 
-member_again : (owner : Owner) (pool : List Entry) → IsAgain member_bytes (IsMember owner pool) (member_in owner pool)
+member_again : (owner : Owner) (pool : List Entry) → IsAgain member_bytes (HasMemberRange owner pool) (member_in owner pool)
 unfolding member_in
 member_again owner pool m rest fits =
     let last = λ (f n d : ℕ) (k : List Attribute × List ℕ). let x : Member = record { flags = f; name = n; descriptor = d; attributes = k.0 } in let p : Member × List ℕ = (x, k.1) in Some p in
@@ -167,7 +167,7 @@ identity_again i rest fits =
     ∙ step (number_in 2) (λ s. counted_in (number_in 2) s.1 >>= last i.flags i.this_class s.0) r2 (i.super_class, r3) (number_more i.super_class r3 fits.super_class)
     ∙ step (counted_in (number_in 2)) (last i.flags i.this_class i.super_class) r3 (i.interfaces, rest) (counted_again u2 IsHalf (number_in 2) number_more i.interfaces rest fits.interfaces)
 
-members_take : (pool : List Entry) → IsTaken members_bytes (AreMembers pool) (members_in pool)
+members_take : (pool : List Entry) → IsTaken members_bytes (AreReadMembers pool) (members_in pool)
 unfolding members_in
 members_take pool bytes members rest small e =
     let ms = λ (b : List ℕ). counted_in (member_in owners.Method pool) b in
@@ -176,16 +176,16 @@ members_take pool bytes members rest small e =
     let a = bind_some (counted_in (member_in owners.Field pool) bytes) (λ f. ms f.1 >>= λ m. ains m.1 >>= last f.0 m.0) (members, rest) e in
     let b = bind_some (ms a.0.1) (λ m. ains m.1 >>= last a.0.0 m.0) (members, rest) a.2 in
     let k = bind_some (ains b.0.1) (last a.0.0 b.0.0) (members, rest) b.2 in
-    let t0 = counted_takes member_bytes (IsMember owners.Field pool) (member_in owners.Field pool) (member_takes owners.Field pool) bytes a.0.0 a.0.1 small a.1 in
-    let t1 = counted_takes member_bytes (IsMember owners.Method pool) (member_in owners.Method pool) (member_takes owners.Method pool) a.0.1 b.0.0 b.0.1 t0.0.rest_fits b.1 in
+    let t0 = counted_takes member_bytes (HasMemberRange owners.Field pool) (member_in owners.Field pool) (member_takes owners.Field pool) bytes a.0.0 a.0.1 small a.1 in
+    let t1 = counted_takes member_bytes (HasMemberRange owners.Method pool) (member_in owners.Method pool) (member_takes owners.Method pool) a.0.1 b.0.0 b.0.1 t0.0.rest_fits b.1 in
     let t2 = counted_takes attribute_bytes (IsAttribute owners.Class pool) (attribute_in owners.Class pool) (attribute_takes owners.Class pool) b.0.1 k.0.0 k.0.1 t1.0.rest_fits k.1 in
     let e1 = Takes-then a.0.1 (counted member_bytes b.0.0) b.0.1 (counted attribute_bytes k.0.0) k.0.1 t1.0 t2.0 in
     let e0 = Takes-then bytes (counted member_bytes a.0.0) a.0.1 (counted member_bytes b.0.0 ++ counted attribute_bytes k.0.0) k.0.1 t0.0 e1 in
     let made : Members × List ℕ = (record { fields = a.0.0; methods = b.0.0; attributes = k.0.0 }, k.0.1) in
-    let P : Members × List ℕ → Type 0 = λ p. Takes bytes (members_bytes p.0) p.1 × AreMembers pool p.0 in
+    let P : Members × List ℕ → Type 0 = λ p. Takes bytes (members_bytes p.0) p.1 × AreReadMembers pool p.0 in
     subst P (same_some made (members, rest) k.2) (e0, record { fields = t0.1; methods = t1.1; attributes = t2.1 })
 
-members_again : (pool : List Entry) → IsAgain members_bytes (AreMembers pool) (members_in pool)
+members_again : (pool : List Entry) → IsAgain members_bytes (AreReadMembers pool) (members_in pool)
 unfolding members_in
 members_again pool m rest fits =
     let ms = λ (b : List ℕ). counted_in (member_in owners.Method pool) b in
@@ -196,8 +196,8 @@ members_again pool m rest fits =
     let inner : (counted member_bytes m.methods ++ counted attribute_bytes m.attributes) ++ rest ≡ r1 = append_assoc (counted member_bytes m.methods) (counted attribute_bytes m.attributes) rest in
     let text : members_bytes m ++ rest ≡ counted member_bytes m.fields ++ r1 = append_assoc (counted member_bytes m.fields) (counted member_bytes m.methods ++ counted attribute_bytes m.attributes) rest ∙ ap (λ (b : List ℕ). counted member_bytes m.fields ++ b) inner in
     ap (members_in pool) text
-    ∙ step (counted_in (member_in owners.Field pool)) (λ f. ms f.1 >>= λ n. ains n.1 >>= last f.0 n.0) (counted member_bytes m.fields ++ r1) (m.fields, r1) (counted_again member_bytes (IsMember owners.Field pool) (member_in owners.Field pool) (member_again owners.Field pool) m.fields r1 fits.fields)
-    ∙ step ms (λ n. ains n.1 >>= last m.fields n.0) r1 (m.methods, r2) (counted_again member_bytes (IsMember owners.Method pool) (member_in owners.Method pool) (member_again owners.Method pool) m.methods r2 fits.methods)
+    ∙ step (counted_in (member_in owners.Field pool)) (λ f. ms f.1 >>= λ n. ains n.1 >>= last f.0 n.0) (counted member_bytes m.fields ++ r1) (m.fields, r1) (counted_again member_bytes (HasMemberRange owners.Field pool) (member_in owners.Field pool) (member_again owners.Field pool) m.fields r1 fits.fields)
+    ∙ step ms (λ n. ains n.1 >>= last m.fields n.0) r1 (m.methods, r2) (counted_again member_bytes (HasMemberRange owners.Method pool) (member_in owners.Method pool) (member_again owners.Method pool) m.methods r2 fits.methods)
     ∙ step ains (last m.fields m.methods) r2 (m.attributes, rest) (counted_again attribute_bytes (IsAttribute owners.Class pool) (attribute_in owners.Class pool) (attribute_again owners.Class pool) m.attributes rest fits.attributes)
 
 pub inside_takes : (minor major : ℕ) (pool : List Entry) (bytes : List ℕ) (c : ClassFile) → IsBytes bytes → inside_in minor major pool bytes ≡ Some c → IsInsideOf minor major pool bytes c
@@ -214,7 +214,7 @@ inside_takes minor major pool bytes c small e =
     subst (IsInsideOf minor major pool bytes) (same_some (class_of minor major pool a.0.0 d.0) c d.2)
     (record {
       spelling = spelling;
-      structure = let has : AreMembers pool d.0 = subst (AreMembers pool) w.0 t1.1 in record {
+      structure = let has : AreReadMembers pool d.0 = subst (AreReadMembers pool) w.0 t1.1 in record {
         flags = t0.1.flags;
         this_class = t0.1.this_class;
         super_class = t0.1.super_class;
@@ -228,13 +228,13 @@ inside_takes minor major pool bytes c small e =
       same_pool = refl;
     })
 
-pub inside_again : (c : ClassFile) → IsInside c → inside_in c.minor c.major c.pool (inside_bytes c) ≡ Some c
+pub inside_again : (c : ClassFile) → HasPartsInRange c → inside_in c.minor c.major c.pool (inside_bytes c) ≡ Some c
 unfolding inside_in
 inside_again c fits =
     let i : Identity = identity_of c in
     let m : Members = members_of c in
     let is : IsIdentity i = record { flags = fits.flags; this_class = fits.this_class; super_class = fits.super_class; interfaces = fits.interfaces } in
-    let has : AreMembers c.pool m = record { fields = fits.fields; methods = fits.methods; attributes = fits.attributes } in
+    let has : AreReadMembers c.pool m = record { fields = fits.fields; methods = fits.methods; attributes = fits.attributes } in
     step identity_in (λ x. members_in c.pool x.1 >>= λ f. whole f >>= λ y. Some (class_of c.minor c.major c.pool x.0 y)) (identity_bytes i ++ members_bytes m) (i, members_bytes m) (identity_again i (members_bytes m) is)
     ∙ ap (λ (b : List ℕ). members_in c.pool b >>= λ f. whole f >>= λ y. Some (class_of c.minor c.major c.pool i y)) (sym (append-nil (members_bytes m)))
     ∙ step (members_in c.pool) (λ f. whole f >>= λ y. Some (class_of c.minor c.major c.pool i y)) (members_bytes m ++ []) (m, []) (members_again c.pool m [] has)

@@ -9,8 +9,8 @@ use Rattle.base.specs.Reading.{◌>>=◌}
 use Rattle.class_pool.specs.Reading.{number_in, front_in}
 use Rattle.class_pool.specs.NumberLaws.{IsBytes, bind_some, same_some, Takes, Takes-then, wide_2, wide_4, number_takes, number_again, front_takes, front_again}
 use Rattle.class_pool.specs.declared.class.Code.{Code as CodeParts}
-use Rattle.class_pool.specs.ClassSpelling.{Handler, Named, counted, handler_bytes, framed, named_bytes, code_bytes}
-use Rattle.class_pool.specs.Structure.{AreCounted, IsHandler, IsNamed, IsCode}
+use Rattle.class_pool.specs.ClassSpelling.{HandlerParts, NamedParts, counted, handler_bytes, framed, named_bytes, code_bytes}
+use Rattle.class_pool.specs.Structure.{AreCounted, IsHandler, IsNamedInRange, HasCodeRange}
 use Rattle.base.specs.Reading.{whole}
 use Rattle.class_file.specs.InsideReading.{many_in, counted_in, handler_in, named_in, code_in}
 
@@ -88,8 +88,8 @@ handler_takes bytes h rest small e =
     let e23 = Takes-then b.0.1 (u2 d.0.0) d.0.1 (u2 f.0.0) f.0.1 t2.0 t3.0 in
     let e13 = Takes-then a.0.1 (u2 b.0.0) b.0.1 (u2 d.0.0 ++ u2 f.0.0) f.0.1 t1.0 e23 in
     let e03 = Takes-then bytes (u2 a.0.0) a.0.1 (u2 b.0.0 ++ (u2 d.0.0 ++ u2 f.0.0)) f.0.1 t0.0 e13 in
-    let made : Handler × List ℕ = ((a.0.0, b.0.0, d.0.0, f.0.0), f.0.1) in
-    let P : Handler × List ℕ → Type 0 = λ p. Takes bytes (handler_bytes p.0) p.1 × IsHandler p.0 in
+    let made : HandlerParts × List ℕ = ((a.0.0, b.0.0, d.0.0, f.0.0), f.0.1) in
+    let P : HandlerParts × List ℕ → Type 0 = λ p. Takes bytes (handler_bytes p.0) p.1 × IsHandler p.0 in
     subst P (same_some made (h, rest) f.2) (e03, (t0.1, t1.1, t2.1, t3.1))
 
 pub handler_again : IsAgain handler_bytes IsHandler handler_in
@@ -103,7 +103,7 @@ handler_again h rest fits =
 -- ---- a name, a length and so many bytes
 
 -- what a named part took, its bytes among it
-pub named_frame : (bytes : List ℕ) (a : Named) (rest : List ℕ) → IsBytes bytes → named_in bytes ≡ Some (a, rest) → Takes bytes (named_bytes a) rest × IsNamed a × IsBytes a.1
+pub named_frame : (bytes : List ℕ) (a : NamedParts) (rest : List ℕ) → IsBytes bytes → named_in bytes ≡ Some (a, rest) → Takes bytes (named_bytes a) rest × IsNamedInRange a × IsBytes a.1
 unfolding named_in
 named_frame bytes named rest small e =
     let a = bind_some (number_in 2 bytes) (λ name. number_in 4 name.1 >>= λ n. front_in n.0 n.1 >>= λ content. Some ((name.0, content.0), content.1)) (named, rest) e in
@@ -115,14 +115,14 @@ named_frame bytes named rest small e =
     let e12 = Takes-then a.0.1 (u4 b.0.0) b.0.1 d.0.0 d.0.1 t1.0 t2.0 in
     let e02 = Takes-then bytes (u2 a.0.0) a.0.1 (u4 b.0.0 ++ d.0.0) d.0.1 t0.0 e12 in
     let same : Takes bytes (framed a.0.0 d.0.0) d.0.1 = subst (λ (k : ℕ). Takes bytes (u2 a.0.0 ++ (u4 k ++ d.0.0)) d.0.1) (sym t2.1) e02 in
-    let made : Named × List ℕ = ((a.0.0, d.0.0), d.0.1) in
-    let P : Named × List ℕ → Type 0 = λ p. Takes bytes (named_bytes p.0) p.1 × IsNamed p.0 × IsBytes p.0.1 in
+    let made : NamedParts × List ℕ = ((a.0.0, d.0.0), d.0.1) in
+    let P : NamedParts × List ℕ → Type 0 = λ p. Takes bytes (named_bytes p.0) p.1 × IsNamedInRange p.0 × IsBytes p.0.1 in
     subst P (same_some made (named, rest) d.2) (same, (t0.1, omega (arith, t1.1, t2.1)), t2.2)
 
-pub named_takes : IsTaken named_bytes IsNamed named_in
+pub named_takes : IsTaken named_bytes IsNamedInRange named_in
 named_takes bytes a rest small e = let f = named_frame bytes a rest small e in (f.0, f.1)
 
-pub named_again : IsAgain named_bytes IsNamed named_in
+pub named_again : IsAgain named_bytes IsNamedInRange named_in
 unfolding named_in
 named_again a rest fits =
     let text : List ℕ = a.1 in
@@ -134,10 +134,10 @@ named_again a rest fits =
 
 -- ---- code
 
-pub code_takes : IsTaken code_bytes IsCode code_in
+pub code_takes : IsTaken code_bytes HasCodeRange code_in
 unfolding code_in
 code_takes bytes code rest small e =
-    let last = λ (s l : ℕ) (t : List ℕ) (h : List Handler) (k : List Named × List ℕ). let c : CodeParts = record { max_stack = s; max_locals = l; code = t; handlers = h; attributes = k.0 } in let p : CodeParts × List ℕ = (c, k.1) in Some p in
+    let last = λ (s l : ℕ) (t : List ℕ) (h : List HandlerParts) (k : List NamedParts × List ℕ). let c : CodeParts = record { max_stack = s; max_locals = l; code = t; handlers = h; attributes = k.0 } in let p : CodeParts × List ℕ = (c, k.1) in Some p in
     let a = bind_some (number_in 2 bytes) (λ s. number_in 2 s.1 >>= λ l. number_in 4 l.1 >>= λ n. front_in n.0 n.1 >>= λ t. counted_in handler_in t.1 >>= λ h. counted_in named_in h.1 >>= last s.0 l.0 t.0 h.0) (code, rest) e in
     let b = bind_some (number_in 2 a.0.1) (λ l. number_in 4 l.1 >>= λ n. front_in n.0 n.1 >>= λ t. counted_in handler_in t.1 >>= λ h. counted_in named_in h.1 >>= last a.0.0 l.0 t.0 h.0) (code, rest) a.2 in
     let d = bind_some (number_in 4 b.0.1) (λ n. front_in n.0 n.1 >>= λ t. counted_in handler_in t.1 >>= λ h. counted_in named_in h.1 >>= last a.0.0 b.0.0 t.0 h.0) (code, rest) b.2 in
@@ -149,7 +149,7 @@ code_takes bytes code rest small e =
     let t2 = number_takes 4 wide_4 b.0.1 d.0.0 d.0.1 t1.0.rest_fits d.1 in
     let t3 = front_takes d.0.0 d.0.1 f.0.0 f.0.1 t2.0.rest_fits f.1 in
     let t4 = counted_takes handler_bytes IsHandler handler_in handler_takes f.0.1 g.0.0 g.0.1 t3.0.rest_fits g.1 in
-    let t5 = counted_takes named_bytes IsNamed named_in named_takes g.0.1 k.0.0 k.0.1 t4.0.rest_fits k.1 in
+    let t5 = counted_takes named_bytes IsNamedInRange named_in named_takes g.0.1 k.0.0 k.0.1 t4.0.rest_fits k.1 in
     let e45 = Takes-then f.0.1 (counted handler_bytes g.0.0) g.0.1 (counted named_bytes k.0.0) k.0.1 t4.0 t5.0 in
     let e35 = Takes-then d.0.1 f.0.0 f.0.1 (counted handler_bytes g.0.0 ++ counted named_bytes k.0.0) k.0.1 t3.0 e45 in
     let e25 = Takes-then b.0.1 (u4 d.0.0) d.0.1 (f.0.0 ++ (counted handler_bytes g.0.0 ++ counted named_bytes k.0.0)) k.0.1 t2.0 e35 in
@@ -157,13 +157,13 @@ code_takes bytes code rest small e =
     let e05 = Takes-then bytes (u2 a.0.0) a.0.1 (u2 b.0.0 ++ (u4 d.0.0 ++ (f.0.0 ++ (counted handler_bytes g.0.0 ++ counted named_bytes k.0.0)))) k.0.1 t0.0 e15 in
     let made : CodeParts × List ℕ = (record { max_stack = a.0.0; max_locals = b.0.0; code = f.0.0; handlers = g.0.0; attributes = k.0.0 }, k.0.1) in
     let same : Takes bytes (code_bytes made.0) made.1 = subst (λ (n : ℕ). Takes bytes (u2 a.0.0 ++ (u2 b.0.0 ++ (u4 n ++ (f.0.0 ++ (counted handler_bytes g.0.0 ++ counted named_bytes k.0.0))))) k.0.1) (sym t3.1) e05 in
-    let P : CodeParts × List ℕ → Type 0 = λ p. Takes bytes (code_bytes p.0) p.1 × IsCode p.0 in
+    let P : CodeParts × List ℕ → Type 0 = λ p. Takes bytes (code_bytes p.0) p.1 × HasCodeRange p.0 in
     subst P (same_some made (code, rest) k.2) (same, record { max_stack = t0.1; max_locals = t1.1; length = omega (arith, t2.1, t3.1); handlers = t4.1; attributes = t5.1 })
 
-pub code_again : IsAgain code_bytes IsCode code_in
+pub code_again : IsAgain code_bytes HasCodeRange code_in
 unfolding code_in
 code_again c rest fits =
-    let last = λ (s l : ℕ) (t : List ℕ) (h : List Handler) (k : List Named × List ℕ). let x : CodeParts = record { max_stack = s; max_locals = l; code = t; handlers = h; attributes = k.0 } in let p : CodeParts × List ℕ = (x, k.1) in Some p in
+    let last = λ (s l : ℕ) (t : List ℕ) (h : List HandlerParts) (k : List NamedParts × List ℕ). let x : CodeParts = record { max_stack = s; max_locals = l; code = t; handlers = h; attributes = k.0 } in let p : CodeParts × List ℕ = (x, k.1) in Some p in
     let r5 : List ℕ = counted named_bytes c.attributes ++ rest in
     let r4 : List ℕ = counted handler_bytes c.handlers ++ r5 in
     let r3 : List ℕ = c.code ++ r4 in
@@ -178,7 +178,7 @@ code_again c rest fits =
     ∙ step (number_in 4) (λ n. front_in n.0 n.1 >>= λ t. counted_in handler_in t.1 >>= λ h. counted_in named_in h.1 >>= last c.max_stack c.max_locals t.0 h.0) r2 (length c.code, r3) (number_again 4 wide_4 (length c.code) r3 fits.length)
     ∙ step (front_in (length c.code)) (λ t. counted_in handler_in t.1 >>= λ h. counted_in named_in h.1 >>= last c.max_stack c.max_locals t.0 h.0) r3 (c.code, r4) (front_again c.code r4)
     ∙ step (counted_in handler_in) (λ h. counted_in named_in h.1 >>= last c.max_stack c.max_locals c.code h.0) r4 (c.handlers, r5) (counted_again handler_bytes IsHandler handler_in handler_again c.handlers r5 fits.handlers)
-    ∙ step (counted_in named_in) (last c.max_stack c.max_locals c.code c.handlers) r5 (c.attributes, rest) (counted_again named_bytes IsNamed named_in named_again c.attributes rest fits.attributes)
+    ∙ step (counted_in named_in) (last c.max_stack c.max_locals c.code c.handlers) r5 (c.attributes, rest) (counted_again named_bytes IsNamedInRange named_in named_again c.attributes rest fits.attributes)
 
 -- all of the bytes were read
 pub whole_is : {X : Type 0} (found : X × List ℕ) (x : X) → whole found ≡ Some x → (found.0 ≡ x) × (found.1 ≡ [])

@@ -4,7 +4,7 @@ use Rattle.class_pool.specs.declared.class.ClassFile.{ClassFile}
 use Rattle.class_pool.specs.Grammar.{IsPool}
 use Rattle.class_pool.specs.Spelling.{pool_bytes}
 use Rattle.class_pool.specs.ClassSpelling.{header_bytes, inside_bytes}
-use Rattle.class_pool.specs.Structure.{IsHalf, IsInside}
+use Rattle.class_pool.specs.Structure.{IsHalf, HasPartsInRange}
 use Rattle.class_rules.specs.Rules.{FollowsRules}
 
 -- these bytes stand behind the header of that class file of these versions
@@ -12,7 +12,7 @@ pub record IsBehindHeader (minor major : ℕ) (bytes : List ℕ) (c : ClassFile)
   pub same_minor : c.minor ≡ minor
   pub same_major : c.major ≡ major
   pub pool : IsPool c.pool
-  pub inside : IsInside c
+  pub inside : HasPartsInRange c
   pub rules : FollowsRules c
   pub spelling : bytes ≡ pool_bytes c.pool ++ inside_bytes c
 

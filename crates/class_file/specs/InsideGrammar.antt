@@ -3,12 +3,12 @@ use Rattle.std.specs.Prelude.{◌≡◌, ℕ, List}
 use Rattle.class_pool.specs.declared.entry.Entry.{Entry}
 use Rattle.class_pool.specs.declared.class.ClassFile.{ClassFile}
 use Rattle.class_pool.specs.ClassSpelling.{inside_bytes}
-use Rattle.class_pool.specs.Structure.{IsInside}
+use Rattle.class_pool.specs.Structure.{HasPartsInRange}
 
 -- the bytes are what stands behind the pool in that class file, which is of these versions and this pool
 pub record IsInsideOf (minor major : ℕ) (pool : List Entry) (bytes : List ℕ) (c : ClassFile) : Type 0 where
   pub spelling : bytes ≡ inside_bytes c
-  pub structure : IsInside c
+  pub structure : HasPartsInRange c
   pub same_minor : c.minor ≡ minor
   pub same_major : c.major ≡ major
   pub same_pool : c.pool ≡ pool

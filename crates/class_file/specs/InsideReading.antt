@@ -1,7 +1,7 @@
 -- Reading the parts of a class file from the front of bytes: what was read and the bytes behind it, or nothing.
 use Rattle.std.specs.Prelude.{ℕ, zero, suc, ◌==◌, if◌then◌else◌, List, [], ◌∷◌, Option, Some, None}
 use Rattle.class_pool.specs.declared.entry.Entry.{Entry}
-use Rattle.base.specs.Reading.{◌>>=◌, whole}
+use Rattle.base.specs.Reading.{whole, ◌>>=◌}
 use Rattle.class_pool.specs.Reading.{number_in, front_in}
 use Rattle.class_pool.specs.declared.class.Attribute.{Attribute}
 use Rattle.class_pool.specs.declared.class.Body.{Body}
@@ -16,7 +16,7 @@ use Rattle.class_pool.specs.declared.kind.Owner.TheVariants as owners
 use Rattle.class_pool.specs.declared.kind.Kind.{Kind}
 use Rattle.class_pool.specs.declared.kind.Kind.TheVariants as kinds
 use Rattle.class_pool.specs.Kind.{kind_of}
-use Rattle.class_pool.specs.ClassSpelling.{Handler, Named}
+use Rattle.class_pool.specs.ClassSpelling.{HandlerParts, NamedParts}
 
 -- so many items
 unfoldable pub many_in : {X : Type 0} → (List ℕ → Option (X × List ℕ)) → ℕ → List ℕ → Option (List X × List ℕ)
@@ -32,7 +32,7 @@ counted_in read bytes = do
   n ← number_in 2 bytes
   many_in read n.0 n.1
 
-unfoldable pub handler_in : List ℕ → Option (Handler × List ℕ)
+unfoldable pub handler_in : List ℕ → Option (HandlerParts × List ℕ)
 handler_in bytes = do
   start ← number_in 2 bytes
   end ← number_in 2 start.1
@@ -41,7 +41,7 @@ handler_in bytes = do
   Some ((start.0, end.0, handler.0, caught.0), caught.1)
 
 -- a name, a length and so many bytes
-unfoldable pub named_in : List ℕ → Option (Named × List ℕ)
+unfoldable pub named_in : List ℕ → Option (NamedParts × List ℕ)
 named_in bytes = do
   name ← number_in 2 bytes
   n ← number_in 4 name.1

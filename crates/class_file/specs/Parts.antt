@@ -5,7 +5,7 @@ use Rattle.class_pool.specs.declared.class.ClassFile.{ClassFile}
 use Rattle.class_pool.specs.declared.kind.Owner.TheVariants as owners
 use Rattle.class_pool.specs.Spelling.{u2}
 use Rattle.class_pool.specs.ClassSpelling.{counted, attribute_bytes, member_bytes}
-use Rattle.class_pool.specs.Structure.{IsHalf, AreCounted, IsAttribute, IsMember}
+use Rattle.class_pool.specs.Structure.{IsHalf, AreCounted, IsAttribute, HasMemberRange}
 use Rattle.class_file.specs.declared.structure.Identity.{Identity}
 use Rattle.class_file.specs.declared.structure.Members.{Members}
 
@@ -27,7 +27,7 @@ pub record IsIdentity (i : Identity) : Type 0 where
   pub super_class : IsHalf i.super_class
   pub interfaces : AreCounted IsHalf i.interfaces
 
-pub record AreMembers (pool : List Entry) (m : Members) : Type 0 where
-  pub fields : AreCounted (IsMember owners.Field pool) m.fields
-  pub methods : AreCounted (IsMember owners.Method pool) m.methods
+pub record AreReadMembers (pool : List Entry) (m : Members) : Type 0 where
+  pub fields : AreCounted (HasMemberRange owners.Field pool) m.fields
+  pub methods : AreCounted (HasMemberRange owners.Method pool) m.methods
   pub attributes : AreCounted (IsAttribute owners.Class pool) m.attributes

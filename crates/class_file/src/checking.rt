@@ -3,7 +3,8 @@
 ghost use Rattle.std.specs.Prelude.{◌≡◌, ◌↔◌, ◌<◌, ◌^◌, length, IsTrue};
 ghost use Rattle.std.specs.List.{flat_map};
 ghost use Rattle.class_pool.specs.ClassSpelling.{named_bytes, code_bytes, body_bytes};
-ghost use Rattle.class_pool.specs.Structure.{IsHalf, IsHandler, IsNamed, AreCounted, IsCode, HasKind, IsAttribute, IsMember, IsInside};
+ghost use Rattle.class_pool.specs.Structure.{IsHalf, IsHandler, IsNamedInRange, AreCounted, HasCodeRange, HasKind, IsAttribute};
+ghost use Rattle.class_pool.specs.Structure.{HasMemberRange, HasPartsInRange};
 
 use base::Items;
 use class_pool::kind::{Kind, Owner, kind_of};
@@ -29,21 +30,21 @@ fn are_handlers(handlers: &[(u16, u16, u16, u16)]) -> bool
 }
 
 fn is_named(attribute: &(u16, Items<u8>)) -> bool
-    ensures { IsTrue result ↔ IsNamed attribute.now }
+    ensures { IsTrue result ↔ IsNamedInRange attribute.now }
 {
     let _name = attribute.0;
     attribute.1.as_slice().len() <= MOST_OF_32
 }
 
 fn are_named(attributes: &[(u16, Items<u8>)]) -> bool
-    ensures { IsTrue result ↔ AreCounted IsNamed attributes.now }
+    ensures { IsTrue result ↔ AreCounted IsNamedInRange attributes.now }
 {
     attributes.len() <= MOST_OF_16 && attributes.iter().all(is_named)
 }
 
 /// The bytes of all of them.
 fn named_length(attributes: &[(u16, Items<u8>)]) -> usize
-    requires { AreCounted IsNamed attributes.now }
+    requires { AreCounted IsNamedInRange attributes.now }
     ensures { result ≡ length (flat_map named_bytes attributes.now) }
 {
     let mut total = 0;
@@ -55,7 +56,7 @@ fn named_length(attributes: &[(u16, Items<u8>)]) -> usize
 
 /// Whether the parts of code fit, and all of it fits the length of an attribute.
 fn is_code(code: &Code) -> bool
-    ensures { IsTrue result ↔ (IsCode code.now × (length (code_bytes code.now) < 2 ^ 32)) }
+    ensures { IsTrue result ↔ (HasCodeRange code.now × (length (code_bytes code.now) < 2 ^ 32)) }
 {
     let (_stack, _locals) = (code.max_stack, code.max_locals);
     let length = code.code.as_slice().len();
@@ -95,14 +96,14 @@ fn are_attributes(owner: Owner, pool: &Pool, attributes: &[Attribute]) -> bool
 }
 
 fn is_member(owner: Owner, pool: &Pool, member: &Member) -> bool
-    ensures { IsTrue result ↔ IsMember owner pool.now member.now }
+    ensures { IsTrue result ↔ HasMemberRange owner pool.now member.now }
 {
     let (_flags, _name, _descriptor) = (member.flags, member.name, member.descriptor);
     are_attributes(owner, pool, member.attributes.as_slice())
 }
 
 fn are_members(owner: Owner, pool: &Pool, members: &[Member]) -> bool
-    ensures { IsTrue result ↔ AreCounted (IsMember owner pool.now) members.now }
+    ensures { IsTrue result ↔ AreCounted (HasMemberRange owner pool.now) members.now }
 {
     for member in members {
         if !is_member(owner, pool, member) {
@@ -120,7 +121,7 @@ fn are_indexes(indexes: &[u16]) -> bool
 
 /// Whether what stands behind the pool of a class file has bytes.
 pub fn is_inside(class: &ClassFile) -> bool
-    ensures { IsTrue result ↔ IsInside class.now }
+    ensures { IsTrue result ↔ HasPartsInRange class.now }
 {
     let (_flags, _this, _super) = (class.flags, class.this_class, class.super_class);
     are_indexes(class.interfaces.as_slice())

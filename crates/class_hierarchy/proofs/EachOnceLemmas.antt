@@ -5,7 +5,7 @@ use Rattle.std.specs.Option.{option_or}
 use Rattle.std.specs.List.{IsDistinct, AllByRecursion}
 use Rattle.std.proofs.lemmas.Bool.{eqb-true, eq-eqb, false≢true}
 use Rattle.lists.specs.Lists.{first_some}
-use Rattle.lists.specs.Lemmas.{none≢some, some_same}
+use Rattle.lists.proofs.Lemmas.{none≢some, some_same}
 use Rattle.lists.specs.Numbers.{IsSameSearch}
 use Rattle.lists.proofs.Searching.{first_cons}
 use Rattle.lists.proofs.Finding.{Find, Place}

@@ -11,8 +11,9 @@ use Rattle.bit_rows.specs.declared.rows.Row.{Row}
 use Rattle.class_pool.specs.declared.class.Member.{Member}
 use Rattle.class_pool.specs.declared.class.ClassFile.{ClassFile}
 use Rattle.lists.specs.Lists.{onto, index_of}
-use Rattle.lists.specs.Lemmas.{some_same, none≢some, index_append}
-use Rattle.class_lookup.specs.Parts.{Signature, signature_of, same_signature, text_at}
+use Rattle.lists.proofs.Lemmas.{some_same, none≢some, index_append}
+use Rattle.class_lookup.specs.Parts.{Signature, signature_of, same_signature}
+use Rattle.class_pool.specs.Grammar.{text_at}
 use Rattle.class_lookup.specs.Lookup.{Place, declared, declared_in}
 use Rattle.class_lookup.specs.Symbols.{symbol}
 use Rattle.class_hierarchy.specs.Marks.{HasMore, AreMarked, Tells}

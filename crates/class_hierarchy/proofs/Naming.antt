@@ -4,15 +4,16 @@ use Rattle.std.specs.Prelude.{slice_get}
 use Rattle.class_pool.specs.declared.class.Member.{Member}
 use Rattle.class_pool.specs.declared.class.ClassFile.{ClassFile}
 use Rattle.lists.specs.Lists.{onto, first_some}
-use Rattle.lists.specs.Lemmas.{onto_some, index_found}
-use Rattle.class_lookup.specs.Parts.{signature_of, same_text, text_at}
+use Rattle.lists.proofs.Lemmas.{onto_some, index_found}
+use Rattle.class_lookup.specs.Parts.{signature_of, same_text}
+use Rattle.class_pool.specs.Grammar.{text_at}
 use Rattle.class_lookup.specs.Lookup.{Place, method_at}
 use Rattle.class_lookup.specs.Symbols.{texts, symbol}
-use Rattle.class_hierarchy.specs.Members.{IsNamed}
+use Rattle.class_hierarchy.specs.Members.{HasSymbols}
 use Rattle.class_hierarchy.proofs.Directly.{text_same}
 
 pub named_is : (cs : List ClassFile) (p : Place) (m : Member) (n d : ℕ) → Some m ≡ method_at cs p → ((c : ClassFile) → slice_get cs p.0 ≡ Some c → symbol cs (text_at c.pool m.name) ≡ Some n)
-    → ((c : ClassFile) → slice_get cs p.0 ≡ Some c → symbol cs (text_at c.pool m.descriptor) ≡ Some d) → IsNamed cs (record { place = p; name = n; descriptor = d })
+    → ((c : ClassFile) → slice_get cs p.0 ≡ Some c → symbol cs (text_at c.pool m.descriptor) ≡ Some d) → HasSymbols cs (record { place = p; name = n; descriptor = d })
 named_is cs p m n d h f g =
     let k = onto_some (slice_get cs p.0) (λ c. slice_get c.methods p.1) m (sym h) in
     record {

@@ -9,7 +9,7 @@ use Rattle.std.proofs.lemmas.List.{get_or_past, get_or_append_left}
 use Rattle.std.proofs.lemmas.Option.{slice_get_within, slice_get_past}
 use Rattle.class_pool.specs.declared.class.ClassFile.{ClassFile}
 use Rattle.lists.specs.Lists.{onto}
-use Rattle.lists.specs.Lemmas.{onto_some, index_found}
+use Rattle.lists.proofs.Lemmas.{onto_some, index_found}
 use Rattle.class_lookup.specs.Parts.{same_text, name_of, superclass_name, superinterface_names}
 use Rattle.class_lookup.specs.Hierarchy.{find_class, superclass, superinterfaces, direct_supertypes, is_among, IsAcyclic}
 use Rattle.lists.proofs.Reached.{in_append}

@@ -8,7 +8,7 @@ use Rattle.std.proofs.lemmas.Option.{slice_get_within}
 use Rattle.std.proofs.lemmas.Bool.{cond-true, cond-false}
 use Rattle.class_pool.specs.declared.class.ClassFile.{ClassFile}
 use Rattle.lists.specs.Lists.{onto}
-use Rattle.lists.specs.Lemmas.{onto_some}
+use Rattle.lists.proofs.Lemmas.{onto_some}
 use Rattle.class_lookup.specs.Parts.{Signature, signature_of}
 use Rattle.class_lookup.specs.Hierarchy.{superclass, superclasses, is_interface}
 use Rattle.class_lookup.specs.Lookup.{Place, method_at, declared_method}

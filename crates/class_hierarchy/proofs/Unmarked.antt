@@ -12,7 +12,7 @@ use Rattle.class_lookup.specs.Lookup.{Place, declared, declared_method}
 use Rattle.class_lookup.specs.Symbols.{symbol}
 use Rattle.class_hierarchy.specs.declared.members.Named.{Named}
 use Rattle.class_hierarchy.specs.Marks.{AreMarked}
-use Rattle.class_hierarchy.specs.Members.{declared_as, IsNamed}
+use Rattle.class_hierarchy.specs.Members.{declared_as, HasSymbols}
 use Rattle.class_hierarchy.proofs.Marking.{no_row}
 
 pub none_found : (members : ClassFile → List Member) (cs : List ClassFile) (m : BitTable) (a b : ℕ) → AreMarked members cs m → ((c : ℕ) → has m (a, b) c ≡ false)
@@ -23,7 +23,7 @@ none_kept : (find : ℕ → Option Place) (xs : List ℕ) → ((x : ℕ) → fin
 none_kept find [] h = refl
 none_kept find (x ∷ xs) h = ap (λ o. cons_option o (filter_map find xs)) (h x) ∙ none_kept find xs h
 
-pub none_named : (cs : List ClassFile) (marks : BitTable) (m : Named) → IsNamed cs m → AreMarked (λ k. k.methods) cs marks → ((c : ℕ) → has marks (m.name, m.descriptor) c ≡ false)
+pub none_named : (cs : List ClassFile) (marks : BitTable) (m : Named) → HasSymbols cs m → AreMarked (λ k. k.methods) cs marks → ((c : ℕ) → has marks (m.name, m.descriptor) c ≡ false)
     → (list : List ℕ) → filter_map (declared_as cs m.place) list ≡ []
 none_named cs marks m h marked is list =
     none_kept (declared_as cs m.place) list

@@ -13,7 +13,7 @@ abbrev pub declared_as : List ClassFile → (method : Place) → (class : ℕ) �
 declared_as cs m c = onto (signature_at cs m) (λ s. declared_method cs s c)
 
 -- there is such a method, with these symbols
-pub record IsNamed (cs : List ClassFile) (m : Named) : Type 0 where
+pub record HasSymbols (cs : List ClassFile) (m : Named) : Type 0 where
   pub signature : Signature
   pub has : signature_at cs m.place ≡ Some signature
   pub name_is : symbol cs signature.name ≡ Some m.name
@@ -22,4 +22,4 @@ pub record IsNamed (cs : List ClassFile) (m : Named) : Type 0 where
 -- the method of this place, with its symbols; none where there is no method
 abbrev pub IsNamedAt : List ClassFile → Place → Option Named → Type 0
 IsNamedAt cs p None = signature_at cs p ≡ None
-IsNamedAt cs p (Some m) = IsNamed cs m × (m.place ≡ p)
+IsNamedAt cs p (Some m) = HasSymbols cs m × (m.place ≡ p)

@@ -5,7 +5,7 @@ ghost use Rattle.std.specs.Prelude.{◌≡◌, ◌<◌, length, IsTrue};
 ghost use Rattle.class_lookup.specs.Hierarchy.{is_among};
 ghost use Rattle.upward_sets.specs.Numbers.{entry};
 ghost use Rattle.class_hierarchy.specs.Deciding.{is_overridable};
-ghost use Rattle.class_hierarchy.specs.Members.{IsNamed};
+ghost use Rattle.class_hierarchy.specs.Members.{HasSymbols};
 
 use crate::members::{Named, declared_as};
 use crate::methods::is_open;
@@ -14,7 +14,7 @@ use class_lookup::Classes;
 
 /// Whether the method is the one of its name and descriptor that its class declares, and each class below may override it.
 pub(crate) fn is_overridable(classes: &Classes, method: &Named) -> bool
-    requires { IsNamed classes.now method.now }
+    requires { HasSymbols classes.now method.now }
     ensures { result ≡ is_overridable classes.now method.now.place }
 {
     match declared_as(classes, method, method.place.class) {

@@ -6,7 +6,7 @@ ghost use Rattle.class_lookup.specs.Lists.{first_some};
 ghost use Rattle.class_lookup.specs.Lookup.{declared_field, declared_method};
 ghost use Rattle.class_lookup.specs.Parts.{Signature};
 ghost use Rattle.class_lookup.specs.Symbols.{symbol};
-ghost use Rattle.class_hierarchy.specs.Members.{declared_as, IsNamed, IsNamedAt};
+ghost use Rattle.class_hierarchy.specs.Members.{declared_as, HasSymbols, IsNamedAt};
 
 use bit_rows::{BitRows, Row};
 use class_lookup::{Classes, Place, method_at};
@@ -33,7 +33,7 @@ pub(crate) fn named_at(classes: &Classes, place: Place) -> Option<Named>
 
 /// The method of the same name and descriptor that a class declares.
 pub(crate) fn declared_as(classes: &Classes, method: &Named, class: u32) -> Option<Place>
-    requires { IsNamed classes.now method.now }
+    requires { HasSymbols classes.now method.now }
     ensures { result ≡ declared_as classes.now method.now.place class }
 {
     classes.declared_method(class, method.name, method.descriptor)
@@ -46,7 +46,7 @@ pub(crate) fn marked_as(
     method: &Named,
     class: u32,
 ) -> Option<Place>
-    requires named { IsNamed classes.now method.now }
+    requires named { HasSymbols classes.now method.now }
     requires row { Tells (λ k. k.methods) classes.now method.now.name method.now.descriptor row }
     ensures { result ≡ declared_as classes.now method.now.place class }
 {

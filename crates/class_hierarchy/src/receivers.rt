@@ -7,7 +7,7 @@ ghost use Rattle.class_lookup.specs.Hierarchy.{superclass, superclasses, IsAcycl
 ghost use Rattle.class_lookup.specs.Lookup.{Place as APlace};
 ghost use Rattle.class_hierarchy.specs.declared.receivers.Selected.{Selected as SelectedSoFar};
 ghost use Rattle.class_hierarchy.specs.Deciding.{is_early, is_deciding};
-ghost use Rattle.class_hierarchy.specs.Members.{IsNamed};
+ghost use Rattle.class_hierarchy.specs.Members.{HasSymbols};
 ghost use Rattle.class_hierarchy.specs.Selecting.{selected_of, selected_at, selected_above, AreKnown, AreChains};
 
 use crate::deciding::{is_at_or_below, is_overridable};
@@ -98,7 +98,7 @@ fn selected_above(resolved: &Resolved<'_>, table: &[Option<Selected>], class: u3
 
 /// What is selected for a class, where it is known for its direct superclass.
 fn selected_for(resolved: &Resolved<'_>, table: &[Option<Selected>], class: u32) -> Selected
-    requires named { IsNamed resolved.now.classes.now resolved.now.method }
+    requires named { HasSymbols resolved.now.classes.now resolved.now.method }
     requires class { class < length resolved.now.classes.now }
     requires acyclic { IsAcyclic resolved.now.classes.now }
     requires table { length table.now ≡ length resolved.now.classes.now }
@@ -130,7 +130,7 @@ fn is_deciding(resolved: &Resolved<'_>, class: u32, place: Place) -> bool
 
 /// What is selected for a class, where what it declares tells that.
 fn decided(resolved: &Resolved<'_>, class: u32) -> Option<Selected>
-    requires named { IsNamed resolved.now.classes.now resolved.now.method }
+    requires named { HasSymbols resolved.now.classes.now resolved.now.method }
     requires class { class < length resolved.now.classes.now }
     requires chains { AreChains resolved.now.classes.now resolved.now.superclasses.now }
     requires early { IsTrue (is_early resolved.now.classes.now resolved.now.of_interface resolved.now.method.place) }
@@ -171,7 +171,7 @@ fn is_settled(
     table: &mut Vec<Option<Selected>>,
     class: u32,
 ) -> bool
-    requires named { IsNamed resolved.now.classes.now resolved.now.method }
+    requires named { HasSymbols resolved.now.classes.now resolved.now.method }
     requires class { class < length resolved.now.classes.now }
     requires chains { AreChains resolved.now.classes.now resolved.now.superclasses.now }
     requires early { IsTrue early → IsTrue (is_early resolved.now.classes.now resolved.now.of_interface resolved.now.method.place) }
@@ -204,7 +204,7 @@ fn first_settled(
     table: &mut Vec<Option<Selected>>,
     list: &[u32],
 ) -> usize
-    requires named { IsNamed resolved.now.classes.now resolved.now.method }
+    requires named { HasSymbols resolved.now.classes.now resolved.now.method }
     requires list { (i : ℕ) → i < length list.now → slice_index_or list.now i 0 < length resolved.now.classes.now }
     requires chains { AreChains resolved.now.classes.now resolved.now.superclasses.now }
     requires early { IsTrue early → IsTrue (is_early resolved.now.classes.now resolved.now.of_interface resolved.now.method.place) }
@@ -225,7 +225,7 @@ fn first_settled(
 
 /// Puts down what is selected for a class and for those above it, from the uppermost on for which that isn't known.
 fn fill(resolved: &Resolved<'_>, early: bool, table: &mut Vec<Option<Selected>>, class: u32)
-    requires named { IsNamed resolved.now.classes.now resolved.now.method }
+    requires named { HasSymbols resolved.now.classes.now resolved.now.method }
     requires class { class < length resolved.now.classes.now }
     requires early { IsTrue early → IsTrue (is_early resolved.now.classes.now resolved.now.of_interface resolved.now.method.place) }
     requires chains { AreChains resolved.now.classes.now resolved.now.superclasses.now }
@@ -251,7 +251,7 @@ fn place_for(
     table: &mut Vec<Option<Selected>>,
     receiver: u32,
 ) -> Option<Place>
-    requires named { IsNamed resolved.now.classes.now resolved.now.method }
+    requires named { HasSymbols resolved.now.classes.now resolved.now.method }
     requires class { receiver < length resolved.now.classes.now }
     requires early { IsTrue early → IsTrue (is_early resolved.now.classes.now resolved.now.of_interface resolved.now.method.place) }
     requires chains { AreChains resolved.now.classes.now resolved.now.superclasses.now }
@@ -272,7 +272,7 @@ fn decided_each(
     early: bool,
     receivers: &[u32],
 ) -> Result<Option<Vec<Option<Place>>>, NoMemory>
-    requires named { IsNamed resolved.now.classes.now resolved.now.method }
+    requires named { HasSymbols resolved.now.classes.now resolved.now.method }
     requires receivers { (i : ℕ) → i < length receivers.now → slice_index_or receivers.now i 0 < length resolved.now.classes.now }
     requires chains { AreChains resolved.now.classes.now resolved.now.superclasses.now }
     requires early { IsTrue early → IsTrue (is_early resolved.now.classes.now resolved.now.of_interface resolved.now.method.place) }
@@ -299,7 +299,7 @@ fn tabled_each(
     early: bool,
     receivers: &[u32],
 ) -> Result<Vec<Option<Place>>, NoMemory>
-    requires named { IsNamed resolved.now.classes.now resolved.now.method }
+    requires named { HasSymbols resolved.now.classes.now resolved.now.method }
     requires receivers { (i : ℕ) → i < length receivers.now → slice_index_or receivers.now i 0 < length resolved.now.classes.now }
     requires chains { AreChains resolved.now.classes.now resolved.now.superclasses.now }
     requires early { IsTrue early → IsTrue (is_early resolved.now.classes.now resolved.now.of_interface resolved.now.method.place) }
@@ -320,7 +320,7 @@ pub(crate) fn places_for(
     resolved: &Resolved<'_>,
     receivers: &[u32],
 ) -> Result<Vec<Option<Place>>, NoMemory>
-    requires named { IsNamed resolved.now.classes.now resolved.now.method }
+    requires named { HasSymbols resolved.now.classes.now resolved.now.method }
     requires receivers { (i : ℕ) → i < length receivers.now → slice_index_or receivers.now i 0 < length resolved.now.classes.now }
     requires chains { AreChains resolved.now.classes.now resolved.now.superclasses.now }
     ensures { IfOk result (λ places. places.items ≡ map (λ c.

@@ -4,7 +4,7 @@ ghost use Rattle.std.specs.Prelude.{◌≡◌};
 ghost use Rattle.std.specs.List.{filter_map, find};
 ghost use Rattle.class_lookup.specs.Selection.{overriding, head, is_public_instance, is_instance};
 ghost use Rattle.class_hierarchy.specs.Marks.{AreMarked};
-ghost use Rattle.class_hierarchy.specs.Members.{declared_as, IsNamed};
+ghost use Rattle.class_hierarchy.specs.Members.{declared_as, HasSymbols};
 
 use crate::members::{Named, marked_as};
 use crate::methods::{is_instance, is_joining, is_open, is_public_instance};
@@ -18,7 +18,7 @@ pub(crate) fn first_public(
     list: &[u32],
     method: &Named,
 ) -> Option<Place>
-    requires named { IsNamed classes.now method.now }
+    requires named { HasSymbols classes.now method.now }
     requires marks { AreMarked (λ k. k.methods) classes.now marks.now }
     ensures { result ≡ find (is_public_instance classes.now) (filter_map (declared_as classes.now method.now.place) list.now) }
 {
@@ -40,7 +40,7 @@ pub(crate) fn first_instance(
     list: &[u32],
     method: &Named,
 ) -> Option<Place>
-    requires named { IsNamed classes.now method.now }
+    requires named { HasSymbols classes.now method.now }
     requires marks { AreMarked (λ k. k.methods) classes.now marks.now }
     ensures { result ≡ find (is_instance classes.now) (filter_map (declared_as classes.now method.now.place) list.now) }
 {
@@ -62,7 +62,7 @@ pub(crate) fn first_overriding(
     list: &[u32],
     resolved: &Named,
 ) -> Option<Place>
-    requires named { IsNamed classes.now resolved.now }
+    requires named { HasSymbols classes.now resolved.now }
     requires marks { AreMarked (λ k. k.methods) classes.now marks.now }
     ensures { result ≡ head (overriding classes.now resolved.now.place (filter_map (declared_as classes.now resolved.now.place) list.now)) }
 {

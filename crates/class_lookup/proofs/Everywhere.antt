@@ -5,9 +5,9 @@ use Rattle.std.specs.Option.{option_map_or}
 use Rattle.std.specs.List.{flat_map, list_any, cons_option}
 use Rattle.class_pool.specs.declared.entry.Entry.{Entry}
 use Rattle.class_pool.specs.declared.class.ClassFile.{ClassFile}
-use Rattle.class_pool.specs.Grammar.{utf8_of, entry_at, class_name_of}
-use Rattle.lists.specs.Lemmas.{none≢some, some_same, index_found}
-use Rattle.class_lookup.specs.Parts.{same_text, text_at, name_of}
+use Rattle.class_pool.specs.Grammar.{utf8_of, entry_at, class_name_of, text_at}
+use Rattle.lists.proofs.Lemmas.{none≢some, some_same, index_found}
+use Rattle.class_lookup.specs.Parts.{same_text, name_of}
 use Rattle.class_lookup.specs.Lists.{with_item, with_items}
 use Rattle.class_lookup.specs.Hierarchy.{find_class}
 use Rattle.class_lookup.specs.Symbols.{pool_texts, symbol}

@@ -9,7 +9,7 @@ use Rattle.std.proofs.lemmas.Bool.{false≢true, and_parts, and_from, eqb-true, 
 use Rattle.class_pool.specs.declared.class.Member.{Member}
 use Rattle.class_pool.specs.declared.class.ClassFile.{ClassFile}
 use Rattle.lists.specs.Lists.{onto, index_of}
-use Rattle.lists.specs.Lemmas.{some_same, onto_some, index_append}
+use Rattle.lists.proofs.Lemmas.{some_same, onto_some, index_append}
 use Rattle.lists.proofs.Lookups.{lookup_append}
 use Rattle.class_lookup.specs.Parts.{Signature, signature_of, same_signature}
 use Rattle.class_lookup.specs.Lookup.{declared, declared_in}

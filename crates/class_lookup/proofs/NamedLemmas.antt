@@ -7,7 +7,7 @@ use Rattle.std.proofs.lemmas.Bool.{false≢true, cases_eq, eqb-true, eq-eqb, fal
 use Rattle.std.proofs.lemmas.List.{get_or-set_same, get_or-set_other, length-set, length-take-le}
 use Rattle.class_pool.specs.declared.class.ClassFile.{ClassFile}
 use Rattle.lists.specs.Lists.{index_of}
-use Rattle.lists.specs.Lemmas.{some_same, index_append}
+use Rattle.lists.proofs.Lemmas.{some_same, index_append}
 use Rattle.class_lookup.specs.Parts.{same_text, name_of, class_text, package_in, same_package}
 use Rattle.class_lookup.specs.Symbols.{texts, symbol}
 use Rattle.class_lookup.specs.Tables.{AreNamed, ArePackages}

@@ -14,7 +14,7 @@ use Rattle.std.proofs.lemmas.Bool.{true≢false, cases_Bool}
 use Rattle.std.proofs.lemmas.Map.Text.{is_eq-slice_cmp}
 use Rattle.std.proofs.lemmas.Option.{slice_get_within}
 use Rattle.lists.specs.Lists.{onto, index_of}
-use Rattle.lists.specs.Lemmas.{none≢some, some_same, index_append, index_found}
+use Rattle.lists.proofs.Lemmas.{none≢some, some_same, index_append, index_found}
 use Rattle.class_lookup.specs.Parts.{same_text}
 use Rattle.class_lookup.specs.Lists.{with_item, with_items}
 use Rattle.class_lookup.specs.Numbered.{number_in, number_of, AreNumbered, HasNumbers}

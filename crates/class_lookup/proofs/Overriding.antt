@@ -8,7 +8,7 @@ use Rattle.class_lookup.specs.Hierarchy.{is_among}
 use Rattle.class_lookup.specs.Lookup.{Place, same_place}
 use Rattle.class_lookup.specs.Laws.{Comparisons}
 use Rattle.class_lookup.specs.Selection.{overrides_directly, overriding, head}
-use Rattle.lists.specs.Lemmas.{none≢some, some_same}
+use Rattle.lists.proofs.Lemmas.{none≢some, some_same}
 use Rattle.class_lookup.proofs.Searches.{text_same, same_is_text, signature_same, same_is_signature}
 
 -- ---- places in a list

@@ -3,7 +3,7 @@ use Rattle.std.proofs.Common.{◌≡◌, ℕ, true, List, ap, ap₂}
 use Rattle.std.proofs.lemmas.Bool.{and_parts, and_from}
 use lib.Pointwise.{bytes_decides}
 pub use Rattle.lists.proofs.Searching.{first_cons, first_append, first_flat, map_same, first_found}
-pub use Rattle.lists.specs.Lemmas.{none≢some, some_same, onto_some, map_some, index_found}
+pub use Rattle.lists.proofs.Lemmas.{none≢some, some_same, onto_some, map_some, index_found}
 use Rattle.class_lookup.specs.Parts.{same_text, Signature, same_signature}
 
 -- ---- texts

@@ -7,13 +7,13 @@ use Rattle.std.proofs.lemmas.Bool.{or_cases, or_right, and_parts, and_from, fals
 use Rattle.class_pool.specs.declared.class.Member.{Member}
 use Rattle.class_pool.specs.declared.class.ClassFile.{ClassFile}
 use Rattle.lists.specs.Lists.{onto}
-pub use Rattle.lists.specs.Lemmas.{index_there}
+pub use Rattle.lists.proofs.Lemmas.{index_there}
 use Rattle.class_lookup.specs.Parts.{Signature, signature_of, same_signature}
 use Rattle.class_lookup.specs.Hierarchy.{superclass, superclasses, is_among, is_subclass, IsAcyclic}
 use Rattle.class_lookup.specs.Lookup.{Place, method_at, same_place, declared_in, declared_method}
 use Rattle.class_lookup.specs.Selection.{signature_at, is_virtual, is_open_to, MayOverride, Overrides, directly, through, upwards, overrides_directly, overriding}
 pub use Rattle.class_lookup.specs.Laws.{IsMethod}
-use Rattle.class_lookup.specs.Laws.{AreDistinct, IsOrOverrides, MethodsLaw}
+use Rattle.class_lookup.specs.Laws.{DeclareMethodsOnce, IsOrOverrides, MethodsLaw}
 use Rattle.class_lookup.proofs.Hierarchies.{IsUpward, upward_step, upward_way, upward_rank, subclass_of, subclass_from, subclass_through, subclass_upward, super_is_above}
 use Rattle.class_lookup.proofs.Searches.{some_same, onto_some, index_found, signature_same, same_is_signature}
 use Rattle.class_lookup.proofs.Lookups.{declared_is}
@@ -45,7 +45,7 @@ declared_signature cs s c m h =
     let d = declared_is (λ k. k.methods) cs s c m h in
     is_method cs m s (record { owner = d.owner; class = ap (slice_get cs) d.own ∙ d.class; member = d.member; there = d.there; signature = d.signature })
 
-pub method_declared : (cs : List ClassFile) → AreDistinct cs → (m : Place) (s : Signature) → signature_at cs m ≡ Some s → declared_method cs s m.0 ≡ Some m
+pub method_declared : (cs : List ClassFile) → DeclareMethodsOnce cs → (m : Place) (s : Signature) → signature_at cs m ≡ Some s → declared_method cs s m.0 ≡ Some m
 method_declared cs d m s h =
     let r = method_is cs m s h in
     let test : Member → Bool = λ x. same_signature (signature_of r.owner x) s in
@@ -223,7 +223,7 @@ lower_below cs ac s a t d h (suc n) c lt u =
 pub lower_has : (cs : List ClassFile) → IsAcyclic cs → (s : Signature) (a t : Place) (c d : ℕ) → IsUpward cs c d → has (overriding cs a (upwards cs s d)) t ≡ true → has (overriding cs a (upwards cs s c)) t ≡ true
 lower_has cs ac s a t c d u h = lower_below cs ac s a t d h (length cs) c (ac.ranked.bounded c) u
 
-direct_in : (cs : List ClassFile) → IsAcyclic cs → AreDistinct cs → (s : Signature) (m a : Place) → signature_at cs m ≡ Some s → MayOverride cs m a → is_open_to cs a m ≡ true → has (overriding cs a (upwards cs s m.0)) m ≡ true
+direct_in : (cs : List ClassFile) → IsAcyclic cs → DeclareMethodsOnce cs → (s : Signature) (m a : Place) → signature_at cs m ≡ Some s → MayOverride cs m a → is_open_to cs a m ≡ true → has (overriding cs a (upwards cs s m.0)) m ≡ true
 direct_in cs ac ds s m a sm may free =
     let w = subclass_of cs m.0 a.0 may.below in
     let sa = may.same ∙ (sym may.has ∙ sm) in
@@ -234,7 +234,7 @@ direct_in cs ac ds s m a sm may free =
     ∙ overriding_joined cs a m (upwards cs s w.0)
     (or_right (same_place m a) (list_any (overrides_directly cs m) (overriding cs a (upwards cs s w.0))) (place_any (overrides_directly cs m) (overriding cs a (upwards cs s w.0)) a above direct))
 
-pub overrides_in : (cs : List ClassFile) → IsAcyclic cs → AreDistinct cs → (s : Signature) (m a : Place) → signature_at cs m ≡ Some s → Overrides cs m a → has (overriding cs a (upwards cs s m.0)) m ≡ true
+pub overrides_in : (cs : List ClassFile) → IsAcyclic cs → DeclareMethodsOnce cs → (s : Signature) (m a : Place) → signature_at cs m ≡ Some s → Overrides cs m a → has (overriding cs a (upwards cs s m.0)) m ≡ true
 overrides_in cs ac ds s m a sm (directly may free) = direct_in cs ac ds s m a sm may free
 overrides_in cs ac ds s m a sm (through {b} may mb ba) =
     let over = may_of mb in

@@ -10,7 +10,7 @@ use Rattle.class_lookup.specs.Parts.{Signature}
 use Rattle.class_lookup.specs.Hierarchy.{superclass, is_interface, is_subclass, IsAcyclic}
 use Rattle.class_lookup.specs.Lookup.{Place, same_place, declared_method}
 use Rattle.class_lookup.specs.Selection.{signature_at, Overrides, upwards, overriding, overrides, head, is_public_instance, select}
-use Rattle.class_lookup.specs.Laws.{AreDistinct, OverridingLaw, OverridingNeeds, IsOrOverrides, IsFirstOverriding, IsFirstPublic, SelectionLaw}
+use Rattle.class_lookup.specs.Laws.{DeclareMethodsOnce, OverridingLaw, OverridingNeeds, IsOrOverrides, IsFirstOverriding, IsFirstPublic, SelectionLaw}
 use Rattle.class_lookup.proofs.Hierarchies.{IsUpward, upward_self, upward_by, not_itself}
 use Rattle.class_lookup.proofs.Searches.{none≢some, some_same}
 use Rattle.class_lookup.proofs.Lookups.{declared_is}
@@ -35,7 +35,7 @@ to_overrides cs ac m a h =
       | inr o ↦ o
     ]
 
-from_overrides : (cs : List ClassFile) → IsAcyclic cs → AreDistinct cs → (m a : Place) → Overrides cs m a → overrides cs m a ≡ true
+from_overrides : (cs : List ClassFile) → IsAcyclic cs → DeclareMethodsOnce cs → (m a : Place) → Overrides cs m a → overrides cs m a ≡ true
 from_overrides cs ac ds m a o =
     let may = may_of o in
     let f : Signature → Bool = λ s. list_any (same_place m) (overriding cs a (upwards cs s m.0)) in
@@ -133,7 +133,7 @@ select_interface cs r a s sa i =
     ∙ cond-true (is_interface cs a.0) (find (is_public_instance cs) (upwards cs s r)) (head (overriding cs a (upwards cs s r))) i
 
 -- what is the method or overrides it is in the list of each class below
-pub in_list : (cs : List ClassFile) → IsAcyclic cs → AreDistinct cs → (r : ℕ) (a m : Place) (s : Signature) → signature_at cs a ≡ Some s → IsOrOverrides cs m a → IsUpward cs r m.0 → has (overriding cs a (upwards cs s r)) m ≡ true
+pub in_list : (cs : List ClassFile) → IsAcyclic cs → DeclareMethodsOnce cs → (r : ℕ) (a m : Place) (s : Signature) → signature_at cs a ≡ Some s → IsOrOverrides cs m a → IsUpward cs r m.0 → has (overriding cs a (upwards cs s r)) m ≡ true
 in_list cs ac ds r a m s sa (inl e) u =
     let ua = subst (λ (k : Place). IsUpward cs r k.0) e u in
     ap (has (overriding cs a (upwards cs s r))) e ∙ overriding_self cs a (upwards cs s r) (has_up cs s r a ua (method_declared cs ds a s sa))
@@ -142,7 +142,7 @@ in_list cs ac ds r a m s sa (inr o) u =
     let sm = may.has ∙ (sym may.same ∙ sa) in
     lower_has cs ac s a m r m.0 u (overrides_in cs ac ds s m a sm o)
 
-of_class : (cs : List ClassFile) → IsAcyclic cs → AreDistinct cs → (r : ℕ) (a : Place) (s : Signature) → signature_at cs a ≡ Some s → is_interface cs a.0 ≡ false → (t : Place) → select cs r a ≡ Some t → IsFirstOverriding cs r a t
+of_class : (cs : List ClassFile) → IsAcyclic cs → DeclareMethodsOnce cs → (r : ℕ) (a : Place) (s : Signature) → signature_at cs a ≡ Some s → is_interface cs a.0 ≡ false → (t : Place) → select cs r a ≡ Some t → IsFirstOverriding cs r a t
 of_class cs ac ds r a s sa i t h =
     let e = sym (select_class cs r a s sa i) ∙ h in
     let there = head_has (overriding cs a (upwards cs s r)) t e in
@@ -152,7 +152,7 @@ of_class cs ac ds r a s sa i t h =
       first = λ m o u. head_first cs ac a t m (upwards cs s r) (ladder cs ac s r) e (in_list cs ac ds r a m s sa o u);
     }
 
-none_of_class : (cs : List ClassFile) → IsAcyclic cs → AreDistinct cs → (r : ℕ) (a : Place) (s : Signature) → signature_at cs a ≡ Some s → is_interface cs a.0 ≡ false → select cs r a ≡ None → (m : Place) → IsOrOverrides cs m a → IsUpward cs r m.0 → ⊥
+none_of_class : (cs : List ClassFile) → IsAcyclic cs → DeclareMethodsOnce cs → (r : ℕ) (a : Place) (s : Signature) → signature_at cs a ≡ Some s → is_interface cs a.0 ≡ false → select cs r a ≡ None → (m : Place) → IsOrOverrides cs m a → IsUpward cs r m.0 → ⊥
 none_of_class cs ac ds r a s sa i h m o u =
     head_none (overriding cs a (upwards cs s r)) m (sym (select_class cs r a s sa i) ∙ h) (in_list cs ac ds r a m s sa o u)
 
@@ -161,12 +161,12 @@ same_signature : (cs : List ClassFile) (a t : Place) (s : Signature) → signatu
 same_signature cs a t s sa (inl e) = ap (signature_at cs) e ∙ sa
 same_signature cs a t s sa (inr o) = let may = may_of o in may.has ∙ (sym may.same ∙ sa)
 
-again : (cs : List ClassFile) → IsAcyclic cs → AreDistinct cs → (r : ℕ) (a : Place) (s : Signature) → signature_at cs a ≡ Some s → is_interface cs a.0 ≡ false → (t : Place) → is_interface cs t.0 ≡ false → select cs r a ≡ Some t → select cs r t ≡ Some t
+again : (cs : List ClassFile) → IsAcyclic cs → DeclareMethodsOnce cs → (r : ℕ) (a : Place) (s : Signature) → signature_at cs a ≡ Some s → is_interface cs a.0 ≡ false → (t : Place) → is_interface cs t.0 ≡ false → select cs r a ≡ Some t → select cs r t ≡ Some t
 again cs ac ds r a s sa i t j h =
     let st = same_signature cs a t s sa (of_class cs ac ds r a s sa i t h).is in
     select_class cs r t s st j ∙ head_again cs a t (upwards cs s r) (no_repeat cs ac s r) (sym (select_class cs r a s sa i) ∙ h)
 
-of_interface : (cs : List ClassFile) → IsAcyclic cs → AreDistinct cs → (r : ℕ) (a : Place) (s : Signature) → signature_at cs a ≡ Some s → is_interface cs a.0 ≡ true → (t : Place) → select cs r a ≡ Some t → IsFirstPublic cs r s t
+of_interface : (cs : List ClassFile) → IsAcyclic cs → DeclareMethodsOnce cs → (r : ℕ) (a : Place) (s : Signature) → signature_at cs a ≡ Some s → is_interface cs a.0 ≡ true → (t : Place) → select cs r a ≡ Some t → IsFirstPublic cs r s t
 of_interface cs ac ds r a s sa i t h =
     let f = find_first cs ac (is_public_instance cs) t (upwards cs s r) (ladder cs ac s r) (sym (select_interface cs r a s sa i) ∙ h) in
     let u = up_has cs s r t f.0 in
@@ -177,7 +177,7 @@ of_interface cs ac ds r a s sa i t h =
       first = λ m sm p v. f.2 m (has_up cs s r m v (method_declared cs ds m s sm)) p;
     }
 
-none_of_interface : (cs : List ClassFile) → AreDistinct cs → (r : ℕ) (a : Place) (s : Signature) → signature_at cs a ≡ Some s → is_interface cs a.0 ≡ true → select cs r a ≡ None → (m : Place) → signature_at cs m ≡ Some s → is_public_instance cs m ≡ true → IsUpward cs r m.0 → ⊥
+none_of_interface : (cs : List ClassFile) → DeclareMethodsOnce cs → (r : ℕ) (a : Place) (s : Signature) → signature_at cs a ≡ Some s → is_interface cs a.0 ≡ true → select cs r a ≡ None → (m : Place) → signature_at cs m ≡ Some s → is_public_instance cs m ≡ true → IsUpward cs r m.0 → ⊥
 none_of_interface cs ds r a s sa i h m sm p u =
     find_none (is_public_instance cs) (upwards cs s r) m (sym (select_interface cs r a s sa i) ∙ h) (has_up cs s r m u (method_declared cs ds m s sm)) p
 

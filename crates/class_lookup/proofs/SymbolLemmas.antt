@@ -10,9 +10,9 @@ use lib.Pointwise.{bytes_decides}
 use Rattle.class_pool.specs.declared.entry.Entry.{Entry}
 use Rattle.class_pool.specs.declared.entry.Entry.TheVariants.{Utf8}
 use Rattle.class_pool.specs.declared.class.ClassFile.{ClassFile}
-use Rattle.class_pool.specs.Grammar.{utf8_of, entry_at, class_name_of}
-use Rattle.lists.specs.Lemmas.{none≢some, some_same, index_found}
-use Rattle.class_lookup.specs.Parts.{same_text, text_at, class_text}
+use Rattle.class_pool.specs.Grammar.{utf8_of, entry_at, class_name_of, text_at}
+use Rattle.lists.proofs.Lemmas.{none≢some, some_same, index_found}
+use Rattle.class_lookup.specs.Parts.{same_text, class_text}
 use Rattle.class_lookup.specs.Lists.{with_items}
 use Rattle.class_lookup.specs.Symbols.{pool_texts, texts, symbol}
 use Rattle.class_lookup.specs.Numbered.{number_in, entry_text, HaveNumbers, number_at}

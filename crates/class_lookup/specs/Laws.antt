@@ -5,7 +5,8 @@ use Rattle.std.specs.List.{flat_map, list_any}
 use Rattle.class_pool.specs.declared.class.Member.{Member}
 use Rattle.class_pool.specs.declared.class.ClassFile.{ClassFile}
 use Rattle.class_lookup.specs.Lists.{first_some}
-use Rattle.class_lookup.specs.Parts.{Signature, signature_of, same_text, same_signature, is_init, text_at}
+use Rattle.class_lookup.specs.Parts.{Signature, signature_of, same_text, same_signature, is_init}
+use Rattle.class_pool.specs.Grammar.{text_at}
 use Rattle.class_lookup.specs.Symbols.{symbol}
 use Rattle.class_lookup.specs.Hierarchy.{superclass, superinterfaces, direct_supertypes, superclasses, with_superinterfaces, is_interface, is_among}
 use Rattle.class_lookup.specs.Hierarchy.{is_subclass, extends, is_on_a_cycle, IsAcyclic}
@@ -136,13 +137,13 @@ MethodsLaw = (cs : List ClassFile) → AreMethods cs
 -- ---- overriding and selection (5.4.5, 6.5.invokevirtual, 6.5.invokeinterface)
 
 -- no class declares two methods of one name and descriptor (4.6)
-abbrev pub AreDistinct : List ClassFile → Type 0
-AreDistinct cs = (c i j : ℕ) (k : ClassFile) (x y : Member) → slice_get cs c ≡ Some k → slice_get k.methods i ≡ Some x → slice_get k.methods j ≡ Some y
+abbrev pub DeclareMethodsOnce : List ClassFile → Type 0
+DeclareMethodsOnce cs = (c i j : ℕ) (k : ClassFile) (x y : Member) → slice_get cs c ≡ Some k → slice_get k.methods i ≡ Some x → slice_get k.methods j ≡ Some y
     → signature_of k x ≡ signature_of k y → i ≡ j
 
 -- the test is true exactly of a method that overrides the other
 abbrev pub OverridingLaw : Type 0
-OverridingLaw = (cs : List ClassFile) → IsAcyclic cs → AreDistinct cs → (m a : Place) → IsTrue (overrides cs m a) ↔ Overrides cs m a
+OverridingLaw = (cs : List ClassFile) → IsAcyclic cs → DeclareMethodsOnce cs → (m a : Place) → IsTrue (overrides cs m a) ↔ Overrides cs m a
 
 -- in whatever way a method overrides another, it has what it needs in any case
 abbrev pub OverridingNeeds : Type 0
@@ -176,7 +177,7 @@ pub record IsSelection (cs : List ClassFile) (receiver : ℕ) (a : Place) (s : S
       → (m : Place) → signature_at cs m ≡ Some s → IsTrue (is_public_instance cs m) → IsUpwardOf cs receiver m.0 → ⊥
 
 abbrev pub SelectionLaw : Type 0
-SelectionLaw = (cs : List ClassFile) → IsAcyclic cs → AreDistinct cs → (receiver : ℕ) (a : Place) (s : Signature) → signature_at cs a ≡ Some s
+SelectionLaw = (cs : List ClassFile) → IsAcyclic cs → DeclareMethodsOnce cs → (receiver : ℕ) (a : Place) (s : Signature) → signature_at cs a ≡ Some s
     → IsSelection cs receiver a s
 
 -- ---- symbols

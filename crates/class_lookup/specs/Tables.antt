@@ -38,6 +38,6 @@ pub record AreNames (cs : List ClassFile) (names : Names) : Type 0 where
 abbrev pub AreIndexed : (cs : List ClassFile) (members : ClassFile → List Member) (table : List (List ((ℕ × ℕ) × ℕ))) → Type 0
 AreIndexed cs members table = AllZip (λ c index. IsIndexed (texts cs) c (members c) index) cs table
 
-pub record AreMembers (cs : List ClassFile) (members : Members) : Type 0 where
+pub record AreMemberTables (cs : List ClassFile) (members : Members) : Type 0 where
   pub fields : AreIndexed cs (λ c. c.fields) members.fields.items
   pub methods : AreIndexed cs (λ c. c.methods) members.methods.items

@@ -4,7 +4,8 @@ ghost use Rattle.std.specs.Prelude.{◌≡◌, ℕ, List, ◌<◌, ◌^◌, leng
 ghost use Rattle.std.specs.List.{filter_map};
 ghost use Rattle.class_pool.specs.declared.class.ClassFile.{ClassFile};
 ghost use Rattle.class_lookup.specs.Access.{are_in_one_package};
-ghost use Rattle.class_lookup.specs.Parts.{Signature, text_at, class_text, superinterface_names};
+ghost use Rattle.class_lookup.specs.Parts.{Signature, class_text, superinterface_names};
+ghost use Rattle.class_pool.specs.Grammar.{text_at};
 ghost use Rattle.class_lookup.specs.Hierarchy.{find_class, superclass, superinterfaces, is_interface};
 ghost use Rattle.class_lookup.specs.Lookup.{declared_field, declared_method};
 ghost use Rattle.class_lookup.specs.Symbols.{texts, symbol};
@@ -37,7 +38,7 @@ pub struct Classes {
 impl Model for Classes {
     ghost use Rattle.std.specs.Prelude.{List, ◌<◌, ◌^◌, length};
     ghost use Rattle.class_pool.specs.declared.class.ClassFile.{ClassFile};
-    ghost use Rattle.class_lookup.specs.Tables.{AreSymbols, AreNames, AreMembers};
+    ghost use Rattle.class_lookup.specs.Tables.{AreSymbols, AreNames, AreMemberTables};
 
     ghost Value = { List ClassFile };
 
@@ -46,7 +47,7 @@ impl Model for Classes {
     ghost invariant = { λ a. (length a.classes.items < 2 ^ 32)
         × AreSymbols a.classes.items a.symbols
         × AreNames a.classes.items a.names
-        × AreMembers a.classes.items a.members };
+        × AreMemberTables a.classes.items a.members };
 }
 
 impl Classes {

@@ -3,7 +3,7 @@ ghost use Rattle.std.specs.Prelude.{◌≡◌, length, slice_get, Some, ◌<◌,
 ghost use Rattle.class_pool.specs.declared.class.ClassFile.{ClassFile};
 ghost use Rattle.class_lookup.specs.Symbols.{texts};
 ghost use Rattle.class_lookup.specs.Numbered.{found_at, place_in, IsIndexed};
-ghost use Rattle.class_lookup.specs.Tables.{AreSymbols, AreIndexed, AreMembers};
+ghost use Rattle.class_lookup.specs.Tables.{AreSymbols, AreIndexed, AreMemberTables};
 
 use crate::place::Place;
 use crate::symbols::{Symbols, text_symbol};
@@ -120,7 +120,7 @@ pub(crate) fn members_of(
     symbols: &Symbols,
 ) -> Result<Members, NoMemory>
     requires { AreSymbols classes.now symbols.now }
-    ensures { IfOk result (λ members. AreMembers classes.now members) }
+    ensures { IfOk result (λ members. AreMemberTables classes.now members) }
 {
     let fields = index_fields(alloc, classes, symbols)?;
     let methods = index_methods(alloc, classes, symbols)?;

@@ -2,7 +2,8 @@
 
 ghost use Rattle.std.specs.Prelude.{◌≡◌, ◌<◌, [], ◌∷◌, length, Some, slice_get, IfOk, OnOk};
 ghost use Rattle.class_pool.specs.declared.class.ClassFile.{ClassFile};
-ghost use Rattle.class_lookup.specs.Parts.{same_text, text_at, class_text};
+ghost use Rattle.class_lookup.specs.Parts.{same_text, class_text};
+ghost use Rattle.class_pool.specs.Grammar.{text_at};
 ghost use Rattle.class_lookup.specs.Lists.{with_items};
 ghost use Rattle.class_lookup.specs.Symbols.{pool_texts, symbol};
 ghost use Rattle.class_lookup.specs.Numbered.{number_in, entry_text, HaveNumbers};

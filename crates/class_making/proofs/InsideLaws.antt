@@ -11,7 +11,7 @@ use Rattle.class_pool.specs.Kind.{is_this_text, kind_of}
 use Rattle.class_pool.specs.Spelling.{u2}
 use Rattle.class_pool.specs.ClassSpelling.{counted, handler_bytes, named_bytes, body_bytes}
 use Rattle.class_pool.specs.Found.{code_of}
-use Rattle.class_pool.specs.Structure.{IsHalf, AreCounted, IsNamed, IsCode, HasKind, IsAttribute, IsMember, IsInside}
+use Rattle.class_pool.specs.Structure.{IsHalf, AreCounted, IsNamedInRange, HasCodeRange, HasKind, IsAttribute, HasMemberRange, HasPartsInRange}
 use Rattle.class_making.specs.declared.item.Item.{Item}
 use Rattle.class_making.specs.declared.item.Item.TheVariants.{Text, Class}
 use Rattle.class_making.specs.declared.plan.Piece.{Piece}
@@ -48,11 +48,11 @@ pieces_are_bytes items (Index x ∷ pieces) r =
 abbrev IsSmall : (code : ℕ) → Option (List ℕ) → Type 0
 IsSmall code o = IfSome o (λ bytes. 18 + code + length bytes < 2 ^ 32)
 
-stack_map_fits : (items : List Item) (code : ℕ) (o : Option (List ℕ)) → IsSmall code o → AreCounted IsNamed (stack_map_in items o)
+stack_map_fits : (items : List Item) (code : ℕ) (o : Option (List ℕ)) → IsSmall code o → AreCounted IsNamedInRange (stack_map_in items o)
 stack_map_fits items code None h = (lit< tt, tt)
 stack_map_fits items code (Some bytes) h = (lit< tt, ((index_fits items (Text stack_map_name), omega (arith, h)), tt))
 
-is_code : (items : List Item) (k : CodePlan) → IsRightCode k → IsCode (code_in items k)
+is_code : (items : List Item) (k : CodePlan) → IsRightCode k → HasCodeRange (code_in items k)
 is_code items k r = record {
   max_stack = r.max_stack;
   max_locals = r.max_locals;
@@ -96,11 +96,11 @@ attributes_fit items flags (Some k) room h r =
       ),
     )
 
-field_fits : (items : List Item) (class_flags : ℕ) (f : FieldPlan) → IsRightField class_flags f → IsMember owners.Field (pool_of items) (field_in items f)
+field_fits : (items : List Item) (class_flags : ℕ) (f : FieldPlan) → IsRightField class_flags f → HasMemberRange owners.Field (pool_of items) (field_in items f)
 field_fits items class_flags f r = record { flags = r.flags; name = index_fits items (Text f.name); descriptor = index_fits items (Text f.descriptor); attributes = (lit< tt, tt) }
 
 method_fits : (items : List Item) (class_flags : ℕ) → length items ≤ 65534 → (m : MethodPlan) → AllByRecursion (Names items) (method_mentions m) × IsRightMethod class_flags m
-    → IsMember owners.Method (pool_of items) (method_in items m)
+    → HasMemberRange owners.Method (pool_of items) (method_in items m)
 method_fits items class_flags room m h = record {
   flags = h.1.flags;
   name = index_fits items (Text m.name);
@@ -118,7 +118,7 @@ interfaces_fit : (items : List Item) (names : List (List ℕ)) → AllByRecursio
 interfaces_fit items [] = tt
 interfaces_fit items (name ∷ names) = (index_fits items (Class name), interfaces_fit items names)
 
-pub is_inside : (items : List Item) (p : ClassPlan) → length items ≤ 65534 → AllByRecursion (λ m. AllByRecursion (Names items) (method_mentions m)) p.methods → IsRightPlan p → IsInside (class_in items p)
+pub is_inside : (items : List Item) (p : ClassPlan) → length items ≤ 65534 → AllByRecursion (λ m. AllByRecursion (Names items) (method_mentions m)) p.methods → IsRightPlan p → HasPartsInRange (class_in items p)
 is_inside items p room h r = record {
   flags = r.flags;
   this_class = index_fits items (Class p.name);
@@ -126,12 +126,12 @@ is_inside items p room h r = record {
   interfaces = (omega (arith, length-map p.interfaces (class_index items), r.few_interfaces), interfaces_fit items p.interfaces);
   fields = (
     omega (arith, length-map p.fields (field_in items), r.few_fields),
-    all_map (IsMember owners.Field (pool_of items)) (field_in items) p.fields (all_then (IsRightField p.flags) (λ f. IsMember owners.Field (pool_of items) (field_in items f)) (field_fits items p.flags) p.fields r.fields),
+    all_map (HasMemberRange owners.Field (pool_of items)) (field_in items) p.fields (all_then (IsRightField p.flags) (λ f. HasMemberRange owners.Field (pool_of items) (field_in items f)) (field_fits items p.flags) p.fields r.fields),
   );
   methods = (
     omega (arith, length-map p.methods (method_in items), r.few_methods),
-    all_map (IsMember owners.Method (pool_of items)) (method_in items) p.methods
-        (all_then (λ m. AllByRecursion (Names items) (method_mentions m) × IsRightMethod p.flags m) (λ m. IsMember owners.Method (pool_of items) (method_in items m)) (method_fits items p.flags room) p.methods
+    all_map (HasMemberRange owners.Method (pool_of items)) (method_in items) p.methods
+        (all_then (λ m. AllByRecursion (Names items) (method_mentions m) × IsRightMethod p.flags m) (λ m. HasMemberRange owners.Method (pool_of items) (method_in items m)) (method_fits items p.flags room) p.methods
         (all_both (λ m. AllByRecursion (Names items) (method_mentions m)) (IsRightMethod p.flags) p.methods h r.methods)),
   );
   attributes = (lit< tt, tt);

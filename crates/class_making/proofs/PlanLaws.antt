@@ -5,8 +5,7 @@ use Rattle.std.specs.Option.{option_to_list, option_map_or}
 use Rattle.std.specs.List.{flat_map, AllByRecursion}
 use Rattle.class_pool.specs.declared.entry.Entry.{Entry}
 use Rattle.class_pool.specs.declared.class.Member.{Member}
-use Rattle.class_pool.specs.Grammar.{class_name_of}
-use Rattle.class_rules.specs.Rules.{text_at}
+use Rattle.class_pool.specs.Grammar.{class_name_of, text_at}
 use Rattle.class_rules.specs.Grammar.{IsClass}
 use Rattle.class_making.specs.declared.item.Item.{Item}
 use Rattle.class_making.specs.declared.item.Item.TheVariants.{Class}

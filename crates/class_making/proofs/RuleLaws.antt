@@ -8,7 +8,8 @@ use Rattle.class_pool.specs.declared.class.Member.{Member}
 use Rattle.class_rules.specs.Flags.{acc_abstract, acc_native, IsSet}
 use Rattle.class_rules.specs.Tests.{is_code, is_frame_table}
 use Rattle.class_rules.specs.Rules as rules
-use Rattle.class_rules.specs.Rules.{HasText, IsAnyText, IsField, IsMethod, IsClassName, IsUnqualified, IsDescribed, IsRightEntry, IsClassAt, AreNamed, IsRightBody, AreSame, text_at, FollowsRules}
+use Rattle.class_rules.specs.Rules.{HasText, IsAnyText, IsField, IsMethod, IsClassName, IsUnqualified, IsDescribed, IsRightEntry, IsClassAt, AreNamed, IsRightBody, AreSame, FollowsRules}
+use Rattle.class_pool.specs.Grammar.{text_at}
 use Rattle.class_making.specs.declared.item.Item.{Item}
 use Rattle.class_making.specs.declared.item.Item.TheVariants.{Text, Integer, Class, Str, NameAndType, Field, Method, InterfaceMethod}
 use Rattle.class_making.specs.declared.plan.CodePlan.{CodePlan}
@@ -149,7 +150,7 @@ others_differ items f signature x says [] d h = tt
 others_differ items f signature x says (y ∷ ys) d h =
     (λ same. d.0 (pair_same (signature x) (signature y) (sym says.0 ∙ same.0 ∙ h.0.0) (sym says.1 ∙ same.1 ∙ h.0.1)), others_differ items f signature x says ys d.1 h.1)
 
-are_distinct : {X : Type 0} (items : List Item) (f : X → Member) (signature : X → Signature) (xs : List X) → AreDistinct signature xs → AllByRecursion (λ x. Says items (f x) (signature x)) xs → rules.AreDistinct (pool_of items) (map f xs)
+are_distinct : {X : Type 0} (items : List Item) (f : X → Member) (signature : X → Signature) (xs : List X) → AreDistinct signature xs → AllByRecursion (λ x. Says items (f x) (signature x)) xs → rules.AreNamedOnce (pool_of items) (map f xs)
 are_distinct items f signature [] d h = tt
 are_distinct items f signature (x ∷ xs) d h = (others_differ items f signature x h.0 xs d.0 h.1, are_distinct items f signature xs d.1 h.1)
 

@@ -6,9 +6,8 @@ use Rattle.class_pool.specs.declared.entry.Entry.{Entry}
 use Rattle.class_pool.specs.declared.class.Code.{Code as CodeParts}
 use Rattle.class_pool.specs.declared.class.Member.{Member}
 use Rattle.class_pool.specs.declared.class.ClassFile.{ClassFile}
-use Rattle.class_pool.specs.Grammar.{entry_at, class_name_of}
+use Rattle.class_pool.specs.Grammar.{entry_at, class_name_of, text_at}
 use Rattle.class_pool.specs.Found.{code_of}
-use Rattle.class_rules.specs.Rules.{text_at}
 use Rattle.class_rules.specs.Grammar.{IsClass}
 use Rattle.class_making.specs.declared.item.Item.{Item}
 use Rattle.class_making.specs.declared.plan.ClassPlan.{ClassPlan}

@@ -4,7 +4,7 @@ use Rattle.std.specs.Prelude.{ℕ, List, [], ◌∷◌, ◌++◌, map, codes, Op
 use Rattle.std.specs.Option.{option_to_list}
 use Rattle.std.specs.List.{flat_map}
 use Rattle.class_pool.specs.Spelling.{u2}
-use Rattle.class_pool.specs.ClassSpelling.{Named}
+use Rattle.class_pool.specs.ClassSpelling.{NamedParts}
 use Rattle.class_pool.specs.declared.class.Attribute.{Attribute}
 use Rattle.class_pool.specs.declared.class.Body.TheVariants as bodies
 use Rattle.class_pool.specs.declared.class.Code.{Code as CodeParts}
@@ -93,7 +93,7 @@ piece_bytes items (Byte byte) = byte ∷ []
 piece_bytes items (Index x) = u2 (index_of items x)
 
 -- the name and the bytes of the table of frames, if there is one
-abbrev pub stack_map_in : List Item → Option (List ℕ) → List Named
+abbrev pub stack_map_in : List Item → Option (List ℕ) → List NamedParts
 stack_map_in items None = []
 stack_map_in items (Some bytes) = (index_of items (Text stack_map_name), bytes) ∷ []
 

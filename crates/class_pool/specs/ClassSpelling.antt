@@ -9,25 +9,25 @@ use Rattle.class_pool.specs.declared.class.Code.{Code as CodeParts}
 use Rattle.class_pool.specs.declared.class.Member.{Member}
 use Rattle.class_pool.specs.declared.class.ClassFile.{ClassFile}
 
-abbrev pub Handler : Type 0
-Handler = ℕ × ℕ × ℕ × ℕ
+abbrev pub HandlerParts : Type 0
+HandlerParts = ℕ × ℕ × ℕ × ℕ
 
-abbrev pub Named : Type 0
-Named = ℕ × List ℕ
+abbrev pub NamedParts : Type 0
+NamedParts = ℕ × List ℕ
 
 -- a number of items, and their bytes
 abbrev pub counted : {X : Type 0} → (X → List ℕ) → List X → List ℕ
 counted spelled xs = u2 (length xs) ++ flat_map spelled xs
 
 -- an entry of an exception table (4.7.3)
-abbrev pub handler_bytes : Handler → List ℕ
+abbrev pub handler_bytes : HandlerParts → List ℕ
 handler_bytes h = u2 h.0 ++ (u2 h.1 ++ (u2 h.2 ++ u2 h.3))
 
 -- a name, a length and so many bytes (4.7)
 abbrev pub framed : ℕ → List ℕ → List ℕ
 framed name bytes = u2 name ++ (u4 (length bytes) ++ bytes)
 
-abbrev pub named_bytes : Named → List ℕ
+abbrev pub named_bytes : NamedParts → List ℕ
 named_bytes a = framed a.0 a.1
 
 -- what a Code attribute says (4.7.3)

@@ -1,6 +1,6 @@
 -- Which entries are a pool, and what its indexes point at: JVM Specification SE 8, 4.4.
 use Rattle.std.specs.Prelude.{◌≡◌, ℕ, zero, suc, ◌+◌, ◌<◌, ◌^◌, Bool, true, false, ◌&&◌, ◌||◌, ◌==◌, nat_le, if◌then◌else◌, IsTrue, Option, Some, None, List}
-use Rattle.std.specs.Prelude.{[], ◌∷◌, length, slice_get}
+use Rattle.std.specs.Prelude.{unwrap_or, [], ◌∷◌, length, slice_get}
 use Rattle.std.specs.List.{AllByRecursion}
 use Rattle.class_pool.specs.declared.entry.Entry.{Entry}
 use Rattle.class_pool.specs.declared.entry.Entry.TheVariants.{Utf8, Long, Double, Class, Text, Field, Method, InterfaceMethod, NameAndType, Handle, MethodType}
@@ -89,6 +89,10 @@ pub record IsPoolOf (bytes : List ℕ) (entries : List Entry) : Type 0 where
 abbrev pub utf8_of : Option Entry → Option (List ℕ)
 utf8_of (Some (Utf8 units)) = Some units
 utf8_of entry = None
+
+-- the units of a text; nothing where the index is that of no text
+abbrev pub text_at : List Entry → (index : ℕ) → List ℕ
+text_at pool index = unwrap_or (utf8_of (entry_at pool index)) []
 
 abbrev pub class_name_of : Option Entry → Option ℕ
 class_name_of (Some (Class name)) = Some name

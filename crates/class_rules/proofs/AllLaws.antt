@@ -14,7 +14,7 @@ use Rattle.class_pool.specs.declared.class.Body.TheVariants.{Code, ConstantValue
 use Rattle.class_pool.specs.declared.class.Code.{Code as CodeParts}
 use Rattle.class_pool.specs.declared.class.Member.{Member}
 use Rattle.class_pool.specs.declared.class.ClassFile.{ClassFile}
-use Rattle.class_pool.specs.Grammar.{entry_at, is_utf8, is_class}
+use Rattle.class_pool.specs.Grammar.{entry_at, is_utf8, is_class, text_at}
 use Rattle.descriptors.specs.declared.descriptor.Element.{Element}
 use Rattle.descriptors.specs.declared.descriptor.Element.TheVariants as elements
 use Rattle.descriptors.specs.declared.descriptor.FieldType.{FieldType}
@@ -26,7 +26,7 @@ use Rattle.class_rules.specs.Forms.{is_string, element_constant, constant_of, fi
 use Rattle.class_rules.specs.Flags.{acc_public, acc_private, acc_protected, acc_static, acc_final, acc_synchronized, acc_native, acc_interface, acc_abstract, acc_strict, IsSet}
 use Rattle.class_rules.specs.Tests as tests
 use Rattle.class_rules.specs.Tests.{has, fits_constant, fits_field, is_constant, is_constant_value, is_code, is_frame_table, takes_words, is_void, same_member, are_distinct}
-use Rattle.class_rules.specs.Rules.{IsText, HasText, IsAnyText, IsField, IsClassAt, IsUnqualified, IsDeclaredName, AreNamed, IsCaught, IsRightCode, IsRightBody, HasOneAccess, IsInteger, IsFloat, IsLong, IsDouble, IsString, IsConstantOfElement, IsConstantOf, IsConstant, IsRightConstant, IsRightField, TakesFewWords, IsPlain, ReturnsNothing, IsRightInitializer, IsRightMethod, AreSame, AreDistinct, IsRightEntry, FollowsRules}
+use Rattle.class_rules.specs.Rules.{IsText, HasText, IsAnyText, IsField, IsClassAt, IsUnqualified, IsDeclaredName, AreNamed, IsCaught, IsRightCode, IsRightBody, HasOneAccess, IsInteger, IsFloat, IsLong, IsDouble, IsString, IsConstantOfElement, IsConstantOf, IsFieldConstant, IsRightConstant, IsRightField, TakesFewWords, IsPlain, ReturnsNothing, IsRightInitializer, IsRightMethod, AreSame, AreNamedOnce, IsRightEntry, FollowsRules}
 use Rattle.class_rules.proofs.RuleLaws.{FieldLaw, MethodLaw, itself, implies, all_decide, none_decide, flag_decides, text_decides, field_decides, method_decides, is_field_decides, entry_decides, class_decides, is_text_decides, is_class_decides}
 
 le_decides : (a b : ℕ) → Decides (nat_le a b) (a ≤ b)
@@ -147,7 +147,7 @@ string_decides : (e : Option Entry) → Decides (fits_constant constants.Text e)
 string_decides (Some (entries.Text n)) = (λ t. (n, refl), λ h. refl)
 string_decides e = nothing (λ h. let g : e ≡ Some (entries.Text h.0) = h.1 in cc)
 
-constant_decides : (e : Option Entry) → Decides (is_constant e) (IsConstant e)
+constant_decides : (e : Option Entry) → Decides (is_constant e) (IsFieldConstant e)
 constant_decides e =
     let a : Bool = fits_constant constants.Integer e in
     let b : Bool = fits_constant constants.Float e in
@@ -158,14 +158,14 @@ constant_decides e =
     (Decides-or (a || b || c) d (Decides-or (a || b) c (Decides-or a b (integer_decides e) (float_decides e)) (long_decides e)) (double_decides e))
     (string_decides e))
   where
-    to : (((IsInteger e ⊎ IsFloat e) ⊎ IsLong e) ⊎ IsDouble e) ⊎ IsString e → IsConstant e
+    to : (((IsInteger e ⊎ IsFloat e) ⊎ IsLong e) ⊎ IsDouble e) ⊎ IsString e → IsFieldConstant e
     to (inl (inl (inl (inl x)))) = inl x
     to (inl (inl (inl (inr x)))) = inr (inl x)
     to (inl (inl (inr x))) = inr (inr (inl x))
     to (inl (inr x)) = inr (inr (inr (inl x)))
     to (inr x) = inr (inr (inr (inr x)))
 
-    from : IsConstant e → (((IsInteger e ⊎ IsFloat e) ⊎ IsLong e) ⊎ IsDouble e) ⊎ IsString e
+    from : IsFieldConstant e → (((IsInteger e ⊎ IsFloat e) ⊎ IsLong e) ⊎ IsDouble e) ⊎ IsString e
     from (inl x) = inl (inl (inl (inl x)))
     from (inr (inl x)) = inl (inl (inl (inr x)))
     from (inr (inr (inl x))) = inl (inl (inr x))
@@ -209,7 +209,7 @@ constant_body_decides law pool m (ConstantValue index) = chosen (has m.flags acc
 
     chosen : (b : Bool) → Decides b (IsSet m.flags acc_static)
         → Decides (cond b (fits_field (form_at (forms_of pool) m.descriptor).constant (entry_at pool index)) (is_constant (entry_at pool index)))
-        ((IsSet m.flags acc_static → HasText pool m.descriptor (IsConstantOf (entry_at pool index))) × (¬ IsSet m.flags acc_static → IsConstant (entry_at pool index)))
+        ((IsSet m.flags acc_static → HasText pool m.descriptor (IsConstantOf (entry_at pool index))) × (¬ IsSet m.flags acc_static → IsFieldConstant (entry_at pool index)))
     chosen true d =
         let at = of_descriptor_decides law pool (entry_at pool index) m.descriptor in
         (λ t. (λ s. at.0 t, λ n. absurd (n (d.0 refl))), λ h. at.1 (h.0 (d.0 refl)))
@@ -344,12 +344,12 @@ method_member_decides law c m =
 
 -- ---- all of them
 
-distinct_decide : (pool : List Entry) (members : List Member) → Decides (are_distinct pool members) (AreDistinct pool members)
+distinct_decide : (pool : List Entry) (members : List Member) → Decides (are_distinct pool members) (AreNamedOnce pool members)
 distinct_decide pool [] = (λ t. tt, λ h. refl)
 distinct_decide pool (m ∷ members) =
     Decides-and (not (list_any (same_member pool m) members)) (are_distinct pool members)
-    (none_decide (same_member pool m) (AreSame pool m) (λ n. Decides-and (bytes_eq (tests.text_at pool m.name) (tests.text_at pool n.name)) (bytes_eq (tests.text_at pool m.descriptor) (tests.text_at pool n.descriptor))
-    (bytes_eq-Decides (tests.text_at pool m.name) (tests.text_at pool n.name)) (bytes_eq-Decides (tests.text_at pool m.descriptor) (tests.text_at pool n.descriptor))) members)
+    (none_decide (same_member pool m) (AreSame pool m) (λ n. Decides-and (bytes_eq (text_at pool m.name) (text_at pool n.name)) (bytes_eq (text_at pool m.descriptor) (text_at pool n.descriptor))
+    (bytes_eq-Decides (text_at pool m.name) (text_at pool n.name)) (bytes_eq-Decides (text_at pool m.descriptor) (text_at pool n.descriptor))) members)
     (distinct_decide pool members)
 
 classes_decide : (c : ClassFile) → Decides (tests.has_right_classes c.pool (forms_of c.pool) c) (IsClassAt c.pool c.this_class × ((c.super_class ≡ 0) ⊎ IsClassAt c.pool c.super_class) × AllByRecursion (IsClassAt c.pool) c.interfaces)

@@ -14,9 +14,9 @@ use Rattle.std.proofs.Math.Seq.{get_or-append_seam}
 use Rattle.std.proofs.lemmas.Option.{slice_get_past, slice_get_read}
 use Rattle.std.proofs.lemmas.Slice.Eq.{bytes_eq-Decides}
 use Rattle.class_pool.specs.declared.entry.Entry.{Entry}
-use Rattle.class_pool.specs.Grammar.{utf8_of}
+use Rattle.class_pool.specs.Grammar.{utf8_of, text_at}
 use Rattle.class_pool.specs.declared.class.Member.{Member}
-use Rattle.class_rules.specs.Tests.{text_at, same_member, are_distinct}
+use Rattle.class_rules.specs.Tests.{same_member, are_distinct}
 use Rattle.class_rules.specs.Distinct.{number_in, AreNumbers, key_of, compare_keys, is_seen}
 
 -- ---- numbers

@@ -15,7 +15,7 @@ use Rattle.class_pool.specs.declared.class.Member.{Member}
 use Rattle.class_pool.specs.declared.class.ClassFile.{ClassFile}
 use Rattle.class_pool.specs.Grammar.{entry_at}
 use Rattle.class_rules.specs.Flags.{acc_static, IsSet}
-use Rattle.class_rules.specs.Rules.{HasText, IsRightBody, IsRightConstant, IsRightCode, IsConstantOf, IsConstant}
+use Rattle.class_rules.specs.Rules.{HasText, IsRightBody, IsRightConstant, IsRightCode, IsConstantOf, IsFieldConstant}
 
 -- what is found meets what each part meets
 found_in : {X Y : Type 0} (part : X → Option Y) (P : X → Type 0) (Q : Y → Type 0) → ((x : X) (y : Y) → part x ≡ Some y → P x → Q y) → (xs : List X) (y : Y) → AllByRecursion P xs → first_of part xs ≡ Some y → Q y
@@ -79,7 +79,7 @@ methods_have_code c m is = (
     each a y e h = right a.body y e h
 
 abbrev Right : ClassFile → Member → ℕ → Type 0
-Right c m index = (IsSet m.flags acc_static → HasText c.pool m.descriptor (IsConstantOf (entry_at c.pool index))) × (¬ IsSet m.flags acc_static → IsConstant (entry_at c.pool index))
+Right c m index = (IsSet m.flags acc_static → HasText c.pool m.descriptor (IsConstantOf (entry_at c.pool index))) × (¬ IsSet m.flags acc_static → IsFieldConstant (entry_at c.pool index))
 
 pub fields_have_constants : FieldsHaveConstants
 fields_have_constants c m is index e = found_in (λ a. constant_part a.body) (λ a. IsRightConstant c.pool m a.body) (Right c m) (λ a y f h. right a.body y f h) m.attributes index is.constants e

@@ -8,7 +8,7 @@ use Rattle.std.specs.BTreeSet.{BTreeSet, contains}
 use Rattle.std.proofs.Common.{Bor}
 use Rattle.class_pool.specs.declared.entry.Entry.{Entry}
 use Rattle.class_pool.specs.declared.class.Member.{Member}
-use Rattle.class_rules.specs.Tests.{text_at}
+use Rattle.class_pool.specs.Grammar.{text_at}
 
 -- the number that a text has
 abbrev pub number_in : BTreeMap (Bor (List ℕ)) ℕ → List ℕ → Option ℕ

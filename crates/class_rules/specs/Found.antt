@@ -8,7 +8,7 @@ use Rattle.class_pool.specs.Found.{code_of, constant_value_of}
 use Rattle.class_rules.specs.Forms.{forms_of}
 use Rattle.class_rules.specs.Tests.{passes}
 use Rattle.class_rules.specs.Flags.{acc_static, acc_abstract, acc_native, IsSet}
-use Rattle.class_rules.specs.Rules.{HasText, IsRightCode, IsConstantOf, IsConstant, IsRightField, IsRightMethod, FollowsRules}
+use Rattle.class_rules.specs.Rules.{HasText, IsRightCode, IsConstantOf, IsFieldConstant, IsRightField, IsRightMethod, FollowsRules}
 
 -- the tests are true exactly where the rules hold
 abbrev pub RulesAreTests : Type 0
@@ -25,4 +25,4 @@ MethodsHaveCode = (c : ClassFile) (m : Member) → IsRightMethod c m →
 abbrev pub FieldsHaveConstants : Type 0
 FieldsHaveConstants = (c : ClassFile) (m : Member) → IsRightField c m → (index : ℕ) → constant_value_of m ≡ Some index →
     (IsSet m.flags acc_static → HasText c.pool m.descriptor (IsConstantOf (entry_at c.pool index)))
-    × (¬ IsSet m.flags acc_static → IsConstant (entry_at c.pool index))
+    × (¬ IsSet m.flags acc_static → IsFieldConstant (entry_at c.pool index))

@@ -3,7 +3,7 @@ use Rattle.std.specs.Prelude.{◌≡◌, ℕ, ◌≤◌, List}
 use Rattle.class_pool.specs.declared.class.ClassFile.{ClassFile}
 use Rattle.class_pool.specs.Grammar.{IsPool}
 use Rattle.class_pool.specs.ClassSpelling.{class_bytes}
-use Rattle.class_pool.specs.Structure.{IsHalf, IsInside}
+use Rattle.class_pool.specs.Structure.{IsHalf, HasPartsInRange}
 use Rattle.class_rules.specs.Rules.{FollowsRules}
 
 -- a value of the grammar
@@ -13,7 +13,7 @@ pub record IsClass (c : ClassFile) : Type 0 where
   pub oldest : 50 ≤ c.major
   pub newest : c.major ≤ 52
   pub pool : IsPool c.pool
-  pub inside : IsInside c
+  pub inside : HasPartsInRange c
   pub rules : FollowsRules c
 
 -- these bytes are that class file

@@ -1,5 +1,5 @@
 -- The rules on a class file: JVM Specification SE 8, 4.1 and 4.4 to 4.7.
-use Rattle.std.specs.Prelude.{◌≡◌, ℕ, ◌+◌, ◌<◌, ◌≤◌, ◌⊎◌, IsTrue, List, [], ◌∷◌, length, count_by, codes, Option, Some, None, unwrap_or}
+use Rattle.std.specs.Prelude.{◌≡◌, ℕ, ◌+◌, ◌<◌, ◌≤◌, ◌⊎◌, IsTrue, List, [], ◌∷◌, length, count_by, codes, Option, Some, None}
 use Rattle.std.specs.List.{AllByRecursion}
 use Rattle.class_pool.specs.declared.entry.Entry.{Entry}
 use Rattle.class_pool.specs.declared.entry.Entry.TheVariants as entries
@@ -9,7 +9,7 @@ use Rattle.class_pool.specs.declared.class.Body.TheVariants.{Code, ConstantValue
 use Rattle.class_pool.specs.declared.class.Code.{Code as CodeParts}
 use Rattle.class_pool.specs.declared.class.Member.{Member}
 use Rattle.class_pool.specs.declared.class.ClassFile.{ClassFile}
-use Rattle.class_pool.specs.Grammar.{entry_at, utf8_of}
+use Rattle.class_pool.specs.Grammar.{entry_at, utf8_of, text_at}
 use Rattle.descriptors.specs.declared.descriptor.Element.{Element}
 use Rattle.descriptors.specs.declared.descriptor.Element.TheVariants as elements
 use Rattle.descriptors.specs.declared.descriptor.FieldType.{FieldType}
@@ -142,14 +142,14 @@ abbrev pub IsConstantOf : Option Entry → List ℕ → Type 0
 IsConstantOf entry units = (t : FieldType) × IsFieldDescriptor units t × ((t.dimensions ≡ 0) × IsConstantOfElement t.element entry)
 
 -- an entry that is a constant of some field
-abbrev pub IsConstant : Option Entry → Type 0
-IsConstant entry = IsInteger entry ⊎ IsFloat entry ⊎ IsLong entry ⊎ IsDouble entry ⊎ IsString entry
+abbrev pub IsFieldConstant : Option Entry → Type 0
+IsFieldConstant entry = IsInteger entry ⊎ IsFloat entry ⊎ IsLong entry ⊎ IsDouble entry ⊎ IsString entry
 
 -- a ConstantValue names a constant, that of a static field one of its descriptor's type (4.7.2)
 abbrev pub IsRightConstant : List Entry → Member → Body → Type 0
 IsRightConstant pool m (ConstantValue index) =
     (IsSet m.flags acc_static → HasText pool m.descriptor (IsConstantOf (entry_at pool index)))
-    × (¬ IsSet m.flags acc_static → IsConstant (entry_at pool index))
+    × (¬ IsSet m.flags acc_static → IsFieldConstant (entry_at pool index))
 IsRightConstant pool m body = Unit {0}
 
 -- a field (4.5)
@@ -200,17 +200,14 @@ pub record IsRightMethod (c : ClassFile) (m : Member) : Type 0 where
 
 -- ---- no two alike
 
-abbrev pub text_at : List Entry → ℕ → List ℕ
-text_at pool index = unwrap_or (utf8_of (entry_at pool index)) []
-
 -- two members have the same name and the same descriptor
 abbrev pub AreSame : List Entry → Member → Member → Type 0
 AreSame pool m n = (text_at pool m.name ≡ text_at pool n.name) × (text_at pool m.descriptor ≡ text_at pool n.descriptor)
 
 -- no two members do (4.5, 4.6)
-abbrev pub AreDistinct : List Entry → List Member → Type 0
-AreDistinct pool [] = Unit {0}
-AreDistinct pool (m ∷ members) = AllByRecursion (λ n. ¬ AreSame pool m n) members × AreDistinct pool members
+abbrev pub AreNamedOnce : List Entry → List Member → Type 0
+AreNamedOnce pool [] = Unit {0}
+AreNamedOnce pool (m ∷ members) = AllByRecursion (λ n. ¬ AreSame pool m n) members × AreNamedOnce pool members
 
 -- ---- all of them
 
@@ -225,5 +222,5 @@ pub record FollowsRules (c : ClassFile) : Type 0 where
   pub fields : AllByRecursion (IsRightField c) c.fields
   pub methods : AllByRecursion (IsRightMethod c) c.methods
   pub named : AreNamed c.pool c.attributes
-  pub distinct_fields : AreDistinct c.pool c.fields
-  pub distinct_methods : AreDistinct c.pool c.methods
+  pub distinct_fields : AreNamedOnce c.pool c.fields
+  pub distinct_methods : AreNamedOnce c.pool c.methods

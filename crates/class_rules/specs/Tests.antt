@@ -1,12 +1,12 @@
 -- The rules as the code tests them, over what each text is (Forms). What they say stands in Rules, and that the two
 -- are the same is a law.
 use Rattle.std.specs.Prelude.{ℕ, ◌+◌, Bool, true, false, not, ◌&&◌, ◌||◌, ◌==◌, nat_le, nat_eq, if◌then◌else◌, List, [], ◌∷◌, length, codes, count_by, Option}
-use Rattle.std.specs.Prelude.{Some, None, is_some, unwrap_or, bit_and}
+use Rattle.std.specs.Prelude.{Some, None, is_some, bit_and}
 use Rattle.std.specs.List.{list_all, list_any}
 use lib.Pointwise.{pointwise}
 use Rattle.class_pool.specs.declared.entry.Entry.{Entry}
 use Rattle.class_pool.specs.declared.entry.Entry.TheVariants as entries
-use Rattle.class_pool.specs.Grammar.{entry_at, is_utf8, is_class, utf8_of}
+use Rattle.class_pool.specs.Grammar.{entry_at, is_utf8, is_class, text_at}
 use Rattle.class_pool.specs.declared.class.Attribute.{Attribute}
 use Rattle.class_pool.specs.declared.class.Body.{Body}
 use Rattle.class_pool.specs.declared.class.Body.TheVariants.{Code, ConstantValue}
@@ -175,9 +175,6 @@ is_right_method pool forms class_flags m =
     && are_named pool m.attributes && has_right_code pool m
 
 -- ---- no two alike
-
-abbrev pub text_at : List Entry → ℕ → List ℕ
-text_at pool index = unwrap_or (utf8_of (entry_at pool index)) []
 
 -- two members have the same name and the same descriptor
 abbrev pub same_member : List Entry → Member → Member → Bool

@@ -10,7 +10,7 @@ use Rattle.class_pool.specs.declared.kind.Owner.{Owner}
 use Rattle.class_pool.specs.declared.kind.Kind.{Kind}
 use Rattle.class_pool.specs.declared.kind.Kind.TheVariants as kinds
 use Rattle.class_pool.specs.Kind.{kind_of}
-use Rattle.class_pool.specs.Structure.{AreCounted, HasKind, IsAttribute, IsMember}
+use Rattle.class_pool.specs.Structure.{AreCounted, HasKind, IsAttribute, HasMemberRange}
 use Rattle.class_write.specs.Room.{HasRoom, IsRoomy, IsRoomyMember}
 
 has_room : (kind : Kind) (body : Body) → HasKind kind body → HasRoom body
@@ -27,9 +27,9 @@ roomy owner pool (a ∷ attributes) h = ((h.0.size, has_room (kind_of owner pool
 pub attributes_roomy : (owner : Owner) (pool : List Entry) (attributes found : List Attribute) → found ≡ attributes → AreCounted (IsAttribute owner pool) attributes → AreCounted IsRoomy found
 attributes_roomy owner pool attributes found same h = subst (AreCounted IsRoomy) (sym same) (h.0, roomy owner pool attributes h.1)
 
-members : (owner : Owner) (pool : List Entry) (all : List Member) → AllByRecursion (IsMember owner pool) all → AllByRecursion IsRoomyMember all
+members : (owner : Owner) (pool : List Entry) (all : List Member) → AllByRecursion (HasMemberRange owner pool) all → AllByRecursion IsRoomyMember all
 members owner pool [] h = tt
 members owner pool (m ∷ all) h = ((h.0.attributes.0, roomy owner pool m.attributes h.0.attributes.1), members owner pool all h.1)
 
-pub members_roomy : (owner : Owner) (pool : List Entry) (all found : List Member) → found ≡ all → AreCounted (IsMember owner pool) all → AreCounted IsRoomyMember found
+pub members_roomy : (owner : Owner) (pool : List Entry) (all found : List Member) → found ≡ all → AreCounted (HasMemberRange owner pool) all → AreCounted IsRoomyMember found
 members_roomy owner pool all found same h = subst (AreCounted IsRoomyMember) (sym same) (h.0, members owner pool all h.1)

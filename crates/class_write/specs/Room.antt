@@ -5,10 +5,10 @@ use Rattle.class_pool.specs.declared.class.Body.{Body}
 use Rattle.class_pool.specs.declared.class.Body.TheVariants.{Code}
 use Rattle.class_pool.specs.declared.class.Member.{Member}
 use Rattle.class_pool.specs.ClassSpelling.{body_bytes}
-use Rattle.class_pool.specs.Structure.{AreCounted, IsCode}
+use Rattle.class_pool.specs.Structure.{AreCounted, HasCodeRange}
 
 abbrev pub HasRoom : Body → Type 0
-HasRoom (Code code) = IsCode code
+HasRoom (Code code) = HasCodeRange code
 HasRoom body = Unit {0}
 
 abbrev pub IsRoomy : Attribute → Type 0

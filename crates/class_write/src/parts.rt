@@ -2,7 +2,7 @@
 ghost use Rattle.std.specs.Prelude.{◌≡◌, ◌<◌, ◌^◌, ◌++◌, length, OnOk, IfOk};
 ghost use Rattle.std.specs.List.{flat_map, AllByRecursion};
 ghost use Rattle.class_pool.specs.ClassSpelling.{counted, handler_bytes, framed, named_bytes, code_bytes, body_bytes};
-ghost use Rattle.class_pool.specs.Structure.{AreCounted, IsHandler, IsNamed, IsCode};
+ghost use Rattle.class_pool.specs.Structure.{AreCounted, IsHandler, IsNamedInRange, HasCodeRange};
 ghost use Rattle.class_write.specs.Room.{HasRoom};
 
 use crate::numbers::{put_u16, put_u32};
@@ -49,7 +49,7 @@ fn put_named(out: &mut Vec<u8>, a: &(u16, Items<u8>)) -> Result<(), NoMemory>
 }
 
 fn put_all_named(out: &mut Vec<u8>, all: &[(u16, Items<u8>)]) -> Result<(), NoMemory>
-    requires { AreCounted IsNamed all.now }
+    requires { AreCounted IsNamedInRange all.now }
     ensures { OnOk result (out.new.items ≡ out.old.items ++ counted named_bytes all.now) }
 {
     put_u16(out, all.len() as u16)?;
@@ -60,7 +60,7 @@ fn put_all_named(out: &mut Vec<u8>, all: &[(u16, Items<u8>)]) -> Result<(), NoMe
 }
 
 fn put_code(out: &mut Vec<u8>, code: &Code) -> Result<(), NoMemory>
-    requires { IsCode code.now }
+    requires { HasCodeRange code.now }
     ensures { OnOk result (out.new.items ≡ out.old.items ++ code_bytes code.now) }
 {
     let bytes = code.code.as_slice();

@@ -7,7 +7,7 @@ use Rattle.opcodes.specs.declared.instruction.DecodeFault.{DecodeFault}
 use Rattle.opcodes.specs.Instruction.{decoded}
 use Rattle.opcodes.specs.Start.{place_behind, next_start, starts_from, starts_of, first_start, IsStart}
 use Rattle.opcodes.specs.Target.{WholeIsWithin}
-use Rattle.lists.specs.Lemmas.{some_is, none≢some, some_same}
+use Rattle.lists.proofs.Lemmas.{some_is, none≢some, some_same}
 use Rattle.lists.specs.Members.{cons_cases, nil_contains}
 use Rattle.bytecode_model.specs.declared.Value.{Value}
 use Rattle.bytecode_model.specs.declared.Value.TheVariants.{Int}

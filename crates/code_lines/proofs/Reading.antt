@@ -5,7 +5,7 @@ use Rattle.opcodes.specs.declared.instruction.DecodeFault.{DecodeFault}
 use Rattle.opcodes.specs.Instruction.{decoded}
 use Rattle.opcodes.specs.Start.{IsStart}
 use Rattle.lists.specs.Lists.{onto}
-use Rattle.lists.specs.Lemmas.{onto_some, some_same, some_in, holds_at}
+use Rattle.lists.proofs.Lemmas.{onto_some, some_same, some_in, holds_at}
 use Rattle.bytecode_model.specs.Program.{Program, Body, as_instr, body_of, instr_at}
 use Rattle.bytecode_model.specs.Rows.{Row}
 use Rattle.bytecode_model.specs.Table.{row_of}

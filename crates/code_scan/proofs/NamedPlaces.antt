@@ -9,7 +9,7 @@ use Rattle.opcodes.specs.Instruction.{decoded}
 use Rattle.opcodes.specs.Row as opcodes
 use Rattle.opcodes.specs.Start.{IsStart}
 use Rattle.opcodes.specs.Target.{cases_of, targets_of, TargetsFitKind}
-use Rattle.lists.specs.Lemmas.{some_is, some_in}
+use Rattle.lists.proofs.Lemmas.{some_is, some_in}
 use Rattle.lists.specs.Members.{at_head, in_tail, cons_cases, nil_contains, map_contains}
 use Rattle.bytecode_model.specs.Program.{Program, Body, Handler, body_of}
 use Rattle.bytecode_model.specs.Rows as rows

@@ -6,7 +6,7 @@ use Rattle.opcodes.specs.declared.instruction.Instr.{Instr}
 use Rattle.opcodes.specs.declared.table.Kind.TheVariants.{Plain, Branch, Jump, Switch, Return, Throw, Invoke}
 use Rattle.opcodes.specs.Row as opcodes
 use Rattle.opcodes.specs.Target.{cases_of}
-use Rattle.lists.specs.Lemmas.{none≢some}
+use Rattle.lists.proofs.Lemmas.{none≢some}
 use Rattle.bytecode_model.specs.declared.Value.TheVariants.{Int, Long, Ref}
 use Rattle.bytecode_model.specs.Lists.{onto, natural}
 use Rattle.bytecode_model.specs.Types.{IntType, LongType, Kind, OfClass, OfNumbers, OfReferences, Numbers, References}

@@ -2,11 +2,11 @@
 use Rattle.std.specs.Prelude.{◌≡◌, ℕ, ◌^◌, ◌<◌, ◌≤◌, nat_lt, if◌then◌else◌, List, map, All, Contains, slice_index, Option, option_map}
 
 -- numbers from here on are not told apart
-abbrev pub limit : ℕ
-limit = 2 ^ 64
+abbrev pub cycles_limit : ℕ
+cycles_limit = 2 ^ 64
 
 abbrev pub limited : ℕ → ℕ
-limited n = if nat_lt n limit then n else limit
+limited n = if nat_lt n cycles_limit then n else cycles_limit
 
 abbrev pub limited_of : Option ℕ → Option ℕ
 limited_of o = option_map limited o
@@ -17,13 +17,13 @@ picked nodes costs = map (slice_index costs) nodes
 
 -- each of them is within 64 bits
 abbrev pub AreSmallAt : (nodes costs : List ℕ) → Type 0
-AreSmallAt nodes costs = All (λ x. slice_index costs x < limit) nodes
+AreSmallAt nodes costs = All (λ x. slice_index costs x < cycles_limit) nodes
 
 -- one of them isn't
 pub record SomeExceeds (nodes costs : List ℕ) : Type 0 where
   pub node : ℕ
   pub among : Contains nodes node
-  pub exceeds : limit ≤ slice_index costs node
+  pub exceeds : cycles_limit ≤ slice_index costs node
 
 -- the costs of the nodes, where each is within 64 bits
 pub record ArePicked (nodes costs found : List ℕ) : Type 0 where

@@ -6,7 +6,7 @@ use Rattle.section_check.specs.Bounded.{BoundedLoop, IsGreatest}
 use Rattle.section_check.specs.Section.{IsInForm}
 use Rattle.section_check.specs.Conditions.{Answers}
 use Rattle.path_solver.specs.Reaching.{ReachesExit}
-use Rattle.path_solver.specs.Longest.{bounded_loops, WalkExceeds, IterationsExceed, IsTooLarge}
+use Rattle.path_solver.specs.Longest.{bounded_loops, WalkExceeds, IterationsExceed, WalksAreTooLarge}
 use Rattle.path_solver.specs.Regions.{charged, AreRegionsApart, AreMarkedLoopsOf}
 use Rattle.path_solver.specs.Solution.{Solution}
 use Rattle.compact_walks.specs.declared.solving.Answer.{Answer}
@@ -31,7 +31,7 @@ loops_of p = bounded_loops p.nest p.bounds (fees_of p)
 -- the greatest walk with a section that shows it, where neither a walk nor iterations exceed 64 bits
 pub record IsShown (p : Problem) (s : Solution) : Type 0 where
   pub reached : ReachesExit p.graph 0
-  pub small : ¬ IsTooLarge p.graph p.costs (loops_of p)
+  pub small : ¬ WalksAreTooLarge p.graph p.costs (loops_of p)
   pub greatest : IsGreatest p.graph p.costs (loops_of p) s.value
   pub loops : AreMarkedLoopsOf p.nest p.regions s.section.loops
   pub form : IsInForm s.section p.bounds (map Some (fees_of p))

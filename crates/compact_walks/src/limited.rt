@@ -1,6 +1,6 @@
 //! Numbers of which those past 64 bits count as one.
 ghost use Rattle.std.specs.Prelude.{◌≡◌, ◌+◌, ◌≤◌, ◌<◌, length, All, IfOk, MatchBool, MatchOption};
-ghost use Rattle.compact_walks.specs.Limited.{limit, limited, picked, AreSmallAt, ArePicked, SomeExceeds};
+ghost use Rattle.compact_walks.specs.Limited.{cycles_limit, limited, picked, AreSmallAt, ArePicked, SomeExceeds};
 
 use base::NoMemory;
 use std::alloc::Global;
@@ -10,10 +10,10 @@ const LIMIT: u128 = 1 << 64;
 
 /// The sum of two numbers, where those past 64 bits count as one.
 pub fn limited_sum(a: u128, b: u128) -> u128
-    requires a { a ≤ limit }
-    requires b { b ≤ limit }
+    requires a { a ≤ cycles_limit }
+    requires b { b ≤ cycles_limit }
     ensures sum { result ≡ limited (a + b) }
-    ensures small { result ≤ limit }
+    ensures small { result ≤ cycles_limit }
 {
     (a + b).min(LIMIT)
 }

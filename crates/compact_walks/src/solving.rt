@@ -2,7 +2,7 @@
 ghost use Rattle.std.specs.Prelude.{◌≡◌, if◌then◌else◌, length, IfOk};
 ghost use Rattle.loop_nest.specs.Reduction.{IsReducible};
 ghost use Rattle.loop_nest.specs.Nest.{IsNest};
-ghost use Rattle.path_solver.specs.Longest.{IsTooLarge, bounded_loops};
+ghost use Rattle.path_solver.specs.Longest.{WalksAreTooLarge, bounded_loops};
 ghost use Rattle.path_solver.specs.Regions.{charged};
 ghost use Rattle.compact_walks.specs.Solving.{IsAnswer, IsLargeAnswer, answer_of};
 
@@ -69,7 +69,7 @@ fn exceeding(
     requires costs { length costs.now ≡ g.now.nodes }
     requires bounds { length bounds.now ≡ length nest.now }
     requires fees { length fees.now ≡ length nest.now }
-    requires large { IsTooLarge g.now costs.now (bounded_loops nest.now bounds.now fees.now) }
+    requires large { WalksAreTooLarge g.now costs.now (bounded_loops nest.now bounds.now fees.now) }
     ensures { IfOk result (IsLargeAnswer g.now costs.now (bounded_loops nest.now bounds.now fees.now)) }
 {
     match greatest(alloc, g, nest, costs, bounds, fees)? {

@@ -7,7 +7,7 @@ use Rattle.std.proofs.lemmas.Bool.{le-ltb, eq-eqb}
 use Rattle.std.proofs.lemmas.List.{length-append}
 use Rattle.lists.specs.Lists.{onto, first_some}
 use Rattle.lists.specs.Numbers.{reached}
-use Rattle.lists.specs.Lemmas.{index_append}
+use Rattle.lists.proofs.Lemmas.{index_append}
 use Rattle.class_pool.specs.declared.class.Member.{Member}
 use Rattle.class_pool.specs.declared.class.ClassFile.{ClassFile}
 use Rattle.opcodes.specs.declared.instruction.Instr.{Instr}

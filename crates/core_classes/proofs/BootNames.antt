@@ -6,7 +6,7 @@ use Rattle.std.specs.List.{flat_map, AllByRecursion}
 use Rattle.std.proofs.lemmas.List.{length-append}
 use Rattle.class_making.proofs.ListLemmas.{all_left}
 use Rattle.class_pool.specs.declared.entry.Entry.{Entry}
-use Rattle.class_pool.specs.Grammar.{entry_at, utf8_of, class_name_of, name_and_type_of}
+use Rattle.class_pool.specs.Grammar.{entry_at, utf8_of, class_name_of, name_and_type_of, text_at}
 use Rattle.class_making.specs.declared.item.Item.{Item}
 use Rattle.class_making.specs.declared.item.Item.TheVariants.{Text, Class, Method}
 use Rattle.class_making.specs.declared.plan.Piece.{Piece}
@@ -14,7 +14,7 @@ use Rattle.class_making.specs.Making.{expanded, index_from, index_of, entry_of}
 use Rattle.class_making.specs.Plans.{piece_mentions, plan_mentions, items_of}
 use Rattle.class_making.specs.Laws.{ItemsAreFew}
 use Rattle.core_classes.specs.Core.{string_name, call_pieces, main_pieces, boot_pieces, boot_method, boot_plan}
-use Rattle.class_lookup.specs.Parts.{text_at, class_text}
+use Rattle.class_lookup.specs.Parts.{class_text}
 use Rattle.lists.specs.Lists.{onto}
 use Rattle.program_tables.specs.Instructions as named
 use Rattle.program_tables.specs.Instructions.{Named, named_by}

@@ -18,7 +18,8 @@ use Rattle.core_classes.specs.Core as core
 use Rattle.core_classes.specs.Core.{object_name, string_name, no_arguments, boot_pieces, boot_plan, boot}
 use Rattle.core_classes.specs.Laws.{BootSaysPlan}
 use Rattle.descriptors.specs.Parsing.{primitive_in, split_in, class_in, element_in, type_from, types_in, field_in, result_in, method_in}
-use Rattle.class_lookup.specs.Parts.{text_at, name_of, superclass_name}
+use Rattle.class_lookup.specs.Parts.{name_of, superclass_name}
+use Rattle.class_pool.specs.Grammar.{text_at}
 use Rattle.program_tables.specs.declared.refusal.Item.{Item as Refused}
 use Rattle.program_tables.specs.declared.refusal.Site.{Site}
 use Rattle.program_tables.specs.declared.refusal.Site.TheVariants as sites

@@ -2,7 +2,7 @@
 use Rattle.std.proofs.Common.{◌≡◌, ℕ, ◌*◌, ◌≤◌, List, [], ◌∷◌, ◌++◌, length, Contains, Some, refl, sym, ap, ◌∙◌, subst, inl, inr, arith}
 use Rattle.std.proofs.lemmas.Bool.{cases_lt}
 use Rattle.std.proofs.lemmas.List.Elements.{Contains-append_right}
-use Rattle.lists.specs.Lemmas.{some_same}
+use Rattle.lists.proofs.Lemmas.{some_same}
 use Rattle.lists.specs.Members.{at_head, cons_cases, nil_contains}
 use Rattle.bytecode_model.specs.declared.Ending.{Ending}
 use Rattle.bytecode_model.specs.State.{Frame, State}

@@ -6,7 +6,7 @@ use Rattle.std.specs.Option.{option_map, option_map_or}
 use Rattle.std.specs.List.{filter, filter_map, cons_option, flat_map, enumerate_from}
 use Rattle.std.proofs.lemmas.Bool.{false≢true, ne_eqb}
 use Rattle.lists.specs.Lists.{onto}
-use Rattle.lists.specs.Lemmas.{none≢some, some_same, onto_some}
+use Rattle.lists.proofs.Lemmas.{none≢some, some_same, onto_some}
 use Rattle.class_pool.specs.declared.entry.Entry.{Entry}
 use Rattle.class_pool.specs.declared.entry.Entry.TheVariants as entries
 use Rattle.class_pool.specs.declared.class.Member.{Member}
@@ -17,7 +17,8 @@ use Rattle.descriptors.specs.declared.descriptor.FieldType.{FieldType}
 use Rattle.descriptors.specs.Parsing.{field_in}
 use Rattle.class_rules.specs.Rules.{IsRightField}
 use Rattle.class_rules.specs.Grammar.{IsClass}
-use Rattle.class_lookup.specs.Parts.{text_at, is_static}
+use Rattle.class_lookup.specs.Parts.{is_static}
+use Rattle.class_pool.specs.Grammar.{text_at}
 use Rattle.class_lookup.specs.Hierarchy.{find_class}
 use Rattle.class_lookup.specs.Lookup.{Place, field_at}
 use Rattle.bytecode_model.specs.declared.Value.{Value}

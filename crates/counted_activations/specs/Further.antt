@@ -8,11 +8,11 @@ use Rattle.bytecode_typing.specs.Fits.{Fits}
 use Rattle.method_flow.specs.Keeping.{BoundOf}
 use Rattle.method_flow.specs.declared.timing.Timing.{Timing}
 use Rattle.further_rules.specs.Known.{Known}
-use Rattle.further_rules.specs.Fields.{AreArrays}
+use Rattle.further_rules.specs.Fields.{PutOnlyArrays}
 use Rattle.counted_laws.specs.Paths.{HoldKnown, IsOfRun}
 use Rattle.activations.specs.Setting.{Setting, IsSetting, limits}
 use Rattle.activations.specs.Activations.{Stage, IsActivation, cycles_of}
-use Rattle.activations.specs.Steps.{HasTiming}
+use Rattle.activations.specs.Timing.{HasTiming}
 use Rattle.activations.specs.Keeping.{Keeps}
 use Rattle.activations.specs.Warrant.{BoundsActivations}
 use Rattle.counted_activations.specs.Others.{KeepsFurtherOthers}
@@ -22,7 +22,7 @@ pub record IsOfKnownRun (g : Setting) (known : Known) (s : State) : Type 0 where
   pub boot : State
   pub begins : boot_state g.program ≡ Some boot
   pub fits : Fits g.program g.types (limits g) boot
-  pub arrays : AreArrays g.program known
+  pub arrays : PutOnlyArrays g.program known
   pub hold : HoldKnown g.program known boot
   pub run : IsOfRun g.program (limits g) boot s
 

@@ -12,7 +12,7 @@ use Rattle.loop_rules.specs.Counted.{EachCycleIsALoop}
 use Rattle.counted_laws.specs.Paths.{HoldConstants}
 use Rattle.activations.specs.Setting.{Setting, IsSetting}
 use Rattle.activations.specs.Activations.{Stage, IsActivation, cycles_of}
-use Rattle.activations.specs.Steps.{HasTiming}
+use Rattle.activations.specs.Timing.{HasTiming}
 use Rattle.activations.specs.Keeping.{Keeps}
 use Rattle.activations.specs.Warrant.{BoundsActivations}
 use Rattle.counted_activations.specs.Others.{KeepsOthers}

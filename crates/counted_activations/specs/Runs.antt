@@ -19,7 +19,7 @@ use Rattle.counted_laws.specs.Paths.{HoldConstants}
 use Rattle.int_sites.specs.Constants.{AreConstants}
 use Rattle.activations.specs.Setting.{Setting, IsSetting, limits}
 use Rattle.activations.specs.Activations.{Stage, IsActivation, cycles_of}
-use Rattle.activations.specs.Steps.{HasTiming}
+use Rattle.activations.specs.Timing.{HasTiming}
 use Rattle.activations.specs.Warrant.{BoundsActivations}
 use Rattle.counted_activations.specs.Others.{KeepsOthers}
 

@@ -15,9 +15,9 @@ use Rattle.code_lines.specs.Lines.{IsLine}
 use Rattle.loop_rules.specs.Tests.{PushesLimit, IsLimit, IsTest}
 use Rattle.loop_rules.specs.Tests.IsLimit.{constant, field}
 use Rattle.loop_rules.specs.Tests.IsTest.{with_zero, with_limit}
-use Rattle.loop_rules.specs.Turns.{LastWrite, IsSetBefore}
-use Rattle.loop_rules.specs.Turns.LastWrite.{here as writes_here, before as writes_before}
-use Rattle.further_rules.specs.Writing.{WritesAt, MayBeLast}
+use Rattle.loop_rules.specs.Iterations.{LastWrite, IsSetBefore}
+use Rattle.loop_rules.specs.Iterations.LastWrite.{here as writes_here, before as writes_before}
+use Rattle.further_rules.specs.Writing.{NodeWrites, MayBeLast}
 use Rattle.further_rules.specs.Writing.MayBeLast.{here as last_here, unwritten, before as last_before}
 use Rattle.further_rules.specs.Known.{Known, Pushes, Stores}
 use Rattle.further_rules.specs.Known.Pushes.{constant as push_constant, field as push_field}
@@ -37,13 +37,13 @@ module _ (reach : LastWritesAreReached) (entry : EntryDominatesAll) (P : Program
   same_at a b e = cc
 
   -- at the write itself
-  at_write : {k : ℕ} (p : ℕ) → WritesAt P m (At p) k → {v : Node} {o : Option ℕ} → MayBeLast P m k v o → v ≡ At p → o ≡ Some p
+  at_write : {k : ℕ} (p : ℕ) → NodeWrites P m (At p) k → {v : Node} {o : Option ℕ} → MayBeLast P m k v o → v ≡ At p → o ≡ Some p
   at_write {k} p writes (last_here {p = q} come w) at = ap Some (same_at q p at)
-  at_write {k} p writes (unwritten none) at = absurd (none (subst (λ (x : Node). WritesAt P m x k) (sym at) writes))
-  at_write {k} p writes (last_before {u = b} {v = y} {w = o} last edge none) at = absurd (none (subst (λ (x : Node). WritesAt P m x k) (sym at) writes))
+  at_write {k} p writes (unwritten none) at = absurd (none (subst (λ (x : Node). NodeWrites P m x k) (sym at) writes))
+  at_write {k} p writes (last_before {u = b} {v = y} {w = o} last edge none) at = absurd (none (subst (λ (x : Node). NodeWrites P m x k) (sym at) writes))
 
   -- behind a node that isn't entered but from one, of which it is so
-  behind : {k : ℕ} (u b : Node) (place : ℕ) → ((q : ℕ) → u ≡ At q → WritesAt P m (At q) k → ⊥) → number_of u ≢ 0 → ((z : ℕ) → Edge g z (number_of u) → z ≡ number_of b)
+  behind : {k : ℕ} (u b : Node) (place : ℕ) → ((q : ℕ) → u ≡ At q → NodeWrites P m (At q) k → ⊥) → number_of u ≢ 0 → ((z : ℕ) → Edge g z (number_of u) → z ≡ number_of b)
       → ((v : Node) (o : Option ℕ) → v ≡ b → MayBeLast P m k v o → o ≡ Some place) → {v : Node} {o : Option ℕ} → MayBeLast P m k v o → v ≡ u → o ≡ Some place
   behind {k} u b place quiet nonzero alone further (last_here {p = q} come w) at = absurd (quiet q (sym at) w)
   behind {k} u b place quiet nonzero alone further (unwritten none) at = absurd (nonzero (ap number_of (sym at)))

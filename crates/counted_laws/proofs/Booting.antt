@@ -1,6 +1,6 @@
 -- Runs from the boot state: all walks are known, and fields hold their arrays.
 use Rattle.std.proofs.Common.{◌≡◌, ◌⊎◌, ℕ, zero, suc, List, [], ◌∷◌, ◌++◌, Option, Some, None, refl, sym, ap, ◌∙◌, subst, inl, inr, IsSomeAnd, map, slice_get}
-use Rattle.lists.specs.Lemmas.{some_same, onto_some, some_in, holds_at}
+use Rattle.lists.proofs.Lemmas.{some_same, onto_some, some_in, holds_at}
 use Rattle.lists.specs.Members.{tails}
 use Rattle.bytecode_model.specs.declared.Value.{Value}
 use Rattle.bytecode_model.specs.declared.Value.TheVariants.{Null}
@@ -19,7 +19,7 @@ use Rattle.method_flow.specs.Nodes.{Node, At, number_of}
 use Rattle.method_flow.specs.Kinds.{RowsAreOfTheirKinds}
 use Rattle.code_lines.specs.Laws.{LinesAreOne, LinesAreApart, OneStandsBefore}
 use Rattle.further_rules.specs.Known.{Known}
-use Rattle.further_rules.specs.Fields.{PutsArray, AreArrays}
+use Rattle.further_rules.specs.Fields.{PutsArray, PutOnlyArrays}
 use Rattle.method_runs.specs.Runs.{Walks, walks_after, walks_from, boot_walks}
 use Rattle.method_runs.specs.Standing.{MethodWalk, last_node, Standing}
 use Rattle.method_runs.specs.Standing.MethodWalk.{starts, goes}
@@ -109,7 +109,7 @@ boot_holds_known P known s boot null constants =
 
 -- ---- what the top frame puts
 
-module _ (one : LinesAreOne) (apart : LinesAreApart) (before : OneStandsBefore) (P : Program) (lawful : Lawful P) (known : Known) (are : AreArrays P known) where
+module _ (one : LinesAreOne) (apart : LinesAreApart) (before : OneStandsBefore) (P : Program) (lawful : Lawful P) (known : Known) (are : PutOnlyArrays P known) where
   puts : (mode : Ending) (ls : List ℕ) (f : Frame) (callers : List Frame) (ws : Walks) → HavePaths P known ls mode (f ∷ callers) ws → AllKnown ws → mode ≡ Running
       → (n : ℕ) (v : Value) (rest : List Value) → PutsArray P known f.method f.pc n → f.operands ≡ v ∷ rest → IsArrayOf ls n v
   puts mode ls f callers [] have all running n v rest put top = absurd have
@@ -129,7 +129,7 @@ module _ (one : LinesAreOne) (apart : LinesAreApart) (before : OneStandsBefore) 
 
 module _ (fitting : FittingStatesAreWellFormed) (kinds : RowsAreOfTheirKinds) (boots : BootWalksStand) (one : LinesAreOne) (apart : LinesAreApart) (before : OneStandsBefore)
     (P : Program) (types : Typing) (limits : Limits) (known : Known) (s : State)
-    (lawful : Lawful P) (typed : Typed P types) (fits : Fits P types limits s) (boot : boot_state P ≡ Some s) (are : AreArrays P known) (hold : HoldKnown P known s) where
+    (lawful : Lawful P) (typed : Typed P types) (fits : Fits P types limits s) (boot : boot_state P ≡ Some s) (are : PutOnlyArrays P known) (hold : HoldKnown P known s) where
   stand : Standing P s.mode s.frames boot_walks
   stand = boots P s boot
 

@@ -4,7 +4,7 @@ use Rattle.std.specs.Prelude.{if◌then◌else◌}
 use Rattle.std.specs.Int.{w32, int_wrap}
 use Rattle.std.proofs.lemmas.Bool.{false≢true}
 use Rattle.std.proofs.lemmas.List.{length-replicate}
-use Rattle.lists.specs.Lemmas.{none≢some, some_same}
+use Rattle.lists.proofs.Lemmas.{none≢some, some_same}
 use Rattle.lists.specs.Members.{at_head, in_tail}
 use Rattle.bytecode_model.specs.declared.Value.{Value}
 use Rattle.bytecode_model.specs.declared.Value.TheVariants.{Int, Long, Ref, Null, Unset}
@@ -15,7 +15,7 @@ use Rattle.bytecode_model.specs.State.{Object, Frame, State}
 use Rattle.bytecode_model.specs.Program.{Program, Limits, Method, kind_of, type_number}
 use Rattle.bytecode_model.specs.Sizes.{object_words, made_words}
 use Rattle.bytecode_model.specs.Rows as rows
-use Rattle.bytecode_model.specs.Rows.{Row, Takes}
+use Rattle.bytecode_model.specs.Rows.{Row, FunctionOf}
 use Rattle.bytecode_model.specs.Effects.{Effect, Stuck, Go, Make, WritePart, WriteStatic, Take, Give, Call, Leave, Raise, Fault, ArithmeticException, NegativeArraySizeException, ArrayIndexOutOfBoundsException, OutOfMemoryError, ArrayStoreException, ClassCastException, IncompatibleClassChangeError, effect, on, or_fault, fault, only_if, on_top, on_number, on_numbers, on_object, on_values, on_receiver, on_size, on_element, allocate, number, selected, same, same_bool, is_instance, has_class, is_array, is_array_of, component_of, at_offset, branch, offset_of_key, stored, incremented, shuffle}
 use Rattle.bytecode_model.specs.Steps.{class_of}
 use Rattle.bytecode_model.specs.WellFormed.{AreSpaced, is_call}
@@ -109,7 +109,7 @@ module _ (K : Effect → Type 0) (stuck : K Stuck) (raised : (p : ℕ) → K (Ra
   on_number_holds LongType (Null ∷ rest) go h = stuck
   on_number_holds LongType (Unset ∷ rest) go h = stuck
 
-  on_numbers_holds : (R : Type 0) (ts : List NumberType) (f : Takes ts R) (ops : List Value) (go : R → List Value → Effect)
+  on_numbers_holds : (R : Type 0) (ts : List NumberType) (f : FunctionOf ts R) (ops : List Value) (go : R → List Value → Effect)
       → ((r : R) (rest : List Value) → K (go r rest)) → K (on_numbers R ts f ops go)
   on_numbers_holds R [] r ops go h = h r ops
   on_numbers_holds R (t ∷ ts) f ops go h = on_number_holds t ops (λ n rest. on_numbers R ts (f n) rest go) (λ n rest. on_numbers_holds R ts (f n) rest go h)

@@ -3,7 +3,7 @@ use Rattle.std.proofs.Common.{◌≡◌, ◌⊎◌, ℕ, zero, suc, Bool, true, 
 use Rattle.std.specs.Option.{option_map}
 use Rattle.std.proofs.lemmas.Bool.{false≢true, cases_eq, eqb-true}
 use Rattle.std.proofs.lemmas.Option.{slice_get-map}
-use Rattle.lists.specs.Lemmas.{none≢some, some_same, some_is, some_in, if_at, index_found}
+use Rattle.lists.proofs.Lemmas.{none≢some, some_same, some_is, some_in, if_at, index_found}
 use Rattle.bytecode_model.specs.declared.Value.{Value}
 use Rattle.bytecode_model.specs.declared.Value.TheVariants.{Null}
 use Rattle.bytecode_model.specs.declared.Ending.{Ending}
@@ -21,7 +21,7 @@ use Rattle.bytecode_typing.specs.Lawful.{Lawful}
 use Rattle.code_lines.specs.Lines.{IsLine}
 use Rattle.loop_rules.specs.Tests.{Constants}
 use Rattle.further_rules.specs.Known.{Known}
-use Rattle.further_rules.specs.Fields.{PutsArray, IsReferenceType, AreArrays}
+use Rattle.further_rules.specs.Fields.{PutsArray, IsReferenceType, PutOnlyArrays}
 use Rattle.counted_laws.specs.Visits.{lengths_of, Grows, IsArrayOf}
 use Rattle.counted_laws.specs.Paths.{HoldConstants, HoldArrays, only_constants}
 use Rattle.counted_laws.proofs.Storing.{replaced_same, replaced_other}
@@ -94,7 +94,7 @@ default_null : (d : Declared) → IsReferenceType d → default d ≡ Null
 default_null (Numeric t) h = absurd h
 default_null (Reference k) h = refl
 
-module _ (P : Program) (lawful : Lawful P) (known : Known) (are : AreArrays P known) where
+module _ (P : Program) (lawful : Lawful P) (known : Known) (are : PutOnlyArrays P known) where
   -- its fields of this kind are null
   made_null : (o : Object) → MadeBy P o → (owner index n : ℕ) → known.fields owner index ≡ Some n → has_class P (kind_of P o) owner ≡ true → slice_get o.parts index ≡ Some Null
   made_null o by owner index n is has =

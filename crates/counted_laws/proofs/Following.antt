@@ -1,6 +1,6 @@
 -- The visits of frames along runs, and what fields hold.
 use Rattle.std.proofs.Common.{◌≡◌, ◌⊎◌, ℕ, zero, suc, ◌+◌, true, List, [], ◌∷◌, ◌++◌, length, map, Option, Some, None, refl, sym, ap, ◌∙◌, subst, inl, inr, IsSomeAnd, arith}
-use Rattle.lists.specs.Lemmas.{none≢some, onto_some, some_is, some_in, holds_at}
+use Rattle.lists.proofs.Lemmas.{none≢some, onto_some, some_is, some_in, holds_at}
 use Rattle.lists.specs.Members.{heads, tails}
 use Rattle.opcodes.specs.declared.instruction.Instr.{Instr}
 use Rattle.opcodes.specs.declared.table.Kind.{Kind}

@@ -1,6 +1,6 @@
 -- What lines push, and what local variables hold, in a frame that was made since: as is known of it.
 use Rattle.std.proofs.Common.{◌≡◌, ◌⊎◌, ℕ, false, ℤ, List, [], ◌∷◌, Contains, Option, Some, None, refl, sym, ap, ◌∙◌, subst, inl, inr}
-use Rattle.lists.specs.Lemmas.{none≢some, some_same}
+use Rattle.lists.proofs.Lemmas.{none≢some, some_same}
 use Rattle.lists.specs.Members.{heads, has_or_not}
 use Rattle.bytecode_model.specs.declared.Value.{Value}
 use Rattle.bytecode_model.specs.declared.Value.TheVariants.{Int, Long, Ref, Null, Unset}
@@ -14,13 +14,13 @@ use Rattle.loop_nest.specs.Walks.{IsEntering}
 use Rattle.method_flow.specs.Nodes.{Node, At, RaiseAt, number_of, IsEdge, IsReached}
 use Rattle.code_lines.specs.Lines.{IsLine, IsNamed, Writes, written_by}
 use Rattle.code_lines.specs.Laws.{LinesAreOne, LinesAreApart, OneStandsBefore}
-use Rattle.further_rules.specs.Writing.{WritesAt, MayBeLast}
+use Rattle.further_rules.specs.Writing.{NodeWrites, MayBeLast}
 use Rattle.further_rules.specs.Writing.MayBeLast.{here as last_here, unwritten, before as last_before}
-use Rattle.further_rules.specs.Known.{Known, Pushes, Holds, Stores, Keeps}
+use Rattle.further_rules.specs.Known.{Known, Pushes, PushesArray, Stores, StoresArray}
 use Rattle.further_rules.specs.Known.Pushes.{constant, field, local, length, computed}
-use Rattle.further_rules.specs.Known.Holds.{numbers, references, of_static, of_instance, of_local, element}
+use Rattle.further_rules.specs.Known.PushesArray.{numbers, references, of_static, of_instance, of_local, element}
 use Rattle.further_rules.specs.Known.Stores.{stores}
-use Rattle.further_rules.specs.Known.Keeps.{keeps}
+use Rattle.further_rules.specs.Known.StoresArray.{keeps}
 use Rattle.further_rules.specs.Fields.{PutsArray}
 use Rattle.further_rules.specs.Beginning.{BeginsAt}
 use Rattle.counted_laws.specs.Visits.{Visit, HoldsValue, HoldsInt, IsArrayOf, Grows, Passes, Path}
@@ -39,7 +39,7 @@ module _ (one : LinesAreOne) (apart : LinesAreApart) (before : OneStandsBefore) 
   -- ---- the last write
 
   -- whether the instruction that was visited writes the local variable
-  writes_or_not : (a b : Visit) → Passes P known m a b → (k : ℕ) → ((q : ℕ) × (a.node ≡ At q) × Writes P m q k) ⊎ (WritesAt P m a.node k → ⊥)
+  writes_or_not : (a b : Visit) → Passes P known m a b → (k : ℕ) → ((q : ℕ) × (a.node ≡ At q) × Writes P m q k) ⊎ (NodeWrites P m a.node k → ⊥)
   writes_or_not a b passes k = by a.node refl
     where
       of_row : (q : ℕ) → a.node ≡ At q → (o : Option (ℕ × Row)) → row_in P m q ≡ o → ((q : ℕ) × (a.node ≡ At q) × Writes P m q k) ⊎ (Writes P m q k → ⊥)
@@ -51,13 +51,13 @@ module _ (one : LinesAreOne) (apart : LinesAreApart) (before : OneStandsBefore) 
             | inr none ↦ inr (λ w. none (subst (λ (r : Row). Contains (written_by r) k) (one P m q w.0 x.0 w.1 x.1 w.2 line).1 w.3))
           ]
 
-      by : (u : Node) → a.node ≡ u → ((q : ℕ) × (a.node ≡ At q) × Writes P m q k) ⊎ (WritesAt P m a.node k → ⊥)
+      by : (u : Node) → a.node ≡ u → ((q : ℕ) × (a.node ≡ At q) × Writes P m q k) ⊎ (NodeWrites P m a.node k → ⊥)
       by (At q) at =
           elim (of_row q at (row_in P m q) refl) [
             | inl found ↦ inl found
-            | inr none ↦ inr (λ w. none (subst (λ (u : Node). WritesAt P m u k) at w))
+            | inr none ↦ inr (λ w. none (subst (λ (u : Node). NodeWrites P m u k) at w))
           ]
-      by (RaiseAt q) at = inr (λ w. subst (λ (u : Node). WritesAt P m u k) at w)
+      by (RaiseAt q) at = inr (λ w. subst (λ (u : Node). NodeWrites P m u k) at w)
 
   module _ (w : Visit) (begins : w.node ≡ At 0) where
     -- since the local variable was written at the place, it holds what it held
@@ -79,7 +79,7 @@ module _ (one : LinesAreOne) (apart : LinesAreApart) (before : OneStandsBefore) 
     abbrev Last : (y z : Visit) → ℕ → Type 0
     Last y z k = (q : Option ℕ) × MayBeLast P m k y.node q × SinceOf z k q
 
-    since_more : (y z : Visit) (k : ℕ) (q : Option ℕ) → SinceOf y k q → Passes P known m y z → (WritesAt P m y.node k → ⊥) → SinceOf z k q
+    since_more : (y z : Visit) (k : ℕ) (q : Option ℕ) → SinceOf y k q → Passes P known m y z → (NodeWrites P m y.node k → ⊥) → SinceOf z k q
     since_more y z k None h passes none = tt
     since_more y z k (Some q) h passes none = record {
       writer = h.writer;
@@ -88,7 +88,7 @@ module _ (one : LinesAreOne) (apart : LinesAreApart) (before : OneStandsBefore) 
       path = h.path;
       at = h.at;
       passes = h.passes;
-      holds = λ v short held. passes.keeps k v short (h.holds v short held) (λ p is writes. none (subst (λ (u : Node). WritesAt P m u k) (sym is) writes));
+      holds = λ v short held. passes.keeps k v short (h.holds v short held) (λ p is writes. none (subst (λ (u : Node). NodeWrites P m u k) (sym is) writes));
       grows = then_grows h.behind.lengths y.lengths z.lengths h.grows passes.grows;
     }
 
@@ -103,7 +103,7 @@ module _ (one : LinesAreOne) (apart : LinesAreApart) (before : OneStandsBefore) 
     last_write y z ns k (here) passes =
         elim (writes_or_not y z passes k) [
           | inl found ↦ since_now y z ns k found.0 here passes found.1 found.2
-          | inr none ↦ (None, subst (λ (u : Node). MayBeLast P m k u None) (sym begins) (unwritten (subst (λ (u : Node). WritesAt P m u k → ⊥) begins none)), tt)
+          | inr none ↦ (None, subst (λ (u : Node). MayBeLast P m k u None) (sym begins) (unwritten (subst (λ (u : Node). NodeWrites P m u k → ⊥) begins none)), tt)
         ]
     last_write y z ns k (more {b} {ns = ms} path passes') passes =
         elim (writes_or_not y z passes k) [
@@ -133,7 +133,7 @@ module _ (one : LinesAreOne) (apart : LinesAreApart) (before : OneStandsBefore) 
     int_held : (y : Visit) (ns : List ℕ) (k p : ℕ) (c : ℤ) → Path P known m w y ns → y.node ≡ At p → (Writes P m p k → ⊥)
         → ((o : Option ℕ) → MayBeLast P m k (At p) o → Stores P known m k o c × IntStored k o c) → HoldsInt y.locals k c
     int_held y ns k p c (here) at quiet each =
-        let none : WritesAt P m (At 0) k → ⊥ = λ x. quiet (subst (λ (u : Node). WritesAt P m u k) (sym begins ∙ at) x) in
+        let none : NodeWrites P m (At 0) k → ⊥ = λ x. quiet (subst (λ (u : Node). NodeWrites P m u k) (sym begins ∙ at) x) in
         let h = each None (subst (λ (u : Node). MayBeLast P m k u None) (sym begins ∙ at) (unwritten none)) in
         no_store k c h.0
       where
@@ -155,13 +155,13 @@ module _ (one : LinesAreOne) (apart : LinesAreApart) (before : OneStandsBefore) 
         by (Some q) last since = since.holds (Int c) refl ((each (Some q) last).1 q refl since.writer since.behind since.nodes since.path since.at since.passes)
 
     array_held : (y : Visit) (ns : List ℕ) (k p n : ℕ) → Path P known m w y ns → y.node ≡ At p → (Writes P m p k → ⊥)
-        → ((o : Option ℕ) → MayBeLast P m k (At p) o → Keeps P known m k o n × ArrayStored k o n) → (v : Value) × HoldsValue y.locals k v × IsArrayOf y.lengths n v
+        → ((o : Option ℕ) → MayBeLast P m k (At p) o → StoresArray P known m k o n × ArrayStored k o n) → (v : Value) × HoldsValue y.locals k v × IsArrayOf y.lengths n v
     array_held y ns k p n (here) at quiet each =
-        let none : WritesAt P m (At 0) k → ⊥ = λ x. quiet (subst (λ (u : Node). WritesAt P m u k) (sym begins ∙ at) x) in
+        let none : NodeWrites P m (At 0) k → ⊥ = λ x. quiet (subst (λ (u : Node). NodeWrites P m u k) (sym begins ∙ at) x) in
         let h = each None (subst (λ (u : Node). MayBeLast P m k u None) (sym begins ∙ at) (unwritten none)) in
         absurd (never None refl h.0)
       where
-        never : (o : Option ℕ) → o ≡ None → Keeps P known m k o n → ⊥
+        never : (o : Option ℕ) → o ≡ None → StoresArray P known m k o n → ⊥
         never o e (keeps {w = q} push line unnamed) = none≢some q (sym e)
     array_held y ns k p n (more {b} {ns = ms} path passes) at quiet each =
         let l = last_write b y ms k path passes in
@@ -171,7 +171,7 @@ module _ (one : LinesAreOne) (apart : LinesAreApart) (before : OneStandsBefore) 
         by : (o : Option ℕ) → MayBeLast P m k (At p) o → SinceOf y k o → (v : Value) × HoldsValue y.locals k v × IsArrayOf y.lengths n v
         by None last since = absurd (never None refl (each None last).0)
           where
-            never : (o : Option ℕ) → o ≡ None → Keeps P known m k o n → ⊥
+            never : (o : Option ℕ) → o ≡ None → StoresArray P known m k o n → ⊥
             never o e (keeps {w = q} push line unnamed) = none≢some q (sym e)
         by (Some q) last since =
             let x = (each (Some q) last).1 q refl since.writer since.behind since.nodes since.path since.at since.passes in
@@ -222,7 +222,7 @@ module _ (one : LinesAreOne) (apart : LinesAreApart) (before : OneStandsBefore) 
           let top : b.visit.operands ≡ Int y ∷ Int x ∷ f.0.visit.operands = s.1 ∙ ap (λ (ops : List Value). Int y ∷ ops) f.1 in
           (and_line z from p next r b (came_through one apart before P known m w b.visit from second s.0 f.0) line refl, b.passes.does p next r b.at line.is y x sum f.0.visit.operands top is)
 
-      array_lies : {from to n : ℕ} → Holds P known m from to n → ArrayOnTop from to n
+      array_lies : {from to n : ℕ} → PushesArray P known m from to n → ArrayOnTop from to n
       array_lies (numbers {from} {p} {next} {code} {n} push line unnamed') z ns path at unnamed =
           let b = line_before z ns path p next (rows.NewNumbers code) line unnamed at in
           let s = push_lies push b.visit b.nodes b.path b.at unnamed' in
@@ -276,7 +276,7 @@ module _ (one : LinesAreOne) (apart : LinesAreApart) (before : OneStandsBefore) 
           let s = push_lies push y ns path here' unnamed' in
           passes.does p next (rows.Store (Numbers IntType) k) here' line.is c s.0.visit.operands s.1
 
-      store_keeps : {k : ℕ} {o : Option ℕ} {n : ℕ} → Keeps P known m k o n → ArrayStored k o n
+      store_keeps : {k : ℕ} {o : Option ℕ} {n : ℕ} → StoresArray P known m k o n → ArrayStored k o n
       store_keeps (keeps {k} {from} {w = p} {next} {n} hold line unnamed') q e y z ns path at passes =
           let here' : y.node ≡ At p = at ∙ ap At (sym (some_same p q e)) in
           let a = array_lies hold y ns path here' unnamed' in

@@ -16,7 +16,7 @@ use Rattle.bytecode_model.specs.Rows.{Row}
 use Rattle.bytecode_model.specs.Effects.{Effect, Stuck, Go, Make, WritePart, WriteStatic, Take, Give, Call, Leave, Raise, StackOverflowError, fault_object, effect}
 use Rattle.bytecode_model.specs.Steps.{first_frame, with_top, raising, called, with_result, resumed, left, written, answered, applied, row_in, row_at, handler_for, class_of, unwound, step_in}
 use Rattle.bytecode_model.specs.WellFormed.{AreSpaced}
-use Rattle.lists.specs.Lemmas.{none≢some, onto_some, some_same}
+use Rattle.lists.proofs.Lemmas.{none≢some, onto_some, some_same}
 use Rattle.method_flow.specs.Nodes.{Node, At, RaiseAt}
 use Rattle.method_flow.specs.Shapes.{node_of, IsGoingOn}
 use Rattle.code_lines.specs.Lines.{IsLine, Writes}

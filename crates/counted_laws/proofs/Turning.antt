@@ -18,8 +18,8 @@ use Rattle.method_flow.specs.Nodes.{Node, At, number_of}
 use Rattle.method_flow.specs.Graphs.{IsGraphOf}
 use Rattle.code_lines.specs.Lines.{IsLine}
 use Rattle.code_lines.specs.Laws.{LinesAreOne, LinesAreApart, OneStandsBefore}
-use Rattle.loop_rules.specs.Turns.{ReachesWithout, IsOnEachTurn, FirstTested}
-use Rattle.loop_rules.specs.Turns.FirstTested.{test_first, step_first}
+use Rattle.loop_rules.specs.Iterations.{ReachesWithout, IsOnEachIteration, FirstTested}
+use Rattle.loop_rules.specs.Iterations.FirstTested.{test_first, step_first}
 use Rattle.loop_rules.specs.Values.{value_at}
 use Rattle.loop_rules.specs.Counted.{EachCycleIsALoop}
 use Rattle.further_rules.specs.Known.{Known}
@@ -113,7 +113,7 @@ module _ (one : LinesAreOne) (apart : LinesAreApart) (before : OneStandsBefore) 
   split_prev : (prev : List ℕ) (x last : ℕ) (p q : List ℕ) → prev ≡ p ++ x ∷ q → prev ++ last ∷ [] ≡ p ++ x ∷ (q ++ last ∷ [])
   split_prev prev x last p q e = ap (λ (zs : List ℕ). zs ++ last ∷ []) e ∙ append_assoc p (x ∷ q) (last ∷ [])
 
-  unique : (v : Visit) (turns : ℕ) (t : Turning v turns) (x : ℕ) → IsOnEachTurn g H x → num v ≡ x → Contains t.prev x → ⊥
+  unique : (v : Visit) (turns : ℕ) (t : Turning v turns) (x : ℕ) → IsOnEachIteration g H x → num v ≡ x → Contains t.prev x → ⊥
   unique v turns t x on at has = by t.shape
     where
       by : ((t.prev ≡ []) × (num v ≡ H)) ⊎ ((more : List ℕ) × (t.prev ≡ H ∷ more) × (Contains (more ++ num v ∷ []) H → ⊥)) → ⊥
@@ -137,7 +137,7 @@ module _ (one : LinesAreOne) (apart : LinesAreApart) (before : OneStandsBefore) 
             ]
           ]
 
-  passed_all : (v : Visit) (turns : ℕ) (t : Turning v turns) (x : ℕ) → IsOnEachTurn g H x → IsBackEdge g (num v) H → Contains (t.prev ++ num v ∷ []) x
+  passed_all : (v : Visit) (turns : ℕ) (t : Turning v turns) (x : ℕ) → IsOnEachIteration g H x → IsBackEdge g (num v) H → Contains (t.prev ++ num v ∷ []) x
   passed_all v turns t x on edge =
       elim (has_or_not (t.prev ++ num v ∷ []) x) [
         | inl has ↦ has

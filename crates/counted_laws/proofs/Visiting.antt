@@ -2,7 +2,7 @@
 use Rattle.std.proofs.Common.{◌≡◌, ◌⊎◌, ℕ, Bool, true, false, not, ℤ, List, [], ◌∷◌, Contains, Option, Some, refl, sym, ap, ◌∙◌, subst, inl, inr, arith}
 use Rattle.std.proofs.lemmas.Int.{ints}
 use Rattle.std.proofs.lemmas.Bool.{false≢true}
-use Rattle.lists.specs.Lemmas.{some_is, some_in, some_same}
+use Rattle.lists.proofs.Lemmas.{some_is, some_in, some_same}
 use Rattle.lists.specs.Members.{nil_contains}
 use Rattle.bytecode_model.specs.declared.Value.{Value}
 use Rattle.bytecode_model.specs.declared.Value.TheVariants.{Int}

@@ -14,7 +14,7 @@ use Rattle.method_flow.specs.Graphs.{IsGraphOf}
 use Rattle.loop_rules.specs.Tests.{Constants}
 use Rattle.loop_rules.specs.Counted.{CountsBy, CountsTo, EachCycleIsALoop}
 use Rattle.further_rules.specs.Known.{Known, Pushes}
-use Rattle.further_rules.specs.Fields.{AreArrays}
+use Rattle.further_rules.specs.Fields.{PutOnlyArrays}
 use Rattle.further_rules.specs.Beginning.{BeginsAt}
 use Rattle.method_runs.specs.Runs.{Walks, walks_from, boot_walks, unknown_walks}
 use Rattle.method_runs.specs.Laws.{GivesBytes}
@@ -76,5 +76,5 @@ FramesCountFurther P known (f ∷ fs) (Some us ∷ ws) =
 abbrev pub FurtherLoopsKeep : Type 0
 FurtherLoopsKeep =
     (P : Program) (types : Typing) (limits : Limits) (known : Known) (input : ℕ → Option ℕ) (s : State) (n : ℕ) → Lawful P → Typed P types → GivesBytes input
-    → Fits P types limits s → boot_state P ≡ Some s → AreArrays P known → HoldKnown P known s
+    → Fits P types limits s → boot_state P ≡ Some s → PutOnlyArrays P known → HoldKnown P known s
     → FramesCountFurther P known (run_from P limits input s n).frames (walks_from P limits input s boot_walks n)

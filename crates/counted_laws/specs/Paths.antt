@@ -9,7 +9,7 @@ use Rattle.bytecode_model.specs.State.{Object, Frame, State}
 use Rattle.bytecode_model.specs.Program.{Program, Limits, kind_of}
 use Rattle.bytecode_model.specs.Effects.{has_class}
 use Rattle.bytecode_model.specs.Steps.{step, run_from, boot_state}
-use Rattle.bytecode_model.specs.WellFormed.{IsAnswer}
+use Rattle.bytecode_model.specs.WellFormed.{IsInput}
 use Rattle.bytecode_typing.specs.Typed.{Typing, Typed}
 use Rattle.bytecode_typing.specs.Lawful.{Lawful}
 use Rattle.bytecode_typing.specs.Fits.{Fits}
@@ -17,7 +17,7 @@ use Rattle.method_flow.specs.Nodes.{Node, At}
 use Rattle.code_lines.specs.Lines.{IsNeverPut}
 use Rattle.loop_rules.specs.Tests.{Constants}
 use Rattle.further_rules.specs.Known.{Known}
-use Rattle.further_rules.specs.Fields.{AreArrays}
+use Rattle.further_rules.specs.Fields.{PutOnlyArrays}
 use Rattle.method_runs.specs.Runs.{Walks, walks_from, boot_walks, unknown_walks}
 use Rattle.method_runs.specs.Standing.{last_node}
 use Rattle.method_runs.specs.Laws.{GivesBytes}
@@ -85,19 +85,19 @@ RunsHavePaths =
 -- a state to which a run from another one comes, by a byte of the input, or its end, at each step that asks
 pub data IsOfRun (P : Program) (limits : Limits) (s : State) : State → Type 0 where
   same : IsOfRun P limits s s
-  next : {t u : State} (answer : Option ℕ) → IsOfRun P limits s t → IsAnswer answer → step P limits answer t ≡ Some u → IsOfRun P limits s u
+  next : {t u : State} (answer : Option ℕ) → IsOfRun P limits s t → IsInput answer → step P limits answer t ≡ Some u → IsOfRun P limits s u
 
 -- In each state of a run from the boot state fields hold what is known of them, where they do in the boot state and each put of them puts such arrays.
 abbrev pub RunsHoldKnown : Type 0
 RunsHoldKnown =
     (P : Program) (types : Typing) (limits : Limits) (known : Known) (s t : State) → Lawful P → Typed P types → Fits P types limits s → boot_state P ≡ Some s
-    → AreArrays P known → HoldKnown P known s
+    → PutOnlyArrays P known → HoldKnown P known s
     → IsOfRun P limits s t → HoldKnown P known t
 
 -- so in the run for each input, and each frame has its visits
 abbrev pub RunsHoldArrays : Type 0
 RunsHoldArrays =
     (P : Program) (types : Typing) (limits : Limits) (known : Known) (input : ℕ → Option ℕ) (s : State) (n : ℕ) → Lawful P → Typed P types → GivesBytes input
-    → Fits P types limits s → boot_state P ≡ Some s → AreArrays P known → HoldKnown P known s
+    → Fits P types limits s → boot_state P ≡ Some s → PutOnlyArrays P known → HoldKnown P known s
     → let t = run_from P limits input s n in
     HoldKnown P known t × HavePaths P known (lengths_of t.objects) t.mode t.frames (walks_from P limits input s boot_walks n)

@@ -4,6 +4,8 @@ use Rattle.std.specs.List.{flat_map}
 use Rattle.std.specs.declared.option.Option.{Option}
 use Rattle.std.specs.declared.result.Result.{Result}
 use Rattle.base.specs.Telling.{Grew, Rose}
+use Rattle.device_traits.specs.declared.fault.DeviceFault.{DeviceFault}
+use Rattle.device_traits.specs.declared.fault.DeviceFault.TheVariants.{Input, Output, Seen as SeenFault}
 use Rattle.device_traits.specs.declared.seen.Seen.{Seen}
 
 -- a thing that a device notes: a byte that it was given, or a state that it was handed
@@ -127,16 +129,19 @@ pub record Attended (old new : Told) (answers : List (Option ℕ)) (out : List �
   pub counts : CountsRise old new
 
 -- what `input` does
-abbrev pub Inputs : {E : Type 0} → Told → Told → Result (Option ℕ) E → Type 0
+abbrev pub Inputs : Told → Told → Result (Option ℕ) DeviceFault → Type 0
 Inputs old new (Ok byte) = TookByte old new byte × OnlyReads old new
-Inputs old new (Err e) = Passed old new [] [] [] × OnlyReads old new × Rose old.read_faults new.read_faults
+Inputs old new (Err Input) = Passed old new [] [] [] × OnlyReads old new × Rose old.read_faults new.read_faults
+Inputs old new (Err fault) = ⊥
 
 -- what `output` does
-abbrev pub Outputs : {T E : Type 0} → Told → Told → ℕ → Result T E → Type 0
+abbrev pub Outputs : {T : Type 0} → Told → Told → ℕ → Result T DeviceFault → Type 0
 Outputs old new byte (Ok x) = Passed old new (byte ∷ []) [] (Wrote byte ∷ []) × OnlyWrites old new
-Outputs old new byte (Err e) = PassedInPart old new [] [] (Wrote byte) × OnlyWrites old new × Rose old.write_faults new.write_faults
+Outputs old new byte (Err Output) = PassedInPart old new [] [] (Wrote byte) × OnlyWrites old new × Rose old.write_faults new.write_faults
+Outputs old new byte (Err fault) = ⊥
 
 -- what `seen` does
-abbrev pub Sees : {T E : Type 0} → Told → Told → Seen → Result T E → Type 0
+abbrev pub Sees : {T : Type 0} → Told → Told → Seen → Result T DeviceFault → Type 0
 Sees old new at (Ok x) = Passed old new [] (at ∷ []) (Saw at ∷ []) × OnlySees old new
-Sees old new at (Err e) = PassedInPart old new [] [] (Saw at) × OnlySees old new × Rose old.seen_faults new.seen_faults
+Sees old new at (Err SeenFault) = PassedInPart old new [] [] (Saw at) × OnlySees old new × Rose old.seen_faults new.seen_faults
+Sees old new at (Err fault) = ⊥

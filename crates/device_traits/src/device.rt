@@ -2,13 +2,10 @@
 ghost use Rattle.std.specs.Prelude.{◌≡◌, ℕ, List};
 ghost use Rattle.device_traits.specs.Told.{Told, Inputs, Outputs, Sees};
 
+use crate::fault::DeviceFault;
 use crate::seen::Seen;
 
-/// A call on a device failed.
-#[derive(Clone, Copy)]
-pub struct DeviceFault;
-
-/// The outside of a machine. Each call may fail, and then its count of faults has risen.
+/// The outside of a machine. Each call may fail: then it answers its own fault, and its count of faults has risen.
 pub trait Devices {
     /// What it tells.
     ghost told: { Self → Told };

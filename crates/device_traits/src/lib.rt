@@ -2,9 +2,11 @@
 #![tactic(auto)]
 
 mod device;
+mod fault;
 mod seen;
 mod watch;
 
-pub use device::{DeviceFault, Devices};
+pub use device::Devices;
+pub use fault::DeviceFault;
 pub use seen::Seen;
 pub use watch::{MemWatch, NoWatch, Watch};

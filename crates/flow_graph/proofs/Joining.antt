@@ -13,7 +13,7 @@ use Rattle.bytecode_model.specs.Program.{Program, Body, body_of, instr_at, as_in
 use Rattle.bytecode_model.specs.Lists as model
 use Rattle.bytecode_model.specs.Rows.{Row}
 use Rattle.bytecode_model.specs.Steps.{row_in}
-use Rattle.lists.specs.Lemmas.{some_is, some_in, holds_at}
+use Rattle.lists.proofs.Lemmas.{some_is, some_in, holds_at}
 use Rattle.lists.specs.Members.{map_contains}
 use Rattle.loop_nest.specs.Digraph.{Digraph}
 use Rattle.loop_nest.proofs.Elements.{from_map}

@@ -1,5 +1,7 @@
 pub mod Rising
 pub mod Searching
+pub mod Spanning
+mod Opcodes
 pub mod Renumbering
 pub mod Growing
 pub mod Joining

@@ -1,29 +1,12 @@
 -- The search for the nodes that are reached, step by step.
-use Rattle.std.proofs.Common.{◌≡◌, ℕ, zero, suc, ◌<◌, ◌⊎◌, Bool, true, false, not, List, [], ◌∷◌, ◌++◌, length, get_or, set, replicate, filter, All, Contains, refl, sym, ap, ◌∙◌, subst, inl, inr, arith}
+use Rattle.std.proofs.Common.{◌≡◌, ℕ, zero, suc, ◌+◌, ◌*◌, ◌<◌, ◌⊎◌, Bool, true, false, not, List, [], ◌∷◌, ◌++◌, length, get_or, set, replicate, filter, All, Contains, refl, sym, ap, ◌∙◌, subst, inl, inr, arith}
 use Rattle.std.proofs.lemmas.Bool.{cases_eq, both_ways}
-use Rattle.std.proofs.lemmas.List.{length-set, get_or-set_same, get_or-set_other, length-replicate}
+use Rattle.std.proofs.lemmas.List.{length-append, length-set, get_or-set_same, get_or-set_other, length-replicate}
 use Rattle.std.proofs.lemmas.List.Elements.{All-contains, All-append, All-from_get_or, Contains-append_left, Contains-append_right, Contains-push, Contains-push_cases, Contains-append_cases, Contains-get_or}
-use Rattle.lists.specs.Members.{nil_contains, at_head, cons_cases, map_contains}
-use Rattle.loop_nest.specs.Digraph.{sources_of, turned}
-use Rattle.loop_nest.proofs.Elements.{from_map}
-use Rattle.loop_nest.proofs.Searching.{sources_has, from_sources, same_everywhere, fewer-set, shorter}
-use Rattle.flow_graph.specs.Reach.{Reaches, AreWithin, AreReached, IsSearch, flag_at}
+use Rattle.lists.specs.Members.{nil_contains, at_head, cons_cases}
+use Rattle.loop_nest.proofs.Searching.{same_everywhere, fewer-set, fewer_left, shorter}
+use Rattle.flow_graph.specs.Reach.{Reaches, ArePushed, AreReached, AreWithin, IsSearch, flag_at}
 use Rattle.flow_graph.specs.Reach.Reaches.{entry, along}
-
--- ---- the targets of the edges from a node
-
-abbrev pub targets : List (ℕ × ℕ) → ℕ → List ℕ
-targets es u = sources_of (turned es) u
-
-pub targets_has : (es : List (ℕ × ℕ)) (u v : ℕ) → Contains es (u, v) → Contains (targets es u) v
-targets_has es u v has = sources_has (turned es) v u (map_contains (λ (e : ℕ × ℕ). (e.1, e.0)) es (u, v) has)
-
-pub from_targets : (es : List (ℕ × ℕ)) (u v : ℕ) → Contains (targets es u) v → Contains es (u, v)
-from_targets es u v has =
-    let r = from_map (λ (e : ℕ × ℕ). (e.1, e.0)) es (v, u) (from_sources (turned es) v u has) in
-    let P : ℕ × ℕ → Type 0 = λ e. Contains es e in
-    let same : r.0 ≡ (u, v) = ap (λ (e : ℕ × ℕ). (e.1, e.0)) r.2 in
-    subst P same r.1
 
 -- ---- flags
 
@@ -93,10 +76,11 @@ search_skips es n flags left x s at =
       closed = λ u v m e. settle v (s.closed u v m e);
     }
 
-pub search_takes : (es : List (ℕ × ℕ)) (n : ℕ) (flags : List Bool) (left : List ℕ) (x : ℕ) → AreWithin n es → IsSearch es n (left ++ x ∷ []) flags → IsSearch es n (left ++ targets es x) (set flags x true)
-search_takes es n flags left x within s =
+pub search_takes : (es : List (ℕ × ℕ)) (n : ℕ) (flags : List Bool) (left : List ℕ) (x : ℕ) (stack : List ℕ) → AreWithin n es → IsSearch es n (left ++ x ∷ []) flags → ArePushed es x left stack → IsSearch es n stack (set flags x true)
+search_takes es n flags left x stack within s p =
     let long = s.long in
-    let next = targets es x in
+    let next = p.next in
+    let R : List ℕ → Type 0 = λ us. IsSearch es n us (set flags x true) in
     let new' = set flags x true in
     let below : x < n = All-contains (λ y. y < n) (left ++ x ∷ []) x s.stack_within (Contains-push left x) in
     let inside : x < length flags = omega arith in
@@ -111,10 +95,10 @@ search_takes es n flags left x within s =
             | inr same ↦ let P : ℕ → Type 0 = λ z. flag_at new' z ≡ true in inl (subst P same (flagged_at x flags inside))
           ]
     ] in
-    record {
+    subst R (sym p.is) (record {
       long = length-set flags x true ∙ long;
       stack_within = All-append (λ y. y < n) left next (shorter n x left s.stack_within) (All-from_get_or (λ y. y < n) next 0 (λ i lt.
-          target_within es n x (get_or next i 0) within (from_targets es x (get_or next i 0) (Contains-get_or next i 0 lt))));
+          target_within es n x (get_or next i 0) within ((p.each (get_or next i 0)).0 (Contains-get_or next i 0 lt))));
       found = λ y at.
           elim (flagged_cases x y flags at) [
             | inl same ↦ subst (Reaches es) (sym same) reached
@@ -123,17 +107,17 @@ search_takes es n flags left x within s =
       waiting = λ y has.
           elim (Contains-append_cases left next y has) [
             | inl old ↦ s.waiting y (Contains-append_left left (x ∷ []) y old)
-            | inr later ↦ along reached (from_targets es x y later)
+            | inr later ↦ along reached ((p.each y).0 later)
           ];
       entry = settle 0 s.entry;
       closed = λ u v at e.
           elim (flagged_cases x u flags at) [
             | inl same ↦
                 let P : ℕ → Type 0 = λ z. Contains es (z, v) in
-                inr (Contains-append_right left next v (targets_has es x v (subst P same e)))
+                inr (Contains-append_right left next v ((p.each v).1 (subst P same e)))
             | inr old ↦ settle v (s.closed u v old e)
           ];
-    }
+    })
 
 all_found : {es : List (ℕ × ℕ)} {n : ℕ} {flags : List Bool} → IsSearch es n [] flags → {x : ℕ} → Reaches es x → flag_at flags x ≡ true
 all_found s entry = elim s.entry [ inl m ↦ m | inr w ↦ absurd (nil_contains 0 w) ]
@@ -146,3 +130,13 @@ search_ends es n flags s = record { long = s.long; each = λ x. (s.found x, λ r
 
 pub stacked_within : (n x : ℕ) (stack left : List ℕ) → stack ≡ left ++ x ∷ [] → All (λ y. y < n) stack → x < n
 stacked_within n x stack left is all = let P : List ℕ → Type 0 = λ ls. Contains ls x in All-contains (λ y. y < n) stack x all (subst P (sym is) (Contains-push left x))
+
+pub smaller : (es : List (ℕ × ℕ)) (x : ℕ) (flags : List Bool) (stack left new : List ℕ) → x < length flags → flag_at flags x ≡ false → stack ≡ left ++ x ∷ [] → ArePushed es x left new → unflagged (set flags x true) * suc (length es) + length new < unflagged flags * suc (length es) + length stack
+smaller es x flags stack left new lt fresh is p =
+    let a = ap length is in
+    let b = ap length p.is in
+    let l = length-append left (x ∷ []) in
+    let k = length-append left p.next in
+    let e : length stack ≡ suc (length left) = omega arith in
+    let f : length new ≡ length left + length p.next = omega arith in
+    rw (e, f) (fewer_left (unflagged (set flags x true)) (unflagged flags) (length es) (length left) (length p.next) (unflagged-set x flags lt fresh) p.few)

@@ -3,7 +3,7 @@ use Rattle.std.proofs.Common.{◌≡◌, ℕ, ◌+◌, true, List, [], map, Cont
 use Rattle.std.specs.Prelude.{slice_get}
 use Rattle.std.proofs.lemmas.List.Elements.{All-contains}
 use Rattle.std.proofs.lemmas.Option.{slice_get-get_or, slice_get_within, get_or_from_slice_get}
-use Rattle.lists.specs.Lemmas.{some_is, some_in, holds_at}
+use Rattle.lists.proofs.Lemmas.{some_is, some_in, holds_at}
 use Rattle.lists.specs.Members.{map_contains, nil_contains}
 use Rattle.std.specs.Option.{option_map_or}
 use Rattle.loop_nest.proofs.Elements.{from_map}

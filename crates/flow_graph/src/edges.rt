@@ -9,6 +9,7 @@ ghost use Rattle.flow_graph.specs.Where.{AreGoingOn, noted};
 
 use super::handlers::add_handlers;
 use super::leads::add_leads;
+use super::sorting::rising_edges;
 use base::NoMemory;
 use method_flow::{Call, FlowMethod};
 use opcodes::{decode, raises, starts};
@@ -116,6 +117,10 @@ fn may_raise(code: &[u8], pc: u32) -> bool
     requires short { length code.now < 65536 }
     ensures { result ≡ raises_in (decoded code.now pc) }
 {
+    // Most opcodes don't, and neither do those behind `wide`.
+    if !raises(code[pc as usize]) {
+        return false;
+    }
     match decode(code, pc) {
         Ok(instr) => raises(instr.op),
         Err(_) => false,
@@ -166,14 +171,14 @@ fn add_raises(
     add_handlers(alloc, &places, ranges, edges)
 }
 
-/// The edges of a method's code, in any order and some more than once.
+/// The edges of a method's code, rising.
 pub fn code_edges(alloc: Global, m: &FlowMethod, goes: &[bool]) -> Result<Vec<(u32, u32)>, NoMemory>
     requires { length goes.now ≡ length m.now.calls }
     ensures { IfOk result (λ edges. AreCodeEdges m.now goes.now edges.items) }
 {
     let starts = starts(alloc, m.code())?;
-    let mut edges = Vec::new(alloc);
+    let mut edges = Vec::with_capacity(alloc, m.code().len())?;
     add_all_leads(alloc, m, goes, &starts, &mut edges)?;
     add_raises(alloc, m, &starts, &mut edges)?;
-    Ok(edges)
+    Ok(rising_edges(edges))
 }

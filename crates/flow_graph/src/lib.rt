@@ -24,6 +24,7 @@ use loop_nest::Graph;
 use method_flow::FlowMethod;
 pub use numbering::{Compact, MethodGraph};
 use numbering::{compacted, placed};
+pub use reach::{push_targets, spans};
 use std::alloc::Global;
 use whole::method_graph;
 

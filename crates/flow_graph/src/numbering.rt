@@ -29,8 +29,8 @@ fn numbering(alloc: Global, flags: &[bool]) -> Result<(Vec<u32>, Vec<u32>), NoMe
     requires { length flags.now < 2 ^ 32 }
     ensures { IfOk result (λ r. AreNumbered flags.now (length flags.now) r.0.items r.1.items) }
 {
-    let mut nodes = Vec::new(alloc);
-    let mut numbers = Vec::new(alloc);
+    let mut nodes = Vec::with_capacity(alloc, flags.len())?;
+    let mut numbers = Vec::with_capacity(alloc, flags.len())?;
     for x in 0..flags.len() as u32 {
         numbers.push(nodes.len() as u32)?;
         if flags[x as usize] {
@@ -51,7 +51,7 @@ fn renumbered_edges(
     requires long { length numbers.now ≡ length flags.now }
     ensures { IfOk result (λ new. new.items ≡ renumbered_edges flags.now numbers.now edges.now) }
 {
-    let mut new = Vec::new(alloc);
+    let mut new = Vec::with_capacity(alloc, edges.len())?;
     for edge in edges {
         if flags[edge.0 as usize] {
             new.push((numbers[edge.0 as usize], numbers[edge.1 as usize]))?;
@@ -71,7 +71,7 @@ fn renumbered_nodes(
     requires long { length numbers.now ≡ length flags.now }
     ensures { IfOk result (λ new. new.items ≡ renumbered_nodes flags.now numbers.now nodes.now) }
 {
-    let mut new = Vec::new(alloc);
+    let mut new = Vec::with_capacity(alloc, nodes.len())?;
     for node in nodes {
         if flags[*node as usize] {
             new.push(numbers[*node as usize])?;

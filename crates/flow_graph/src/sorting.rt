@@ -8,7 +8,7 @@ ghost use Rattle.flow_graph.specs.Reach.{AreWithin};
 use loop_nest::Graph;
 
 /// The edges, rising, each once.
-fn rising_edges(mut edges: Vec<(u32, u32)>) -> Vec<(u32, u32)>
+pub fn rising_edges(mut edges: Vec<(u32, u32)>) -> Vec<(u32, u32)>
     ensures same { (e : ℕ × ℕ) → Contains result.items e ↔ Contains edges.items e }
     ensures rising { AllAdjacentBelow IsBefore result.items (length result.items) }
 {

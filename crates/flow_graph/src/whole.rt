@@ -1,7 +1,8 @@
 //! The graph of a method, by number of node.
 ghost use Rattle.std.specs.Prelude.{◌≡◌, ◌↔◌, ◌*◌, ◌<◌, ℕ, true, length, Contains, IfOk, OnOk};
 ghost use Rattle.opcodes.specs.Instruction.{decoded};
-ghost use Rattle.flow_graph.specs.Edges.{AreCodeEdges, IsExitAt, exits_at, leaves_at, returns_in};
+ghost use Rattle.opcodes.specs.Row.{row_of};
+ghost use Rattle.flow_graph.specs.Edges.{AreCodeEdges, IsExitAt, exits_at, is_return, leaves_at, returns_in};
 ghost use Rattle.flow_graph.specs.Growing.{Grows};
 ghost use Rattle.flow_graph.specs.Laws.{IsGraphWhere};
 ghost use Rattle.flow_graph.specs.Numbering.{edges_from};
@@ -17,14 +18,25 @@ use method_flow::FlowMethod;
 use opcodes::{Kind, decode, kind};
 use std::alloc::Global;
 
+/// Whether this is the opcode of a return.
+fn returns(op: u8) -> bool
+    ensures { result ≡ is_return (row_of op).kind }
+{
+    matches!(kind(op), Kind::Return)
+}
+
 /// Whether the instruction at a place is a return.
 fn is_return(code: &[u8], pc: u32) -> bool
     requires inside { pc < length code.now }
     requires short { length code.now < 65536 }
     ensures { result ≡ returns_in (decoded code.now pc) }
 {
+    // Most opcodes aren't, and neither are those behind `wide`.
+    if !returns(code[pc as usize]) {
+        return false;
+    }
     match decode(code, pc) {
-        Ok(instr) => matches!(kind(instr.op), Kind::Return),
+        Ok(instr) => returns(instr.op),
         Err(_) => false,
     }
 }
@@ -83,7 +95,7 @@ fn edges_from(
     requires { AreWithin (length flags.now) edges.now }
     ensures { IfOk result (λ kept. kept.items ≡ edges_from flags.now edges.now) }
 {
-    let mut kept = Vec::new(alloc);
+    let mut kept = Vec::with_capacity(alloc, edges.len())?;
     for edge in edges {
         if flags[edge.0 as usize] {
             kept.push(*edge)?;

@@ -3,7 +3,7 @@ use Rattle.std.proofs.Common.{◌≡◌, ◌<◌, ℕ, List, [], ◌∷◌, leng
 use Rattle.std.specs.Prelude.{slice_get}
 use Rattle.std.specs.List.{AllByRecursion}
 use Rattle.lists.specs.Lists.{onto}
-use Rattle.lists.specs.Lemmas.{none≢some, some_same, onto_some}
+use Rattle.lists.proofs.Lemmas.{none≢some, some_same, onto_some}
 use Rattle.class_pool.specs.declared.entry.Entry.{Entry}
 use Rattle.class_pool.specs.declared.class.Attribute.{Attribute}
 use Rattle.class_pool.specs.declared.class.Body.{Body}
@@ -16,7 +16,7 @@ use Rattle.class_pool.specs.declared.kind.Kind.{Kind}
 use Rattle.class_pool.specs.declared.kind.Kind.TheVariants as kinds
 use Rattle.class_pool.specs.Kind.{kind_of}
 use Rattle.class_pool.specs.Found.{otherwise, first_of, code_part, code_of}
-use Rattle.class_pool.specs.Structure.{HasKind, IsAttribute, IsMember}
+use Rattle.class_pool.specs.Structure.{HasKind, IsAttribute, HasMemberRange}
 use Rattle.class_rules.specs.Found.{MethodsHaveCode}
 use Rattle.class_rules.specs.Grammar.{IsClass}
 use Rattle.class_rules.specs.Rules.{IsRightMethod}
@@ -54,7 +54,7 @@ code_bounds law cs are m k h =
     let c = onto_some (slice_get cs p.0.0) (λ c. slice_get c.methods p.0.1) r.0 p.2 in
     let is = all_at IsClass cs p.0.0 c.0 are c.1 in
     let right = all_at (IsRightMethod c.0) c.0.methods p.0.1 r.0 is.rules.methods c.2 in
-    let member = all_at (IsMember owners.Method c.0.pool) c.0.methods p.0.1 r.0 is.inside.methods.1 c.2 in
+    let member = all_at (HasMemberRange owners.Method c.0.pool) c.0.methods p.0.1 r.0 is.inside.methods.1 c.2 in
     let code = (law c.0 r.0 right).0 k r.2 in
     record {
       code = let most = code.not_long in omega arith;

@@ -14,7 +14,7 @@ use Rattle.opcodes.specs.Instruction.{decoded}
 use Rattle.opcodes.specs.Row as opcodes
 use Rattle.opcodes.specs.Start.{starts_of, IsStart, AreStarts}
 use Rattle.lists.specs.Lists.{onto}
-use Rattle.lists.specs.Lemmas.{none≢some, some_same, holds_at}
+use Rattle.lists.proofs.Lemmas.{none≢some, some_same, holds_at}
 use Rattle.lists.specs.Members.{at_head, in_tail, map_contains}
 use Rattle.bytecode_model.specs.Program.{Program, Body, Handler, as_instr, body_of}
 use Rattle.bytecode_model.specs.Rows as rows

@@ -7,7 +7,7 @@ use Rattle.std.proofs.lemmas.Bool.{cases_lt}
 use Rattle.std.proofs.lemmas.Option.{slice_get_within, slice_get-get_or, get_or_from_slice_get}
 use Rattle.opcodes.specs.Start.{starts_of, IsStart}
 use Rattle.lists.specs.Lists.{onto}
-use Rattle.lists.specs.Lemmas.{none≢some, some_same, onto_some, map_some, some_is, some_in, if_at}
+use Rattle.lists.proofs.Lemmas.{none≢some, some_same, onto_some, map_some, some_is, some_in, if_at}
 use Rattle.class_pool.specs.declared.class.ClassFile.{ClassFile}
 use Rattle.bytecode_model.specs.Program.{Program, Method, Body, body_of}
 use Rattle.bytecode_model.specs.Rows as rows
@@ -25,7 +25,7 @@ use Rattle.flow_program.specs.declared.invokes.Invoked.{Invoked}
 use Rattle.flow_program.specs.declared.invokes.Invoked.TheVariants.{Fixed, Resolved}
 use Rattle.flow_program.specs.Invokes.{invoked_by, invoked_at, list_number, call_of, call_at}
 use Rattle.flow_program.specs.Made.{AreCoded, AreMade}
-use Rattle.flow_program.specs.Targets.{IsNamed, IsVirtual, IsSelectedList, AreTargets}
+use Rattle.flow_program.specs.Targets.{IsNamedByInvoke, IsVirtual, IsSelectedList, AreTargets}
 use Rattle.flow_program.proofs.Listing.{filter_map_found}
 use Rattle.flow_program.proofs.Selecting.{coded_by}
 
@@ -136,7 +136,7 @@ module _ (stand : MethodsStandByNumber) (cs : List ClassFile) (w : WellPlaced (r
         by n ts e (inr ge) lt =
             let long = targets.long in
             let same : coded + (n - coded) ≡ n = omega arith in
-            selected (n - coded) (IsNamed coded f.methods (n - coded)) ts (subst (λ (xs : List ℕ). IsSelectedList P (n - coded) (IsNamed coded f.methods (n - coded)) xs) (ap (λ (k : ℕ). get_or f.targets k []) same ∙ e) (targets.selected (n - coded) (omega arith)))
+            selected (n - coded) (IsNamedByInvoke coded f.methods (n - coded)) ts (subst (λ (xs : List ℕ). IsSelectedList P (n - coded) (IsNamedByInvoke coded f.methods (n - coded)) xs) (ap (λ (k : ℕ). get_or f.targets k []) same ∙ e) (targets.selected (n - coded) (omega arith)))
 
     alone_rises : (t : ℕ) → IsStrictlyIncreasing (t ∷ [])
     alone_rises t k lt = absurd (omega arith)
@@ -177,7 +177,7 @@ module _ (stand : MethodsStandByNumber) (cs : List ClassFile) (w : WellPlaced (r
 
     -- ---- the program's
 
-    target_is : (m : ℕ) (c : Call) (i : Invoked) (ts : List ℕ) → c.targets ≡ list_number coded i → ((n : ℕ) → c.targets ≡ coded + n → IsNamed coded f.methods n) → MayRun P i ts → (t : ℕ) → Contains (targets_of_call f c) t ↔ Contains ts t
+    target_is : (m : ℕ) (c : Call) (i : Invoked) (ts : List ℕ) → c.targets ≡ list_number coded i → ((n : ℕ) → c.targets ≡ coded + n → IsNamedByInvoke coded f.methods n) → MayRun P i ts → (t : ℕ) → Contains (targets_of_call f c) t ↔ Contains ts t
     target_is m c (Fixed n) ts number named runs t =
         let same : targets_of_call f c ≡ ts = ap (λ (k : ℕ). get_or f.targets k []) number ∙ targets.alone n (are.no_others n runs.0) ∙ sym runs.1 in
         (λ h. subst (λ (xs : List ℕ). Contains xs t) same h, λ h. subst (λ (xs : List ℕ). Contains xs t) (sym same) h)

@@ -6,7 +6,7 @@ use Rattle.opcodes.specs.declared.instruction.Instr.{Instr}
 use Rattle.opcodes.specs.Instruction.{decoded}
 use Rattle.opcodes.specs.Bytes.{u1}
 use Rattle.lists.specs.Lists.{onto}
-use Rattle.lists.specs.Lemmas.{none≢some, onto_some}
+use Rattle.lists.proofs.Lemmas.{none≢some, onto_some}
 use Rattle.bytecode_model.specs.Program.{Program, Body, Operand, NoOperand, AnInt, ALong, AString, AStatic, AField, AMethod, AType, as_instr, body_of, instr_at}
 use Rattle.bytecode_model.specs.Rows as rows
 use Rattle.bytecode_model.specs.Rows.{Row}

@@ -7,7 +7,7 @@ use Rattle.std.proofs.lemmas.List.{length-map}
 use Rattle.std.proofs.lemmas.List.FromFn.{length-map-range_with_len, get_or-map-range_with_len}
 use Rattle.std.proofs.lemmas.Option.{slice_get_within, slice_get-get_or, get_or_from_slice_get}
 use Rattle.opcodes.specs.Start.{IsStart, AreStarts}
-use Rattle.lists.specs.Lemmas.{none≢some, some_same, onto_some, some_is, some_in, holds_at}
+use Rattle.lists.proofs.Lemmas.{none≢some, some_same, onto_some, some_is, some_in, holds_at}
 use Rattle.class_pool.specs.declared.class.ClassFile.{ClassFile}
 use Rattle.class_pool.specs.declared.class.Code.{Code}
 use Rattle.class_rules.specs.Found.{MethodsHaveCode}
@@ -27,7 +27,7 @@ use Rattle.program_tables.specs.Resolving.{IsResolved}
 use Rattle.flow_program.specs.Invokes.{IsCodeOf, invoked_at, list_number, calls_in}
 use Rattle.flow_program.specs.Made.{range_at, HasCode, AreCoded, IsMade, AreMade}
 use Rattle.flow_program.specs.Receivers.{IsReceiver, AreBelow}
-use Rattle.flow_program.specs.Targets.{IsNamed, IsSelectedList, AreReceivers, AreSelected, AreTargets}
+use Rattle.flow_program.specs.Targets.{IsNamedByInvoke, IsSelectedList, AreReceivers, AreSelected, AreTargets}
 use Rattle.flow_program.specs.Marks.{HasMarks}
 use Rattle.flow_program.proofs.Selecting.{wanted_by}
 use Rattle.flow_program.proofs.Bounds.{code_bounds}
@@ -156,8 +156,8 @@ are_targets cs coded count ks marks xs ys zs alone many marked are e = subst (λ
   alone = λ t lt. get_left xs ys t [] (let first = long in omega arith) ∙ (ap (λ (ls : List (List ℕ)). get_or ls t []) alone ∙ get_or-map-range_with_len (λ (t : ℕ). t ∷ []) 0 coded t t [] lt (omega arith));
   selected = λ m lt.
       let there = are.each m (omega arith) in
-      let wanted = wanted_by (resolved cs) m (get_or marks m false ≡ true) (IsNamed coded ks m) (get_or ys m []) (marked.named m) there in
-      subst (λ (ts : List ℕ). IsSelectedList (resolved cs) m (IsNamed coded ks m) ts) (sym (ap (λ (j : ℕ). get_or (xs ++ ys) (j + m) []) (sym long) ∙ get_right xs ys m [])) wanted;
+      let wanted = wanted_by (resolved cs) m (get_or marks m false ≡ true) (IsNamedByInvoke coded ks m) (get_or ys m []) (marked.named m) there in
+      subst (λ (ts : List ℕ). IsSelectedList (resolved cs) m (IsNamedByInvoke coded ks m) ts) (sym (ap (λ (j : ℕ). get_or (xs ++ ys) (j + m) []) (sym long) ∙ get_right xs ys m [])) wanted;
 })
   where
     long : length xs ≡ coded

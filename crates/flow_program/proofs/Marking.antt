@@ -7,12 +7,12 @@ use Rattle.std.proofs.lemmas.Grind.{get_or-set_at}
 use Rattle.std.proofs.lemmas.List.{get_or-set_other}
 use Rattle.std.proofs.lemmas.List.Elements.{Contains-append_cases}
 use Rattle.std.proofs.lemmas.Option.{slice_get_within}
-use Rattle.lists.specs.Lemmas.{some_same}
+use Rattle.lists.proofs.Lemmas.{some_same}
 use Rattle.lists.specs.Members.{nil_contains}
 use Rattle.method_flow.specs.declared.flow.Call.{Call}
 use Rattle.method_flow.specs.Flow.{Coded}
 use Rattle.flow_program.specs.Marks.{AreMarked, HasMarks}
-use Rattle.flow_program.specs.Targets.{IsNamed}
+use Rattle.flow_program.specs.Targets.{IsNamedByInvoke}
 use Rattle.flow_program.proofs.Listing.{in_front, last}
 use Rattle.flow_program.proofs.Receiving.{single}
 
@@ -57,7 +57,7 @@ marks_more coded count ks k calls old new h same are = record {
   named = λ m x. by m x (cases_lt x.caller (length ks));
 }
   where
-    by : (m : ℕ) (x : IsNamed coded (ks ++ k ∷ []) m) → (x.caller < length ks) ⊎ (length ks ≤ x.caller) → get_or new m false ≡ true
+    by : (m : ℕ) (x : IsNamedByInvoke coded (ks ++ k ∷ []) m) → (x.caller < length ks) ⊎ (length ks ≤ x.caller) → get_or new m false ≡ true
     by m x (inl less) =
         are.kept m (h.named m (record { caller = x.caller; method = x.method; at = sym (in_front ks (k ∷ []) x.caller less) ∙ x.at; call = x.call; among = x.among; number = x.number }))
     by m x (inr ge) =

@@ -6,7 +6,7 @@ use Rattle.std.specs.List.{filter_map}
 use Rattle.std.specs.List.Sorted.{IsStrictlyIncreasing}
 use Rattle.std.proofs.lemmas.Bool.{ne_eqb, false≢true}
 use Rattle.lists.specs.Lists.{onto}
-use Rattle.lists.specs.Lemmas.{none≢some, onto_some, map_some, some_is, some_in, holds_at}
+use Rattle.lists.proofs.Lemmas.{none≢some, onto_some, map_some, some_is, some_in, holds_at}
 use Rattle.lists.specs.Members.{map_contains, nil_contains}
 use Rattle.lists.specs.Tests.{and_left, and_right, not_true}
 use Rattle.class_pool.specs.declared.class.ClassFile.{ClassFile}

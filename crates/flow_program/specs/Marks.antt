@@ -2,7 +2,7 @@
 use Rattle.std.specs.Prelude.{◌≡◌, ℕ, ◌-◌, ◌≤◌, Bool, true, false, List, length, Contains, slice_index_or}
 use Rattle.method_flow.specs.declared.flow.Call.{Call}
 use Rattle.method_flow.specs.Flow.{Coded}
-use Rattle.flow_program.specs.Targets.{IsNamed}
+use Rattle.flow_program.specs.Targets.{IsNamedByInvoke}
 
 -- what was marked is marked still, and what these invokes name is
 pub record AreMarked (coded : ℕ) (calls : List Call) (old new : List Bool) : Type 0 where
@@ -13,4 +13,4 @@ pub record AreMarked (coded : ℕ) (calls : List Call) (old new : List Bool) : T
 -- what an invoke of these methods names is marked
 pub record HasMarks (coded count : ℕ) (ks : List Coded) (marks : List Bool) : Type 0 where
   pub long : length marks ≡ count
-  pub named : (m : ℕ) → IsNamed coded ks m → slice_index_or marks m false ≡ true
+  pub named : (m : ℕ) → IsNamedByInvoke coded ks m → slice_index_or marks m false ≡ true

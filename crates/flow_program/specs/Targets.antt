@@ -16,7 +16,7 @@ abbrev pub IsVirtual : Program → (method : ℕ) → Type 0
 IsVirtual P m = IsSomeAnd (slice_get P.methods m) (λ k. (k.has_this ≡ true) × (k.is_init ≡ false))
 
 -- an invoke of one of these methods names this one as a method for which others are selected, in a program of so many methods with code
-pub record IsNamed (coded : ℕ) (ks : List Coded) (m : ℕ) : Type 0 where
+pub record IsNamedByInvoke (coded : ℕ) (ks : List Coded) (m : ℕ) : Type 0 where
   pub caller : ℕ
   pub method : Coded
   pub at : slice_get ks caller ≡ Some method
@@ -39,7 +39,7 @@ pub record AreSelected (P : Program) (marks : List Bool) (count : ℕ) (lists : 
 pub record AreTargets (cs : List ClassFile) (coded : ℕ) (ks : List Coded) (lists : List (List ℕ)) : Type 0 where
   pub long : length lists ≡ coded + length (methods_by_number cs)
   pub alone : (t : ℕ) → t < coded → slice_index_or lists t [] ≡ t ∷ []
-  pub selected : (m : ℕ) → m < length (methods_by_number cs) → IsSelectedList (resolved cs) m (IsNamed coded ks m) (slice_index_or lists (coded + m) [])
+  pub selected : (m : ℕ) → m < length (methods_by_number cs) → IsSelectedList (resolved cs) m (IsNamedByInvoke coded ks m) (slice_index_or lists (coded + m) [])
 
 -- the classes of objects for which methods are selected, by the class that declares the method
 abbrev pub AreReceivers : List ClassFile → (method : ℕ) → List ℕ → Type 0

@@ -13,7 +13,8 @@ use Rattle.descriptors.specs.Parsing.{method_in}
 use Rattle.class_pool.specs.declared.class.Code.{Code}
 use Rattle.class_pool.specs.declared.class.Member.{Member}
 use Rattle.class_pool.specs.declared.class.ClassFile.{ClassFile}
-use Rattle.class_lookup.specs.Parts.{text_at, name_of, is_static}
+use Rattle.class_lookup.specs.Parts.{name_of, is_static}
+use Rattle.class_pool.specs.Grammar.{text_at}
 use Rattle.frame_types.specs.declared.types.VarType.{VarType}
 use Rattle.frame_types.specs.declared.types.VarType.TheVariants.{UninitializedThis, Object, Uninitialized}
 use Rattle.frame_types.specs.declared.types.TypeFrame.{TypeFrame}

@@ -5,7 +5,7 @@ use Rattle.std.specs.Prelude.{nat_le}
 use Rattle.std.specs.List.{list_all, list_any}
 use Rattle.lists.specs.Tests.{and_left, and_right}
 use Rattle.lists.specs.Lists.{onto}
-use Rattle.lists.specs.Lemmas.{none≢some, some_same, onto_some}
+use Rattle.lists.proofs.Lemmas.{none≢some, some_same, onto_some}
 use Rattle.bytecode_model.specs.Slots.{spread, padded}
 use Rattle.class_pool.specs.declared.class.Code.{Code}
 use Rattle.frame_types.specs.declared.types.VarType.{VarType}

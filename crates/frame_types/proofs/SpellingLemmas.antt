@@ -3,14 +3,13 @@ use Rattle.std.proofs.Common.{◌≡◌, ℕ, zero, suc, ◌+◌, ◌*◌, Bool,
 use Rattle.std.specs.Prelude.{nat_lt, if◌then◌else◌, ◌==◌}
 use Rattle.std.proofs.lemmas.Bool.{eqb-true}
 use Rattle.class_file.proofs.PartLaws.{step}
-use Rattle.lists.specs.Lemmas.{none≢some, some_same}
+use Rattle.lists.proofs.Lemmas.{none≢some, some_same}
 use Rattle.base.specs.Reading.{◌>>=◌}
 use Rattle.class_pool.specs.declared.entry.Entry.{Entry}
-use Rattle.class_pool.specs.Grammar.{entry_at, class_name_of}
+use Rattle.class_pool.specs.Grammar.{entry_at, class_name_of, text_at}
 use Rattle.class_pool.specs.Reading.{number_in}
 use Rattle.class_pool.specs.NumberLaws.{bind_some}
 use Rattle.class_file.specs.InsideReading.{many_in, counted_in}
-use Rattle.class_lookup.specs.Parts.{text_at}
 use Rattle.frame_types.specs.declared.types.VarType.{VarType}
 use Rattle.frame_types.specs.declared.types.VarType.TheVariants.{Top, Integer, Null, UninitializedThis, Object, Uninitialized, Long}
 use Rattle.frame_types.specs.Table.{object_in, uninitialized_in, tagged_in, type_in}

@@ -8,7 +8,8 @@ use Rattle.descriptors.specs.Descriptors.{type_units}
 use Rattle.descriptors.specs.Parsing.{method_in}
 use Rattle.class_pool.specs.declared.class.ClassFile.{ClassFile}
 use Rattle.class_pool.specs.declared.class.Member.{Member}
-use Rattle.class_lookup.specs.Parts.{text_at, same_text, name_of, signature_of, is_static, is_init}
+use Rattle.class_lookup.specs.Parts.{same_text, name_of, signature_of, is_static, is_init}
+use Rattle.class_pool.specs.Grammar.{text_at}
 use Rattle.frame_types.specs.declared.types.VarType.{VarType}
 use Rattle.frame_types.specs.declared.types.VarType.TheVariants.{Integer, UninitializedThis, Object, Long}
 

@@ -1,8 +1,7 @@
 -- The bytes of a StackMapTable: JVM Specification SE 8, 4.7.4.
 use Rattle.std.specs.Prelude.{◌≡◌, ◌⊎◌, ℕ, ◌+◌, ◌-◌, ◌*◌, ◌<◌, ◌≤◌, List, [], ◌∷◌, ◌++◌, length, Some}
 use Rattle.class_pool.specs.declared.entry.Entry.{Entry}
-use Rattle.class_pool.specs.Grammar.{entry_at, class_name_of}
-use Rattle.class_lookup.specs.Parts.{text_at}
+use Rattle.class_pool.specs.Grammar.{entry_at, class_name_of, text_at}
 use Rattle.frame_types.specs.declared.types.VarType.{VarType}
 use Rattle.frame_types.specs.declared.types.VarType.TheVariants.{Top, Integer, Null, UninitializedThis, Object, Uninitialized, Long}
 use Rattle.frame_types.specs.declared.read.Change.{Change}

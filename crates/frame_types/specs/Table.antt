@@ -4,11 +4,10 @@ use Rattle.std.specs.Prelude.{ℕ, ◌-◌, ◌==◌, nat_lt, if◌then◌else�
 use Rattle.base.specs.Reading.{◌>>=◌, whole}
 use Rattle.class_pool.specs.declared.entry.Entry.{Entry}
 use Rattle.class_pool.specs.declared.class.Code.{Code}
-use Rattle.class_pool.specs.Grammar.{entry_at, class_name_of}
+use Rattle.class_pool.specs.Grammar.{entry_at, class_name_of, text_at}
 use Rattle.class_pool.specs.Found.{stack_map_of}
 use Rattle.class_pool.specs.Reading.{number_in, byte_in}
 use Rattle.class_file.specs.InsideReading.{many_in, counted_in}
-use Rattle.class_lookup.specs.Parts.{text_at}
 use Rattle.frame_types.specs.declared.types.VarType.{VarType}
 use Rattle.frame_types.specs.declared.types.VarType.TheVariants.{Top, Integer, Null, UninitializedThis, Object, Uninitialized, Long}
 use Rattle.frame_types.specs.declared.read.Change.{Change}

@@ -4,7 +4,7 @@ use Rattle.std.specs.Int.{int_wrap}
 use Rattle.opcodes.specs.Instruction.{decoded}
 use Rattle.opcodes.specs.Row as opcodes
 use Rattle.opcodes.specs.Start.{starts_of}
-use Rattle.lists.specs.Lemmas.{none≢some, some_same, some_is}
+use Rattle.lists.proofs.Lemmas.{none≢some, some_same, some_is}
 use Rattle.lists.specs.Members.{cons_cases, nil_contains, at_head}
 use Rattle.bytecode_model.specs.declared.Value.TheVariants.{Int}
 use Rattle.bytecode_model.specs.Numbers.{difference, unchanged}
@@ -17,11 +17,11 @@ use Rattle.method_flow.specs.Nodes.{Node, At, RaiseAt, LeadsTo, IsEdge, IsReache
 use Rattle.method_flow.specs.Nodes.IsReached.{first, later}
 use Rattle.code_lines.specs.Lines.{IsLine, Names, IsNamed, Writes, written_by}
 use Rattle.code_lines.specs.Laws.{OneStandsBefore}
-use Rattle.further_rules.specs.Writing.{WritesAt, MayBeLast}
+use Rattle.further_rules.specs.Writing.{NodeWrites, MayBeLast}
 use Rattle.further_rules.specs.Writing.MayBeLast.{here, unwritten, before}
-use Rattle.further_rules.specs.Known.{Pushes, Holds, Stores}
+use Rattle.further_rules.specs.Known.{Pushes, PushesArray, Stores}
 use Rattle.further_rules.specs.Known.Pushes.{constant, local, length, computed}
-use Rattle.further_rules.specs.Known.Holds.{numbers, element}
+use Rattle.further_rules.specs.Known.PushesArray.{numbers, element}
 use Rattle.further_rules.specs.Known.Stores.{stores}
 use Rattle.further_rules.specs.Examples.{WorkedExamples, sample, nothing}
 use Rattle.further_rules.proofs.Reaching.{reached}
@@ -234,7 +234,7 @@ at_store : {u : Node} {w : Option ℕ} → MayBeLast sample 0 1 u w → u ≡ At
 at_store (here {p} come writes) e = ap Some (node_at p 11 e)
 at_store (unwritten none) e = let same = node_at 0 11 e in absurd (omega arith)
 at_store (before {u} {v} {w} last edge none) e =
-    absurd (none (subst (λ (x : Node). WritesAt sample 0 x 1) (sym e) (12, rows.Store (Numbers IntType) 1, line_11, at_head 1 [])))
+    absurd (none (subst (λ (x : Node). NodeWrites sample 0 x 1) (sym e) (12, rows.Store (Numbers IntType) 1, line_11, at_head 1 [])))
 
 quiet : Writes sample 0 12 1 → ⊥
 quiet (next, r, line, has) = each (λ x n s. x ≡ 12 → Contains (written_by s) 1 → ⊥)
@@ -257,10 +257,10 @@ at_load stands (before {u} {v} {w} last edge none) e = by u last (subst (λ (x :
 
 -- ---- the rows
 
-array : Holds sample nothing 0 0 4 8
+array : PushesArray sample nothing 0 0 4 8
 array = numbers (constant line_0) line_2 (none_named 2)
 
-filled : Holds sample nothing 0 0 8 8
+filled : PushesArray sample nothing 0 0 8 8
 filled = element array line_4 line_5 line_6 line_7 (none_named 4) (none_named 5) (none_named 6) (none_named 7)
 
 elements : Pushes sample nothing 0 0 9 (pos 8)

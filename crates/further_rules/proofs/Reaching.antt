@@ -1,6 +1,6 @@
 -- What may have written a local variable last.
 use Rattle.std.proofs.Common.{◌≡◌, ℕ, Option, Some, refl, subst}
-use Rattle.lists.specs.Lemmas.{none≢some, some_same}
+use Rattle.lists.proofs.Lemmas.{none≢some, some_same}
 use Rattle.bytecode_model.specs.Program.{Program}
 use Rattle.method_flow.specs.Nodes.{Node, At, IsEdge, IsReached}
 use Rattle.method_flow.specs.Nodes.IsReached.{first, later}

@@ -2,7 +2,7 @@
 use Rattle.std.specs.Prelude.{ℤ, pos, [], ◌∷◌, Some, None}
 use Rattle.bytecode_model.specs.Program.{Program, Method, NoOperand}
 use Rattle.bytecode_model.specs.Examples as model
-use Rattle.further_rules.specs.Known.{Known, Pushes, Holds, Stores}
+use Rattle.further_rules.specs.Known.{Known, Pushes, PushesArray, Stores}
 
 --  0 bipush 8
 --  2 newarray int
@@ -30,8 +30,8 @@ nothing = record { constants = λ f. None; statics = λ f. None; fields = λ own
 pub record WorkedExamples : Type 0 where
   pub pushed : Pushes sample nothing 0 0 2 (pos 8)
   -- new int[8], and with {5} in place of 8 zeros
-  pub array : Holds sample nothing 0 0 4 8
-  pub filled : Holds sample nothing 0 0 8 8
+  pub array : PushesArray sample nothing 0 0 4 8
+  pub filled : PushesArray sample nothing 0 0 8 8
   -- its length, and one less
   pub length : Pushes sample nothing 0 0 9 (pos 8)
   pub less : Pushes sample nothing 0 0 11 (pos 7)

@@ -1,13 +1,29 @@
 //! Laws of the definitions in `specs/`. The functions do nothing; a caller whose proof needs a law calls its function.
 
 ghost use Rattle.further_rules.specs.Examples.{WorkedExamples};
-ghost use Rattle.further_rules.specs.Laws.{LastWritesAreReached, LastWritesWrite};
+ghost use Rattle.further_rules.specs.Laws.{ArraysAreOne, FirstLinesAreReached, LastWritesAreReached, LastWritesExist, LastWritesWrite, PushedAreOne};
 
 /// What may have written a local variable last writes it, and control comes to it and on from there.
 pub fn last_writes_are_reached()
     ensures reached { LastWritesAreReached }
     ensures write { LastWritesWrite }
 {}
+
+/// Wherever control comes, something may have written a local variable last, or nothing did.
+pub fn last_writes_exist()
+    ensures { LastWritesExist }
+{}
+
+/// Where control comes to a place from the line before it alone, the lines that end there push one int at most, or one length of
+/// arrays, from one place on, to which control comes.
+pub fn pushed_are_one()
+    ensures ints { PushedAreOne }
+    ensures arrays { ArraysAreOne }
+    ensures reached { FirstLinesAreReached }
+{
+    code_lines::laws::lines_follow_one_another();
+    code_lines::laws::one_stands_before();
+}
 
 /// Ints that were worked out by hand.
 pub fn worked_examples()

@@ -3,8 +3,8 @@ use Rattle.std.specs.Prelude.{ℕ, nat_le, if◌then◌else◌, Option, Some, No
 use Rattle.image_builder.specs.declared.fault.Counted.{Counted}
 
 -- a count with its limit
-abbrev pub Passed : Type 0
-Passed = Counted × ℕ × ℕ
+abbrev pub CountPastLimit : Type 0
+CountPastLimit = Counted × ℕ × ℕ
 
-abbrev pub passed : Counted → (count limit : ℕ) → Option Passed
+abbrev pub passed : Counted → (count limit : ℕ) → Option CountPastLimit
 passed what count limit = if nat_le count limit then None else Some (what, count, limit)

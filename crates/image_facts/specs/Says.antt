@@ -28,8 +28,8 @@ pub record IsCode (code : List ℕ) : Type 0 where
   pub bytes : (k : ℕ) → slice_index code k < 2 ^ 8
 
 -- the words that a method takes as arguments, the receiver among them
-abbrev pub argument_words : Method → ℕ
-argument_words k = sum_by declared_words (taken_types k)
+abbrev pub argument_words_of : Method → ℕ
+argument_words_of k = sum_by declared_words (taken_types k)
 
 -- the number of a type and one, or 0 for none
 abbrev pub counted_type : Program → Option Kind → ℕ
@@ -43,7 +43,7 @@ handler_words P h = (h.start * 2 ^ 16 + h.end) ∷ h.target ∷ counted_type P h
 -- the record of a method: its limits, the words of its arguments and of its code, the pool of its class, its exception table, and its code, four bytes a word
 abbrev pub method_words : Program → Places → Method → Body → List ℕ
 method_words P pl k b =
-    (b.max_locals * 2 ^ 16 + b.max_stack) ∷ (argument_words k * 2 ^ 16 + words_for (length b.code)) ∷ pl.pool k.owner ∷ length b.handlers
+    (b.max_locals * 2 ^ 16 + b.max_stack) ∷ (argument_words_of k * 2 ^ 16 + words_for (length b.code)) ∷ pl.pool k.owner ∷ length b.handlers
     ∷ (flat_map (handler_words P) b.handlers ++ words_of_bytes b.code)
 
 -- no instruction goes across the place
@@ -122,8 +122,8 @@ pub record IsInterfaceNumber (P : Program) (pl : Places) (m interface number : �
 pub record MeansMethod (P : Program) (pl : Places) (op named m : ℕ) (k : Method) (first second : ℕ) : Type 0 where
   pub itself : (op ≡ invokespecial) ⊎ (op ≡ invokestatic) → IsSome k.body → first ≡ pl.method m
   pub code : op ≡ invokespecial → IsSome k.body
-  pub virtual : op ≡ invokevirtual → (second / 2 ^ 24 ≡ argument_words k) × IsSlot P pl named m (second % 2 ^ 24)
-  pub interface : op ≡ invokeinterface → (second / 2 ^ 24 ≡ argument_words k) × IsInterfaceNumber P pl m k.owner (second % 2 ^ 24)
+  pub virtual : op ≡ invokevirtual → (second / 2 ^ 24 ≡ argument_words_of k) × IsSlot P pl named m (second % 2 ^ 24)
+  pub interface : op ≡ invokeinterface → (second / 2 ^ 24 ≡ argument_words_of k) × IsInterfaceNumber P pl m k.owner (second % 2 ^ 24)
 
 -- a field lies at the same word in the objects of each class that has it
 pub record MeansField (P : Program) (owner index first : ℕ) : Type 0 where
@@ -178,12 +178,12 @@ pub record SaysLinked (P : Program) (pl : Places) : Type 0 where
       → instr_at P m pc ≡ Some i → i.first ≡ pos index → SaysOperand P pl i.op (pl.pool k.owner + 2 * index) (P.operand m pc)
 
 -- a bare image has no words, and its instructions name nothing
-abbrev pub IsBare : Program → Type 0
-IsBare P = (m pc : ℕ) → P.operand m pc ≡ NoOperand
+abbrev pub IsOfBareImage : Program → Type 0
+IsOfBareImage P = (m pc : ℕ) → P.operand m pc ≡ NoOperand
 
 abbrev pub SaysAll : (linked : Bool) → Program → Places → Type 0
 SaysAll true P pl = SaysLinked P pl
-SaysAll false P pl = IsBare P
+SaysAll false P pl = IsOfBareImage P
 
 -- With its parts at these places, the image says what the program is.
 pub record Says (P : Program) (pl : Places) : Type 0 where

@@ -5,7 +5,7 @@ use Rattle.std.specs.Prelude.{slice_index, codes, Ok, Err, IfOk}
 use Rattle.std.specs.declared.result.Result.{Result}
 use Rattle.base.specs.declared.fault.FormatFault.{FormatFault}
 use Rattle.std.specs.declared.option.Option.{Option}
-use Rattle.image_file.specs.Bare.{Image, IsImage, IsBare, half, word, bare_bytes, return_code, spelled}
+use Rattle.image_file.specs.Bare.{BareContent, IsBareContent, IsBareFile, half, word, bare_bytes, return_code, spelled}
 use Rattle.image_file.specs.Scan.{scan, image_test, header_test, image_in}
 use Rattle.image_file.proofs.Scanned.{scan-sound, scan-complete}
 
@@ -25,7 +25,7 @@ tested l r n code e =
     record { count = same; short = (let P : ℕ → Type 0 = λ k. k ≤ 4096 in subst P same (leb-true n 4096 y.1)); frame = leb-true (l + 5 + r) 176 x.1; scanned = w.1 }
 
 -- code that was tested is an image
-pub IsImage-tested : (max_locals max_stack count : ℕ) (code : List ℕ) → ((k : ℕ) → slice_index code k < 2 ^ 8) → image_test max_locals max_stack count code ≡ true → IsImage (record { max_locals = max_locals; max_stack = max_stack; code = code })
+pub IsImage-tested : (max_locals max_stack count : ℕ) (code : List ℕ) → ((k : ℕ) → slice_index code k < 2 ^ 8) → image_test max_locals max_stack count code ≡ true → IsBareContent (record { max_locals = max_locals; max_stack = max_stack; code = code })
 IsImage-tested l r n code small e =
     let t = tested l r n code e in
     let p = scan-sound l r 0 0 code t.scanned in
@@ -43,7 +43,7 @@ IsImage-tested l r n code small e =
     empty [] e = refl
     empty (x ∷ xs) e = absurd (omega (arith, e))
 
-pub test-image : (image : Image) → IsImage image → image_test image.max_locals image.max_stack (length image.code) image.code ≡ true
+pub test-image : (image : BareContent) → IsBareContent image → image_test image.max_locals image.max_stack (length image.code) image.code ≡ true
 test-image image is =
     let scanned : scan image.max_locals image.max_stack 0 0 image.code ≡ true = ap (λ (xs : List ℕ). scan image.max_locals image.max_stack 0 0 xs) is.code ∙ scan-complete image.max_locals image.max_stack 0 is.instructions is.within in
     rw (eq-eqb (length image.code) (length image.code) refl, le-leb (length image.code) 4096 is.short, le-leb (image.max_locals + 5 + image.max_stack) 176 is.frame) scanned
@@ -100,14 +100,14 @@ spelled_as l0 l1 s0 s1 n0 n1 n2 n3 code l1_small s1_small n1_small n2_small n3_s
     ∙ ap (λ (xs : List ℕ). marks ++ (l0 ∷ l1 ∷ []) ++ (s0 ∷ s1 ∷ []) ++ xs ++ code) (word-bytes n0 n1 n2 n3 (length code) (sym count) n1_small n2_small n3_small))
 
 -- what is read as an image is its bytes
-pub IsBare-read : (bytes : List ℕ) (image : Image) → ((k : ℕ) → slice_index bytes k < 2 ^ 8) → image_in bytes ≡ Some image → IsBare bytes image
+pub IsBare-read : (bytes : List ℕ) (image : BareContent) → ((k : ℕ) → slice_index bytes k < 2 ^ 8) → image_in bytes ≡ Some image → IsBareFile bytes image
 IsBare-read (j ∷ o ∷ p ∷ b ∷ v ∷ w ∷ l0 ∷ l1 ∷ s0 ∷ s1 ∷ n0 ∷ n1 ∷ n2 ∷ n3 ∷ code) image small e =
     let header = header_test j o p b v w in
     let test = image_test (l0 * 256 + l1) (s0 * 256 + s1) ((n0 * 256 + n1) * 65536 + (n2 * 256 + n3)) code in
     let parts = chosen (header && test) (record { max_locals = l0 * 256 + l1; max_stack = s0 * 256 + s1; code = code }) (Some image) e image refl in
     let tests = and_parts header test parts.0 in
     let count = (tested (l0 * 256 + l1) (s0 * 256 + s1) ((n0 * 256 + n1) * 65536 + (n2 * 256 + n3)) code tests.1).count in
-    let B : Image → Type 0 = λ i. IsBare (j ∷ o ∷ p ∷ b ∷ v ∷ w ∷ l0 ∷ l1 ∷ s0 ∷ s1 ∷ n0 ∷ n1 ∷ n2 ∷ n3 ∷ code) i in
+    let B : BareContent → Type 0 = λ i. IsBareFile (j ∷ o ∷ p ∷ b ∷ v ∷ w ∷ l0 ∷ l1 ∷ s0 ∷ s1 ∷ n0 ∷ n1 ∷ n2 ∷ n3 ∷ code) i in
     subst B parts.1
     (record {
       grammar = IsImage-tested (l0 * 256 + l1) (s0 * 256 + s1) ((n0 * 256 + n1) * 65536 + (n2 * 256 + n3)) code (λ k. small (suc (suc (suc (suc (suc (suc (suc (suc (suc (suc (suc (suc (suc (suc k))))))))))))))) tests.1;
@@ -116,18 +116,18 @@ IsBare-read (j ∷ o ∷ p ∷ b ∷ v ∷ w ∷ l0 ∷ l1 ∷ s0 ∷ s1 ∷ n0 
     })
 IsBare-read bytes image small e = absurd (let f : None ≡ Some image = e in cc)
 
-read_as : (l s n : ℕ) (image : Image) → l ≡ image.max_locals → s ≡ image.max_stack → n ≡ length image.code → IsImage image
+read_as : (l s n : ℕ) (image : BareContent) → l ≡ image.max_locals → s ≡ image.max_stack → n ≡ length image.code → IsBareContent image
     → cond (image_test l s n image.code) (Some (record { max_locals = l; max_stack = s; code = image.code })) None ≡ Some image
 read_as l s n image l_is s_is n_is is = rw (l_is, s_is, n_is, test-image image is) refl
 
 -- the bytes of an image are read as it
-pub image_in-bare : (bytes : List ℕ) (image : Image) → IsBare bytes image → image_in bytes ≡ Some image
+pub image_in-bare : (bytes : List ℕ) (image : BareContent) → IsBareFile bytes image → image_in bytes ≡ Some image
 image_in-bare bytes image is =
     ap image_in is.spelling
     ∙ read_as (image.max_locals / 2 ^ 8 * 256 + image.max_locals % 2 ^ 8) (image.max_stack / 2 ^ 8 * 256 + image.max_stack % 2 ^ 8)
     ((length image.code / 2 ^ 16 / 2 ^ 8 * 256 + length image.code / 2 ^ 16 % 2 ^ 8) * 65536 + (length image.code % 2 ^ 16 / 2 ^ 8 * 256 + length image.code % 2 ^ 16 % 2 ^ 8))
     image (half-value image.max_locals) (half-value image.max_stack) (word-value (length image.code)) is.grammar
 
-pub IsBare-ok : (bytes : List ℕ) (result : Result Image FormatFault) → ((k : ℕ) → slice_index bytes k < 2 ^ 8) → IfOk result (λ image. image_in bytes ≡ Some image) → IfOk result (IsBare bytes)
+pub IsBare-ok : (bytes : List ℕ) (result : Result BareContent FormatFault) → ((k : ℕ) → slice_index bytes k < 2 ^ 8) → IfOk result (λ image. image_in bytes ≡ Some image) → IfOk result (IsBareFile bytes)
 IsBare-ok bytes (Ok image) small read = IsBare-read bytes image small read
 IsBare-ok bytes (Err fault) small read = tt

@@ -2,7 +2,7 @@
 use Rattle.std.proofs.Common.{◌≡◌, ℕ, ◌*◌, ◌<◌, List, [], ◌∷◌, ◌++◌, length, refl, sym, ap, subst, ◌∙◌, append_assoc, arith}
 use Rattle.std.proofs.lemmas.List.{length-append, append_cancel_left}
 use Rattle.std.specs.List.{flat_map, IsSplitAt}
-use Rattle.image_file.specs.Linked.{Image, IsWord, IsName, IsFile, u2, u4, name_bytes, file_bytes, bytes_of, IsLinked, OneImage}
+use Rattle.image_file.specs.Linked.{LinkedContent, IsWord, IsName, IsFile, u2, u4, name_bytes, file_bytes, bytes_of, IsLinkedFile, OneImage}
 use Rattle.image_file.specs.Front.{AreFiles, AreRegions}
 use Rattle.image_file.proofs.Numbers.{IsBytes, IsBytes-behind, IsBytes-front, same_front, split_parts, u4_unique, name_unique, file_unique}
 use Rattle.image_file.proofs.Sequences.{IsAbsent, none_behind, words_long, words_there}
@@ -11,16 +11,16 @@ abbrev pub mark : List ℕ
 mark = 74 ∷ 79 ∷ 80 ∷ 73 ∷ 0 ∷ 1 ∷ []
 
 -- what stands behind the number of files, behind the number of words, behind the name, and behind the mark
-abbrev behind_numbers : Image → List ℕ
+abbrev behind_numbers : LinkedContent → List ℕ
 behind_numbers image = flat_map u4 image.words ++ flat_map file_bytes image.files
 
-abbrev behind_count : Image → List ℕ
+abbrev behind_count : LinkedContent → List ℕ
 behind_count image = u4 (length image.files) ++ behind_numbers image
 
-abbrev behind_name : Image → List ℕ
+abbrev behind_name : LinkedContent → List ℕ
 behind_name image = u4 (length image.words) ++ behind_count image
 
-abbrev behind_mark : Image → List ℕ
+abbrev behind_mark : LinkedContent → List ℕ
 behind_mark image = name_bytes image.main ++ behind_name image
 
 -- the parts that were read, each behind the one before it
@@ -38,43 +38,43 @@ pub record IsHeaded (bytes name : List ℕ) (words files : ℕ) (rest : List ℕ
 
 -- ---- what the parts are in an image whose file the bytes are
 
-named_is : (bytes name rest : List ℕ) (image : Image) → IsNamed bytes name rest → IsLinked bytes image → (name ≡ image.main) × (rest ≡ behind_name image)
+named_is : (bytes name rest : List ℕ) (image : LinkedContent) → IsNamed bytes name rest → IsLinkedFile bytes image → (name ≡ image.main) × (rest ≡ behind_name image)
 named_is bytes name rest image named is =
     name_unique name image.main rest (behind_name image) named.fits is.grammar.name (append_cancel_left mark (name_bytes name ++ rest) (behind_mark image) (sym named.spelling ∙ is.spelling))
 
-counted_is : (bytes name : List ℕ) (words : ℕ) (rest : List ℕ) (image : Image) → IsCounted bytes name words rest → IsLinked bytes image → (words ≡ length image.words) × (rest ≡ behind_count image)
+counted_is : (bytes name : List ℕ) (words : ℕ) (rest : List ℕ) (image : LinkedContent) → IsCounted bytes name words rest → IsLinkedFile bytes image → (words ≡ length image.words) × (rest ≡ behind_count image)
 counted_is bytes name words rest image counted is =
     u4_unique words (length image.words) rest (behind_count image) counted.fits is.grammar.word_count (named_is bytes name (u4 words ++ rest) image counted.named is).1
 
-headed_is : (bytes name : List ℕ) (words files : ℕ) (rest : List ℕ) (image : Image) → IsHeaded bytes name words files rest → IsLinked bytes image → (files ≡ length image.files) × (rest ≡ behind_numbers image)
+headed_is : (bytes name : List ℕ) (words files : ℕ) (rest : List ℕ) (image : LinkedContent) → IsHeaded bytes name words files rest → IsLinkedFile bytes image → (files ≡ length image.files) × (rest ≡ behind_numbers image)
 headed_is bytes name words files rest image headed is =
     u4_unique files (length image.files) rest (behind_numbers image) headed.fits is.grammar.file_count (counted_is bytes name words (u4 files ++ rest) image headed.counted is).1
 
 -- ---- where a part is missing there is no image
 
-pub no_mark : (bytes : List ℕ) → ((rest : List ℕ) → bytes ≡ mark ++ rest → ⊥) → (image : Image) → IsLinked bytes image → ⊥
+pub no_mark : (bytes : List ℕ) → ((rest : List ℕ) → bytes ≡ mark ++ rest → ⊥) → (image : LinkedContent) → IsLinkedFile bytes image → ⊥
 no_mark bytes none image is = none (behind_mark image) is.spelling
 
-pub no_name : (bytes rest : List ℕ) → bytes ≡ mark ++ rest → IsAbsent name_bytes IsName rest → (image : Image) → IsLinked bytes image → ⊥
+pub no_name : (bytes rest : List ℕ) → bytes ≡ mark ++ rest → IsAbsent name_bytes IsName rest → (image : LinkedContent) → IsLinkedFile bytes image → ⊥
 no_name bytes rest marked none image is =
     none image.main (behind_name image) is.grammar.name (append_cancel_left mark rest (behind_mark image) (sym marked ∙ is.spelling))
 
-pub no_word_count : (bytes name rest : List ℕ) → IsNamed bytes name rest → IsAbsent u4 IsWord rest → (image : Image) → IsLinked bytes image → ⊥
+pub no_word_count : (bytes name rest : List ℕ) → IsNamed bytes name rest → IsAbsent u4 IsWord rest → (image : LinkedContent) → IsLinkedFile bytes image → ⊥
 no_word_count bytes name rest named none image is =
     none (length image.words) (behind_count image) is.grammar.word_count (named_is bytes name rest image named is).1
 
-pub no_file_count : (bytes name : List ℕ) (words : ℕ) (rest : List ℕ) → IsCounted bytes name words rest → IsAbsent u4 IsWord rest → (image : Image) → IsLinked bytes image → ⊥
+pub no_file_count : (bytes name : List ℕ) (words : ℕ) (rest : List ℕ) → IsCounted bytes name words rest → IsAbsent u4 IsWord rest → (image : LinkedContent) → IsLinkedFile bytes image → ⊥
 no_file_count bytes name words rest counted none image is =
     none (length image.files) (behind_numbers image) is.grammar.file_count (counted_is bytes name words rest image counted is).1
 
-pub no_words : (bytes name : List ℕ) (words files : ℕ) (rest : List ℕ) → IsHeaded bytes name words files rest → length rest < 4 * words → (image : Image) → IsLinked bytes image → ⊥
+pub no_words : (bytes name : List ℕ) (words files : ℕ) (rest : List ℕ) → IsHeaded bytes name words files rest → length rest < 4 * words → (image : LinkedContent) → IsLinkedFile bytes image → ⊥
 no_words bytes name words files rest headed short image is =
     let count = (counted_is bytes name words (u4 files ++ rest) image headed.counted is).0 in
     let parts = (headed_is bytes name words files rest image headed is).1 in
     absurd (omega (arith, ap (λ (b : List ℕ). length b) parts, length-append (flat_map u4 image.words) (flat_map file_bytes image.files), words_long image.words, count))
 
 pub no_files : (bytes name : List ℕ) (words files : ℕ) (rest front back : List ℕ) → IsHeaded bytes name words files rest → IsSplitAt rest (4 * words) front back → (AreFiles files back → ⊥)
-    → (image : Image) → IsLinked bytes image → ⊥
+    → (image : LinkedContent) → IsLinkedFile bytes image → ⊥
 no_files bytes name words files rest front back headed split none image is =
     let count = (counted_is bytes name words (u4 files ++ rest) image headed.counted is).0 in
     let parts = headed_is bytes name words files rest image headed is in
@@ -102,7 +102,7 @@ all_there bytes name words files rest front back small headed split all =
     let small_3 = IsBytes-behind (u4 words ++ (u4 files ++ rest)) (u4 words) (u4 files ++ rest) small_2 refl in
     let small_4 = IsBytes-behind (u4 files ++ rest) (u4 files) rest small_3 refl in
     let read = words_there words front (IsBytes-front rest front back small_4 here) split.3 in
-    let image : Image = record { main = name; words = read.words; files = all.files } in
+    let image : LinkedContent = record { main = name; words = read.words; files = all.files } in
     let parts : rest ≡ behind_numbers image = here ∙ ap (λ (t : List ℕ). t ++ back) read.spelling ∙ ap (λ (t : List ℕ). flat_map u4 read.words ++ t) all.spelling in
     let numbers : u4 words ++ (u4 files ++ rest) ≡ behind_name image =
     ap (λ (t : List ℕ). u4 words ++ (u4 files ++ t)) parts
@@ -127,13 +127,13 @@ all_there bytes name words files rest front back small headed split all =
 
 -- ---- what is written, part for part
 
-pub written : (image : Image) (o0 o1 o2 o3 o4 o5 o6 o7 : List ℕ) → o0 ≡ [] → o1 ≡ o0 ++ mark → o2 ≡ o1 ++ u2 (length image.main) → o3 ≡ o2 ++ image.main → o4 ≡ o3 ++ u4 (length image.words)
+pub written : (image : LinkedContent) (o0 o1 o2 o3 o4 o5 o6 o7 : List ℕ) → o0 ≡ [] → o1 ≡ o0 ++ mark → o2 ≡ o1 ++ u2 (length image.main) → o3 ≡ o2 ++ image.main → o4 ≡ o3 ++ u4 (length image.words)
     → o5 ≡ o4 ++ u4 (length image.files) → o6 ≡ o5 ++ flat_map u4 image.words → o7 ≡ o6 ++ flat_map file_bytes image.files → o7 ≡ bytes_of image
 written image o0 o1 o2 o3 o4 o5 o6 o7 e0 e1 e2 e3 e4 e5 e6 e7 = rw (e7, e6, e5, e4, e3, e2, e1, e0) (simp append_assoc)
 
 -- ---- the law
 
-abbrev made : List ℕ → List ℕ → List (List ℕ) → Image
+abbrev made : List ℕ → List ℕ → List (List ℕ) → LinkedContent
 made name words files = record { main = name; words = words; files = files }
 
 made_same : (m n v w : List ℕ) (f g : List (List ℕ)) → m ≡ n → v ≡ w → f ≡ g → made m v f ≡ made n w g

@@ -3,13 +3,13 @@ use Rattle.std.specs.Prelude.{◌≡◌, ℕ, ◌+◌, ◌-◌, ◌/◌, ◌%◌
 use Rattle.image_file.specs.declared.bare.shape.Shape.{Shape}
 use Rattle.image_file.specs.Shapes.{shape_of}
 
-pub record Image : Type 0 where
+pub record BareContent : Type 0 where
   pub max_locals : ℕ
   pub max_stack : ℕ
   pub code : List ℕ
 
 -- the words that boot's frame takes: its locals, five saved words and its operands
-abbrev pub frame_words : Image → ℕ
+abbrev pub frame_words : BareContent → ℕ
 frame_words image = image.max_locals + 5 + image.max_stack
 
 -- An instruction: its opcode and the bytes behind it.
@@ -41,7 +41,7 @@ abbrev pub return_code : ℕ
 return_code = 177
 
 -- an image of the bare grammar
-pub record IsImage (image : Image) : Type 0 where
+pub record IsBareContent (image : BareContent) : Type 0 where
   pub frame : frame_words image ≤ 176
   pub short : length image.code ≤ 4096
   pub bytes : (k : ℕ) → slice_index image.code k < 2 ^ 8
@@ -57,11 +57,11 @@ abbrev pub word : ℕ → List ℕ
 word n = half (n / 2 ^ 16) ++ half (n % 2 ^ 16)
 
 -- the bytes of an image: the mark, the version, its limits, the length of its code and the code
-abbrev pub bare_bytes : Image → List ℕ
+abbrev pub bare_bytes : BareContent → List ℕ
 bare_bytes image =
     codes "JOPB" ++ half 1 ++ half image.max_locals ++ half image.max_stack ++ word (length image.code) ++ image.code
 
 -- these bytes are that image
-pub record IsBare (bytes : List ℕ) (image : Image) : Type 0 where
-  pub grammar : IsImage image
+pub record IsBareFile (bytes : List ℕ) (image : BareContent) : Type 0 where
+  pub grammar : IsBareContent image
   pub spelling : bytes ≡ bare_bytes image

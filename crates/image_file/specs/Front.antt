@@ -1,7 +1,7 @@
 -- What a reader finds at the front of bytes.
 use Rattle.std.specs.Prelude.{◌≡◌, ℕ, List, ◌++◌, length, Option, Some, None}
 use Rattle.std.specs.List.{flat_map, AllByRecursion}
-use Rattle.image_file.specs.Linked.{Image, IsLinked, IsFile, u4, file_bytes}
+use Rattle.image_file.specs.Linked.{LinkedContent, IsLinkedFile, IsFile, u4, file_bytes}
 
 -- a value that has such bytes, and the bytes behind it; or no such value stands there
 abbrev pub FindsItem : {R X : Type 0} → (R → X × List ℕ) → (X → List ℕ) → (X → Type 0) → List ℕ → Option R → Type 0
@@ -17,8 +17,8 @@ pub record AreFiles (count : ℕ) (bytes : List ℕ) : Type 0 where
 
 -- the name, the bytes of the words and those of the files, as they stand in the file of an image
 pub record AreRegions (bytes name words files : List ℕ) : Type 0 where
-  pub image : Image
-  pub is : IsLinked bytes image
+  pub image : LinkedContent
+  pub is : IsLinkedFile bytes image
   pub its_name : name ≡ image.main
   pub its_words : words ≡ flat_map u4 image.words
   pub its_files : files ≡ flat_map file_bytes image.files

@@ -5,7 +5,7 @@ use Rattle.std.specs.List.{flat_map, AllByRecursion}
 use Rattle.std.specs.Int.{w16, w32, to_be_bytes}
 
 -- what a linked image holds: the bytes of its main class's name, its words, and the bytes of each class file that was linked
-pub record Image : Type 0 where
+pub record LinkedContent : Type 0 where
   pub main : List ℕ
   pub words : List ℕ
   pub files : List (List ℕ)
@@ -39,7 +39,7 @@ abbrev pub file_bytes : List ℕ → List ℕ
 file_bytes file = u4 (length file) ++ file
 
 -- the lengths and the numbers of an image fit their bytes
-pub record IsImage (image : Image) : Type 0 where
+pub record IsLinkedContent (image : LinkedContent) : Type 0 where
   pub name : IsName image.main
   pub word_count : IsWord (length image.words)
   pub words : AllByRecursion IsWord image.words
@@ -47,19 +47,19 @@ pub record IsImage (image : Image) : Type 0 where
   pub files : AllByRecursion IsFile image.files
 
 -- the mark, the version, the name of the main class, the number of words, the number of files, the words, and the files
-abbrev pub bytes_of : Image → List ℕ
+abbrev pub bytes_of : LinkedContent → List ℕ
 bytes_of image =
     codes "JOPI" ++ (u2 1 ++ (name_bytes image.main ++ (u4 (length image.words)
     ++ (u4 (length image.files) ++ (flat_map u4 image.words ++ flat_map file_bytes image.files)))))
 
 -- these bytes are the file of that image
-pub record IsLinked (bytes : List ℕ) (image : Image) : Type 0 where
-  pub grammar : IsImage image
+pub record IsLinkedFile (bytes : List ℕ) (image : LinkedContent) : Type 0 where
+  pub grammar : IsLinkedContent image
   pub spelling : bytes ≡ bytes_of image
 
 -- a file is that of one image
 abbrev pub OneImage : Type 0
-OneImage = (bytes : List ℕ) (a b : Image) → IsLinked bytes a → IsLinked bytes b → a ≡ b
+OneImage = (bytes : List ℕ) (a b : LinkedContent) → IsLinkedFile bytes a → IsLinkedFile bytes b → a ≡ b
 
 -- the bytes of each file
 abbrev pub contents : List (Vec ℕ) → List (List ℕ)

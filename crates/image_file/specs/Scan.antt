@@ -3,7 +3,7 @@ use Rattle.std.specs.Prelude.{ℕ, zero, suc, ◌+◌, ◌-◌, ◌*◌, Bool, f
 use Rattle.std.specs.declared.option.Option.{Option}
 use Rattle.image_file.specs.declared.bare.shape.Shape.{Shape}
 use Rattle.image_file.specs.Shapes.{shape_of}
-use Rattle.image_file.specs.Bare.{Image, return_code}
+use Rattle.image_file.specs.Bare.{BareContent, return_code}
 
 abbrev pub shape_fits : (max_locals max_stack depth : ℕ) → Option Shape → Bool
 shape_fits max_locals max_stack depth None = false
@@ -35,7 +35,7 @@ abbrev pub header_test : ℕ → ℕ → ℕ → ℕ → ℕ → ℕ → Bool
 header_test j o p b v w = j == 74 && o == 79 && p == 80 && b == 66 && v == 0 && w == 1
 
 -- the bare image that the bytes spell, if they do
-abbrev pub image_in : List ℕ → Option Image
+abbrev pub image_in : List ℕ → Option BareContent
 image_in (j ∷ o ∷ p ∷ b ∷ v ∷ w ∷ l0 ∷ l1 ∷ s0 ∷ s1 ∷ n0 ∷ n1 ∷ n2 ∷ n3 ∷ code) =
     if header_test j o p b v w && image_test (l0 * 256 + l1) (s0 * 256 + s1) ((n0 * 256 + n1) * 65536 + (n2 * 256 + n3)) code
     then Some (record { max_locals = l0 * 256 + l1; max_stack = s0 * 256 + s1; code = code }) else None

@@ -2,7 +2,7 @@
 
 ghost use Rattle.std.specs.Prelude.{◌≡◌, ◌+◌, ◌*◌, true, false, IfOk, IsOk};
 ghost use Rattle.std.specs.declared.option.Option.{Option};
-ghost use Rattle.image_file.specs.Bare.{Image, IsImage, IsBare};
+ghost use Rattle.image_file.specs.Bare.{BareContent, IsBareContent, IsBareFile};
 ghost use Rattle.image_file.specs.Scan.{shape_fits, scan, image_test, image_in};
 
 mod shape;
@@ -30,10 +30,10 @@ pub struct Bare {
 }
 
 impl Model for Bare {
-    ghost use Rattle.image_file.specs.Bare.{Image};
+    ghost use Rattle.image_file.specs.Bare.{BareContent};
     ghost use Rattle.image_file.specs.Meaning.{image_of, IsKept};
 
-    ghost Value = { Image };
+    ghost Value = { BareContent };
 
     ghost view = { image_of };
 
@@ -44,7 +44,7 @@ impl Bare {
     /// The words of boot's locals.
     pub fn max_locals(&self) -> u16
         ensures locals { result ≡ self.now.max_locals }
-        ensures image { IsImage self.now }
+        ensures image { IsBareContent self.now }
     {
         self.max_locals
     }
@@ -52,7 +52,7 @@ impl Bare {
     /// The most words of boot's operands.
     pub fn max_stack(&self) -> u16
         ensures stack { result ≡ self.now.max_stack }
-        ensures image { IsImage self.now }
+        ensures image { IsBareContent self.now }
     {
         self.max_stack
     }
@@ -60,7 +60,7 @@ impl Bare {
     /// The code.
     pub fn code(&self) -> &[u8]
         ensures code { result.now ≡ self.now.code }
-        ensures image { IsImage self.now }
+        ensures image { IsBareContent self.now }
     {
         &self.code
     }
@@ -68,8 +68,8 @@ impl Bare {
 
 /// The image that the bytes are, if they are of the bare grammar.
 pub fn read_bare(alloc: Global, bytes: &[u8]) -> Result<Bare, BareFault>
-    ensures image { IfOk result (IsBare bytes.now) }
-    ensures bad { result ≡ Err BareFault.Bad → (image : Image) → ¬ IsBare bytes.now image }
+    ensures image { IfOk result (IsBareFile bytes.now) }
+    ensures bad { result ≡ Err BareFault.Bad → (image : BareContent) → ¬ IsBareFile bytes.now image }
 {
     read(alloc, bytes)
 }

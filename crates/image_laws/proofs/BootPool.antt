@@ -11,7 +11,7 @@ use Rattle.class_making.specs.declared.item.Item.TheVariants.{Text, Integer, Cla
 use Rattle.class_making.specs.Making.{same_item, expanded, with_item, with_all, mention, mention_each, entry_of}
 use Rattle.class_making.specs.Plans.{piece_mentions, plan_mentions, items_of, class_of}
 use Rattle.core_classes.specs.Core.{call_pieces, main_pieces, boot_pieces, boot_method, boot_plan, boot}
-use Rattle.lists.specs.Lemmas.{none≢some, some_same}
+use Rattle.lists.proofs.Lemmas.{none≢some, some_same}
 use Rattle.image_laws.specs.InterfaceEntries.{BootStandsLast, BootHasNoInterfaceEntry}
 use Rattle.core_classes.proofs.First.{at_end}
 use Rattle.image_laws.proofs.Instructions.{join_all}

@@ -16,13 +16,13 @@ use Rattle.class_pool.specs.declared.kind.Kind.{Kind as AttributeKind}
 use Rattle.class_pool.specs.declared.kind.Kind.TheVariants as kinds
 use Rattle.class_pool.specs.Kind.{kind_of}
 use Rattle.class_pool.specs.Found.{otherwise, first_of, code_part, code_of}
-use Rattle.class_pool.specs.Structure.{HasKind, IsAttribute, IsMember, IsHandler}
+use Rattle.class_pool.specs.Structure.{HasKind, IsAttribute, HasMemberRange, IsHandler}
 use Rattle.class_pool.specs.Structure as structure
 use Rattle.class_rules.specs.Rules.{IsRightMethod}
 use Rattle.class_rules.specs.Found.{MethodsHaveCode}
 use Rattle.class_rules.specs.Grammar.{IsClass}
 use Rattle.bytecode_model.specs.Program.{Method, Body, Handler, body_of}
-use Rattle.lists.specs.Lemmas.{none≢some, some_same, onto_some, map_some}
+use Rattle.lists.proofs.Lemmas.{none≢some, some_same, onto_some, map_some}
 use Rattle.image_facts.specs.Says.{IsCode}
 use Rattle.program_tables.specs.Resolved.{handler_of, body_in, resolved_methods, resolved}
 use Rattle.program_tables.specs.Resolving.{HasBytes, IsResolved}
@@ -42,19 +42,19 @@ if_at o P x e h = subst (λ z. IfSome z P) e h
 
 -- ---- the code of a method of a class file
 
-kind_case : (kind : AttributeKind) (body : AttributeBody) (code : Code) → HasKind kind body → code_part body ≡ Some code → structure.IsCode code
-kind_case kinds.Code (parts.Code c) code h e = subst structure.IsCode (some_same c code e) h
+kind_case : (kind : AttributeKind) (body : AttributeBody) (code : Code) → HasKind kind body → code_part body ≡ Some code → structure.HasCodeRange code
+kind_case kinds.Code (parts.Code c) code h e = subst structure.HasCodeRange (some_same c code e) h
 kind_case kinds.ConstantValue (parts.Code c) code h e = absurd h
 kind_case kinds.Bytes (parts.Code c) code h e = absurd h
 kind_case kind (parts.ConstantValue n) code h e = absurd (none≢some code e)
 kind_case kind (parts.Bytes bytes) code h e = absurd (none≢some code e)
 
-chosen : (pool : List Entry) (o : Option Code) (a : Attribute) (rest : List Attribute) (code : Code) → code_part a.body ≡ o → structure.IsAttribute owners.Method pool a → (first_of (λ (a : Attribute). code_part a.body) rest ≡ Some code → structure.IsCode code)
-    → otherwise o (first_of (λ (a : Attribute). code_part a.body) rest) ≡ Some code → structure.IsCode code
+chosen : (pool : List Entry) (o : Option Code) (a : Attribute) (rest : List Attribute) (code : Code) → code_part a.body ≡ o → structure.IsAttribute owners.Method pool a → (first_of (λ (a : Attribute). code_part a.body) rest ≡ Some code → structure.HasCodeRange code)
+    → otherwise o (first_of (λ (a : Attribute). code_part a.body) rest) ≡ Some code → structure.HasCodeRange code
 chosen pool None a rest code q h later e = later e
 chosen pool (Some c) a rest code q h later e = kind_case (kind_of owners.Method pool a.name) a.body code h.body (q ∙ e)
 
-found_code : (pool : List Entry) (rest : List Attribute) (code : Code) → AllByRecursion (IsAttribute owners.Method pool) rest → first_of (λ (a : Attribute). code_part a.body) rest ≡ Some code → structure.IsCode code
+found_code : (pool : List Entry) (rest : List Attribute) (code : Code) → AllByRecursion (IsAttribute owners.Method pool) rest → first_of (λ (a : Attribute). code_part a.body) rest ≡ Some code → structure.HasCodeRange code
 found_code pool [] code h e = absurd (none≢some code e)
 found_code pool (a ∷ rest) code h e = chosen pool (code_part a.body) a rest code refl h.0 (found_code pool rest code h.1) e
 
@@ -117,7 +117,7 @@ unfolding places_of
 methods_said lie cs r catches tables m k b h hb =
     let P = resolved cs in
     let c = has_body cs m k b h hb in
-    let member = all_at (IsMember owners.Method c.owner.pool) c.owner.methods c.place c.member (all_at IsClass cs c.class c.owner r.grammar c.at).inside.methods.1 c.there in
+    let member = all_at (HasMemberRange owners.Method c.owner.pool) c.owner.methods c.place c.member (all_at IsClass cs c.class c.owner r.grammar c.at).inside.methods.1 c.there in
     let code = found_code c.owner.pool c.member.attributes c.code member.attributes.1 c.has in
     let caught = catches m k b h hb in
     let placed = tables m k b h hb in

@@ -14,7 +14,7 @@ use Rattle.bytecode_model.specs.Types.{Kind, OfClass, OfNumbers, OfReferences, s
 use Rattle.bytecode_model.specs.Program.{type_number}
 use Rattle.bytecode_model.specs.Effects.{component_of}
 use Rattle.lists.specs.Lists.{onto, index_of}
-use Rattle.lists.specs.Lemmas.{none≢some, some_same, onto_some, map_some, index_found}
+use Rattle.lists.proofs.Lemmas.{none≢some, some_same, onto_some, map_some, index_found}
 use Rattle.class_lookup.specs.Parts.{same_text, name_of}
 use Rattle.class_lookup.specs.Hierarchy.{find_class}
 use Rattle.program_tables.specs.Lists.{distinct}

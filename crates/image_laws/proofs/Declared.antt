@@ -15,8 +15,8 @@ use Rattle.class_rules.specs.Rules.{IsRightField}
 use Rattle.class_rules.specs.Grammar.{IsClass}
 use Rattle.bytecode_model.specs.Types.{IntType, LongType, OfClass, OfNumbers, Declared, Numeric, Reference}
 use Rattle.lists.specs.Lists.{onto}
-use Rattle.lists.specs.Lemmas.{none≢some, some_same, onto_some}
-use Rattle.class_lookup.specs.Parts.{text_at}
+use Rattle.lists.proofs.Lemmas.{none≢some, some_same, onto_some}
+use Rattle.class_pool.specs.Grammar.{text_at}
 use Rattle.class_lookup.specs.Hierarchy.{find_class}
 use Rattle.class_lookup.specs.Lookup.{Place, field_at}
 use Rattle.program_tables.specs.declared.refusal.Item.{Item}

@@ -12,7 +12,7 @@ use Rattle.class_pool.specs.declared.class.ClassFile.{ClassFile}
 use Rattle.base.specs.Packed.{PackedHasWords}
 use Rattle.bytecode_model.specs.Types.{OfReferences}
 use Rattle.bytecode_model.specs.Program.{type_number}
-use Rattle.lists.specs.Lemmas.{none≢some, some_same, index_found}
+use Rattle.lists.proofs.Lemmas.{none≢some, some_same, index_found}
 use Rattle.class_lookup.specs.Parts.{same_text}
 use Rattle.program_tables.specs.Instructions.{Placed, index_of_entry, named_in}
 use Rattle.program_tables.specs.Core.{raised_classes}

@@ -4,7 +4,7 @@ use Rattle.std.specs.Prelude.{slice_get, sum_by, IfSome}
 use Rattle.std.specs.Option.{option_map_or}
 use Rattle.std.proofs.lemmas.List.{length-replicate}
 use Rattle.bytecode_model.specs.Types.{Declared}
-use Rattle.lists.specs.Lemmas.{none≢some, some_same}
+use Rattle.lists.proofs.Lemmas.{none≢some, some_same}
 use Rattle.image_facts.specs.Words.{declared_words}
 use Rattle.image_facts.specs.Places.{static_place}
 use Rattle.image_facts.specs.Says.{field_place}

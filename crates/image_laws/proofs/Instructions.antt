@@ -17,7 +17,7 @@ use Rattle.opcodes.specs.declared.instruction.Instr.{Instr}
 use Rattle.opcodes.specs.Instruction.{decoded}
 use Rattle.opcodes.specs.Start.{starts_of, IsStart}
 use Rattle.bytecode_model.specs.Program.{as_instr}
-use Rattle.lists.specs.Lemmas.{none≢some, some_same}
+use Rattle.lists.proofs.Lemmas.{none≢some, some_same}
 use Rattle.class_lookup.specs.Parts.{Signature, signature_of}
 use Rattle.program_tables.specs.Instructions.{Placed, placed_at, instructions_in as code_instructions, instructions_of, named_in}
 use Rattle.program_tables.specs.Resolved.{resolved}

@@ -12,7 +12,7 @@ use Rattle.class_rules.specs.Found.{MethodsHaveCode}
 use Rattle.class_rules.specs.Grammar.{IsClass}
 use Rattle.core_classes.specs.Core.{boot}
 use Rattle.lists.specs.Lists.{onto}
-use Rattle.lists.specs.Lemmas.{none≢some, some_same, index_there}
+use Rattle.lists.proofs.Lemmas.{none≢some, some_same, index_there}
 use Rattle.image_facts.specs.Places.{Places}
 use Rattle.class_lookup.specs.Parts.{Signature, signature_of, same_text, name_of, is_interface_class, is_static, is_abstract, has_code, is_init, is_clinit}
 use Rattle.class_lookup.specs.Hierarchy.{is_interface, find_class}

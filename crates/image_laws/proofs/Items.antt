@@ -5,7 +5,7 @@ use Rattle.std.specs.List.{list_any, filter}
 use Rattle.std.proofs.lemmas.Bool.{false≢true, or_cases, or_left, or_right}
 use Rattle.std.proofs.lemmas.List.Folds.{list_any-append}
 use Rattle.lists.specs.Lists.{index_of}
-use Rattle.lists.specs.Lemmas.{index_there, index_found}
+use Rattle.lists.proofs.Lemmas.{index_there, index_found}
 use Rattle.class_lookup.specs.Lookup.{Place, same_place}
 use Rattle.class_lookup.proofs.Overriding.{has, has_head, has_tail, has_cases, any_place}
 use Rattle.program_tables.specs.Lists.{with_item, with_items}

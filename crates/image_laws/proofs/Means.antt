@@ -7,7 +7,7 @@ use Rattle.program_laws.proofs.Entries.{none_of}
 use Rattle.program_laws.proofs.Rows.{instr_ok, operand_is}
 use Rattle.class_pool.specs.declared.entry.Entry.{Entry}
 use Rattle.class_pool.specs.declared.entry.Entry.TheVariants as entries
-use Rattle.class_pool.specs.Grammar.{entry_at}
+use Rattle.class_pool.specs.Grammar.{entry_at, text_at}
 use Rattle.class_pool.specs.Spelling.{IsInRange}
 use Rattle.class_pool.specs.Found.{code_of}
 use Rattle.class_pool.specs.declared.class.ClassFile.{ClassFile}
@@ -19,10 +19,10 @@ use Rattle.opcodes.specs.Start.{IsStart}
 use Rattle.bytecode_model.specs.Types.{OfReferences}
 use Rattle.bytecode_model.specs.Program.{Method, Body, NoOperand, as_instr, body_of}
 use Rattle.lists.specs.Lists.{onto}
-use Rattle.lists.specs.Lemmas.{none≢some, some_same, onto_some, map_some}
+use Rattle.lists.proofs.Lemmas.{none≢some, some_same, onto_some, map_some}
 use Rattle.image_facts.specs.Places.{AreFixed}
-use Rattle.image_facts.specs.Says.{argument_words, invokespecial, invokestatic, IsSlot, IsInterfaceNumber, SaysOperand}
-use Rattle.class_lookup.specs.Parts.{Signature, text_at}
+use Rattle.image_facts.specs.Says.{argument_words_of, invokespecial, invokestatic, IsSlot, IsInterfaceNumber, SaysOperand}
+use Rattle.class_lookup.specs.Parts.{Signature}
 use Rattle.class_lookup.specs.Lookup.{find_method}
 use Rattle.program_tables.specs.Instructions.{Placed, Named, Constant, Class, Field, Method as MethodNamed, signature_in, is_ldc, is_ldc2, is_class_use, is_field_access, takes_method, takes_interface_method, named_by, named_in, index_of_entry, instructions_of}
 use Rattle.program_tables.specs.Kinds.{kind_of_entry}
@@ -132,21 +132,21 @@ same_call cs cur k ofi op owner s n j m hj hm named' j' m' c =
 
 virtual_said : VirtualCallsAreSaid → (cs : List ClassFile) → IsResolved cs → IsSmall cs → (cn : ℕ) (c : ClassFile) (ofi : Bool) (op owner : ℕ) (s : Signature) (n : IsNamed cs cn c ofi op owner s) → slice_get cs cn ≡ Some c → why_method cs cn c false 182 owner s ≡ None
     → (j : ℕ) (m : Method) → method_number cs n.place ≡ Some j → slice_get (resolved cs).methods j ≡ Some m
-    → let word = method_word cs (class_named cs c owner) (method_named cs c owner s) in (word / 2 ^ 24 ≡ argument_words m) × IsSlot (resolved cs) (places_of cs) n.named j (word % 2 ^ 24)
+    → let word = method_word cs (class_named cs c owner) (method_named cs c owner s) in (word / 2 ^ 24 ≡ argument_words_of m) × IsSlot (resolved cs) (places_of cs) n.named j (word % 2 ^ 24)
 virtual_said law cs r small cn c ofi op owner s n hc why j m hj hm =
     let word = method_word cs (class_named cs c owner) (method_named cs c owner s) in
     let v = law cs r small cn c owner s hc why in
     let same = same_call cs cn c ofi op owner s n j m hj hm v.0 v.1 v.2 v.3 in
-    (v.4 ∙ ap argument_words same.method, subst (λ x. IsSlot (resolved cs) (places_of cs) x j (word % 2 ^ 24)) same.class (subst (λ x. IsSlot (resolved cs) (places_of cs) v.0 x (word % 2 ^ 24)) same.number v.5))
+    (v.4 ∙ ap argument_words_of same.method, subst (λ x. IsSlot (resolved cs) (places_of cs) x j (word % 2 ^ 24)) same.class (subst (λ x. IsSlot (resolved cs) (places_of cs) v.0 x (word % 2 ^ 24)) same.number v.5))
 
 interface_said : InterfaceCallsAreSaid → (cs : List ClassFile) → IsResolved cs → IsSmall cs → (cn : ℕ) (c : ClassFile) (ofi : Bool) (op owner : ℕ) (s : Signature) (n : IsNamed cs cn c ofi op owner s) → slice_get cs cn ≡ Some c → why_method cs cn c true 185 owner s ≡ None
     → (j : ℕ) (m : Method) → method_number cs n.place ≡ Some j → slice_get (resolved cs).methods j ≡ Some m
-    → let word = interface_word cs (method_named cs c owner s) in (word / 2 ^ 24 ≡ argument_words m) × IsInterfaceNumber (resolved cs) (places_of cs) j m.owner (word % 2 ^ 24)
+    → let word = interface_word cs (method_named cs c owner s) in (word / 2 ^ 24 ≡ argument_words_of m) × IsInterfaceNumber (resolved cs) (places_of cs) j m.owner (word % 2 ^ 24)
 interface_said law cs r small cn c ofi op owner s n hc why j m hj hm =
     let word = interface_word cs (method_named cs c owner s) in
     let v = law cs r small cn c owner s hc why in
     let same = same_call cs cn c ofi op owner s n j m hj hm v.0 v.1 v.2 v.3 in
-    (v.4 ∙ ap argument_words same.method, subst (λ (x : Method). IsInterfaceNumber (resolved cs) (places_of cs) j x.owner (word % 2 ^ 24)) same.method (subst (λ x. IsInterfaceNumber (resolved cs) (places_of cs) x v.2.owner (word % 2 ^ 24)) same.number v.5))
+    (v.4 ∙ ap argument_words_of same.method, subst (λ (x : Method). IsInterfaceNumber (resolved cs) (places_of cs) j x.owner (word % 2 ^ 24)) same.method (subst (λ x. IsInterfaceNumber (resolved cs) (places_of cs) x v.2.owner (word % 2 ^ 24)) same.number v.5))
 
 no_interface : (op : ℕ) → takes_method op ≡ true → op ≡ 185 → ⊥
 no_interface op h e = false≢true (ap takes_method (sym e) ∙ h)

@@ -9,7 +9,7 @@ use Rattle.program_laws.proofs.Rows.{same_self}
 use Rattle.class_pool.specs.declared.class.ClassFile.{ClassFile}
 use Rattle.bytecode_model.specs.Types.{Kind, OfClass, OfNumbers, OfReferences, same_kind}
 use Rattle.bytecode_model.specs.Program.{type_number}
-use Rattle.lists.specs.Lemmas.{none≢some, some_same}
+use Rattle.lists.proofs.Lemmas.{none≢some, some_same}
 use Rattle.class_lookup.specs.Hierarchy.{is_concrete}
 use Rattle.program_tables.specs.declared.refusal.Why.TheVariants.{WrongKind}
 use Rattle.program_tables.specs.Lists.{distinct}

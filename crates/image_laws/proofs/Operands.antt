@@ -12,10 +12,10 @@ use Rattle.class_rules.specs.Found.{MethodsHaveCode}
 use Rattle.bytecode_model.specs.Types.{Kind, Declared, OfReferences}
 use Rattle.bytecode_model.specs.Program.{Program, Method, Operand, NoOperand, AnInt, ALong, AString, AStatic, AField, AMethod, AType, type_number}
 use Rattle.lists.specs.Lists.{onto, index_of}
-use Rattle.lists.specs.Lemmas.{some_same, onto_some, index_found}
+use Rattle.lists.proofs.Lemmas.{some_same, onto_some, index_found}
 use Rattle.image_facts.specs.Words.{is_long_type}
 use Rattle.image_facts.specs.Places.{Places, AreFixed, object_place}
-use Rattle.image_facts.specs.Says.{bit_of, argument_words, invokevirtual, invokespecial, invokestatic, invokeinterface, IsSlot, IsInterfaceNumber, MeansMethod, Means, SaysOperand}
+use Rattle.image_facts.specs.Says.{bit_of, argument_words_of, invokevirtual, invokespecial, invokestatic, invokeinterface, IsSlot, IsInterfaceNumber, MeansMethod, Means, SaysOperand}
 use Rattle.class_lookup.specs.Parts.{Signature, signature_of, has_code, is_static, is_abstract}
 use Rattle.class_lookup.specs.Hierarchy.{superclasses}
 use Rattle.class_lookup.specs.Lookup.{Place, same_place, field_at, method_at, find_field, find_method}
@@ -24,7 +24,8 @@ use Rattle.program_tables.specs.Instructions.{Placed, Named, Method as MethodNam
 use Rattle.program_tables.specs.Numbers.{fields_by_number, own_instance_fields, is_static_field, is_instance_field, static_fields, instance_fields, string_number, method_number}
 use Rattle.program_tables.specs.Operands.{method_named, method_taken, string_object, static_operand, instance_operand, field_operand, method_operand, operand_by, operand_in}
 use Rattle.program_tables.specs.Resolved.{declared_at, declared_fields, body_in, method_in, resolved}
-use Rattle.program_tables.specs.Unresolved.{same_bool, why_method, why_named}
+use Rattle.program_tables.specs.Unresolved.{why_method, why_named}
+use Rattle.bytecode_model.specs.Effects.{same_bool}
 use Rattle.program_tables.specs.Resolving.{IsResolved}
 use Rattle.program_laws.proofs.ClassLaws.{ClassLaws}
 use Rattle.program_laws.proofs.Facts.{all_at, map_or_some, map_or_at}
@@ -201,9 +202,9 @@ numbered_method cs t j d h =
 -- the words of the two entries that name methods, at a call by each opcode
 pub record SaysCall (cs : List ClassFile) (op named : ℕ) (place : Place) (operand : Operand) (first second : ℕ) : Type 0 where
   pub itself : (j : ℕ) → (op ≡ invokespecial) ⊎ (op ≡ invokestatic) → operand ≡ AMethod named j → first ≡ (places_of cs).method j
-  pub virtual : (j : ℕ) (k : Method) → op ≡ invokevirtual → method_number cs place ≡ Some j → slice_get (resolved cs).methods j ≡ Some k → (second / 2 ^ 24 ≡ argument_words k) × IsSlot (resolved cs) (places_of cs) named j (second % 2 ^ 24)
+  pub virtual : (j : ℕ) (k : Method) → op ≡ invokevirtual → method_number cs place ≡ Some j → slice_get (resolved cs).methods j ≡ Some k → (second / 2 ^ 24 ≡ argument_words_of k) × IsSlot (resolved cs) (places_of cs) named j (second % 2 ^ 24)
   pub interface : (j : ℕ) (k : Method) → op ≡ invokeinterface → method_number cs place ≡ Some j → slice_get (resolved cs).methods j ≡ Some k
-      → (second / 2 ^ 24 ≡ argument_words k) × IsInterfaceNumber (resolved cs) (places_of cs) j k.owner (second % 2 ^ 24)
+      → (second / 2 ^ 24 ≡ argument_words_of k) × IsInterfaceNumber (resolved cs) (places_of cs) j k.owner (second % 2 ^ 24)
 
 number_case : (cs : List ClassFile) (cur op named : ℕ) (place : Place) (operand : Operand) (first second : ℕ) → SaysCall cs op named place operand first second → (t : Option Place) → ((eqb op 183 ≡ false) → t ≡ Some place)
     → ((x : Place) → t ≡ Some x → IsTakenFrom cs x) → ((x : Place) → op ≡ invokespecial → t ≡ Some x → is_method_with has_code cs x ≡ true) → operand ≡ method_operand cs named t → (o : Option ℕ) → onto t (method_number cs) ≡ o → Means (resolved cs) (places_of cs) op (option_map_or (AMethod named) o NoOperand) first second

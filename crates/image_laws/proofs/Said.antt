@@ -15,7 +15,7 @@ use Rattle.bytecode_model.specs.Program.{Method, body_of, object_class}
 use Rattle.bytecode_model.specs.Effects.{has_class, selected}
 use Rattle.image_facts.specs.Places.{Places, AreFixed}
 use Rattle.lists.specs.Lists.{onto}
-use Rattle.lists.specs.Lemmas.{none≢some, some_same, onto_some, map_some, index_found}
+use Rattle.lists.proofs.Lemmas.{none≢some, some_same, onto_some, map_some, index_found}
 use Rattle.class_lookup.specs.Parts.{Signature, signature_of, has_code, is_static, is_init, is_interface_class}
 use Rattle.class_lookup.specs.Hierarchy.{is_interface, extends}
 use Rattle.class_lookup.specs.Lookup.{Place, same_place, method_at}

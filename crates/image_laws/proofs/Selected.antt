@@ -11,16 +11,17 @@ use Rattle.base.specs.Packed.{PackedHasWords}
 use Rattle.bytecode_model.specs.Program.{Method}
 use Rattle.bytecode_typing.specs.Lawful.{IsVirtualCall, IsInterfaceCall}
 use Rattle.lists.specs.Lists.{onto}
-use Rattle.lists.specs.Lemmas.{none≢some, index_there, index_found}
+use Rattle.lists.proofs.Lemmas.{none≢some, index_there, index_found}
 use Rattle.image_facts.specs.Words.{words_of, object_image}
 use Rattle.image_facts.specs.Places.{object_place}
-use Rattle.image_facts.specs.Says.{argument_words, IsSlot, IsInterfaceNumber}
+use Rattle.image_facts.specs.Says.{argument_words_of, IsSlot, IsInterfaceNumber}
 use Rattle.class_lookup.specs.Parts.{Signature, same_text, name_of, class_text, is_static, is_private, is_init}
 use Rattle.class_lookup.specs.Hierarchy.{is_interface}
 use Rattle.class_lookup.specs.Lookup.{Place, same_place, method_at, find_method}
 use Rattle.class_lookup.proofs.Overriding.{same_is_place}
 use Rattle.program_tables.specs.declared.refusal.Why.TheVariants.{NoClass, NotAccessible, WrongKind}
-use Rattle.program_tables.specs.Unresolved.{unless, are_there, may_use_method, is_right_method, same_bool, is_named_rightly, is_callable_name, why_method_found, why_method_named, why_method}
+use Rattle.program_tables.specs.Unresolved.{unless, are_there, may_use_method, is_right_method, is_named_rightly, is_callable_name, why_method_found, why_method_named, why_method}
+use Rattle.bytecode_model.specs.Effects.{same_bool}
 use Rattle.program_tables.specs.Kinds.{class_in_entry, classes_in_method_descriptor}
 use Rattle.program_tables.specs.Numbers.{method_number}
 use Rattle.program_tables.specs.Operands.{class_named, method_named}
@@ -119,8 +120,8 @@ number_small law lie cs small number h =
 split_word : (a n : ℕ) → n < 2 ^ 24 → ((a * 2 ^ 24 + n) / 2 ^ 24 ≡ a) × ((a * 2 ^ 24 + n) % 2 ^ 24 ≡ n)
 split_word a n lt = (omega (arith, lt), omega (arith, lt))
 
-call_is : (cs : List ClassFile) (p : Place) (m : Method) (o : Option ℕ) (number : ℕ) → resolved_method cs p ≡ Some m → o ≡ Some number → call_word cs o p ≡ argument_words m * 2 ^ 24 + number
-call_is cs p m o number h e = ap₂ (λ (x : Option Method) (y : Option ℕ). option_map_or argument_words x 0 * 2 ^ 24 + unwrap_or y 0) h e
+call_is : (cs : List ClassFile) (p : Place) (m : Method) (o : Option ℕ) (number : ℕ) → resolved_method cs p ≡ Some m → o ≡ Some number → call_word cs o p ≡ argument_words_of m * 2 ^ 24 + number
+call_is cs p m o number h e = ap₂ (λ (x : Option Method) (y : Option ℕ). option_map_or argument_words_of x 0 * 2 ^ 24 + unwrap_or y 0) h e
 
 -- ---- invokevirtual
 
@@ -138,12 +139,12 @@ virtual_calls laws law lie slots said cs r small c k owner s h why =
     let callable : IsCallable cs n.named s m = record { class = call.class; found = n.found_as; virtual = virtual; plain = plain } in
     let slot = and_get (slot_of cs n.named m) (λ slot. SlotSelects cs n.named slot m) (slots cs r n.named s m callable) in
     let named_at : method_named cs k owner s ≡ Some m = ap (λ o. onto o (λ x. find_method cs x s)) n.class_is ∙ n.found_as in
-    let word : method_word cs (class_named cs k owner) (method_named cs k owner s) ≡ argument_words method * 2 ^ 24 + slot.0 =
+    let word : method_word cs (class_named cs k owner) (method_named cs k owner s) ≡ argument_words_of method * 2 ^ 24 + slot.0 =
     ap₂ (method_word cs) n.class_is named_at ∙ call_is cs m method (slot_of cs n.named m) slot.0 (resolved_at cs m f.owner f.member f.class f.there) slot.1 in
     let g = index_found (λ x. same_text (name_of x) (class_text k.pool owner)) cs n.named n.class_is in
     let t = index_found (if is_interface cs m.0 then are_named_alike cs m else same_place m) (table_slots cs n.named) slot.0 slot.1 in
     let low = slot_small law lie cs small n.named slot.0 (slice_get_within cs n.named g.0 g.1) (slice_get_within (table_slots cs n.named) slot.0 t.0 t.1) in
-    let parts = split_word (argument_words method) slot.0 low in
+    let parts = split_word (argument_words_of method) slot.0 low in
     let is : IsSlot (resolved cs) (places_of cs) n.named j.0 slot.0 = said cs r n.named s m slot.0 j.0 callable slot.1 j.1 in (
       n.named,
       j.0,
@@ -174,9 +175,9 @@ interface_calls laws law lie said cs r small c k owner s h why =
     let low = number_small law lie cs small number.0 (slice_get_within (interface_methods cs) number.0 t.0 t.1) in
     let instance = map_or_at (λ x. not (is_static x)) (method_at cs m) f.member at ∙ n.static in
     let named_at : method_named cs k owner s ≡ Some m = ap (λ o. onto o (λ x. find_method cs x s)) n.class_is ∙ n.found_as in
-    let word : interface_word cs (method_named cs k owner s) ≡ argument_words method * 2 ^ 24 + number.0 =
+    let word : interface_word cs (method_named cs k owner s) ≡ argument_words_of method * 2 ^ 24 + number.0 =
     ap (interface_word cs) named_at ∙ call_is cs m method (interface_number cs m) number.0 (resolved_at cs m f.owner f.member f.class f.there) number.1 in
-    let parts = split_word (argument_words method) number.0 low in
+    let parts = split_word (argument_words_of method) number.0 low in
     let is : IsInterfaceNumber (resolved cs) (places_of cs) j.0 m.0 number.0 = said cs r m number.0 j.0 instance number.1 j.1 in (
       n.named,
       j.0,

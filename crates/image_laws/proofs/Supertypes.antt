@@ -7,7 +7,7 @@ use Rattle.std.specs.Int.{div_ceil}
 use Rattle.std.proofs.Math.Nat.{pow-suc, div-div-eq-div-mul}
 use Rattle.std.proofs.lemmas.Option.{slice_get-map, slice_get_within}
 use Rattle.bytecode_model.specs.Program.{is_of}
-use Rattle.lists.specs.Lemmas.{none≢some, some_same}
+use Rattle.lists.proofs.Lemmas.{none≢some, some_same}
 use Rattle.image_facts.specs.Says.{bit_of}
 use Rattle.program_tables.specs.Numbers.{types_of}
 use Rattle.program_tables.specs.Resolved.{resolved}

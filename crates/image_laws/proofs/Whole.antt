@@ -6,7 +6,7 @@ use Rattle.std.specs.Int.{div_ceil}
 use Rattle.std.proofs.lemmas.List.FromFn.{length-map-range_with_len}
 use Rattle.class_pool.specs.declared.class.ClassFile.{ClassFile}
 use Rattle.bytecode_model.specs.Program.{Method, body_of}
-use Rattle.lists.specs.Lemmas.{onto_some}
+use Rattle.lists.proofs.Lemmas.{onto_some}
 use Rattle.image_facts.specs.Says.{SaysType}
 use Rattle.std.proofs.lemmas.Bool.{false_from_ne_true}
 use Rattle.class_lookup.specs.Hierarchy.{is_interface, is_concrete}

@@ -18,7 +18,7 @@ use Rattle.bytecode_model.specs.WellFormed.{AreObjects}
 use Rattle.bytecode_model.specs.Program.{Program, Method, Body, body_of, instr_at, type_number, is_of}
 use Rattle.bytecode_model.specs.Effects.{component_of}
 use Rattle.image_facts.specs.Places.{Places, static_place, object_place}
-use Rattle.image_facts.specs.Says.{Says, SaysOperand, MeansField, bit_of, argument_words, instance_words, IsCode, IsBetween, SaysMethod, IsSlot}
+use Rattle.image_facts.specs.Says.{Says, SaysOperand, MeansField, bit_of, argument_words_of, instance_words, IsCode, IsBetween, SaysMethod, IsSlot}
 use Rattle.image_facts.specs.Says.{IsInterfaceNumber}
 use Rattle.class_lookup.specs.Selection.{is_virtual, is_instance, select}
 use Rattle.class_lookup.specs.Laws.{IsUpwardOf}
@@ -117,7 +117,7 @@ abbrev pub VirtualCallsAreSaid : Type 0
 VirtualCallsAreSaid = (cs : List ClassFile) → IsResolved cs → IsSmall cs → (c : ℕ) (k : ClassFile) (owner : ℕ) (s : Signature) → slice_get cs c ≡ Some k
     → why_method cs c k false 182 owner s ≡ None
     → let word = method_word cs (class_named cs k owner) (method_named cs k owner s) in
-    (named : ℕ) × (n : ℕ) × (m : Method) × IsCalled cs k owner s named n m × (word / 2 ^ 24 ≡ argument_words m)
+    (named : ℕ) × (n : ℕ) × (m : Method) × IsCalled cs k owner s named n m × (word / 2 ^ 24 ≡ argument_words_of m)
     × IsSlot (resolved cs) (places_of cs) named n (word % 2 ^ 24)
 
 -- That of an InterfaceMethodref that an invokeinterface (185) names has the words of the arguments, and the method's number among those of interfaces.
@@ -125,7 +125,7 @@ abbrev pub InterfaceCallsAreSaid : Type 0
 InterfaceCallsAreSaid = (cs : List ClassFile) → IsResolved cs → IsSmall cs → (c : ℕ) (k : ClassFile) (owner : ℕ) (s : Signature) → slice_get cs c ≡ Some k
     → why_method cs c k true 185 owner s ≡ None
     → let word = interface_word cs (method_named cs k owner s) in
-    (named : ℕ) × (n : ℕ) × (m : Method) × IsCalled cs k owner s named n m × (word / 2 ^ 24 ≡ argument_words m)
+    (named : ℕ) × (n : ℕ) × (m : Method) × IsCalled cs k owner s named n m × (word / 2 ^ 24 ≡ argument_words_of m)
     × IsInterfaceNumber (resolved cs) (places_of cs) n m.owner (word % 2 ^ 24)
 
 -- the type of the components of an array of references has a number

@@ -12,19 +12,19 @@ use Rattle.std.proofs.lemmas.Grind.{flat_map-append}
 use Rattle.std.proofs.lemmas.Bool.{false≢true, cond-true, cond-false, and_parts, eqb-true}
 use Rattle.std.proofs.lemmas.Option.{slice_get_within}
 use Rattle.lists.specs.Lists.{onto}
-use Rattle.lists.specs.Lemmas.{some_same, onto_some, index_found}
-use Rattle.class_lookup.specs.Parts.{Signature, same_text, name_of, class_text, text_at}
+use Rattle.lists.proofs.Lemmas.{some_same, onto_some, index_found}
+use Rattle.class_lookup.specs.Parts.{Signature, same_text, name_of, class_text}
 use Rattle.class_lookup.specs.Lookup.{Place, method_at, same_place, find_field, find_method}
 use Rattle.bytecode_model.specs.Program.{Method}
 use Rattle.bytecode_model.specs.Types.{OfReferences}
-use Rattle.image_facts.specs.Says.{argument_words}
+use Rattle.image_facts.specs.Says.{argument_words_of}
 use Rattle.program_tables.specs.declared.kinds.Base.{Base}
 use Rattle.program_tables.specs.Kinds.{arrays_of}
 use Rattle.program_tables.specs.Laws.{MethodsStandByNumber, MembersAreThere}
 use Rattle.program_tables.specs.Numbers.{methods_by_number, method_number, string_number}
 use Rattle.program_tables.specs.Resolved.{method_in, resolved_method, resolved_methods}
 use Rattle.program_tables.specs.Tables.{base_kind}
-use Rattle.class_pool.specs.Grammar.{entry_at}
+use Rattle.class_pool.specs.Grammar.{entry_at, text_at}
 use Rattle.class_pool.specs.declared.class.Member.{Member}
 use Rattle.class_pool.specs.declared.class.ClassFile.{ClassFile}
 use Rattle.opcodes.specs.declared.instruction.Instr.{Instr}
@@ -168,13 +168,13 @@ stands_at cs m (Some k) e h = member_at (slice_get k.methods m.1) refl h
 pub there_numbered : (cs : List ClassFile) (m : Place) → IsTrue (is_some (method_at cs m)) → (n : ℕ) × (method_number cs m ≡ Some n)
 there_numbered cs m h = stands_at cs m (slice_get cs m.0) refl h
 
-pub called : (cs : List ClassFile) (m : Place) (n words word number : ℕ) → HasNumber cs m n → ((k : Method) → slice_get (resolved_methods cs) n ≡ Some k → words ≡ argument_words k) → word ≡ words * 2 ^ 24 + number
-    → word ≡ option_map_or argument_words (resolved_method cs m) 0 * 2 ^ 24 + number
+pub called : (cs : List ClassFile) (m : Place) (n words word number : ℕ) → HasNumber cs m n → ((k : Method) → slice_get (resolved_methods cs) n ≡ Some k → words ≡ argument_words_of k) → word ≡ words * 2 ^ 24 + number
+    → word ≡ option_map_or argument_words_of (resolved_method cs m) 0 * 2 ^ 24 + number
 called cs m n words word number h a e =
-    e ∙ ap (λ (w : ℕ). w * 2 ^ 24 + number) (a h.method h.numbered ∙ sym (ap (λ o. option_map_or argument_words o 0) h.resolved))
+    e ∙ ap (λ (w : ℕ). w * 2 ^ 24 + number) (a h.method h.numbered ∙ sym (ap (λ o. option_map_or argument_words_of o 0) h.resolved))
 
-pub interface_called : (cs : List ClassFile) (m : Option Place) (p : Place) (word number : ℕ) → m ≡ Some p → word ≡ option_map_or argument_words (resolved_method cs p) 0 * 2 ^ 24 + number → number ≡ unwrap_or (interface_number cs p) 0 → word ≡ interface_word cs m
-interface_called cs m p word number hm e hn = e ∙ (ap (λ (x : ℕ). option_map_or argument_words (resolved_method cs p) 0 * 2 ^ 24 + x) hn ∙ sym (ap (interface_word cs) hm))
+pub interface_called : (cs : List ClassFile) (m : Option Place) (p : Place) (word number : ℕ) → m ≡ Some p → word ≡ option_map_or argument_words_of (resolved_method cs p) 0 * 2 ^ 24 + number → number ≡ unwrap_or (interface_number cs p) 0 → word ≡ interface_word cs m
+interface_called cs m p word number hm e hn = e ∙ (ap (λ (x : ℕ). option_map_or argument_words_of (resolved_method cs p) 0 * 2 ^ 24 + x) hn ∙ sym (ap (interface_word cs) hm))
 
 -- ---- entries one after another
 
@@ -241,7 +241,7 @@ string_there cs k units e o r there h is =
 
 -- ---- words of methods
 
-pub method_called : (cs : List ClassFile) (named : Option ℕ) (m : Option Place) (n : ℕ) (p : Place) (word slot : ℕ) → named ≡ Some n → m ≡ Some p → word ≡ option_map_or argument_words (resolved_method cs p) 0 * 2 ^ 24 + slot → slot ≡ unwrap_or (slot_of cs n p) 0
+pub method_called : (cs : List ClassFile) (named : Option ℕ) (m : Option Place) (n : ℕ) (p : Place) (word slot : ℕ) → named ≡ Some n → m ≡ Some p → word ≡ option_map_or argument_words_of (resolved_method cs p) 0 * 2 ^ 24 + slot → slot ≡ unwrap_or (slot_of cs n p) 0
     → word ≡ method_word cs named m
 method_called cs named m n p word slot hn hm e hs =
-    e ∙ (ap (λ (x : ℕ). option_map_or argument_words (resolved_method cs p) 0 * 2 ^ 24 + x) hs ∙ sym (ap₂ (λ (a : Option ℕ) (b : Option Place). method_word cs a b) hn hm))
+    e ∙ (ap (λ (x : ℕ). option_map_or argument_words_of (resolved_method cs p) 0 * 2 ^ 24 + x) hs ∙ sym (ap₂ (λ (a : Option ℕ) (b : Option Place). method_word cs a b) hn hm))

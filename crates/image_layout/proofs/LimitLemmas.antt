@@ -23,7 +23,7 @@ use Rattle.image_words.specs.Layout.{outline_of}
 use Rattle.image_words.specs.Regions as regions
 use Rattle.image_words.proofs.Image.{object_same}
 use Rattle.lists.specs.Lists.{first_some}
-use Rattle.lists.specs.Lemmas.{none≢some}
+use Rattle.lists.proofs.Lemmas.{none≢some}
 use Rattle.class_lookup.specs.Lookup.{Place}
 use Rattle.program_tables.specs.Numbers.{places_of, is_coded, methods_by_number, types_of}
 use Rattle.image_words.specs.Slots.{interface_methods}

@@ -18,9 +18,9 @@ use Rattle.program_tables.specs.declared.operand.Declared.{Declared}
 use Rattle.program_tables.specs.declared.operand.MethodShape.{MethodShape}
 use Rattle.program_tables.specs.Meanings.{declared_seen, HasShape}
 use Rattle.image_facts.specs.Places.{Places}
-use Rattle.image_facts.specs.Says.{argument_words, handler_words, method_words}
+use Rattle.image_facts.specs.Says.{argument_words_of, handler_words, method_words}
 use Rattle.lists.specs.Lists.{onto}
-use Rattle.lists.specs.Lemmas.{some_same}
+use Rattle.lists.proofs.Lemmas.{some_same}
 use Rattle.class_lookup.specs.Lookup.{Place, method_at}
 use Rattle.program_tables.specs.Laws.{MethodsStandByNumber, MembersAreThere}
 use Rattle.program_tables.specs.Numbers.{methods_by_number}
@@ -69,7 +69,7 @@ pub record_made : MethodsStandByNumber → MembersAreThere → (cs : List ClassF
     → Some code ≡ onto (onto (slice_get (methods_by_number cs) n) (method_at cs)) code_of
     → (old first second new : List ℕ)
     → ((k : Method) → slice_get (resolved_methods cs) n ≡ Some k
-    → first ≡ old ++ (code.max_locals * 2 ^ 16 + code.max_stack) ∷ (argument_words k * 2 ^ 16 + words_for (length code.code)) ∷ pool_place cs p.0 ∷ length code.handlers ∷ [])
+    → first ≡ old ++ (code.max_locals * 2 ^ 16 + code.max_stack) ∷ (argument_words_of k * 2 ^ 16 + words_for (length code.code)) ∷ pool_place cs p.0 ∷ length code.handlers ∷ [])
     → ((k : ClassFile) → slice_get cs p.0 ≡ Some k → second ≡ first ++ flat_map (handler_words (resolved cs)) (map (handler_of cs k) code.handlers)) → new ≡ second ++ words_of_bytes code.code
     → (k : Method) → slice_get (resolved_methods cs) n ≡ Some k → new ≡ old ++ method_image cs (outline_of cs) k
 record_made law there cs n p code h e old first second new e1 e2 e3 k at =
@@ -78,7 +78,7 @@ record_made law there cs n p code h e old first second new e1 e2 e3 k at =
     let is = some_same own k (sym s.method ∙ at) in
     let table = flat_map (handler_words (resolved cs)) (map (handler_of cs s.class) code.handlers) in
     let bytes = words_of_bytes code.code in
-    let front : ℕ → List ℕ = λ many. (code.max_locals * 2 ^ 16 + code.max_stack) ∷ (argument_words own * 2 ^ 16 + words_for (length code.code)) ∷ pool_place cs p.0 ∷ many ∷ [] in
+    let front : ℕ → List ℕ = λ many. (code.max_locals * 2 ^ 16 + code.max_stack) ∷ (argument_words_of own * 2 ^ 16 + words_for (length code.code)) ∷ pool_place cs p.0 ∷ many ∷ [] in
     let made : new ≡ old ++ method_words (resolved cs) (outline_of cs) own (body_in cs s.class code) =
     e3 ∙ (ap (λ (ws : List ℕ). ws ++ bytes) (e2 s.class s.class_at ∙ ap (λ (ws : List ℕ). ws ++ table) (e1 own s.method))
     ∙ (joined old (front (length code.handlers)) table bytes
@@ -104,7 +104,7 @@ taken_by : (b : Bool) (owner : ℕ) (ps : List model.Declared) → ℕ
 taken_by b owner ps = sum_by declared_words (if b then model.Reference (model.OfClass owner) ∷ ps else ps)
 
 pub with_receiver : (cs : List ClassFile) (n : ℕ) (s : MethodShape) (words all : ℕ) → IsSomeAnd (slice_get (resolved_methods cs) n) (HasShape s) → words ≡ sum_by declared_words (map declared_seen s.parameters) → s.has_this ≡ true → all ≡ words + 1
-    → (k : Method) → slice_get (resolved_methods cs) n ≡ Some k → all ≡ argument_words k
+    → (k : Method) → slice_get (resolved_methods cs) n ≡ Some k → all ≡ argument_words_of k
 unfolding taken_by
 with_receiver cs n s words all shape h t e k at =
     let is = shape_is (HasShape s) (slice_get (resolved_methods cs) n) k shape at in
@@ -116,7 +116,7 @@ with_receiver cs n s words all shape h t e k at =
     sum ∙ (sym first ∙ sym made)
 
 pub without_receiver : (cs : List ClassFile) (n : ℕ) (s : MethodShape) (words : ℕ) → IsSomeAnd (slice_get (resolved_methods cs) n) (HasShape s) → words ≡ sum_by declared_words (map declared_seen s.parameters) → s.has_this ≡ false
-    → (k : Method) → slice_get (resolved_methods cs) n ≡ Some k → words ≡ argument_words k
+    → (k : Method) → slice_get (resolved_methods cs) n ≡ Some k → words ≡ argument_words_of k
 unfolding taken_by
 without_receiver cs n s words shape h t k at =
     let is = shape_is (HasShape s) (slice_get (resolved_methods cs) n) k shape at in

@@ -8,7 +8,7 @@ use Rattle.std.proofs.lemmas.List.{get_or-set_same, get_or-set_other}
 use Rattle.std.proofs.lemmas.List.Folds.{list_any_more}
 use Rattle.std.proofs.lemmas.Option.{slice_get-get_or, slice_get_within}
 use Rattle.class_pool.specs.declared.class.ClassFile.{ClassFile}
-use Rattle.lists.specs.Lemmas.{none≢some, some_same}
+use Rattle.lists.proofs.Lemmas.{none≢some, some_same}
 use Rattle.lists.proofs.Among.{among_at}
 use Rattle.class_lookup.specs.Hierarchy.{superclass, is_interface, is_among, extends}
 use Rattle.image_words.specs.Order.{IsSuperclassFirst}

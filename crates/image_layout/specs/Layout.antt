@@ -12,7 +12,7 @@ use Rattle.image_words.specs.Pools.{static_word}
 use Rattle.image_words.specs.Regions.{first_place, image_words_of, places_of}
 use Rattle.image_words.specs.Limits.{coded_methods, most_types, most_interface_methods, most_methods, most_words}
 use Rattle.image_builder.specs.Laid.{Laid}
-use Rattle.image_builder.specs.Passed.{Passed, passed}
+use Rattle.image_builder.specs.Passed.{CountPastLimit, passed}
 use Rattle.image_builder.specs.declared.fault.Counted.TheVariants.{Types, InterfaceMethods, Methods, Words}
 
 pub record IsLaidOut (cs : List ClassFile) (made : Laid) : Type 0 where
@@ -24,7 +24,7 @@ pub record IsLaidOut (cs : List ClassFile) (made : Laid) : Type 0 where
   pub strings : made.strings ≡ map (λ n. first_place cs (places_of cs) (string_object n)) (range_with_len 0 (length (strings_of cs)))
 
 -- the first of the limits on what is counted before the words
-abbrev pub counts_passed : List ClassFile → Option Passed
+abbrev pub counts_passed : List ClassFile → Option CountPastLimit
 counts_passed cs =
     first_some
     (passed Types (length (types_of cs)) most_types
@@ -33,7 +33,7 @@ counts_passed cs =
     ∷ [])
 
 -- the first limit that the program passes, if it passes one
-abbrev pub first_passed : List ClassFile → Option Passed
+abbrev pub first_passed : List ClassFile → Option CountPastLimit
 first_passed cs =
     first_some
     (passed Types (length (types_of cs)) most_types

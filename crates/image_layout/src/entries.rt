@@ -3,10 +3,9 @@ ghost use Rattle.std.specs.Prelude.{◌≡◌, ◌++◌, ◌<◌, ◌+◌, ◌*�
 ghost use Rattle.std.specs.Option.{option_map_or};
 ghost use Rattle.std.specs.List.{range_with_len};
 ghost use Rattle.class_pool.specs.declared.class.ClassFile.{ClassFile};
-ghost use Rattle.class_pool.specs.Grammar.{entry_at};
+ghost use Rattle.class_pool.specs.Grammar.{entry_at, text_at};
 ghost use Rattle.class_lookup.specs.Lookup.{method_at};
-ghost use Rattle.class_lookup.specs.Parts.{text_at};
-ghost use Rattle.image_facts.specs.Says.{bit_of, argument_words};
+ghost use Rattle.image_facts.specs.Says.{bit_of, argument_words_of};
 ghost use Rattle.image_facts.specs.Words.{is_long_type};
 ghost use Rattle.lists.specs.Lists.{onto};
 ghost use Rattle.program_tables.specs.Instructions.{signature_in};
@@ -123,7 +122,7 @@ fn field_words(program: &Program, outline: &Outline, field: Place) -> [u32; 2]
 /// The words of the arguments of a method above a number.
 fn call_word(program: &Program, method: Place, number: usize) -> Result<u32, NoMemory>
     requires { IsTrue (is_some (method_at program.now method)) }
-    ensures { IfOk result (λ word. word ≡ option_map_or argument_words (resolved_method program.now method) 0 * 2 ^ 24 + number) }
+    ensures { IfOk result (λ word. word ≡ option_map_or argument_words_of (resolved_method program.now method) 0 * 2 ^ 24 + number) }
 {
     methods_stand_by_number();
     members_are_there();

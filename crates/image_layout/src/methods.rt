@@ -4,7 +4,7 @@ ghost use Rattle.std.specs.List.{flat_map};
 ghost use Rattle.bytecode_model.specs.Program.{Method};
 ghost use Rattle.class_pool.specs.declared.class.ClassFile.{ClassFile};
 ghost use Rattle.base.specs.Packed.{words_for};
-ghost use Rattle.image_facts.specs.Says.{argument_words, handler_words};
+ghost use Rattle.image_facts.specs.Says.{argument_words_of, handler_words};
 ghost use Rattle.image_facts.specs.Words.{declared_words};
 ghost use Rattle.program_tables.specs.Meanings.{declared_seen};
 ghost use Rattle.program_tables.specs.Numbers.{methods_by_number};
@@ -38,7 +38,7 @@ fn words_of_types(types: &[Declared]) -> Result<u32, NoMemory>
 /// The words that a method takes as arguments, the receiver among them.
 pub(crate) fn argument_words(program: &Program, method: u32) -> Result<u32, NoMemory>
     requires { method < length (methods_by_number program.now) }
-    ensures { IfOk result (λ words. (k : Method) → slice_get (resolved program.now).methods method ≡ Some k → words ≡ argument_words k) }
+    ensures { IfOk result (λ words. (k : Method) → slice_get (resolved program.now).methods method ≡ Some k → words ≡ argument_words_of k) }
 {
     let shape = program.shape(method);
     let words = words_of_types(shape.parameters.as_slice())?;
@@ -89,7 +89,7 @@ fn add_handlers(
 fn argument_and_code_words(program: &Program, method: u32, code: &[u8]) -> Result<u32, NoMemory>
     requires { method < length (methods_by_number program.now) }
     ensures { IfOk result (λ word. (k : Method) → slice_get (resolved program.now).methods method ≡ Some k
-        → word ≡ argument_words k * 2 ^ 16 + words_for (length code.now)) }
+        → word ≡ argument_words_of k * 2 ^ 16 + words_for (length code.now)) }
 {
     let arguments = times(argument_words(program, method)?, UPPER)?;
     add(arguments, count(code.len().div_ceil(4))?)
@@ -108,7 +108,7 @@ fn add_sizes(
     requires method { method < length (methods_by_number program.now) }
     ensures { OnOk result ((k : Method) → slice_get (resolved program.now).methods method ≡ Some k
         → words.new.items ≡ words.old.items ++ (code.now.max_locals * 2 ^ 16 + code.now.max_stack)
-        ∷ (argument_words k * 2 ^ 16 + words_for (length code.now.code)) ∷ pool_place program.now class ∷ length code.now.handlers ∷ []) }
+        ∷ (argument_words_of k * 2 ^ 16 + words_for (length code.now.code)) ∷ pool_place program.now class ∷ length code.now.handlers ∷ []) }
 {
     let limits = halves(code.max_locals, code.max_stack);
     let sizes = argument_and_code_words(program, method, code.code.as_slice())?;

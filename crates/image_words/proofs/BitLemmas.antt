@@ -5,7 +5,7 @@ use Rattle.std.proofs.lemmas.List.{map-append, length-drop, take_min}
 use Rattle.std.proofs.Math.Nat.{two-pow-succ, mul-add}
 use Rattle.std.proofs.Math.Pow.{pow-lt}
 use Rattle.image_facts.specs.Says.{bit_of}
-use Rattle.lists.specs.Lemmas.{none≢some}
+use Rattle.lists.proofs.Lemmas.{none≢some}
 use Rattle.image_words.specs.Regions.{number_of_bits}
 use Rattle.image_builder.proofs.ListLemmas.{take_some}
 

@@ -4,7 +4,7 @@ use Rattle.std.specs.Prelude.{slice_get, IfSome}
 use Rattle.std.proofs.lemmas.List.{get_or-set_same, get_or-set_other}
 use Rattle.std.proofs.lemmas.Option.{slice_get-get_or, get_or_from_slice_get, slice_get_within}
 use Rattle.class_pool.specs.declared.class.ClassFile.{ClassFile}
-use Rattle.lists.specs.Lemmas.{onto_some, index_found}
+use Rattle.lists.proofs.Lemmas.{onto_some, index_found}
 use Rattle.class_lookup.specs.Parts.{same_text, name_of, superclass_name}
 use Rattle.class_lookup.specs.Hierarchy.{find_class, superclass}
 

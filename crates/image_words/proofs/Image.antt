@@ -12,7 +12,7 @@ use Rattle.bytecode_model.specs.Program.{type_number}
 use Rattle.bytecode_model.specs.Sizes.{object_words}
 use Rattle.bytecode_model.specs.Effects as effects
 use Rattle.bytecode_model.specs.Effects.{Fault, fault_object}
-use Rattle.lists.specs.Lemmas.{some_same}
+use Rattle.lists.proofs.Lemmas.{some_same}
 use Rattle.image_facts.specs.Within.{LieAt}
 use Rattle.image_facts.specs.Words.{words_of, object_image}
 use Rattle.image_facts.specs.Places.{AreFixed, objects_place, object_place, pool_of}

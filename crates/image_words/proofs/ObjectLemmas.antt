@@ -10,7 +10,7 @@ use Rattle.bytecode_model.specs.declared.Value.TheVariants.{Int}
 use Rattle.bytecode_model.specs.Types.{IntType, LongType, Kind, OfClass, OfNumbers, Declared, Numeric, Reference, default}
 use Rattle.bytecode_model.specs.Sizes.{value_words, header_words, object_words}
 use Rattle.image_facts.specs.Words.{declared_words}
-use Rattle.lists.specs.Lemmas.{none≢some}
+use Rattle.lists.proofs.Lemmas.{none≢some}
 use Rattle.class_lookup.specs.Parts.{name_of}
 use Rattle.program_tables.specs.Core.{raised_classes}
 use Rattle.program_tables.specs.Numbers.{types_of}

@@ -6,7 +6,7 @@ use Rattle.std.specs.List.{flat_map, range_with_len}
 use Rattle.std.proofs.lemmas.Bool.{cases_Bool}
 use Rattle.std.proofs.lemmas.List.FromFn.{get_or-map-range_with_len, length-map-range_with_len}
 use Rattle.class_pool.specs.declared.class.ClassFile.{ClassFile}
-use Rattle.lists.specs.Lemmas.{none≢some, some_same}
+use Rattle.lists.proofs.Lemmas.{none≢some, some_same}
 use Rattle.lists.proofs.Among.{among_at, in_option, option_in}
 use Rattle.class_lookup.specs.Hierarchy.{superclass, superclasses, is_among, IsAcyclic}
 use Rattle.class_lookup.specs.Laws.{AreSuperclasses}

@@ -7,7 +7,7 @@ use Rattle.class_pool.specs.declared.class.ClassFile.{ClassFile}
 use Rattle.base.specs.Packed.{PackedHasWords}
 use Rattle.bytecode_model.specs.Types.{Kind}
 use Rattle.bytecode_model.specs.Program.{Method, Body}
-use Rattle.lists.specs.Lemmas.{none≢some, some_same}
+use Rattle.lists.proofs.Lemmas.{none≢some, some_same}
 use Rattle.image_facts.specs.Within.{LieAt}
 use Rattle.image_facts.specs.Places.{AreFixed}
 use Rattle.image_facts.specs.Says.{method_words}

@@ -7,7 +7,7 @@ use Rattle.std.proofs.lemmas.Option.{slice_get_within, get_or_from_slice_get}
 use Rattle.std.proofs.lemmas.Bool.{false≢true, and_from, and_parts, cases_Bool, cases_eq, eqb-true, eq-eqb, both_ways}
 use Rattle.class_pool.specs.declared.class.ClassFile.{ClassFile}
 use Rattle.lists.specs.Lists.{onto, index_of}
-use Rattle.lists.specs.Lemmas.{none≢some, some_same, onto_some, index_append, index_found}
+use Rattle.lists.proofs.Lemmas.{none≢some, some_same, onto_some, index_append, index_found}
 use Rattle.class_lookup.specs.Laws.{MembersHaveSymbols, SymbolsStandForTexts}
 use Rattle.class_lookup.specs.Lookup.{Place}
 use Rattle.class_lookup.specs.Parts.{Signature, same_text, same_signature}

@@ -12,10 +12,10 @@ use Rattle.class_pool.specs.declared.class.ClassFile.{ClassFile}
 use Rattle.base.specs.Packed.{words_for, words_of_bytes, PackedHasWords}
 use Rattle.bytecode_model.specs.Program.{Method, Body, Handler}
 use Rattle.image_facts.specs.Places.{Places}
-use Rattle.image_facts.specs.Says.{argument_words, handler_words, method_words}
+use Rattle.image_facts.specs.Says.{argument_words_of, handler_words, method_words}
 use Rattle.image_facts.proofs.Pieces.{length_in}
 use Rattle.lists.specs.Lists.{onto}
-use Rattle.lists.specs.Lemmas.{none≢some}
+use Rattle.lists.proofs.Lemmas.{none≢some}
 use Rattle.class_lookup.specs.Lookup.{Place}
 use Rattle.program_tables.specs.Instructions.{signature_in}
 use Rattle.program_tables.specs.Operands.{field_named}
@@ -93,7 +93,7 @@ body_case law cs pl k (Some b) =
     let P = resolved cs in
     let table = length_in (handler_words P) (λ (h : Handler). 3) (λ h. refl) b.handlers ∙ (equal_sum 3 b.handlers ∙ thrice (length b.handlers)) in
     let both = added (flat_map (handler_words P) b.handlers) (words_of_bytes b.code) (3 * length b.handlers) (words_for (length b.code)) table (law b.code) in
-    four (3 * length b.handlers + words_for (length b.code)) (b.max_locals * 2 ^ 16 + b.max_stack) (argument_words k * 2 ^ 16 + words_for (length b.code)) (pl.pool k.owner) (length b.handlers) (flat_map (handler_words P) b.handlers ++ words_of_bytes b.code) both
+    four (3 * length b.handlers + words_for (length b.code)) (b.max_locals * 2 ^ 16 + b.max_stack) (argument_words_of k * 2 ^ 16 + words_for (length b.code)) (pl.pool k.owner) (length b.handlers) (flat_map (handler_words P) b.handlers ++ words_of_bytes b.code) both
 
 pub method_length : PackedHasWords → (cs : List ClassFile) (pl : Places) (k : Method) → length (method_image cs pl k) ≡ method_size k
 method_length law cs pl k = body_case law cs pl k k.body

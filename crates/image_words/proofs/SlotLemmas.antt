@@ -10,7 +10,7 @@ use Rattle.std.proofs.lemmas.List.FromFn.{map-range_with_len_more, get_or-map-ra
 use Rattle.std.proofs.lemmas.Option.{get_or_from_slice_get, slice_get-get_or, slice_get_within, slice_get_past}
 use Rattle.class_pool.specs.declared.class.ClassFile.{ClassFile}
 use Rattle.lists.specs.Lists.{onto, index_of}
-use Rattle.lists.specs.Lemmas.{some_same}
+use Rattle.lists.proofs.Lemmas.{some_same}
 use Rattle.lists.proofs.Among.{among_at}
 use Rattle.class_lookup.specs.Hierarchy.{superclass, superclasses, is_among, is_interface}
 use Rattle.class_lookup.specs.Laws.{AreSuperclasses, MembersHaveSymbols, SymbolsStandForTexts}

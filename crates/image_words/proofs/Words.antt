@@ -4,7 +4,7 @@ use Rattle.std.specs.Prelude.{slice_get, replicate, sum_by}
 use Rattle.std.specs.List.{range_with_len}
 use Rattle.std.proofs.Math.Nat.{suc-mul}
 use Rattle.std.proofs.lemmas.List.Sums.{sum_by-cons}
-use Rattle.lists.specs.Lemmas.{none≢some, some_same}
+use Rattle.lists.proofs.Lemmas.{none≢some, some_same}
 use Rattle.image_facts.specs.Within.{LieAt}
 use Rattle.image_facts.proofs.Pieces.{differ_of, lie_of, differ_behind, differ_ahead}
 

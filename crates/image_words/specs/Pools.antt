@@ -4,15 +4,14 @@ use Rattle.std.specs.Option.{option_map, option_map_or}
 use Rattle.std.specs.List.{filter, find, flat_map, range_with_len}
 use Rattle.class_pool.specs.declared.entry.Entry.{Entry}
 use Rattle.class_pool.specs.declared.entry.Entry.TheVariants as entries
-use Rattle.class_pool.specs.Grammar.{entry_at}
+use Rattle.class_pool.specs.Grammar.{entry_at, text_at}
 use Rattle.class_pool.specs.declared.class.ClassFile.{ClassFile}
 use Rattle.lists.specs.Lists.{onto, index_of}
 use Rattle.bytecode_model.specs.Types.{Kind, OfReferences}
 use Rattle.bytecode_model.specs.Program.{Operand, AMethod, type_number}
 use Rattle.image_facts.specs.Words.{is_long_type}
 use Rattle.image_facts.specs.Places.{Places, static_place, object_place}
-use Rattle.image_facts.specs.Says.{bit_of, argument_words, field_place, invokespecial, invokestatic}
-use Rattle.class_lookup.specs.Parts.{text_at}
+use Rattle.image_facts.specs.Says.{bit_of, argument_words_of, field_place, invokespecial, invokestatic}
 use Rattle.class_lookup.specs.Lookup.{Place, same_place}
 use Rattle.program_tables.specs.Instructions.{Placed, instructions_of, signature_in, index_of_entry, named_in}
 use Rattle.program_tables.specs.Kinds.{kind_of_entry}
@@ -79,7 +78,7 @@ taken_place cs pl c k index = option_map_or (λ p. operand_place pl (operand_in 
 
 -- the words of the arguments, above a number of at most 24 bits
 abbrev pub call_word : List ClassFile → (number : Option ℕ) → (method : Place) → ℕ
-call_word cs number m = option_map_or argument_words (resolved_method cs m) 0 * 2 ^ 24 + unwrap_or number 0
+call_word cs number m = option_map_or argument_words_of (resolved_method cs m) 0 * 2 ^ 24 + unwrap_or number 0
 
 abbrev pub method_word : List ClassFile → (named : Option ℕ) → (method : Option Place) → ℕ
 method_word cs named m = option_map_or (λ m. call_word cs (onto named (λ n. slot_of cs n m)) m) m 0

@@ -6,7 +6,7 @@ use Rattle.std.proofs.lemmas.List.{get_or-set_other, get_or-set_same, get_or-rep
 use Rattle.std.proofs.lemmas.List.Elements.{Contains-push, Contains-push_cases, Contains-append_left}
 use Rattle.std.proofs.Math.ListN.{get_or-eq_default}
 use Rattle.lists.specs.Lists.{onto}
-use Rattle.lists.specs.Lemmas.{none≢some, some_same}
+use Rattle.lists.proofs.Lemmas.{none≢some, some_same}
 use Rattle.lists.specs.Members.{nil_contains}
 use Rattle.loop_rules.specs.Sites.{int_at}
 use Rattle.int_sites.specs.Places.{AreIntsOf, AreLeft, without}

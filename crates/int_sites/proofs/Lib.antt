@@ -1,4 +1,6 @@
 mod Telling
+mod Counting
+mod Opcodes
 mod Reading
 mod Filling
 mod Lining

@@ -2,7 +2,7 @@
 use Rattle.std.proofs.Common.{◌≡◌, ◌↔◌, ℕ, ℤ, List, Contains, Option, Some, None, refl, ap, ◌∙◌, subst}
 use Rattle.std.specs.Prelude.{MatchOption}
 use Rattle.lists.specs.Lists.{onto}
-use Rattle.lists.specs.Lemmas.{none≢some, some_same, onto_some, some_in, holds_at}
+use Rattle.lists.proofs.Lemmas.{none≢some, some_same, onto_some, some_in, holds_at}
 use Rattle.opcodes.specs.Start.{IsStart, starts_of}
 use Rattle.bytecode_model.specs.declared.Value.TheVariants.{Int}
 use Rattle.bytecode_model.specs.Program.{Program, Body, body_of}

@@ -1,12 +1,14 @@
 -- What instructions push, read and write, by their opcodes.
-use Rattle.std.proofs.Common.{◌≡◌, ◌≢◌, ℕ, zero, suc, ◌+◌, ◌<◌, ◌≤◌, Bool, List, Option, Some, None, refl, sym, ap, ◌∙◌, subst, inl, inr, arith}
+use Rattle.std.proofs.Common.{◌≡◌, ◌≢◌, ℕ, ◌+◌, ◌<◌, ◌≤◌, Bool, List, Option, Some, None, refl, sym, ap, ◌∙◌, subst, inl, inr, arith}
 use Rattle.std.specs.Prelude.{ℤ, if◌then◌else◌}
+use Rattle.std.specs.Option.{IsSomeAnd}
 use Rattle.std.proofs.lemmas.Bool.{cases_eq, cases_lt, ne_eqb}
 use Rattle.std.proofs.lemmas.Bool.Decides.{nat_tests}
 use Rattle.lists.specs.Lists.{onto}
 use Rattle.opcodes.specs.declared.instruction.Instr.{Instr}
 use Rattle.bytecode_model.specs.declared.Value.TheVariants.{Int}
-use Rattle.lists.specs.Lemmas.{onto_some}
+use Rattle.lists.proofs.Lemmas.{holds_at, onto_some}
+use Rattle.opcodes.specs.Bytes.{u1}
 use Rattle.opcodes.specs.Instruction.{decoded}
 use Rattle.bytecode_model.specs.Steps.{row_in}
 use Rattle.bytecode_model.specs.Program.{Program, Body, body_of, as_instr, instr_at, Operand, NoOperand, AnInt, ALong, AString, AStatic, AField, AMethod, AType}
@@ -14,30 +16,14 @@ use Rattle.bytecode_model.specs.Rows as rows
 use Rattle.bytecode_model.specs.Rows.{Row}
 use Rattle.bytecode_model.specs.Table.{row_of}
 use Rattle.int_sites.specs.Rows.{pushed_by, read_by, put_by, int_named, pushed_as, static_named, read_as, put_as, pushed_at, read_at, put_at}
+use Rattle.int_sites.proofs.Counting.{AllFrom, each_from, ◌&◌}
+use Rattle.int_sites.proofs.Opcodes.{not_get, not_put, past_loads}
 use Rattle.int_sites.proofs.Telling.{ComesOf, comes_of}
-
--- ---- numbers one after another
-
-abbrev AllFrom : (P : ℕ → Type 0) → (first many : ℕ) → Type 0
-AllFrom P first zero = Unit {0}
-AllFrom P first (suc many) = P first × AllFrom P (suc first) many
-
-each_from : (P : ℕ → Type 0) (first many : ℕ) → AllFrom P first many → (n : ℕ) → first ≤ n → n < first + many → P n
-each_from P first zero all n le lt = absurd (omega arith)
-each_from P first (suc many) all n le lt =
-    elim (cases_eq first n) [
-      | inl same ↦ subst P same all.0
-      | inr other ↦ each_from P (suc first) many all.1 n (omega arith) (omega arith)
-    ]
 
 -- ---- pushes
 
 abbrev IsPushed : List ℕ → Instr → Operand → ℕ → Type 0
 IsPushed code i o op = onto (row_of code (record i { op = op }) o) pushed_by ≡ pushed_as op i.first (int_named o)
-
-infixr 4 ◌&◌
-◌&◌ : {A B : Type 0} → A → B → A × B
-a & b = (a, b)
 
 low : (code : List ℕ) (i : Instr) (o : Operand) → AllFrom (IsPushed code i o) 0 18
 unfolding row_of
@@ -185,6 +171,32 @@ module _ (P : Program) (m p : ℕ) where
 
   pub no_put_at : instr_at P m p ≡ None → None ≡ put_at P m p
   no_put_at none = sym (none_at put_by none)
+
+  -- where the byte at the place says so, no instruction is one that pushes, reads or writes
+  none_unless : {A : Type 0} (f : Row → Option A) → ((i : Instr) → instr_at P m p ≡ Some i → (code : List ℕ) → onto (row_of code i (P.operand m p)) f ≡ None) → onto (row_in P m p) (λ x. f x.1) ≡ None
+  none_unless {A} f none = by_instr (instr_at P m p) refl
+    where
+      by_instr : (o : Option Instr) → instr_at P m p ≡ o → onto (row_in P m p) (λ x. f x.1) ≡ None
+      by_instr None e = none_at f e
+      by_instr (Some i) e = one_at f i None (sym e) (none i e)
+
+  module _ (code : List ℕ) (body : IsSomeAnd (body_of P m) (λ b. b.code ≡ code)) where
+    of_code : (i : Instr) → instr_at P m p ≡ Some i → as_instr (decoded code p) ≡ Some i
+    of_code i is =
+        let b = onto_some (body_of P m) (λ (x : Body). as_instr (decoded x.code p)) i is in
+        subst (λ (k : List ℕ). as_instr (decoded k p) ≡ Some i) (holds_at (body_of P m) b.0 (λ (x : Body). x.code ≡ code) b.1 body) b.2
+
+    pub none_pushed : 19 < u1 code p → None ≡ pushed_at P m p
+    none_pushed past =
+        sym (none_unless pushed_by (λ i is k. pushed_is k i (P.operand m p) ∙ none_as i.op i.first (int_named (P.operand m p)) (past_loads code p i (of_code i is) past)))
+
+    pub none_read : u1 code p ≢ 178 → None ≡ read_at P m p
+    none_read other =
+        sym (none_unless read_by (λ i is k. read_is k i (P.operand m p) ∙ ap (λ (b : Bool). if b then static_named (P.operand m p) else None) (ne_eqb i.op 178 (not_get code p i (of_code i is) other))))
+
+    pub none_put : u1 code p ≢ 179 → None ≡ put_at P m p
+    none_put other =
+        sym (none_unless put_by (λ i is k. put_is k i (P.operand m p) ∙ ap (λ (b : Bool). if b then static_named (P.operand m p) else None) (ne_eqb i.op 179 (not_put code p i (of_code i is) other))))
 
   module _ (i : Instr) (o : Operand) (is : Some i ≡ instr_at P m p) (names : o ≡ P.operand m p) where
     pub push_at : pushed_as i.op i.first (int_named o) ≡ pushed_at P m p

@@ -6,7 +6,8 @@ use Rattle.class_pool.specs.declared.entry.Entry.{Entry}
 use Rattle.class_pool.specs.declared.entry.Entry.TheVariants as entries
 use Rattle.class_pool.specs.declared.class.Member.{Member}
 use Rattle.class_pool.specs.declared.class.ClassFile.{ClassFile}
-use Rattle.class_lookup.specs.Parts.{is_final, same_text, text_at}
+use Rattle.class_lookup.specs.Parts.{is_final, same_text}
+use Rattle.class_pool.specs.Grammar.{text_at}
 use Rattle.class_lookup.specs.Lookup.{Place, field_at}
 use Rattle.lists.specs.Lists.{onto}
 use Rattle.bytecode_model.specs.Program.{Program, body_of}

@@ -1,13 +1,15 @@
 //! What an instruction pushes, reads and writes, as far as constants go (JVM Specification SE 8, 6.5).
 
 ghost use Rattle.std.specs.Prelude.{◌≡◌, ◌<◌, length};
+ghost use Rattle.std.specs.Option.{IsSomeAnd};
+ghost use Rattle.bytecode_model.specs.Program.{body_of};
 ghost use Rattle.program_tables.specs.Meanings.{operand_seen};
 ghost use Rattle.program_tables.specs.Numbers.{methods_by_number};
 ghost use Rattle.program_tables.specs.Resolved.{resolved};
 ghost use Rattle.int_sites.specs.Rows.{int_named, pushed_as, pushed_at, put_as, put_at, read_as, read_at, static_named};
 
 use opcodes::Instr;
-use opcodes::mnemonics::{GETSTATIC, PUTSTATIC};
+use opcodes::mnemonics::{GETSTATIC, LDC_W, PUTSTATIC};
 use program_tables::Operand;
 use resolved_program::Program;
 
@@ -61,29 +63,45 @@ fn put_as(op: u8, named: Option<u32>) -> Option<u32>
     if op == PUTSTATIC { named } else { None }
 }
 
-/// The int constant that the instruction at a place of a method pushes.
-pub(crate) fn pushed_at(program: &Program, method: u32, place: u32) -> Option<i32>
-    requires { method < length (methods_by_number program.now) }
+/// The int constant that the instruction at a place of a method of this code pushes.
+pub(crate) fn pushed_at(program: &Program, method: u32, code: &[u8], place: u32) -> Option<i32>
+    requires method { method < length (methods_by_number program.now) }
+    requires code { IsSomeAnd (body_of (resolved program.now) method) (λ b. b.code ≡ code.now) }
+    requires inside { place < length code.now }
     ensures { result ≡ pushed_at (resolved program.now) method place }
 {
+    // None of greater opcodes does, so most instructions needn't be read.
+    if code[place as usize] > LDC_W {
+        return None;
+    }
     let x = program.instruction(method, place)?;
     pushed_as(&x.instr, int_named(x.operand))
 }
 
-/// The static field that the instruction at a place of a method reads.
-pub(crate) fn read_at(program: &Program, method: u32, place: u32) -> Option<u32>
-    requires { method < length (methods_by_number program.now) }
+/// The static field that the instruction at a place of a method of this code reads.
+pub(crate) fn read_at(program: &Program, method: u32, code: &[u8], place: u32) -> Option<u32>
+    requires method { method < length (methods_by_number program.now) }
+    requires code { IsSomeAnd (body_of (resolved program.now) method) (λ b. b.code ≡ code.now) }
+    requires inside { place < length code.now }
     ensures { result ≡ read_at (resolved program.now) method place }
 {
+    if code[place as usize] != GETSTATIC {
+        return None;
+    }
     let x = program.instruction(method, place)?;
     read_as(x.instr.op, static_named(x.operand))
 }
 
-/// The static field that the instruction at a place of a method writes.
-pub(crate) fn put_at(program: &Program, method: u32, place: u32) -> Option<u32>
-    requires { method < length (methods_by_number program.now) }
+/// The static field that the instruction at a place of a method of this code writes.
+pub(crate) fn put_at(program: &Program, method: u32, code: &[u8], place: u32) -> Option<u32>
+    requires method { method < length (methods_by_number program.now) }
+    requires code { IsSomeAnd (body_of (resolved program.now) method) (λ b. b.code ≡ code.now) }
+    requires inside { place < length code.now }
     ensures { result ≡ put_at (resolved program.now) method place }
 {
+    if code[place as usize] != PUTSTATIC {
+        return None;
+    }
     let x = program.instruction(method, place)?;
     put_as(x.instr.op, static_named(x.operand))
 }

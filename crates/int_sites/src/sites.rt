@@ -35,12 +35,20 @@ fn take_away(constants: &mut Vec<Option<i32>>, field: Option<u32>)
 }
 
 /// Takes away the constants of the fields that instructions at these places of a method write.
-fn take_written(program: &Program, method: u32, starts: &[u32], constants: &mut Vec<Option<i32>>)
-    requires { method < length (methods_by_number program.now) }
+fn take_written(
+    program: &Program,
+    method: u32,
+    code: &[u8],
+    starts: &[u32],
+    constants: &mut Vec<Option<i32>>,
+)
+    requires method { method < length (methods_by_number program.now) }
+    requires code { IsSomeAnd (body_of (resolved program.now) method) (λ b. b.code ≡ code.now) }
+    requires within { (p : ℕ) → Contains starts.now p → p < length code.now }
     ensures { AreLeft (put_at (resolved program.now) method) starts.now constants.old.items constants.new.items }
 {
     for place in starts {
-        take_away(constants, put_at(program, method, *place));
+        take_away(constants, put_at(program, method, code, *place));
     }
 }
 
@@ -53,11 +61,13 @@ fn take_written_in(
     constants: &mut Vec<Option<i32>>,
 ) -> Result<(), NoMemory>
     requires method { method < length (methods_by_number program.now) }
+    requires code { IsSomeAnd (body_of (resolved program.now) method) (λ b. b.code ≡ code.now) }
     requires short { length code.now < 65536 }
     ensures { OnOk result (AreLeft (put_at (resolved program.now) method) (starts_of code.now) constants.old.items constants.new.items) }
 {
+    starts_follow_one_another();
     let starts = starts(alloc, code)?;
-    take_written(program, method, &starts, constants);
+    take_written(program, method, code, &starts, constants);
     Ok(())
 }
 
@@ -92,16 +102,17 @@ fn ints_pushed(
     alloc: Global,
     program: &Program,
     method: u32,
+    code: &[u8],
     starts: &[u32],
-    size: usize,
 ) -> Result<Vec<Option<i32>>, NoMemory>
     requires method { method < length (methods_by_number program.now) }
-    requires within { (p : ℕ) → Contains starts.now p → p < size }
+    requires code { IsSomeAnd (body_of (resolved program.now) method) (λ b. b.code ≡ code.now) }
+    requires within { (p : ℕ) → Contains starts.now p → p < length code.now }
     ensures { IfOk result (λ ints. AreIntsOf (pushed_at (resolved program.now) method) starts.now ints.items) }
 {
-    let mut ints = vec![in alloc; None; size]?;
+    let mut ints = vec![in alloc; None; code.len()]?;
     for place in starts {
-        ints[*place as usize] = pushed_at(program, method, *place);
+        ints[*place as usize] = pushed_at(program, method, code, *place);
     }
     Ok(ints)
 }
@@ -112,16 +123,17 @@ fn constants_read(
     program: &Program,
     constants: &[Option<i32>],
     method: u32,
+    code: &[u8],
     starts: &[u32],
-    size: usize,
 ) -> Result<Vec<Option<i32>>, NoMemory>
     requires method { method < length (methods_by_number program.now) }
-    requires within { (p : ℕ) → Contains starts.now p → p < size }
+    requires code { IsSomeAnd (body_of (resolved program.now) method) (λ b. b.code ≡ code.now) }
+    requires within { (p : ℕ) → Contains starts.now p → p < length code.now }
     ensures { IfOk result (λ ints. AreIntsOf (constant_read (resolved program.now) (int_at constants.now) method) starts.now ints.items) }
 {
-    let mut ints = vec![in alloc; None; size]?;
+    let mut ints = vec![in alloc; None; code.len()]?;
     for place in starts {
-        ints[*place as usize] = constant_of(constants, read_at(program, method, *place));
+        ints[*place as usize] = constant_of(constants, read_at(program, method, code, *place));
     }
     Ok(ints)
 }
@@ -141,8 +153,8 @@ fn sites_of(
 {
     starts_follow_one_another();
     let starts = starts(alloc, code)?;
-    let pushed = ints_pushed(alloc, program, method, &starts, code.len())?;
-    let fields = constants_read(alloc, program, constants, method, &starts, code.len())?;
+    let pushed = ints_pushed(alloc, program, method, code, &starts)?;
+    let fields = constants_read(alloc, program, constants, method, code, &starts)?;
     Ok(MethodSites::new(pushed, fields))
 }
 

@@ -10,15 +10,15 @@ use Rattle.outside.specs.Files.{AreFiles}
 use Rattle.jopizer.specs.Linked.{Parts, IsLinked, image_of}
 use Rattle.jopizer.specs.Laws.{OneLinked, LinkedImagesAreRead}
 use Rattle.jop_cli.specs.declared.asking.Asked.{Asked}
-use Rattle.jop_cli.specs.declared.outcome.Answer.{Answer}
-use Rattle.jop_cli.specs.declared.outcome.Answer.TheVariants.{Text, Ends}
-use Rattle.jop_cli.specs.declared.outcome.Ending.{Ending}
-use Rattle.jop_cli.specs.declared.outcome.Ending.TheVariants as endings
-use Rattle.jop_cli.specs.Line.{text_at}
-use Rattle.jop_cli.specs.LinkedRun.{linked_setting}
-use Rattle.jop_cli.specs.Phase.{is_linked as is_linked_file}
-use Rattle.jop_cli.specs.World.{IsQuiet, IsUntaken}
-use Rattle.jop_cli.specs.Linking.{files_of, OperandsFault}
+use Rattle.commands.specs.declared.outcome.Answer.{Answer}
+use Rattle.commands.specs.declared.outcome.Answer.TheVariants.{Text, Ends}
+use Rattle.commands.specs.declared.outcome.Ending.{Ending}
+use Rattle.commands.specs.declared.outcome.Ending.TheVariants as endings
+use Rattle.commands.specs.Line.{text_of_word}
+use Rattle.commands.specs.LinkedRun.{linked_setting}
+use Rattle.commands.specs.Phase.{is_linked as is_linked_file}
+use Rattle.commands.specs.World.{IsQuiet, IsUntaken}
+use Rattle.commands.specs.Linking.{files_of, OperandsFault}
 use Rattle.jop_cli.specs.Asking.{IsAnswer, AnswersLinked, Answers, PutsAnswer, AsksRead, AsksFiles}
 use Rattle.jop_cli.specs.Calls.{Call, NothingFailed, AreTold}
 use Rattle.jop_cli.proofs.Wholly.{same_files, files_read}
@@ -35,22 +35,22 @@ pub data Comes (c : Call) (asked : Asked) (l : Parts) (operands : List (List ℕ
   says : IsAnswer c.words asked.question l operands (Ends ending) → IsQuiet c.old c.new → IsSound l → Comes c asked l operands ending
   lacking : ending ≡ endings.NoMemory → IsQuiet c.old c.new → Comes c asked l operands ending
 
-module _ (linked_one : OneLinked) (images : LinkedImagesAreRead) (c : Call) (n : NothingFailed c) (asked : Asked) (l : Parts) (operands : List (List ℕ)) (many : asked.image + asked.operands ≡ c.old.words) (told : AreTold c asked.image operands) (is_linked : IsLinked l) (is_file : file.IsLinked (text_at operands 0) (image_of l)) where
+module _ (linked_one : OneLinked) (images : LinkedImagesAreRead) (c : Call) (n : NothingFailed c) (asked : Asked) (l : Parts) (operands : List (List ℕ)) (many : asked.image + asked.operands ≡ c.old.words) (told : AreTold c asked.image operands) (is_linked : IsLinked l) (is_file : file.IsLinkedFile (text_of_word operands 0) (image_of l)) where
   of_linked : (answer : Answer) → AnswersLinked c.words asked.question operands answer → IsAnswer c.words asked.question l operands answer
   of_linked answer r =
-      let same : r.linked ≡ l = linked_one (text_at operands 0) r.linked l r.is_linked is_linked r.is_file is_file in
+      let same : r.linked ≡ l = linked_one (text_of_word operands 0) r.linked l r.is_linked is_linked r.is_file is_file in
       subst (λ (p : Parts). IsAnswer c.words asked.question p operands answer) same r.answers
 
   sound : (answer : Answer) → AnswersLinked c.words asked.question operands answer → IsSound l
   sound answer r =
-      let same : r.linked ≡ l = linked_one (text_at operands 0) r.linked l r.is_linked is_linked r.is_file is_file in
+      let same : r.linked ≡ l = linked_one (text_of_word operands 0) r.linked l r.is_linked is_linked r.is_file is_file in
       let is : IsSound r.linked = record { resolved = r.are_resolved; setting = r.setting } in
       subst IsSound same is
 
   -- its bytes begin as those of a linked image
-  not_bare : is_linked_file (text_at operands 0) ≡ false → ⊥
+  not_bare : is_linked_file (text_of_word operands 0) ≡ false → ⊥
   not_bare bare =
-      let clash : false ≡ true = sym bare ∙ begins_linked (text_at operands 0) (image_of l) is_file in
+      let clash : false ≡ true = sym bare ∙ begins_linked (text_of_word operands 0) (image_of l) is_file in
       absurd (cc)
 
   text_comes : (text : Vec ℕ Global) → Answers c.words asked.question operands (Text text) → IsAnswer c.words asked.question l operands (Text text) × IsSound l
@@ -63,7 +63,7 @@ module _ (linked_one : OneLinked) (images : LinkedImagesAreRead) (c : Call) (n :
   line_comes : (ending : Ending) → IsQuiet c.old c.new → Answers c.words asked.question operands (Ends ending) → Comes c asked l operands ending
   line_comes ending quiet answers =
       ⊎_elim
-      (λ linked. ⊎_elim (λ fault. lacking (is_read images (text_at operands 0) l is_linked is_file ending fault) quiet) (λ r. says (of_linked (Ends ending) r) quiet (sound (Ends ending) r)) linked.1)
+      (λ linked. ⊎_elim (λ fault. lacking (is_read images (text_of_word operands 0) l is_linked is_file ending fault) quiet) (λ r. says (of_linked (Ends ending) r) quiet (sound (Ends ending) r)) linked.1)
       (λ bare. absurd (not_bare bare.0))
       answers
 

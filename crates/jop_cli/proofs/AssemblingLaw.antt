@@ -1,7 +1,7 @@
 -- A text that is assembled is listed, and what refuses a text is answered.
 use Rattle.std.proofs.Common.{◌≡◌, ℕ, suc, List, [], ◌∷◌, ◌++◌, length, Option, Some, map, refl, sym, ◌∙◌, ap, ap₂, subst, arith, ◌⊎◌, inl, inr}
 use Rattle.std.specs.List.{flat_map}
-use Rattle.lists.specs.Lemmas.{none≢some, some_same}
+use Rattle.lists.proofs.Lemmas.{none≢some, some_same}
 use Rattle.outside.specs.Outside.{Grew}
 use Rattle.microcode_asm.specs.Statements.{Line}
 use Rattle.microcode_asm.specs.declared.AsmKind.{AsmKind}
@@ -10,12 +10,12 @@ use Rattle.microcode_asm.specs.Programs.{word_count, places_of, fault_of}
 use Rattle.microcode_asm.specs.Roms.{IsProgram, IsAssembled, IsFirstRefused, HasTooManyWords, words_of}
 use Rattle.microcode_asm.specs.Listing.{listing_of}
 use Rattle.command_line.specs.declared.command.Command.TheVariants.{Asm as Assemble}
-use Rattle.jop_cli.specs.declared.outcome.AsmRefusal.{AsmRefusal}
-use Rattle.jop_cli.specs.declared.outcome.AsmRefusal.TheVariants as asm
-use Rattle.jop_cli.specs.declared.outcome.Refusal.TheVariants as refusals
-use Rattle.jop_cli.specs.declared.outcome.Ending.{Ending}
-use Rattle.jop_cli.specs.declared.outcome.Ending.TheVariants as endings
-use Rattle.jop_cli.specs.Assembling.{IsListing, IsNoProgram, Assembles}
+use Rattle.commands.specs.declared.outcome.AsmRefusal.{AsmRefusal}
+use Rattle.commands.specs.declared.outcome.AsmRefusal.TheVariants as asm
+use Rattle.commands.specs.declared.outcome.Refusal.TheVariants as refusals
+use Rattle.commands.specs.declared.outcome.Ending.{Ending}
+use Rattle.commands.specs.declared.outcome.Ending.TheVariants as endings
+use Rattle.commands.specs.Assembling.{IsListing, IsNoProgram, Assembles}
 use Rattle.jop_cli.specs.Calls.{Call, NothingFailed, LacksMemory, IsTold}
 use Rattle.jop_cli.specs.Correct.{IsListed, AssemblingIsComplete, AnswersEnding, AsmRefusalsAreAnswered, AsmRefusalsAreOne}
 use Rattle.jop_cli.proofs.Wholly.{IsWholly, wholly, executed, same_bytes, length_told}

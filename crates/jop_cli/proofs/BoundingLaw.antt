@@ -3,7 +3,7 @@ use Rattle.std.proofs.Common.{◌≡◌, ℕ, List, [], ◌∷◌, Some, sym, �
 use Rattle.std.specs.Prelude.{Vec}
 use Rattle.std.specs.declared.alloc.Global.{Global}
 use Rattle.std.specs.List.{concat}
-use Rattle.lists.specs.Lemmas.{none≢some}
+use Rattle.lists.proofs.Lemmas.{none≢some}
 use Rattle.outside.specs.Outside.{Grew}
 use Rattle.program_tables.specs.Resolved.{resolved}
 use Rattle.bytecode_model.specs.Program.{body_of}
@@ -23,20 +23,20 @@ use Rattle.analysis_commands.specs.declared.analysis.AnalysisFault.TheVariants a
 use Rattle.analysis_commands.specs.declared.bound.NotBounded.{NotBounded}
 use Rattle.analysis_commands.specs.declared.bound.NotBounded.TheVariants as bound
 use Rattle.analysis_commands.specs.Analysis.{timing_of, bounds_of, named_or_number, IsAnalysisFault}
-use Rattle.analysis_commands.specs.Bounding.{IsNamed, IsBoundBy, cause_of, subject_of, IsForbidden, IsNotBounded}
+use Rattle.analysis_commands.specs.Bounding.{MethodHasName, IsBoundBy, cause_of, subject_of, IsForbidden, IsNotBounded}
 use Rattle.activations.specs.Warrant.{BoundsActivations}
 use Rattle.command_line.specs.declared.command.Settings.{Settings}
 use Rattle.command_line.specs.declared.command.Command.TheVariants.{Bound}
 use Rattle.jopizer.specs.Linked.{Parts}
 use Rattle.jopizer.specs.Laws.{OneLinked, LinkedImagesAreRead}
-use Rattle.jop_cli.specs.declared.outcome.Refusal.TheVariants.{Bound as Forbidden}
-use Rattle.jop_cli.specs.declared.outcome.Ending.{Ending}
-use Rattle.jop_cli.specs.declared.outcome.Ending.TheVariants as endings
-use Rattle.jop_cli.specs.declared.outcome.Outcome.TheVariants as outcomes
-use Rattle.jop_cli.specs.Line.{line_of}
-use Rattle.jop_cli.specs.World.{IsQuiet}
-use Rattle.jop_cli.specs.Checking.{fault_ending}
-use Rattle.jop_cli.specs.Bounding.{cause_ending, Bounds, EndsNotBounded}
+use Rattle.commands.specs.declared.outcome.Refusal.TheVariants.{Bound as Forbidden}
+use Rattle.commands.specs.declared.outcome.Ending.{Ending}
+use Rattle.commands.specs.declared.outcome.Ending.TheVariants as endings
+use Rattle.commands.specs.declared.outcome.Outcome.TheVariants as outcomes
+use Rattle.commands.specs.Line.{line_of}
+use Rattle.commands.specs.World.{IsQuiet}
+use Rattle.commands.specs.Checking.{fault_ending}
+use Rattle.commands.specs.Bounding.{cause_ending, Bounds, EndsNotBounded}
 use Rattle.jop_cli.specs.Tasks.{bounding}
 use Rattle.jop_cli.specs.Answer.{outcome_of}
 use Rattle.jop_cli.specs.Calls.{Call, NothingFailed, LacksMemory}
@@ -49,10 +49,10 @@ use Rattle.jop_cli.proofs.CheckingLaw.{answers}
 
 -- what a method of this name comes to, with these bounds: a certificate was put, which holds; or this forbids a bound; or there was no memory
 pub data Settled (c : Call) (s : Settings) (l : Parts) (lines : List LoopBound) (name : List ℕ) (ending : Ending) : Type 0 where
-  bounded : ending ≡ endings.Written → (d : Certificate) → IsBoundBy (resolved l.classes) (timing_of s) (bounds_of l.classes lines) (IsNamed l.classes name) d → IsInGrammar d → Grew c.old.out c.new.out (text_of d)
+  bounded : ending ≡ endings.Written → (d : Certificate) → IsBoundBy (resolved l.classes) (timing_of s) (bounds_of l.classes lines) (MethodHasName l.classes name) d → IsInGrammar d → Grew c.old.out c.new.out (text_of d)
       → BoundsActivations (resolved l.classes) (timing_of s) (bounds_of l.classes lines) d.root d.bound → IsSound l → Settled c s l lines name ending
   forbidden : (cause : BoundCause) (subject : Vec ℕ Global) → ending ≡ endings.NotAnswered (unanswered.Bound cause) subject → (refusal : BoundRefusal)
-      → IsCause (resolved l.classes) (timing_of s) (bounds_of l.classes lines) (IsNamed l.classes name) refusal → cause_of refusal ≡ Some cause → subject.items ≡ subject_of (named_or_number l.classes) refusal
+      → IsCause (resolved l.classes) (timing_of s) (bounds_of l.classes lines) (MethodHasName l.classes name) refusal → cause_of refusal ≡ Some cause → subject.items ≡ subject_of (named_or_number l.classes) refusal
       → IsQuiet c.old c.new → IsSound l → Settled c s l lines name ending
   lacking : ending ≡ endings.NoMemory → IsQuiet c.old c.new → Settled c s l lines name ending
 
@@ -62,7 +62,7 @@ module _ (one : GivesOne) (not_refused : ReadIsNotRefused) (c : Call) (s : Setti
       let k = b.is in
       let same : k.bounds ≡ lines = one h.bounds_text k.bounds lines k.bounds_read h.read in
       bounded says k.certificate
-      (subst (λ (x : List LoopBound). IsBoundBy (resolved l.classes) (timing_of s) (bounds_of l.classes x) (IsNamed l.classes name) k.certificate) same k.is)
+      (subst (λ (x : List LoopBound). IsBoundBy (resolved l.classes) (timing_of s) (bounds_of l.classes x) (MethodHasName l.classes name) k.certificate) same k.is)
       k.reads.grammar
       (subst (λ (x : List ℕ). Grew c.old.out c.new.out x) k.text_is put)
       (subst (λ (x : List LoopBound). BoundsActivations (resolved l.classes) (timing_of s) (bounds_of l.classes x) k.certificate.root k.certificate.bound) same b.holds)
@@ -84,7 +84,7 @@ module _ (one : GivesOne) (not_refused : ReadIsNotRefused) (c : Call) (s : Setti
   forbidden_settled ending quiet sound cause subject says k =
       let same : k.bounds ≡ lines = one h.bounds_text k.bounds lines k.bounds_read h.read in
       forbidden cause subject says k.refusal
-      (subst (λ (x : List LoopBound). IsCause (resolved l.classes) (timing_of s) (bounds_of l.classes x) (IsNamed l.classes name) k.refusal) same k.is)
+      (subst (λ (x : List LoopBound). IsCause (resolved l.classes) (timing_of s) (bounds_of l.classes x) (MethodHasName l.classes name) k.refusal) same k.is)
       k.cause_is k.subject_is quiet sound
 
   cause_settled : (ending : Ending) → IsQuiet c.old c.new → IsSound l → (cause : NotBounded) → IsNotBounded l.classes s h.bounds_text name cause → ending ≡ cause_ending s cause → Settled c s l lines name ending
@@ -112,7 +112,7 @@ module _ (one : GivesOne) (not_refused : ReadIsNotRefused) (c : Call) (s : Setti
 
 -- want of memory forbids nothing
 pub forbids_so : (s : Settings) (l : Parts) (lines : List LoopBound) (name : List ℕ) (refusal : BoundRefusal) (cause : BoundCause) → cause_of refusal ≡ Some cause
-    → IsCause (resolved l.classes) (timing_of s) (bounds_of l.classes lines) (IsNamed l.classes name) refusal → Forbids s l lines name refusal
+    → IsCause (resolved l.classes) (timing_of s) (bounds_of l.classes lines) (MethodHasName l.classes name) refusal → Forbids s l lines name refusal
 forbids_so s l lines name forbids.NoMemory cause is h = absurd (none≢some cause is)
 forbids_so s l lines name forbids.NoMethod cause is h = h
 forbids_so s l lines name (forbids.Recursion cycle) cause is h = h
@@ -121,7 +121,7 @@ forbids_so s l lines name (forbids.MissingBound m p) cause is h = h
 forbids_so s l lines name (forbids.TooLarge m) cause is h = h
 
 module _ (c : Call) (s : Settings) (l : Parts) (lines : List LoopBound) (name : List ℕ) (ending : Ending) (w : IsWholly c ending) where
-  is_bounded : ending ≡ endings.Written → (d : Certificate) → IsBoundBy (resolved l.classes) (timing_of s) (bounds_of l.classes lines) (IsNamed l.classes name) d → IsInGrammar d → Grew c.old.out c.new.out (text_of d)
+  is_bounded : ending ≡ endings.Written → (d : Certificate) → IsBoundBy (resolved l.classes) (timing_of s) (bounds_of l.classes lines) (MethodHasName l.classes name) d → IsInGrammar d → Grew c.old.out c.new.out (text_of d)
       → IsBounded c s l lines name
   is_bounded says d is grammar put = record {
     outcome = w.outcome ∙ ap outcome_of says;

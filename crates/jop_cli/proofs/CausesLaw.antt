@@ -1,6 +1,6 @@
 -- A cause that forbids a bound is the one that is answered.
 use Rattle.std.proofs.Common.{◌≡◌, ℕ, List, Some, refl, sym, ◌∙◌, ap, ap₂, ◌⊎◌, inl, inr}
-use Rattle.lists.specs.Lemmas.{some_same}
+use Rattle.lists.proofs.Lemmas.{some_same}
 use Rattle.program_tables.specs.Resolved.{resolved}
 use Rattle.method_names.specs.Names.{NamesAreOne}
 use Rattle.loop_bounds.specs.Bounds.{LoopBound}
@@ -18,9 +18,9 @@ use Rattle.command_line.specs.declared.command.Settings.{Settings}
 use Rattle.command_line.specs.Range.{AreSettings}
 use Rattle.jopizer.specs.Linked.{Parts}
 use Rattle.jopizer.specs.Laws.{OneLinked, LinkedImagesAreRead}
-use Rattle.jop_cli.specs.declared.outcome.Refusal.TheVariants.{Bound as Forbidden}
-use Rattle.jop_cli.specs.declared.outcome.Ending.{Ending}
-use Rattle.jop_cli.specs.declared.outcome.Outcome.TheVariants as outcomes
+use Rattle.commands.specs.declared.outcome.Refusal.TheVariants.{Bound as Forbidden}
+use Rattle.commands.specs.declared.outcome.Ending.{Ending}
+use Rattle.commands.specs.declared.outcome.Outcome.TheVariants as outcomes
 use Rattle.jop_cli.specs.Answer.{outcome_of}
 use Rattle.jop_cli.specs.Calls.{Call, LacksMemory}
 use Rattle.jop_cli.specs.Correct.{Forbids, AnswersForbidden, CausesAreAnswered}

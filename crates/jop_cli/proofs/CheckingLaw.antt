@@ -15,7 +15,7 @@ use Rattle.bound_cert.specs.Laws.{HasOneCertificate}
 use Rattle.ascii_text.specs.Line.{lines_of as text_lines}
 use Rattle.bound_rules.specs.declared.faults.CheckFault.{CheckFault}
 use Rattle.bound_rules.specs.Conditions.{MeetsConditions}
-use Rattle.bound_rules.specs.Refused.{IsRefused}
+use Rattle.bound_rules.specs.Refused.{IsCertRefused}
 use Rattle.bound_rules.specs.Laws.{FaultsAreOne, RefusedIsNotMet}
 use Rattle.answer_lines.specs.AnalysisLines.{held_parts, fault_parts}
 use Rattle.analysis_commands.specs.declared.analysis.AnalysisFault.{AnalysisFault}
@@ -24,20 +24,20 @@ use Rattle.analysis_commands.specs.declared.check.Held.{Held}
 use Rattle.analysis_commands.specs.declared.check.CheckRefusal.{CheckRefusal}
 use Rattle.analysis_commands.specs.declared.check.CheckRefusal.TheVariants as check
 use Rattle.analysis_commands.specs.Analysis.{timing_of, bounds_of, name_of, IsAnalysisFault}
-use Rattle.analysis_commands.specs.Checking.{FailsBy, IsRefusal, fault_name}
+use Rattle.analysis_commands.specs.Checking.{FailsBy, IsCheckRefusal, fault_name}
 use Rattle.activations.specs.Warrant.{BoundsActivations}
 use Rattle.command_line.specs.declared.command.Settings.{Settings}
 use Rattle.command_line.specs.declared.command.Command.TheVariants.{Check}
 use Rattle.jopizer.specs.Linked.{Parts}
 use Rattle.jopizer.specs.Laws.{OneLinked, LinkedImagesAreRead}
-use Rattle.jop_cli.specs.declared.outcome.Refusal.TheVariants.{Check as NotChecked}
-use Rattle.jop_cli.specs.declared.outcome.Ending.{Ending}
-use Rattle.jop_cli.specs.declared.outcome.Ending.TheVariants as endings
-use Rattle.jop_cli.specs.declared.outcome.Outcome.{Outcome}
-use Rattle.jop_cli.specs.declared.outcome.Outcome.TheVariants as outcomes
-use Rattle.jop_cli.specs.Line.{line_of}
-use Rattle.jop_cli.specs.World.{IsQuiet}
-use Rattle.jop_cli.specs.Checking.{fault_ending, refusal_ending, Checks, EndsHeld, EndsRefused}
+use Rattle.commands.specs.declared.outcome.Refusal.TheVariants.{Check as NotChecked}
+use Rattle.commands.specs.declared.outcome.Ending.{Ending}
+use Rattle.commands.specs.declared.outcome.Ending.TheVariants as endings
+use Rattle.commands.specs.declared.outcome.Outcome.{Outcome}
+use Rattle.commands.specs.declared.outcome.Outcome.TheVariants as outcomes
+use Rattle.commands.specs.Line.{line_of}
+use Rattle.commands.specs.World.{IsQuiet}
+use Rattle.commands.specs.Checking.{fault_ending, refusal_ending, Checks, EndsHeld, EndsRefused}
 use Rattle.jop_cli.specs.Tasks.{checking}
 use Rattle.jop_cli.specs.Answer.{outcome_of}
 use Rattle.jop_cli.specs.Calls.{Call, NothingFailed, LacksMemory}
@@ -50,7 +50,7 @@ use Rattle.jop_cli.proofs.AskingLaw as asked
 -- what this certificate comes to, with these bounds: it meets the conditions, or is refused by the first that fails; or there was no memory
 data Settled (cs : List ClassFile) (s : Settings) (lines : List LoopBound) (c : Certificate) (ending : Ending) : Type 0 where
   holds : (held : Held) → ending ≡ endings.Holds held → MeetsConditions (resolved cs) (timing_of s) (bounds_of cs lines) c → BoundsActivations (resolved cs) (timing_of s) (bounds_of cs lines) c.root c.bound → held.name.items ≡ name_of cs c.root → held.bound ≡ c.bound → Settled cs s lines c ending
-  fails : (fault : CheckFault) (name : Vec ℕ Global) → ending ≡ endings.NotHeld fault name → IsRefused (resolved cs) (timing_of s) (bounds_of cs lines) c fault → name.items ≡ fault_name cs fault → Settled cs s lines c ending
+  fails : (fault : CheckFault) (name : Vec ℕ Global) → ending ≡ endings.NotHeld fault name → IsCertRefused (resolved cs) (timing_of s) (bounds_of cs lines) c fault → name.items ≡ fault_name cs fault → Settled cs s lines c ending
   lacking : ending ≡ endings.NoMemory → Settled cs s lines c ending
 
 module _ (one : GivesOne) (not_refused : ReadIsNotRefused) (certified : HasOneCertificate) (c : Call) (s : Settings) (image : ℕ) (l : Parts) (lines : List LoopBound) (certificate : Certificate) (h : ChecksTexts c s image l lines certificate) where
@@ -72,8 +72,8 @@ module _ (one : GivesOne) (not_refused : ReadIsNotRefused) (certified : HasOneCe
   fails_settled ending fault name says k is =
       let same_lines : k.bounds ≡ lines = one h.bounds_text k.bounds lines k.reads.bounds_read h.read in
       let same : k.certificate ≡ certificate = certified (text_lines h.cert_text) k.certificate certificate k.reads.cert_read h.text in
-      let refused = subst (λ (b : List LoopBound). IsRefused (resolved l.classes) (timing_of s) (bounds_of l.classes b) k.certificate fault) same_lines k.refused in
-      fails fault name says (subst (λ (x : Certificate). IsRefused (resolved l.classes) (timing_of s) (bounds_of l.classes lines) x fault) same refused) is
+      let refused = subst (λ (b : List LoopBound). IsCertRefused (resolved l.classes) (timing_of s) (bounds_of l.classes b) k.certificate fault) same_lines k.refused in
+      fails fault name says (subst (λ (x : Certificate). IsCertRefused (resolved l.classes) (timing_of s) (bounds_of l.classes lines) x fault) same refused) is
 
   analysed : (ending : Ending) (fault : AnalysisFault) → IsAnalysisFault l.classes s h.bounds_text fault → ending ≡ fault_ending s fault → Settled l.classes s lines certificate ending
   analysed ending (analysis.MethodTooLong m name blocks) cause says =
@@ -89,7 +89,7 @@ module _ (one : GivesOne) (not_refused : ReadIsNotRefused) (certified : HasOneCe
   refused_settled : (ending : Ending) (r : EndsRefused l.classes s h.bounds_text h.cert_text ending) → Settled l.classes s lines certificate ending
   refused_settled ending r = by_refusal r.refusal r.cause r.says
     where
-      by_refusal : (refusal : CheckRefusal) → IsRefusal l.classes s h.bounds_text h.cert_text refusal → ending ≡ refusal_ending s refusal → Settled l.classes s lines certificate ending
+      by_refusal : (refusal : CheckRefusal) → IsCheckRefusal l.classes s h.bounds_text h.cert_text refusal → ending ≡ refusal_ending s refusal → Settled l.classes s lines certificate ending
       by_refusal (check.NoAnalysis fault) cause says = analysed ending fault cause says
       by_refusal (check.BadCert line) cause says = absurd (cause.1.first.none certificate h.text)
       by_refusal (check.Fails fault name) cause says = fails_settled ending fault name says cause.0 cause.1
@@ -128,7 +128,7 @@ module _ (c : Call) (ending : Ending) (w : IsWholly c ending) (quiet : IsQuiet c
   holds_answered cs s lines d law meets (fails fault name is refused name_is) = absurd (law (resolved cs) (timing_of s) (bounds_of cs lines) d fault refused meets)
   holds_answered cs s lines d law meets (lacking is) = inr (lacks c ending w is quiet)
 
-  fault_answered : (cs : List ClassFile) (s : Settings) (lines : List LoopBound) (d : Certificate) (fault : CheckFault) → RefusedIsNotMet → FaultsAreOne → IsRefused (resolved cs) (timing_of s) (bounds_of cs lines) d fault → Settled cs s lines d ending
+  fault_answered : (cs : List ClassFile) (s : Settings) (lines : List LoopBound) (d : Certificate) (fault : CheckFault) → RefusedIsNotMet → FaultsAreOne → IsCertRefused (resolved cs) (timing_of s) (bounds_of cs lines) d fault → Settled cs s lines d ending
       → AnswersLine c (outcomes.Refused (NotChecked fault)) (fault_parts fault (fault_name cs fault)) ⊎ LacksMemory c
   fault_answered cs s lines d fault law faults refused (holds held is meets kept name bound) = absurd (law (resolved cs) (timing_of s) (bounds_of cs lines) d fault refused meets)
   fault_answered cs s lines d fault law faults refused (fails other name is refused' name_is) =

@@ -3,7 +3,7 @@ use Rattle.std.proofs.Common.{◌≡◌, ℕ, ◌≤◌, Bool, List, [], ◌++�
 use Rattle.std.specs.Prelude.{slice_get, Vec}
 use Rattle.bytecode_model.specs.Types.{default}
 use Rattle.std.specs.declared.alloc.Global.{Global}
-use Rattle.lists.specs.Lemmas.{onto_some, some_same}
+use Rattle.lists.proofs.Lemmas.{onto_some, some_same}
 use Rattle.class_pool.specs.declared.class.ClassFile.{ClassFile}
 use Rattle.outside.specs.Outside.{Grew}
 use Rattle.device_traits.specs.Told.{Told, GivesEach}
@@ -19,14 +19,15 @@ use Rattle.bytecode_typing.specs.Fits.{IsGoing}
 use Rattle.boundary.specs.declared.runs.RunEnd.TheVariants as ends
 use Rattle.boundary.specs.Setting.{Setting, IsSetting}
 use Rattle.boundary.specs.Activations.{Stage}
-use Rattle.boundary.specs.Runs.{IsRun, RunsOn}
+use Rattle.boundary.specs.Runs.{IsRun, RunsOn, IsEnd}
 use Rattle.boundary.specs.Traces.{TracesOn, unnoted, run_text}
 use Rattle.run_devices.specs.Lent.{Lent, wired}
 use Rattle.answer_lines.specs.declared.line.Counts.{Counts}
-use Rattle.jop_cli.specs.declared.outcome.Ending.TheVariants as endings
-use Rattle.jop_cli.specs.Show.{Shown, Output, Trace}
-use Rattle.jop_cli.specs.Run.{AreCounts, RunsCounted}
-use Rattle.jop_cli.specs.LinkedFile.{NamesClass}
+use Rattle.commands.specs.declared.outcome.Ending.TheVariants as endings
+use Rattle.commands.specs.Show.{Shown, Output, Trace}
+use Rattle.commands.specs.Run as run
+use Rattle.commands.specs.Run.{AreCounts, Ran}
+use Rattle.commands.specs.LinkedFile.{NamesClass}
 use Rattle.jop_cli.specs.Calls.{Call}
 use Rattle.jop_cli.specs.Courses.{AnswersMode, RanProgram, TracedProgram, RanShown}
 use Rattle.jop_cli.proofs.Wholly.{IsWholly}
@@ -126,27 +127,33 @@ module _ (c : Call) (cs : List ClassFile) (g : Setting) (reset : machine.State) 
   later : (m now : machine.State) → m ≡ now → limit ≤ now.clock → limit ≤ m.clock
   later m now is late = subst (λ (x : machine.State). limit ≤ x.clock) (sym is) late
 
-  pub ended : (shown : Shown) (counts : Counts) → RunsCounted shown g reset limit ends.Ended old new counts → IsWholly c (endings.Ended counts) → RanShown shown c cs g reset limit old new
-  ended Output counts (r, are) w =
-      ran r.is_setting r.boot r.is_boot r.now (λ s. s.mode ≡ modes.Ended) r.runs (λ last is holds. at_end c cs limit last.machine last.state.mode counts (moved counts last.machine r.now is are) holds w)
-  ended (Trace cycles names) counts (r, are) w =
+  pub ended : (shown : Shown) (counts : Counts) → Ran shown g reset limit old new (run.ended ends.Ended counts) → IsWholly c (endings.Ended counts) → RanShown shown c cs g reset limit old new
+  ended Output counts h w =
+      let r = h.run in
+      ran r.is_setting r.boot r.is_boot r.now (IsEnd limit r.now ends.Ended) r.runs (λ last is holds. at_end c cs limit last.machine last.state.mode counts (moved counts last.machine r.now is h.counts) holds w)
+  ended (Trace cycles names) counts h w =
+      let r = h.run in
       let t = r.runs in
-      noted r.is_setting cycles names r.boot r.is_boot r.now (λ s. s.mode ≡ modes.Ended) t.after t.traces t.left t.noted t.watch (λ last is holds. at_end c cs limit last.machine last.state.mode counts (moved counts last.machine r.now is are) holds w)
+      noted r.is_setting cycles names r.boot r.is_boot r.now (IsEnd limit r.now ends.Ended) t.after t.traces t.left t.noted t.watch (λ last is holds. at_end c cs limit last.machine last.state.mode counts (moved counts last.machine r.now is h.counts) holds w)
 
-  pub uncaught : (shown : Shown) (class : ℕ) (name : Vec ℕ Global) (counts : Counts) → NamesClass cs class name.items → RunsCounted shown g reset limit (ends.Uncaught class) old new counts → IsWholly c (endings.Uncaught class name counts)
+  pub uncaught : (shown : Shown) (class : ℕ) (name : Vec ℕ Global) (counts : Counts) → NamesClass cs class name.items → Ran shown g reset limit old new (run.ended (ends.Uncaught class) counts) → IsWholly c (endings.Uncaught class name counts)
       → RanShown shown c cs g reset limit old new
-  uncaught Output class name counts names (r, are) w =
-      ran r.is_setting r.boot r.is_boot r.now (λ s. s.mode ≡ modes.Uncaught class) r.runs (λ last is holds. at_uncaught c cs limit last.machine last.state.mode counts (moved counts last.machine r.now is are) class name holds names w)
-  uncaught (Trace cycles texts) class name counts names (r, are) w =
+  uncaught Output class name counts names h w =
+      let r = h.run in
+      ran r.is_setting r.boot r.is_boot r.now (IsEnd limit r.now (ends.Uncaught class)) r.runs (λ last is holds. at_uncaught c cs limit last.machine last.state.mode counts (moved counts last.machine r.now is h.counts) class name holds names w)
+  uncaught (Trace cycles texts) class name counts names h w =
+      let r = h.run in
       let t = r.runs in
-      noted r.is_setting cycles texts r.boot r.is_boot r.now (λ s. s.mode ≡ modes.Uncaught class) t.after t.traces t.left t.noted t.watch
-      (λ last is holds. at_uncaught c cs limit last.machine last.state.mode counts (moved counts last.machine r.now is are) class name holds names w)
+      noted r.is_setting cycles texts r.boot r.is_boot r.now (IsEnd limit r.now (ends.Uncaught class)) t.after t.traces t.left t.noted t.watch
+      (λ last is holds. at_uncaught c cs limit last.machine last.state.mode counts (moved counts last.machine r.now is h.counts) class name holds names w)
 
-  pub spent : (shown : Shown) (counts : Counts) → RunsCounted shown g reset limit ends.Spent old new counts → IsWholly c (endings.Spent counts) → RanShown shown c cs g reset limit old new
-  spent Output counts (r, are) w =
-      ran r.is_setting r.boot r.is_boot r.now (λ s. IsGoing s.mode) r.runs.0
-      (λ last is holds. at_spent c cs limit last.machine last.state.mode counts (moved counts last.machine r.now is are) holds (later last.machine r.now is r.runs.1) w)
-  spent (Trace cycles names) counts (r, are) w =
+  pub spent : (shown : Shown) (counts : Counts) → Ran shown g reset limit old new (run.ended ends.Spent counts) → IsWholly c (endings.Spent counts) → RanShown shown c cs g reset limit old new
+  spent Output counts h w =
+      let r = h.run in
+      ran r.is_setting r.boot r.is_boot r.now (IsEnd limit r.now ends.Spent) r.runs
+      (λ last is holds. at_spent c cs limit last.machine last.state.mode counts (moved counts last.machine r.now is h.counts) holds.0 (later last.machine r.now is holds.1) w)
+  spent (Trace cycles names) counts h w =
+      let r = h.run in
       let t = r.runs in
-      noted r.is_setting cycles names r.boot r.is_boot r.now (λ s. IsGoing s.mode) t.after t.traces.0 t.left t.noted t.watch
-      (λ last is holds. at_spent c cs limit last.machine last.state.mode counts (moved counts last.machine r.now is are) holds (later last.machine r.now is t.traces.1) w)
+      noted r.is_setting cycles names r.boot r.is_boot r.now (IsEnd limit r.now ends.Spent) t.after t.traces t.left t.noted t.watch
+      (λ last is holds. at_spent c cs limit last.machine last.state.mode counts (moved counts last.machine r.now is h.counts) holds.0 (later last.machine r.now is holds.1) w)

@@ -1,7 +1,7 @@
 -- In the runs of what was linked a bound of a method asks for the loops alone that don't count.
 use Rattle.std.proofs.Common.{◌≡◌, ℕ, zero, suc, List, [], ◌∷◌, ◌++◌, Option, refl, sym, subst, ◌⊎◌, inl, inr, ⊎_elim}
 use Rattle.bytecode_model.specs.State.{State}
-use Rattle.bytecode_model.specs.WellFormed.{IsAnswer}
+use Rattle.bytecode_model.specs.WellFormed.{IsInput}
 use Rattle.method_runs.specs.Laws.{GivesBytes}
 use Rattle.activations.specs.Setting.{Setting, Stands, limits}
 use Rattle.activations.specs.Activations.{Stage}
@@ -12,8 +12,8 @@ use Rattle.boundary.proofs.Answered.{reached}
 use Rattle.counted_activations.specs.Runs.{IsOfBootRun, CountedLoopsOfRuns}
 use Rattle.jop_core.specs.Reset.{linked_reset}
 use Rattle.analysis_commands.specs.Analysis.{timing_of}
-use Rattle.jop_cli.specs.Show.{linked_shown}
-use Rattle.jop_cli.specs.LinkedRun.{linked_setting}
+use Rattle.commands.specs.Show.{linked_shown}
+use Rattle.commands.specs.LinkedRun.{linked_setting}
 use Rattle.jop_cli.specs.Answer.{lent_of}
 use Rattle.jop_cli.specs.Correct.{CountedLoopsAreKept}
 use Rattle.jop_cli.proofs.Coming.{boot_is_fresh}
@@ -32,7 +32,7 @@ grown Plain answer s t obeys = inl obeys.0
 grown Takes answer s t obeys = inr obeys.0
 grown (Puts byte) answer s t obeys = inl obeys.0
 
-given_more : (xs : List (Option ℕ)) (answer : Option ℕ) → GivesBytes (input_of xs) → IsAnswer answer → GivesBytes (input_of (xs ++ answer ∷ []))
+given_more : (xs : List (Option ℕ)) (answer : Option ℕ) → GivesBytes (input_of xs) → IsInput answer → GivesBytes (input_of (xs ++ answer ∷ []))
 given_more [] answer gives is zero = is
 given_more [] answer gives is (suc k) = tt
 given_more (x ∷ xs) answer gives is zero = gives zero
@@ -52,13 +52,19 @@ gives_bytes g limit first fresh (suc n) a (mid, goes, going, below, follows) =
     (grown sort.sort follows.answer mid.state a.state (sort.obeys follows.answer a.state follows.is_next))
 
 pub counted_loops_are_kept : PlacesTellWords → StepsAreTold → CountedLoopsOfRuns → CountedLoopsAreKept
-counted_loops_are_kept places steps runs c settings show l r constants bound_of m bound a b resolved are bounds at h others =
+counted_loops_are_kept places steps runs x constants resolved are others =
+    let c = x.call in
+    let settings = x.settings in
+    let l = x.linked in
+    let r = x.ran in
+    let at = x.begins in
+    let a = x.first in
     let g = linked_setting l.classes settings.stack r.config.memory in
     let reset = linked_reset settings.stack l.laid.words r.config in
-    let is = setting_of (linked_shown l.classes show) c l.classes g reset settings.cycles (lent_of c.old) (lent_of c.new) r.ran in
+    let is = setting_of (linked_shown l.classes x.show) c l.classes g reset settings.cycles (lent_of c.old) (lent_of c.new) r.ran in
     let first : Stage = record { machine = reset; state = at.boot } in
     let timing = timing_along places steps g is (timing_of settings) settings.cycles first (reset_timing settings r.config settings.stack l.laid.words r.has) at.steps a at.goes in
-    let stands = first_stands g settings.cycles first at.steps a at.goes h.begins.stands in
+    let stands = first_stands g settings.cycles first at.steps a at.goes x.ended.begins.stands in
     let fresh = boot_is_fresh g.program at.boot at.is_boot in
     let of_run : IsOfBootRun l.classes g a.state = record {
       boot = at.boot;
@@ -69,4 +75,4 @@ counted_loops_are_kept places steps runs c settings show l r constants bound_of 
       steps = at.steps;
       is = reached g settings.cycles first at.steps a at.goes (input_of a.state.answers) (λ k within. refl);
     } in
-    runs l.classes (timing_of settings) constants bound_of m bound resolved are bounds g a b is refl timing of_run h others
+    runs l.classes (timing_of settings) constants x.bound_of x.method x.bound resolved are x.holds g a x.last is refl timing of_run x.ended others

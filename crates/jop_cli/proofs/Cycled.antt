@@ -21,12 +21,12 @@ use Rattle.command_line.specs.declared.command.Settings.{Settings}
 use Rattle.jopizer.specs.Linked.{Parts}
 use Rattle.analysis_commands.specs.Analysis.{named_or_number}
 use Rattle.analysis_commands.specs.Plan.{IsCyclicMain}
-use Rattle.jop_cli.specs.declared.following.Followed.{Followed}
-use Rattle.jop_cli.specs.declared.outcome.Ending.{Ending}
-use Rattle.jop_cli.specs.declared.outcome.Ending.TheVariants as endings
-use Rattle.jop_cli.specs.Leaving.{Leaves, FailsRisen}
-use Rattle.jop_cli.specs.LinkedRun.{linked_setting}
-use Rattle.jop_cli.specs.Following.{heres_of, FollowsWith}
+use Rattle.commands.specs.declared.program_end.ProgramEnd.{ProgramEnd}
+use Rattle.commands.specs.declared.outcome.Ending.{Ending}
+use Rattle.commands.specs.declared.outcome.Ending.TheVariants as endings
+use Rattle.commands.specs.Leaving.{Leaves, FailsRisen}
+use Rattle.commands.specs.LinkedRun.{linked_setting}
+use Rattle.commands.specs.Following.{heres_of, FollowsWith}
 use Rattle.jop_cli.specs.Cycling.{IsCounter, CyclesWith, with_slots}
 use Rattle.jop_cli.proofs.Least.{one_least}
 use Rattle.jop_cli.proofs.InRuns.{rows_are_seen, last_stands}
@@ -56,7 +56,7 @@ module _ (cs : List ClassFile) (slots : List Slot) (frames : ℕ) (table : IsTab
 -- ---- what the counter comes to
 
 module _ (rows : RunsAreInARow) (within : SeenAreWithin) (exact : SlotsAreExact) (s : Settings) (l : Parts) (slots : List Slot) (old new : Lent) (first last : SlotCount) (counter : IsCounter l.classes slots s.stack first) where
-  pub cycles_so : (f : Followed) → FollowsWith slots_after s l (wired old) (wired new) first last f → CyclesWith s l slots old new last.slots f
+  pub cycles_so : (f : ProgramEnd) → FollowsWith slots_after s l (wired old) (wired new) first last f → CyclesWith s l slots old new last.slots f
   cycles_so f h =
       let k = h.follows in
       let r = k.ran in

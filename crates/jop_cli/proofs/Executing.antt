@@ -1,47 +1,35 @@
 -- The run of an image, as an answer of the call.
-use Rattle.std.proofs.Common.{◌≡◌, ℕ, ◌≤◌, Bool, true, false, List, Ok, refl, sym, ◌∙◌, ap, subst, inl, inr, ⊎_elim}
+use Rattle.std.proofs.Common.{◌≡◌, ℕ, Bool, true, false, List, Ok, refl, sym, ◌∙◌, ap, subst, inl, inr, ⊎_elim}
 use Rattle.std.specs.declared.option.Option.{Option}
 use Rattle.std.specs.declared.result.Result.{Result}
-use Rattle.image_file.specs.Bare.{Image}
-use Rattle.jop_cli.specs.declared.settings.Plan.{Plan}
-use Rattle.jop_cli.specs.declared.show.Show.{Show}
-use Rattle.jop_cli.specs.declared.show.Show.TheVariants as shows
-use Rattle.jop_cli.specs.Show.{bare_shown, IsTrace}
+use Rattle.commands.specs.declared.settings.Plan.{Plan}
+use Rattle.commands.specs.declared.show.Show.{Show}
+use Rattle.commands.specs.declared.show.Show.TheVariants as shows
+use Rattle.commands.specs.Show.{IsTrace}
 use Rattle.command_line.specs.declared.command.Settings.{Settings}
 use Rattle.command_line.specs.declared.command.Command.{Command}
 use Rattle.command_line.specs.declared.command.Command.TheVariants as commands
 use Rattle.command_line.specs.Command.{command_of}
-use Rattle.jop_cli.specs.declared.outcome.Ending.{Ending}
-use Rattle.jop_cli.specs.declared.outcome.Ending.TheVariants as endings
-use Rattle.jop_cli.specs.Leaving.{FailsRisen}
-use Rattle.jop_cli.specs.Assembling.{Assembles}
-use Rattle.jop_cli.specs.Linking.{LinksFiles}
+use Rattle.commands.specs.declared.outcome.Ending.{Ending}
+use Rattle.commands.specs.declared.outcome.Ending.TheVariants as endings
+use Rattle.commands.specs.Leaving.{FailsRisen}
+use Rattle.commands.specs.Assembling.{Assembles}
+use Rattle.commands.specs.Linking.{LinksFiles}
 use Rattle.jop_cli.specs.declared.asking.Question.{Question}
 use Rattle.jop_cli.specs.declared.asking.Asked.{Asked}
-use Rattle.jop_cli.specs.declared.outcome.Answer.{Answer}
-use Rattle.jop_cli.specs.declared.outcome.Answer.TheVariants.{Text, Ends}
-use Rattle.jop_cli.specs.Line.{text_at}
+use Rattle.commands.specs.declared.outcome.Answer.{Answer}
+use Rattle.commands.specs.declared.outcome.Answer.TheVariants.{Text, Ends}
+use Rattle.commands.specs.Line.{text_of_word}
 use Rattle.jop_cli.specs.Asking.{Answers, PutsAnswer, AsksFiles}
-use Rattle.jop_core.specs.Reset.{bare_reset}
-use Rattle.boundary.specs.Setting.{bare_setting}
-use Rattle.run_devices.specs.Lent.{Lent}
-use Rattle.jop_cli.specs.Phase.{HasSettings, is_linked}
-use Rattle.jop_cli.specs.BareFile.{blocks_of_code, RanImage, RanImageWith, RunsBareBytes}
-use Rattle.jop_cli.specs.LinkedFile.{RunsLinkedBytes}
-use Rattle.jop_cli.specs.World.{World, IsUntaken, Reads}
+use Rattle.commands.specs.Phase.{is_linked}
+use Rattle.commands.specs.BareFile.{RunsBareBytes}
+use Rattle.commands.specs.LinkedFile.{RunsLinkedBytes}
+use Rattle.commands.specs.World.{World, IsUntaken, Reads}
 use Rattle.jop_cli.specs.declared.task.Task.{Task}
 use Rattle.jop_cli.specs.declared.task.Task.TheVariants as tasks
 use Rattle.jop_cli.specs.Tasks.{task_of}
 use Rattle.jop_cli.specs.Answer.{DoesTask, Does, RunsFile, ShowsOutput, TakesFor, TakesInput, RunsProgram, lent_of, lent_without_input}
 use Rattle.jop_cli.proofs.Refusing.{IsRefusing, Says, refuses, holds, bytes_refuse, image_refuses, linked_says, bare_refuses}
-
-pub with_settings : (settings : Settings) (show : Show) (n : ℕ) (image : Image) (plan : Plan) (old new : Lent) (ending : Ending) → settings.stack ≡ n → blocks_of_code settings image ≤ settings.blocks → HasSettings settings plan.config
-    → plan.limit ≡ settings.cycles → plan.show ≡ show → RanImage (bare_shown plan.show) (bare_setting image n plan.config.memory) (bare_reset n image plan.config) plan.limit old new ending → RanImageWith settings show image old new ending
-with_settings settings show n image plan old new ending is few has limit shows ran =
-    let config = plan.config in
-    let a = subst (λ (x : Show). RanImage (bare_shown x) (bare_setting image n config.memory) (bare_reset n image config) plan.limit old new ending) shows ran in
-    let b = subst (λ (k : ℕ). RanImage (bare_shown show) (bare_setting image n config.memory) (bare_reset n image config) k old new ending) limit a in
-    record { blocks = few; config = config; has = has; ran = subst (λ (k : ℕ). RanImage (bare_shown show) (bare_setting image k config.memory) (bare_reset k image config) settings.cycles old new ending) (sym is) b }
 
 -- the file was read, and its bytes were run as those of a bare image or of a linked one
 pub runs_read : (settings : Settings) (show : Show) (word : ℕ) (whole bytes : List ℕ) (old new : World) (ending : Ending) → bytes ≡ whole → Reads word whole old new
@@ -136,8 +124,8 @@ says_no_input e (holds held says) is = absurd (cc)
 pub answers_say : (words : List (List ℕ)) (question : Question) (operands : List (List ℕ)) (e : Ending) → Answers words question operands (Ends e) → Says e
 answers_say words question operands e answers =
     ⊎_elim
-    (λ linked. ⊎_elim (λ fault. refuses (bytes_refuse (text_at operands 0) e fault)) (λ r. linked_says words question r.linked operands e r.answers) linked.1)
-    (λ bare. ⊎_elim (λ fault. refuses (image_refuses (text_at operands 0) e fault)) (λ b. refuses (bare_refuses question b.image operands e b.answers)) bare.1)
+    (λ linked. ⊎_elim (λ fault. refuses (bytes_refuse (text_of_word operands 0) e fault)) (λ r. linked_says words question r.linked operands e r.answers) linked.1)
+    (λ bare. ⊎_elim (λ fault. refuses (image_refuses (text_of_word operands 0) e fault)) (λ b. refuses (bare_refuses question b.image operands e b.answers)) bare.1)
     answers
 
 puts_no_input : (words : List (List ℕ)) (question : Question) (operands : List (List ℕ)) (answer : Answer) (old new : Option (List ℕ)) (before now : ℕ) → Answers words question operands answer → PutsAnswer answer old new before now endings.InputFault → ⊥

@@ -7,14 +7,15 @@ use Rattle.jop_core.specs.Reset.{linked_reset}
 use Rattle.method_flow.specs.declared.timing.Timing.{Timing}
 use Rattle.activations.specs.Setting.{Setting, IsSetting}
 use Rattle.activations.specs.Activations.{Stage}
-use Rattle.activations.specs.Steps.{HasTiming, PlacesTellWords, StepsAreTold}
+use Rattle.activations.specs.Steps.{PlacesTellWords, StepsAreTold}
+use Rattle.activations.specs.Timing.{HasTiming}
 use Rattle.boundary.specs.Runs.{Goes}
 use Rattle.run_devices.specs.Lent.{Lent}
 use Rattle.command_line.specs.declared.command.Settings.{Settings}
 use Rattle.analysis_commands.specs.Analysis.{timing_of}
-use Rattle.jop_cli.specs.Phase.{HasSettings}
-use Rattle.jop_cli.specs.Show.{Shown, Output, Trace, linked_shown}
-use Rattle.jop_cli.specs.LinkedRun.{linked_setting}
+use Rattle.commands.specs.Phase.{HasSettings}
+use Rattle.commands.specs.Show.{Shown, Output, Trace, linked_shown}
+use Rattle.commands.specs.LinkedRun.{linked_setting}
 use Rattle.jop_cli.specs.Calls.{Call}
 use Rattle.jop_cli.specs.Courses.{RanShown}
 use Rattle.jop_cli.specs.Answer.{lent_of}
@@ -36,10 +37,15 @@ pub reset_timing : (settings : Settings) (config : Config) (n : ℕ) (words : Li
 reset_timing settings config n words has = record { read = has.read; write = has.write; blocks = has.blocks; block_words = has.block_words }
 
 pub bounds_hold_in_runs : PlacesTellWords → StepsAreTold → BoundsHoldInRuns
-bounds_hold_in_runs places steps c settings show l r bound_of m bound a b bounds at h keeps =
+bounds_hold_in_runs places steps x keeps =
+    let c = x.call in
+    let settings = x.settings in
+    let l = x.linked in
+    let r = x.ran in
+    let at = x.begins in
     let g = linked_setting l.classes settings.stack r.config.memory in
     let reset = linked_reset settings.stack l.laid.words r.config in
-    let is = setting_of (linked_shown l.classes show) c l.classes g reset settings.cycles (lent_of c.old) (lent_of c.new) r.ran in
+    let is = setting_of (linked_shown l.classes x.show) c l.classes g reset settings.cycles (lent_of c.old) (lent_of c.new) r.ran in
     let first : Stage = record { machine = reset; state = at.boot } in
-    let timing = timing_along places steps g is (timing_of settings) settings.cycles first (reset_timing settings r.config settings.stack l.laid.words r.has) at.steps a at.goes in
-    bounds g a b is refl timing h keeps
+    let timing = timing_along places steps g is (timing_of settings) settings.cycles first (reset_timing settings r.config settings.stack l.laid.words r.has) at.steps x.first at.goes in
+    x.holds g x.first x.last is refl timing x.ended keeps

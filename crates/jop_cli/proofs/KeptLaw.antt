@@ -10,14 +10,14 @@ use Rattle.command_line.specs.declared.command.Settings.{Settings}
 use Rattle.command_line.specs.declared.command.Command.TheVariants.{Check, Bound}
 use Rattle.answer_lines.specs.AnalysisLines.{held_parts}
 use Rattle.analysis_commands.specs.Analysis.{timing_of, bounds_of, name_of}
-use Rattle.jop_cli.specs.declared.outcome.Answer.{Answer}
-use Rattle.jop_cli.specs.declared.outcome.Answer.TheVariants.{Text, Ends}
-use Rattle.jop_cli.specs.declared.outcome.Ending.{Ending}
-use Rattle.jop_cli.specs.declared.outcome.Outcome.TheVariants as outcomes
-use Rattle.jop_cli.specs.Line.{text_at, line_of}
-use Rattle.jop_cli.specs.Linking.{files_of}
-use Rattle.jop_cli.specs.Checking.{refusal_ending, EndsHeld}
-use Rattle.jop_cli.specs.Bounding.{Bounds}
+use Rattle.commands.specs.declared.outcome.Answer.{Answer}
+use Rattle.commands.specs.declared.outcome.Answer.TheVariants.{Text, Ends}
+use Rattle.commands.specs.declared.outcome.Ending.{Ending}
+use Rattle.commands.specs.declared.outcome.Outcome.TheVariants as outcomes
+use Rattle.commands.specs.Line.{text_of_word, line_of}
+use Rattle.commands.specs.Linking.{files_of}
+use Rattle.commands.specs.Checking.{refusal_ending, EndsHeld}
+use Rattle.commands.specs.Bounding.{Bounds}
 use Rattle.jop_cli.specs.Asking.{AnswersLinked, Answers, PutsAnswer, AsksRead, AsksFiles}
 use Rattle.jop_cli.specs.Tasks.{checking, bounding}
 use Rattle.jop_cli.specs.Answer.{outcome_of}
@@ -30,7 +30,7 @@ use Rattle.jop_cli.proofs.Wholly.{IsWholly, wholly_written, wholly_held, execute
 
 module _ (c : Call) (s : Settings) (image : ℕ) (w : IsWholly c c.answered.ending) where
   shows_held : (r : AsksRead c.words (checking s image) c.old c.new c.answered.ending) (e : Ending) → c.answered.ending ≡ e → (a : AnswersLinked c.words (checking s image).question r.operands (Ends e))
-      → EndsHeld a.linked.classes s (text_at r.operands 1) (text_at r.operands 2) e → ShowsHeld c s image
+      → EndsHeld a.linked.classes s (text_of_word r.operands 1) (text_of_word r.operands 2) e → ShowsHeld c s image
   shows_held r e same a h =
       let k = h.shows.meets in
       let cs = a.linked.classes in
@@ -70,11 +70,11 @@ module _ (c : Call) (s : Settings) (image : ℕ) (w : IsWholly c c.answered.endi
     of_answer r (Ends e) answers puts =
         ⊎_elim
         (λ linked. ⊎_elim
-        (λ fault. absurd (not_refused e puts.0 (bytes_refuse (text_at r.operands 0) e fault)))
+        (λ fault. absurd (not_refused e puts.0 (bytes_refuse (text_of_word r.operands 0) e fault)))
         (λ a. ⊎_elim (shows_held r e puts.0 a) (λ h. absurd (not_refused e puts.0 (refusing_by e (refusal_ending s h.refusal) h.says (refusal_refuses s h.refusal)))) a.answers)
         linked.1)
         (λ bare. absurd (not_refused e puts.0 (⊎_elim
-        (image_refuses (text_at r.operands 0) e)
+        (image_refuses (text_of_word r.operands 0) e)
         (λ b. bare_refuses (checking s image).question b.image r.operands e b.answers)
         bare.1)))
         answers
@@ -93,7 +93,7 @@ checked_bounds_are_kept c s image bounds last command is = of_asks c s image (wh
 
 module _ (c : Call) (s : Settings) (method image : ℕ) (w : IsWholly c c.answered.ending) where
   shows_written : (r : AsksRead c.words (bounding s method image) c.old c.new c.answered.ending) (text : Vec ℕ Global) → Grew c.old.out c.new.out text.items → (a : AnswersLinked c.words (bounding s method image).question r.operands (Text text))
-      → Bounds a.linked.classes s (text_at r.operands 1) (text_at c.words method) text.items → ShowsWritten c s method image
+      → Bounds a.linked.classes s (text_of_word r.operands 1) (text_of_word c.words method) text.items → ShowsWritten c s method image
   shows_written r text put a b =
       let k = b.is in
       record {
@@ -130,10 +130,10 @@ module _ (c : Call) (s : Settings) (method image : ℕ) (w : IsWholly c c.answer
     written_by r (Ends e) answers puts =
         absurd (none_refused e puts.0 (⊎_elim
         (λ linked. ⊎_elim
-        (bytes_refuse (text_at r.operands 0) e)
+        (bytes_refuse (text_of_word r.operands 0) e)
         (λ a. refusing_by e _ a.answers.says (cause_refuses s a.answers.cause))
         linked.1)
-        (λ bare. ⊎_elim (image_refuses (text_at r.operands 0) e) (λ b. bare_refuses (bounding s method image).question b.image r.operands e b.answers) bare.1)
+        (λ bare. ⊎_elim (image_refuses (text_of_word r.operands 0) e) (λ b. bare_refuses (bounding s method image).question b.image r.operands e b.answers) bare.1)
         answers))
 
     written_of : AsksFiles c.words (bounding s method image) c.old c.new c.answered.ending → ShowsWritten c s method image

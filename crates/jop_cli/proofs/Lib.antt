@@ -1,15 +1,5 @@
-pub mod Reset
 pub mod Refusing
 pub mod Executing
-pub mod Words
-pub mod Fitting
-mod Starting
-mod Ended
-mod Held
-mod Endings
-mod Named
-mod Watched
-mod Followed
 mod InRuns
 mod Profiled
 mod Calling
@@ -31,17 +21,18 @@ mod ExecutiveLaw
 mod LoopsLaw
 mod CountedLaw
 mod NotedLaw
-mod NeedAnswers
-mod BoundAnswers
-mod Reported
-mod Behind
 mod Planned
 mod Cycled
 mod NeedsLaw
-mod Shown
 mod Leaving
 mod Least
 mod Texts
 mod OneBare
-mod Worked
 mod WorkingLaw
+mod Told
+mod LongFiles
+mod Opened
+mod ImagesLaw
+mod MachinesLaw
+mod BareLaw
+mod OneRun

@@ -1,18 +1,17 @@
 -- Files that nothing refuses are linked, and what refuses them is answered.
-use Rattle.std.proofs.Common.{◌≡◌, ◌≢◌, ℕ, List, refl, sym, subst, ◌⊎◌, inl, inr, ⊎_elim}
-use Rattle.class_pool.specs.declared.class.ClassFile.{ClassFile}
+use Rattle.std.proofs.Common.{◌≡◌, ◌≢◌, ℕ, List, refl, subst, ◌⊎◌, inl, inr, ⊎_elim}
 use Rattle.command_line.specs.declared.command.Command.TheVariants.{Link as LinkTo}
 use Rattle.answer_lines.specs.declared.line.Sizes.{Sizes}
 use Rattle.jopizer.specs.declared.refusal.LinkRefusal.{LinkRefusal}
 use Rattle.jopizer.specs.declared.refusal.LinkRefusal.TheVariants as links
 use Rattle.jopizer.specs.Linked.{AreLinked}
-use Rattle.jopizer.specs.Refused.{IsRefusal}
+use Rattle.jopizer.specs.Refused.{IsLinkRefusal}
 use Rattle.jopizer.specs.Laws.{LinkedFilesAreNotRefused, RefusalsAreOne}
-use Rattle.jop_cli.specs.declared.outcome.Ending.{Ending}
-use Rattle.jop_cli.specs.declared.outcome.Ending.TheVariants as endings
-use Rattle.jop_cli.specs.Line.{text_at}
-use Rattle.jop_cli.specs.World.{IsUntaken}
-use Rattle.jop_cli.specs.Linking.{class_name, Refuses, HasName, AreLinkedTo, PutsLinked, LinksRead, LinksFiles}
+use Rattle.commands.specs.declared.outcome.Ending.{Ending}
+use Rattle.commands.specs.declared.outcome.Ending.TheVariants as endings
+use Rattle.commands.specs.Line.{text_of_word}
+use Rattle.commands.specs.World.{IsUntaken}
+use Rattle.commands.specs.Linking.{class_name, Refuses, HasName, AreLinkedTo, PutsLinked, LinksRead, LinksFiles}
 use Rattle.jop_cli.specs.Calls.{Call, NothingFailed, LacksMemory, AreTold}
 use Rattle.jop_cli.specs.Correct.{IsLinkedBy, LinkingIsComplete, AnswersEnding, AnswersRefusal, LinkRefusalsAreAnswered, LinkRefusalsAreOne}
 use Rattle.jop_cli.proofs.Wholly.{IsWholly, wholly, executed, lacks, same_files, files_read}
@@ -34,16 +33,16 @@ linked_read c word first files told n none ending w h =
 pub linking_is_complete : LinkingIsComplete
 linking_is_complete c main first files command told n none =
     let w : IsWholly c c.answered.ending = wholly c n in
-    let did : LinksFiles (text_at c.words main) first c.old c.new c.answered.ending = executed c (LinkTo main first) command in
+    let did : LinksFiles (text_of_word c.words main) first c.old c.new c.answered.ending = executed c (LinkTo main first) command in
     ⊎_elim
     (λ fault. inr (lacks c c.answered.ending w (files_read c first files told n c.answered.ending fault.0) fault.1))
-    (λ read. linked_read c (text_at c.words main) first files told n none c.answered.ending w read)
+    (λ read. linked_read c (text_of_word c.words main) first files told n none c.answered.ending w read)
     did
 
 -- ---- what is refused
 
 -- memory apart
-refuses : (files : List (List ℕ)) (main : List ℕ) (r : LinkRefusal) → Refuses files main r → IsRefusal files main r × (r ≢ links.NoMemory)
+pub refuses : (files : List (List ℕ)) (main : List ℕ) (r : LinkRefusal) → Refuses files main r → IsLinkRefusal files main r × (r ≢ links.NoMemory)
 refuses files main (links.Resolving r) h = (h, λ e. absurd (cc))
 refuses files main (links.NotVerified file method pc rule) h = (h, λ e. absurd (cc))
 refuses files main (links.TooLarge what count limit) h = (h, λ e. absurd (cc))
@@ -91,7 +90,7 @@ refusals_are_one not_refused one files main refusal is = (not_linked not_refused
 
 pub refusals_are_answered : LinkedFilesAreNotRefused → RefusalsAreOne → LinkRefusalsAreAnswered
 refusals_are_answered not_refused one c main first files refusal command told n is =
-    let word = text_at c.words main in
+    let word = text_of_word c.words main in
     let w : IsWholly c c.answered.ending = wholly c n in
     let did : LinksFiles word first c.old c.new c.answered.ending = executed c (LinkTo main first) command in
     ⊎_elim

@@ -8,13 +8,13 @@ use Rattle.loop_rules.specs.declared.found.FoundLoop.{FoundLoop}
 use Rattle.loop_rules.specs.Sites.{int_at}
 use Rattle.program_tables.specs.Resolved.{resolved}
 use Rattle.counted_activations.specs.Found.{FoundLoopsCount}
-use Rattle.jop_cli.specs.declared.outcome.Answer.{Answer}
-use Rattle.jop_cli.specs.declared.outcome.Answer.TheVariants.{Text, Ends}
-use Rattle.jop_cli.specs.declared.outcome.Ending.{Ending}
-use Rattle.jop_cli.specs.declared.outcome.Ending.TheVariants as endings
-use Rattle.jop_cli.specs.declared.outcome.Outcome.TheVariants as outcomes
-use Rattle.jop_cli.specs.Line.{text_at}
-use Rattle.jop_cli.specs.Linking.{files_of}
+use Rattle.commands.specs.declared.outcome.Answer.{Answer}
+use Rattle.commands.specs.declared.outcome.Answer.TheVariants.{Text, Ends}
+use Rattle.commands.specs.declared.outcome.Ending.{Ending}
+use Rattle.commands.specs.declared.outcome.Ending.TheVariants as endings
+use Rattle.commands.specs.declared.outcome.Outcome.TheVariants as outcomes
+use Rattle.commands.specs.Line.{text_of_word}
+use Rattle.commands.specs.Linking.{files_of}
 use Rattle.jop_cli.specs.Asking.{AnswersLinked, AnswersBare, Answers, PutsAnswer, AsksRead, AsksFiles}
 use Rattle.jop_cli.specs.Tasks.{finding_loops}
 use Rattle.jop_cli.specs.Answer.{outcome_of}
@@ -25,7 +25,7 @@ use Rattle.jop_cli.proofs.Wholly.{IsWholly, wholly_written, executed}
 
 module _ (count : FoundLoopsCount) (c : Call) (image : ℕ) (w : IsWholly c c.answered.ending) where
   loops_count : (r : AsksRead c.words (finding_loops image) c.old c.new c.answered.ending) (text : Vec ℕ Global) → Grew c.old.out c.new.out text.items
-      → AnswersLinked c.words (finding_loops image).question r.operands (Text text) → LoopsCount c (text_at r.operands 0)
+      → AnswersLinked c.words (finding_loops image).question r.operands (Text text) → LoopsCount c (text_of_word r.operands 0)
   loops_count r text put a = record {
     linked = a.linked;
     is_linked = a.is_linked;
@@ -38,7 +38,7 @@ module _ (count : FoundLoopsCount) (c : Call) (image : ℕ) (w : IsWholly c c.an
   }
 
   has_none : (r : AsksRead c.words (finding_loops image) c.old c.new c.answered.ending) (text : Vec ℕ Global) → Grew c.old.out c.new.out text.items
-      → AnswersBare (finding_loops image).question r.operands (Text text) → HasNoLoop c (text_at r.operands 0)
+      → AnswersBare (finding_loops image).question r.operands (Text text) → HasNoLoop c (text_of_word r.operands 0)
   has_none r text put b = record { image = b.image; bare = b.bare; put = subst (λ (x : List ℕ). Grew c.old.out c.new.out x) b.answers put }
 
   module _ (is : c.outcome ≡ outcomes.Written) where
@@ -66,10 +66,10 @@ module _ (count : FoundLoopsCount) (c : Call) (image : ℕ) (w : IsWholly c c.an
     of_answer r (Ends e) answers puts =
         absurd (not_refused e puts.0 (⊎_elim
         (λ linked. ⊎_elim
-        (bytes_refuse (text_at r.operands 0) e)
+        (bytes_refuse (text_of_word r.operands 0) e)
         (λ a. refusing_by e endings.NoMemory a.answers tt)
         linked.1)
-        (λ bare. ⊎_elim (image_refuses (text_at r.operands 0) e) (λ b. bare_refuses (finding_loops image).question b.image r.operands e b.answers) bare.1)
+        (λ bare. ⊎_elim (image_refuses (text_of_word r.operands 0) e) (λ b. bare_refuses (finding_loops image).question b.image r.operands e b.answers) bare.1)
         answers))
 
     of_asks : AsksFiles c.words (finding_loops image) c.old c.new c.answered.ending → ShowsLoops c image

@@ -1,13 +1,13 @@
 -- By the text of headers a bound of a method asks for what the lines say alone: the other loops count to their bounds.
-use Rattle.std.proofs.Common.{ℕ, List, arith, inl, inr}
+use Rattle.std.proofs.Common.{◌≡◌, ℕ, List, sym, subst, arith, inl, inr}
 use Rattle.class_pool.specs.declared.class.ClassFile.{ClassFile}
 use Rattle.program_tables.specs.Resolved.{resolved}
 use Rattle.program_tables.specs.Resolving.{IsResolved}
-use Rattle.method_flow.specs.Keeping.{WalkKeeps}
+use Rattle.method_flow.specs.Keeping.{BoundOf, WalkKeeps}
 use Rattle.loop_bounds.specs.Bounds.{LoopBound}
 use Rattle.loop_bounds.specs.Grammar.{IsRead}
 use Rattle.loop_rules.specs.Sites.{int_at}
-use Rattle.counted_activations.specs.Others.{CountsWithin, WalkKeepsBut}
+use Rattle.counted_activations.specs.Others.{CountsWithin, KeepsOthers, WalkKeepsBut}
 use Rattle.counted_activations.specs.Found.{FoundLoopsCount}
 use Rattle.source_headers.specs.Files.{IsHeaderFile}
 use Rattle.source_headers.specs.Laws.{line_bound, place_bound}
@@ -34,8 +34,9 @@ module _ (count : FoundLoopsCount) (sources : FileBoundsAreFoundOrSaid) (cs : Li
       ]
 
 pub noted_loops_are_kept : FoundLoopsCount → FileBoundsAreFoundOrSaid → CountedLoopsAreKept → NotedLoopsAreKept
-noted_loops_are_kept count sources kept c settings show l r lines text h bounds m bound a b resolved read is_bound at x of_lines of_places =
-    kept c settings show l r h.constants (bounds_of l.classes bounds) m bound a b resolved h.are is_bound at x (record {
-      own = others_kept count sources l.classes lines text resolved h bounds read m _ of_lines.own of_places.own;
-      inner = λ m' a' b' h' among. others_kept count sources l.classes lines text resolved h bounds read m' _ (of_lines.inner m' a' b' h' among) (of_places.inner m' a' b' h' among);
-    })
+noted_loops_are_kept count sources kept x lines text h bounds resolved read same of_lines of_places =
+    let cs = x.linked.classes in
+    kept x h.constants resolved h.are (subst (λ (b : BoundOf). KeepsOthers (int_at h.constants) b x.ended) (sym same) (record {
+      own = others_kept count sources cs lines text resolved h bounds read x.method _ of_lines.own of_places.own;
+      inner = λ m' a' b' h' among. others_kept count sources cs lines text resolved h bounds read m' _ (of_lines.inner m' a' b' h' among) (of_places.inner m' a' b' h' among);
+    }))

@@ -1,17 +1,17 @@
 -- Bytes are those of one bare image.
 use Rattle.std.proofs.Common.{◌≡◌, ℕ, ◌/◌, ◌%◌, ◌^◌, List, drop, get_or, sym, ◌∙◌, ap, arith}
-use Rattle.image_file.specs.Bare.{Image, bare_bytes}
+use Rattle.image_file.specs.Bare.{BareContent, bare_bytes}
 use Rattle.jop_cli.specs.Correct.{OneBareImage}
 
 -- a number has its high byte and its low one
 same_number : (m n : ℕ) → m / 2 ^ 8 ≡ n / 2 ^ 8 → m % 2 ^ 8 ≡ n % 2 ^ 8 → m ≡ n
 same_number m n high low = omega (arith, high, low)
 
-same_image : (a b : Image) → a.max_locals ≡ b.max_locals → a.max_stack ≡ b.max_stack → a.code ≡ b.code → a ≡ b
+same_image : (a b : BareContent) → a.max_locals ≡ b.max_locals → a.max_stack ≡ b.max_stack → a.code ≡ b.code → a ≡ b
 same_image a b locals stack code =
-    ap (λ (x : ℕ). let i : Image = record { max_locals = x; max_stack = a.max_stack; code = a.code } in i) locals
-    ∙ (ap (λ (x : ℕ). let i : Image = record { max_locals = b.max_locals; max_stack = x; code = a.code } in i) stack
-    ∙ ap (λ (x : List ℕ). let i : Image = record { max_locals = b.max_locals; max_stack = b.max_stack; code = x } in i) code)
+    ap (λ (x : ℕ). let i : BareContent = record { max_locals = x; max_stack = a.max_stack; code = a.code } in i) locals
+    ∙ (ap (λ (x : ℕ). let i : BareContent = record { max_locals = b.max_locals; max_stack = x; code = a.code } in i) stack
+    ∙ ap (λ (x : List ℕ). let i : BareContent = record { max_locals = b.max_locals; max_stack = b.max_stack; code = x } in i) code)
 
 pub one_bare_image : OneBareImage
 one_bare_image bytes a b ga gb =

@@ -7,15 +7,15 @@ use Rattle.slot_table.specs.declared.table.TableFault.TheVariants as tables
 use Rattle.command_line.specs.declared.command.Settings.{Settings}
 use Rattle.analysis_commands.specs.declared.plan.NotPlanned.{NotPlanned}
 use Rattle.analysis_commands.specs.declared.plan.NotPlanned.TheVariants as plans
-use Rattle.jop_cli.specs.declared.outcome.Answer.{Answer}
-use Rattle.jop_cli.specs.declared.outcome.Answer.TheVariants.{Text, Ends}
-use Rattle.jop_cli.specs.declared.outcome.Ending.{Ending}
-use Rattle.jop_cli.specs.declared.outcome.Ending.TheVariants as endings
-use Rattle.jop_cli.specs.World.{World}
-use Rattle.jop_cli.specs.Leaving.{FailsRisen}
+use Rattle.commands.specs.declared.outcome.Answer.{Answer}
+use Rattle.commands.specs.declared.outcome.Answer.TheVariants.{Text, Ends}
+use Rattle.commands.specs.declared.outcome.Ending.{Ending}
+use Rattle.commands.specs.declared.outcome.Ending.TheVariants as endings
+use Rattle.commands.specs.World.{World}
+use Rattle.commands.specs.Leaving.{FailsRisen}
 use Rattle.jop_cli.specs.Asking.{PutsAnswer}
-use Rattle.jop_cli.specs.Linking.{LinkFault}
-use Rattle.jop_cli.specs.Executive.{table_ending, EndsUnready}
+use Rattle.commands.specs.Linking.{LinkFault}
+use Rattle.commands.specs.Executive.{table_ending, EndsUnready}
 use Rattle.jop_cli.specs.Planning.{plan_ending, AnswersPlan, Plans, PlansFiles}
 use Rattle.jop_cli.proofs.Refusing.{IsRefusing, refusing_by, fault_refuses}
 use Rattle.jop_cli.proofs.Executing.{risen_but}

@@ -24,21 +24,19 @@ use Rattle.command_line.specs.declared.command.Command.TheVariants as commands
 use Rattle.analysis_commands.specs.Analysis.{timing_of, bounds_of, named_or_number}
 use Rattle.analysis_commands.specs.Plan.{IsCyclicMain}
 use Rattle.jopizer.specs.Linked.{Parts}
-use Rattle.jop_cli.specs.declared.outcome.Answer.{Answer}
-use Rattle.jop_cli.specs.declared.outcome.Answer.TheVariants.{Text, Ends}
-use Rattle.jop_cli.specs.declared.outcome.Ending.{Ending}
-use Rattle.jop_cli.specs.declared.outcome.Ending.TheVariants as endings
-use Rattle.jop_cli.specs.declared.program_end.ProgramEnd.TheVariants as ways
-use Rattle.jop_cli.specs.Line.{line_of}
-use Rattle.jop_cli.specs.World.{IsQuiet}
-use Rattle.jop_cli.specs.Run.{program_end}
-use Rattle.jop_cli.specs.LinkedRun.{linked_setting}
-use Rattle.jop_cli.specs.Linking.{LinkFault}
+use Rattle.commands.specs.declared.outcome.Answer.{Answer}
+use Rattle.commands.specs.declared.outcome.Answer.TheVariants.{Text, Ends}
+use Rattle.commands.specs.declared.outcome.Ending.{Ending}
+use Rattle.commands.specs.declared.outcome.Ending.TheVariants as endings
+use Rattle.commands.specs.Line.{line_of}
+use Rattle.commands.specs.World.{IsQuiet}
+use Rattle.commands.specs.LinkedRun.{linked_setting}
+use Rattle.commands.specs.Linking.{LinkFault}
 use Rattle.jop_cli.specs.Asking.{PutsAnswer}
 use Rattle.jop_cli.specs.Answer.{outcome_of}
-use Rattle.jop_cli.specs.Following.{heres_of, run_stages}
+use Rattle.commands.specs.Following.{heres_of, run_stages}
 use Rattle.jop_cli.specs.Profiling.{EndsRun, unwatched}
-use Rattle.jop_cli.specs.Executive.{table_ending, executive_class, with_executive, IsLinkedWith, EndsUnready}
+use Rattle.commands.specs.Executive.{table_ending, executive_class, with_executive, IsLinkedWith, EndsUnready}
 use Rattle.jop_cli.specs.Planning.{AnswersPlan, PlansLinked, Plans, PlansRead}
 use Rattle.jop_cli.specs.Cycling.{with_slots, EndsCycle, RanCycle, CyclesLinked, CyclesReadied, CyclesOperands, CyclesRead}
 use Rattle.jop_cli.specs.Calls.{Call, NothingFailed}
@@ -47,9 +45,7 @@ use Rattle.jop_cli.proofs.Least.{one_least}
 use Rattle.jop_cli.proofs.Wholly.{IsWholly, wholly, executed, same_files, files_read}
 use Rattle.jop_cli.proofs.Wholly as whole
 use Rattle.jop_cli.proofs.HoldingLaw.{reset_timing}
-use Rattle.jop_cli.proofs.Ended.{end_made}
-use Rattle.jop_cli.proofs.Followed.{reads_rose, writes_rose}
-use Rattle.jop_cli.proofs.Profiled.{end_reads}
+use Rattle.commands.proofs.Followed.{rose, unrisen}
 use Rattle.jop_cli.proofs.ProfilingLaw.{quiet_of, ends_run, certified_of}
 use Rattle.jop_cli.proofs.InRuns.{rows_are_seen}
 
@@ -141,10 +137,8 @@ module _ (gives : GivesOne) (not_refused : ReadIsNotRefused) (c : Call) (n : Not
       let g : Setting = linked_setting l.classes s.stack r.ran.config.memory in
       let reset = linked_reset s.stack l.laid.words r.ran.config in
       let x = r.ran.cycles.ran in
-      let reads : program_end r.followed.end r.followed.counts ≡ ways.ReadFault → ⊥ = λ is.
-      n.input (reads_rose g reset s.cycles (unwatched c.old) (unwatched c.new) r.followed x (end_reads r.followed.end r.followed.counts is)) in
-      let writes : program_end r.followed.end r.followed.counts ≡ ways.WriteFault → ⊥ = λ is. n.out (writes_rose g reset s.cycles (unwatched c.old) (unwatched c.new) r.followed x is) in
-      subst EndsCycle (sym r.ending_is) (ends_with r.numbers r.end (ends_run l.classes (program_end r.followed.end r.followed.counts) r.end reads writes (end_made r.followed.end r.followed.counts) r.says))
+      let none = unrisen r.followed.end (unwatched c.old) (unwatched c.new) n.input n.out (rose g reset s.cycles (unwatched c.old) (unwatched c.new) r.followed x) in
+      subst EndsCycle (sym r.ending_is) (ends_with r.numbers r.end (ends_run l.classes r.followed.end r.followed.counts r.end none r.says))
 
   linked_cycled : (l : Parts) (ending : Ending) → IsWholly c ending → c.new.watch ≡ c.old.watch → IsLinkedWith slots rounds files l → CyclesLinked s l slots (unwatched c.old) (unwatched c.new) ending → Cycled
   linked_cycled l ending w watch is cycles =
@@ -189,7 +183,15 @@ both true b e = (refl, e)
 both false b e = absurd (cc)
 
 pub slots_are_kept : CertificatesAreSound → RunsAreInARow → CalledKeepBounds → SlotsAreKept
-slots_are_kept sound rows called s l slots bounds_text text plan old new ending r executive number slot x are is_executive slot_is at i keeps =
+slots_are_kept sound rows called w executive number slot x is_executive slot_is at i keeps =
+    let s = w.settings in
+    let are = w.are in
+    let l = w.linked in
+    let slots = w.slots in
+    let plan = w.plan in
+    let r = w.ran in
+    let old = w.old in
+    let new = w.new in
     let p = plan.is in
     let below = slice_get_within slots number slot slot_is in
     let long = p.long in

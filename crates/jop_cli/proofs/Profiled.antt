@@ -11,6 +11,8 @@ use Rattle.method_bounds.specs.Profiles.{profile_lines}
 use Rattle.analysis_commands.specs.Analysis.{timing_of, bounds_of}
 use Rattle.analysis_commands.proofs.Lifting.{bounds_same, named}
 use Rattle.outside.specs.Outside.{Rose}
+use Rattle.device_traits.specs.declared.fault.DeviceFault.{DeviceFault}
+use Rattle.device_traits.specs.declared.fault.DeviceFault.TheVariants as faults
 use Rattle.class_pool.specs.declared.class.ClassFile.{ClassFile}
 use Rattle.jop_core.specs.Reset.{linked_reset}
 use Rattle.answer_lines.specs.declared.line.Counts.{Counts}
@@ -27,17 +29,15 @@ use Rattle.boundary.specs.Followed.{stages_of, RunsAreInARow}
 use Rattle.run_devices.specs.Lent.{Lent, wired}
 use Rattle.command_line.specs.declared.command.Settings.{Settings}
 use Rattle.jopizer.specs.Linked.{Parts}
-use Rattle.jop_cli.specs.declared.following.Followed.{Followed}
-use Rattle.jop_cli.specs.declared.outcome.Ending.{Ending}
-use Rattle.jop_cli.specs.declared.outcome.Ending.TheVariants as endings
-use Rattle.jop_cli.specs.declared.program_end.ProgramEnd.{ProgramEnd}
-use Rattle.jop_cli.specs.declared.program_end.ProgramEnd.TheVariants as ways
-use Rattle.jop_cli.specs.Leaving.{Leaves, FailsRisen}
-use Rattle.jop_cli.specs.Run.{program_end}
-use Rattle.jop_cli.specs.LinkedRun.{linked_setting}
-use Rattle.jop_cli.specs.LinkedFile.{SaysEnd}
-use Rattle.jop_cli.specs.Following.{heres_of, FollowsWith}
-use Rattle.jop_cli.specs.LinkedSettings.{CodesFit}
+use Rattle.commands.specs.declared.outcome.Ending.{Ending}
+use Rattle.commands.specs.declared.outcome.Ending.TheVariants as endings
+use Rattle.commands.specs.declared.program_end.ProgramEnd.{ProgramEnd}
+use Rattle.commands.specs.Leaving.{FailsRisen}
+use Rattle.commands.specs.Run.{fault_ending}
+use Rattle.commands.specs.LinkedRun.{linked_setting}
+use Rattle.commands.specs.LinkedFile.{SaysEnd}
+use Rattle.commands.specs.Following.{heres_of, FollowsWith}
+use Rattle.commands.specs.LinkedSettings.{CodesFit}
 use Rattle.jop_cli.specs.declared.profiling.Prepared.{Prepared}
 use Rattle.jop_cli.specs.Preparing.{IsPreparedBy}
 use Rattle.jop_cli.specs.Profiling.{AreRows, ProfilesWith, AreAnswers, PutsProfile, RanProfile, input_of}
@@ -46,7 +46,7 @@ use Rattle.jop_cli.proofs.InRuns.{rows_are_seen, last_stands}
 -- ---- what the totals come to
 
 module _ (rows : RunsAreInARow) (within : SeenAreWithin) (long : EachHasARow) (exact : ProfilesAreExact) (s : Settings) (l : Parts) (old new : Lent) (methods : ℕ) (first last : Totals) (fresh : first ≡ no_totals methods s.stack) where
-  profiles_so : (f : Followed) → FollowsWith totals_after s l (wired old) (wired new) first last f → ProfilesWith s l old new methods last.rows f
+  profiles_so : (f : ProgramEnd) → FollowsWith totals_after s l (wired old) (wired new) first last f → ProfilesWith s l old new methods last.rows f
   profiles_so f h =
       let k = h.follows in
       let r = k.ran in
@@ -66,7 +66,7 @@ module _ (rows : RunsAreInARow) (within : SeenAreWithin) (long : EachHasARow) (e
         profiles = record { ran = r; rows_are = subst R is (record { long = long methods s.stack heres; each = exact methods s.stack heres few }) };
       }
 
-pub profiles_of : {E : Type 0} → RunsAreInARow → SeenAreWithin → EachHasARow → ProfilesAreExact → (s : Settings) (l : Parts) (old new : Lent) (first last : Totals) (r : Result Followed E)
+pub profiles_of : {E : Type 0} → RunsAreInARow → SeenAreWithin → EachHasARow → ProfilesAreExact → (s : Settings) (l : Parts) (old new : Lent) (first last : Totals) (r : Result ProgramEnd E)
     → IfOk r (FollowsWith totals_after s l (wired old) (wired new) first last) → IfOk r (λ f. (methods : ℕ) → first ≡ no_totals methods s.stack → ProfilesWith s l old new methods last.rows f)
 profiles_of rows within long exact s l old new first last (Ok f) h = λ methods fresh. profiles_so rows within long exact s l old new methods first last fresh f h
 profiles_of rows within long exact s l old new first last (Err e) h = tt
@@ -74,41 +74,17 @@ profiles_of rows within long exact s l old new first last (Err e) h = tt
 -- ---- the ending
 
 -- where the run's input failed, its count rose
-pub said_risen : (cs : List ClassFile) (end : ProgramEnd) (ending : Ending) (before now : ℕ) → SaysEnd cs end ending → (end ≡ ways.ReadFault → Rose before now) → FailsRisen ending before now
-said_risen cs (ways.Ended counts) ending before now is rose = subst (λ (e : Ending). FailsRisen e before now) (sym is) tt
-said_risen cs (ways.Uncaught class counts) (endings.Uncaught number name said) before now is rose = tt
-said_risen cs (ways.Uncaught class counts) ending before now is rose = absurd is
-said_risen cs (ways.Spent counts) ending before now is rose = subst (λ (e : Ending). FailsRisen e before now) (sym is) tt
-said_risen cs ways.ReadFault ending before now is rose = subst (λ (e : Ending). FailsRisen e before now) (sym is) (rose refl)
-said_risen cs ways.WriteFault ending before now is rose = subst (λ (e : Ending). FailsRisen e before now) (sym is) tt
-said_risen cs ways.NoMemory ending before now is rose = subst (λ (e : Ending). FailsRisen e before now) (sym is) tt
+fault_risen : (fault : DeviceFault) (ending : Ending) (before now : ℕ) → ending ≡ fault_ending fault → (◌≡◌ {A = Result RunEnd DeviceFault} (Err fault) (Err faults.Input) → Rose before now) → FailsRisen ending before now
+fault_risen faults.Input ending before now is rose = subst (λ (e : Ending). FailsRisen e before now) (sym is) (rose refl)
+fault_risen faults.Output ending before now is rose = subst (λ (e : Ending). FailsRisen e before now) (sym is) tt
+fault_risen faults.Seen ending before now is rose = subst (λ (e : Ending). FailsRisen e before now) (sym is) tt
 
--- a run that was begun leaves nothing as it was
-pub said_done : (cs : List ClassFile) (end : ProgramEnd) (ending : Ending) → (end ≡ ways.NoMemory → ⊥) → SaysEnd cs end ending → Leaves ending → ⊥
-said_done cs (ways.Ended counts) ending made is leaves = subst Leaves is leaves
-said_done cs (ways.Uncaught class counts) (endings.Uncaught number name said) made is leaves = leaves
-said_done cs (ways.Uncaught class counts) ending made is leaves = absurd is
-said_done cs (ways.Spent counts) ending made is leaves = subst Leaves is leaves
-said_done cs ways.ReadFault ending made is leaves = subst Leaves is leaves
-said_done cs ways.WriteFault ending made is leaves = subst Leaves is leaves
-said_done cs ways.NoMemory ending made is leaves = made refl
-
-pub end_reads : (end : RunEnd) (counts : Counts) → program_end end counts ≡ ways.ReadFault → end ≡ ends.ReadFault
-end_reads ends.Ended counts is = absurd (cc)
-end_reads (ends.Uncaught class) counts is = absurd (cc)
-end_reads ends.Spent counts is = absurd (cc)
-end_reads ends.ReadFault counts is = refl
-end_reads ends.WriteFault counts is = absurd (cc)
-end_reads ends.SeenFault counts is = absurd (cc)
-
--- there was memory for the machine of a run that was made
-pub ends_made : (end : RunEnd) (counts : Counts) → program_end end counts ≡ ways.NoMemory → ⊥
-ends_made ends.Ended counts is = absurd (cc)
-ends_made (ends.Uncaught class) counts is = absurd (cc)
-ends_made ends.Spent counts is = absurd (cc)
-ends_made ends.ReadFault counts is = absurd (cc)
-ends_made ends.WriteFault counts is = absurd (cc)
-ends_made ends.SeenFault counts is = absurd (cc)
+pub said_risen : (cs : List ClassFile) (end : Result RunEnd DeviceFault) (counts : Counts) (ending : Ending) (before now : ℕ) → SaysEnd cs end counts ending → (end ≡ Err faults.Input → Rose before now) → FailsRisen ending before now
+said_risen cs (Ok ends.Ended) counts ending before now is rose = subst (λ (e : Ending). FailsRisen e before now) (sym is) tt
+said_risen cs (Ok (ends.Uncaught class)) counts (endings.Uncaught number name said) before now is rose = tt
+said_risen cs (Ok (ends.Uncaught class)) counts ending before now is rose = absurd is
+said_risen cs (Ok ends.Spent) counts ending before now is rose = subst (λ (e : Ending). FailsRisen e before now) (sym is) tt
+said_risen cs (Err fault) counts ending before now is rose = fault_risen fault ending before now is rose
 
 -- ---- of an image
 
@@ -121,7 +97,7 @@ answered_of cs s bounds_text p k =
       each = λ m x at. subst (λ (b : BoundOf). IsBoundAnswer (resolved cs) (timing_of s) b m x) (bounds_same cs p.flow i.flow i.names k.bounds) (i.each (resolved cs) i.flow m x at);
     }
 
-pub ran_profile : (s : Settings) (l : Parts) (bounds_text : List ℕ) (old new : Lent) (p : Prepared) (cs : List ClassFile) (rows : List Profile) (f : Followed) (ending : Ending) → cs ≡ l.classes → CodesFit s l → length l.laid.words ≤ s.memory
+pub ran_profile : (s : Settings) (l : Parts) (bounds_text : List ℕ) (old new : Lent) (p : Prepared) (cs : List ClassFile) (rows : List Profile) (f : ProgramEnd) (ending : Ending) → cs ≡ l.classes → CodesFit s l → length l.laid.words ≤ s.memory
     → IsPreparedBy s l.classes bounds_text p → ProfilesWith s l (input_of old) (input_of new) (length p.flow.methods) rows f
     → PutsProfile cs (profile_lines (name_in p.flow) 0 rows p.answers.items) f old.held new.held old.write_faults new.write_faults ending → RanProfile s l bounds_text old new ending
 ran_profile s l bounds_text old new p cs rows f ending classes codes memory k ran puts =

@@ -1,7 +1,7 @@
 -- What `profile` answers of what was linked, where nothing fails; and that the bounds in its lines are kept.
-use Rattle.std.proofs.Common.{◌≡◌, ℕ, ◌+◌, ◌<◌, true, false, List, [], ◌∷◌, length, Option, Some, None, refl, sym, ◌∙◌, ap, subst, arith, ⊎_elim, ◌⊎◌, inl, inr}
+use Rattle.std.proofs.Common.{◌≡◌, ℕ, ◌+◌, ◌<◌, true, false, List, [], ◌∷◌, length, Option, Some, None, Ok, Err, refl, sym, ◌∙◌, ap, subst, arith, ⊎_elim, ◌⊎◌, inl, inr}
 use Rattle.std.proofs.lemmas.Option.{slice_get_within}
-use Rattle.lists.specs.Lemmas.{some_same}
+use Rattle.lists.proofs.Lemmas.{some_same}
 use Rattle.class_pool.specs.declared.class.ClassFile.{ClassFile}
 use Rattle.outside.specs.Files.{AreFiles}
 use Rattle.bytecode_model.specs.Program.{body_of}
@@ -15,8 +15,13 @@ use Rattle.activations.specs.Activations.{Stage}
 use Rattle.activations.specs.Warrant.{BoundsActivations}
 use Rattle.activation_watch.specs.declared.profile.Profile.{Profile}
 use Rattle.activation_watch.specs.Watched.{activations, of_method, profile_of}
-use Rattle.activation_laws.specs.Profiled.{FirstHasTiming, IsKept, ProfilesKeepBounds}
+use Rattle.activation_laws.specs.Profiled.{FirstHasTiming, ProfileIsWithin, ProfilesKeepBounds}
 use Rattle.bound_sound.specs.Laws.{CertificatesAreSound}
+use Rattle.std.specs.declared.result.Result.{Result}
+use Rattle.device_traits.specs.declared.fault.DeviceFault.{DeviceFault}
+use Rattle.answer_lines.specs.declared.line.Counts.{Counts}
+use Rattle.boundary.specs.declared.runs.RunEnd.{RunEnd}
+use Rattle.boundary.specs.declared.runs.RunEnd.TheVariants as ends
 use Rattle.boundary.specs.Followed.{RunsAreInARow}
 use Rattle.method_bounds.specs.declared.answer.BoundAnswer.{BoundAnswer}
 use Rattle.method_bounds.specs.declared.answer.BoundAnswer.TheVariants.{Cycles, Never, Refused}
@@ -31,28 +36,23 @@ use Rattle.analysis_commands.specs.declared.analysis.AnalysisFault.TheVariants a
 use Rattle.analysis_commands.specs.Analysis.{timing_of, bounds_of, IsBoundsFault}
 use Rattle.jopizer.specs.Linked.{Parts, image_of}
 use Rattle.jopizer.specs.Laws.{OneLinked, LinkedImagesAreRead}
-use Rattle.jop_cli.specs.declared.outcome.Refusal.TheVariants as refusals
-use Rattle.jop_cli.specs.declared.outcome.Ending.{Ending}
-use Rattle.jop_cli.specs.declared.outcome.Ending.TheVariants as endings
-use Rattle.jop_cli.specs.declared.program_end.ProgramEnd.{ProgramEnd}
-use Rattle.jop_cli.specs.declared.program_end.ProgramEnd.TheVariants as ways
-use Rattle.jop_cli.specs.Phase.{is_linked as is_linked_file}
-use Rattle.jop_cli.specs.World.{World, IsQuiet}
-use Rattle.jop_cli.specs.Run.{program_end}
-use Rattle.jop_cli.specs.LinkedRun.{linked_setting}
-use Rattle.jop_cli.specs.LinkedFile.{SaysEnd, IsUnheld}
-use Rattle.jop_cli.specs.Linking.{files_of, OperandsFault}
-use Rattle.jop_cli.specs.Checking.{fault_ending}
-use Rattle.jop_cli.specs.Following.{heres_of, run_stages}
+use Rattle.commands.specs.declared.outcome.Refusal.TheVariants as refusals
+use Rattle.commands.specs.declared.outcome.Ending.{Ending}
+use Rattle.commands.specs.declared.outcome.Ending.TheVariants as endings
+use Rattle.commands.specs.Phase.{is_linked as is_linked_file}
+use Rattle.commands.specs.World.{World, IsQuiet}
+use Rattle.commands.specs.LinkedRun.{linked_setting}
+use Rattle.commands.specs.LinkedFile.{SaysEnd, IsUnheld}
+use Rattle.commands.specs.Linking.{files_of, OperandsFault}
+use Rattle.commands.specs.Checking.{fault_ending}
+use Rattle.commands.specs.Following.{heres_of, run_stages}
 use Rattle.jop_cli.specs.Profiling.{RanProfile, EndsRun, ProfilesLinked, ProfilesParts, ProfilesImage, ProfilesFiles, input_of, unwatched, bound_told}
 use Rattle.jop_cli.specs.Calls.{Call, NothingFailed, LacksMemory}
 use Rattle.jop_cli.specs.Correct.{ProfilesTexts, IsProfiled, ProfilesAreComplete, ProfilesAreKept}
 use Rattle.jop_cli.proofs.Wholly.{IsWholly, wholly, executed, lacks, same_files, files_read}
 use Rattle.jop_cli.proofs.RunningLaw.{not_more, begins_linked, is_read}
 use Rattle.jop_cli.proofs.HoldingLaw.{reset_timing}
-use Rattle.jop_cli.proofs.Ended.{end_made}
-use Rattle.jop_cli.proofs.Followed.{reads_rose, writes_none}
-use Rattle.jop_cli.proofs.Profiled.{end_reads}
+use Rattle.commands.proofs.Followed.{rose, unrisen}
 use Rattle.jop_cli.proofs.InRuns.{rows_are_seen}
 
 -- ---- what is answered
@@ -66,15 +66,13 @@ quiet_of old new e watch = record {
   watch = watch;
 }
 
--- a run whose input doesn't fail ends without a fault
-pub ends_run : (cs : List ClassFile) (end : ProgramEnd) (ending : Ending) → (end ≡ ways.ReadFault → ⊥) → (end ≡ ways.WriteFault → ⊥) → (end ≡ ways.NoMemory → ⊥) → SaysEnd cs end ending → EndsRun ending
-ends_run cs (ways.Ended counts) ending reads writes made is = subst EndsRun (sym is) tt
-ends_run cs (ways.Uncaught class counts) (endings.Uncaught number name said) reads writes made is = tt
-ends_run cs (ways.Uncaught class counts) ending reads writes made is = absurd is
-ends_run cs (ways.Spent counts) ending reads writes made is = subst EndsRun (sym is) tt
-ends_run cs ways.ReadFault ending reads writes made is = absurd (reads refl)
-ends_run cs ways.WriteFault ending reads writes made is = absurd (writes refl)
-ends_run cs ways.NoMemory ending reads writes made is = absurd (made refl)
+-- a run on which no call fails ends without a fault
+pub ends_run : (cs : List ClassFile) (end : Result RunEnd DeviceFault) (counts : Counts) (ending : Ending) → ((fault : DeviceFault) → end ≡ Err fault → ⊥) → SaysEnd cs end counts ending → EndsRun ending
+ends_run cs (Ok ends.Ended) counts ending none is = subst EndsRun (sym is) tt
+ends_run cs (Ok (ends.Uncaught class)) counts (endings.Uncaught number name said) none is = tt
+ends_run cs (Ok (ends.Uncaught class)) counts ending none is = absurd is
+ends_run cs (Ok ends.Spent) counts ending none is = subst EndsRun (sym is) tt
+ends_run cs (Err fault) counts ending none is = absurd (none fault refl)
 
 module _ (one : OneLinked) (images : LinkedImagesAreRead) (not_refused : ReadIsNotRefused) (c : Call) (n : NothingFailed c) (s : Settings) (image : ℕ) (l : Parts) (bounds_text : List ℕ) (h : ProfilesTexts c s image l bounds_text) where
   abbrev operands : List (List ℕ)
@@ -95,15 +93,12 @@ module _ (one : OneLinked) (images : LinkedImagesAreRead) (not_refused : ReadIsN
       let g : Setting = linked_setting l.classes s.stack r.ran.config.memory in
       let reset = linked_reset s.stack l.laid.words r.ran.config in
       let x = r.ran.profiles.ran in
-      let reads : program_end r.followed.end r.followed.counts ≡ ways.ReadFault → ⊥ = λ is.
-      n.input (reads_rose g reset s.cycles (input_of old) (input_of new) r.followed x (end_reads r.followed.end r.followed.counts is)) in
-      let writes : program_end r.followed.end r.followed.counts ≡ ways.WriteFault → ⊥ = λ is.
-      writes_none g reset s.cycles (input_of old) (input_of new) r.followed x refl refl is in
+      let none = unrisen r.followed.end (input_of old) (input_of new) n.input (λ written. omega (arith, written)) (rose g reset s.cycles (input_of old) (input_of new) r.followed x) in
       ⊎_elim
       (λ whole. inl (record {
         ending = ending;
         ran = r;
-        ends = ends_run l.classes (program_end r.followed.end r.followed.counts) ending reads writes (end_made r.followed.end r.followed.counts) whole.2;
+        ends = ends_run l.classes r.followed.end r.followed.counts ending none whole.2;
         outcome = w.outcome;
         puts = record { out = whole.0; err = w.line };
       }))
@@ -208,4 +203,4 @@ profiles_are_kept sound rows kept s l bounds_text old new ending r m row answer 
     let bounds = certified sound l.classes s r.bounds m answer bound are told (r.answered.each m answer answer_is) in
     let there : m < length r.answers = slice_get_within r.answers m answer answer_is in
     let same : profile_of (of_method m (activations heres)) ≡ row = some_same (profile_of (of_method m (activations heres))) row (sym (p.rows_are.each m there) ∙ row_is) in
-    subst (λ (k : Profile). IsKept k bound) same (kept g stages heres (timing_of s) (bounds_of l.classes r.bounds) m bound x.is_setting seen timing bounds keeps)
+    subst (λ (k : Profile). ProfileIsWithin k bound) same (kept g stages heres (timing_of s) (bounds_of l.classes r.bounds) m bound x.is_setting seen timing bounds keeps)

@@ -1,7 +1,7 @@
 -- Endings that refuse: they neither answer, nor say that the input or out failed.
 use Rattle.std.proofs.Common.{◌≡◌, ℕ, List, sym, subst, ⊎_elim}
 use Rattle.class_pool.specs.declared.class.ClassFile.{ClassFile}
-use Rattle.image_file.specs.Bare.{Image}
+use Rattle.image_file.specs.Bare.{BareContent}
 use Rattle.outside.specs.Files.{FilesTold}
 use Rattle.analysis_commands.specs.declared.analysis.AnalysisFault.{AnalysisFault}
 use Rattle.analysis_commands.specs.declared.analysis.AnalysisFault.TheVariants as analysis
@@ -18,17 +18,17 @@ use Rattle.jopizer.specs.Linked.{Parts}
 use Rattle.command_line.specs.declared.command.Settings.{Settings}
 use Rattle.jop_cli.specs.declared.asking.Question.{Question}
 use Rattle.jop_cli.specs.declared.asking.Question.TheVariants as questions
-use Rattle.jop_cli.specs.declared.outcome.Ending.{Ending}
-use Rattle.jop_cli.specs.declared.outcome.Ending.TheVariants as endings
-use Rattle.jop_cli.specs.declared.outcome.Outcome.TheVariants as outcomes
-use Rattle.jop_cli.specs.declared.outcome.Answer.TheVariants.{Ends}
-use Rattle.jop_cli.specs.BareFile.{ImageFault}
-use Rattle.jop_cli.specs.LinkedFile.{BytesFault}
-use Rattle.jop_cli.specs.Linking.{OperandsFault}
-use Rattle.jop_cli.specs.Checking.{fault_ending, refusal_ending, Checks, EndsTooLong}
-use Rattle.jop_cli.specs.Bounding.{cause_ending}
-use Rattle.jop_cli.specs.Needs.{memory_ending}
-use Rattle.jop_cli.specs.Headers.{header_ending}
+use Rattle.commands.specs.declared.outcome.Ending.{Ending}
+use Rattle.commands.specs.declared.outcome.Ending.TheVariants as endings
+use Rattle.commands.specs.declared.outcome.Outcome.TheVariants as outcomes
+use Rattle.commands.specs.declared.outcome.Answer.TheVariants.{Ends}
+use Rattle.commands.specs.BareFile.{ImageFault}
+use Rattle.commands.specs.LinkedFile.{BytesFault}
+use Rattle.commands.specs.Linking.{OperandsFault}
+use Rattle.commands.specs.Checking.{fault_ending, refusal_ending, Checks, EndsTooLong}
+use Rattle.commands.specs.Bounding.{cause_ending}
+use Rattle.commands.specs.Needs.{memory_ending}
+use Rattle.commands.specs.Headers.{header_ending}
 use Rattle.jop_cli.specs.Asking.{IsAnswer, IsBareAnswer}
 use Rattle.jop_cli.specs.Answer.{outcome_of, outcome_unsaid}
 
@@ -143,10 +143,10 @@ linked_says words questions.Loops l operands e is = refuses (refusing_by e endin
 linked_says words questions.Headers l operands e ends = refuses (refusing_by e (header_ending ends.fault) ends.says (header_refuses ends.fault))
 linked_says words questions.Memory l operands e ends = refuses (refusing_by e (memory_ending ends.refusal) ends.says (need_refuses ends.refusal))
 
-too_long_refuses : (s : Settings) (image : Image) (e : Ending) → EndsTooLong s image e → IsRefusing e
+too_long_refuses : (s : Settings) (image : BareContent) (e : Ending) → EndsTooLong s image e → IsRefusing e
 too_long_refuses s image e long = refusing_by e _ long.says tt
 
-pub bare_refuses : (question : Question) (image : Image) (operands : List (List ℕ)) (e : Ending) → IsBareAnswer question image operands (Ends e) → IsRefusing e
+pub bare_refuses : (question : Question) (image : BareContent) (operands : List (List ℕ)) (e : Ending) → IsBareAnswer question image operands (Ends e) → IsRefusing e
 bare_refuses (questions.Check s) image operands e ends = ⊎_elim (too_long_refuses s image e) (λ r. refusing_by e (refusal_ending s r.refusal) r.says (refusal_refuses s r.refusal)) ends
 bare_refuses (questions.Bound s method) image operands e ends = ⊎_elim (too_long_refuses s image e) (λ r. refusing_by e (cause_ending s r.cause) r.says (cause_refuses s r.cause)) ends
 bare_refuses (questions.Bounds s) image operands e ends = ⊎_elim (too_long_refuses s image e) (λ r. refusing_by e (fault_ending s r.fault) r.says (fault_refuses s r.fault)) ends

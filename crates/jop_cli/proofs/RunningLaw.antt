@@ -1,8 +1,10 @@
 -- The run of an image is that of its program.
-use Rattle.std.proofs.Common.{◌≡◌, ℕ, ◌≤◌, ◌<◌, true, false, List, [], length, Option, Some, None, refl, sym, ◌∙◌, ap, subst, arith, ◌⊎◌, inl, inr, ⊎_elim}
+use Rattle.std.proofs.Common.{◌≡◌, ℕ, ◌≤◌, ◌<◌, true, false, List, [], length, Option, Some, None, Err, refl, sym, ◌∙◌, ap, subst, arith, ◌⊎◌, inl, inr, ⊎_elim}
 use Rattle.std.specs.Prelude.{IfSome, IsSomeAnd}
-use Rattle.image_file.specs.Bare.{Image, IsBare}
+use Rattle.image_file.specs.Bare.{BareContent, IsBareFile}
 use Rattle.image_file.specs.Linked as file
+use Rattle.outside.specs.Outside.{Rose}
+use Rattle.device_traits.specs.declared.fault.DeviceFault.{DeviceFault}
 use Rattle.jop_core.specs.Reset.{bare_reset, linked_reset}
 use Rattle.boundary.specs.Setting.{bare_setting}
 use Rattle.bytecode_model.specs.Program.{Body, body_of}
@@ -16,43 +18,46 @@ use Rattle.jopizer.specs.declared.fault.ImageFault.TheVariants as faults
 use Rattle.jopizer.specs.Linked.{Parts, IsLinked, image_of}
 use Rattle.jopizer.specs.Images.{IsWrongIn}
 use Rattle.jopizer.specs.Laws.{OneLinked, LinkedImagesAreRead}
-use Rattle.jop_cli.specs.declared.outcome.Refusal.TheVariants as refusals
-use Rattle.jop_cli.specs.declared.outcome.Ending.{Ending}
-use Rattle.jop_cli.specs.declared.outcome.Ending.TheVariants as endings
-use Rattle.jop_cli.specs.declared.show.Show.{Show}
-use Rattle.jop_cli.specs.declared.show.Show.TheVariants as shows
-use Rattle.jop_cli.specs.Show.{bare_shown, linked_shown}
-use Rattle.jop_cli.specs.Phase.{is_linked}
-use Rattle.jop_cli.specs.World.{IsUntaken}
-use Rattle.jop_cli.specs.Linking.{Refuses}
-use Rattle.jop_cli.specs.LinkedSettings.{CodesFit}
-use Rattle.jop_cli.specs.LinkedFile.{BytesFault, EndsAs, RunsLinkedBytes}
-use Rattle.jop_cli.specs.LinkedRun.{linked_setting}
-use Rattle.jop_cli.specs.BareFile as bare
-use Rattle.jop_cli.specs.BareFile.{ImageFault, blocks_of_code, RunsBareBytes}
+use Rattle.commands.specs.declared.outcome.Refusal.TheVariants as refusals
+use Rattle.commands.specs.declared.outcome.Ending.{Ending}
+use Rattle.commands.specs.declared.outcome.Ending.TheVariants as endings
+use Rattle.commands.specs.declared.show.Show.{Show}
+use Rattle.commands.specs.declared.show.Show.TheVariants as shows
+use Rattle.commands.specs.Show.{bare_shown, linked_shown}
+use Rattle.commands.specs.Phase.{is_linked}
+use Rattle.commands.specs.World.{IsUntaken}
+use Rattle.commands.specs.Linking.{Refuses}
+use Rattle.run_devices.specs.Lent.{Lent}
+use Rattle.commands.specs.Run.{HasRisen}
+use Rattle.commands.specs.LinkedSettings.{CodesFit}
+use Rattle.commands.specs.LinkedFile.{BytesFault, EndsAs, RunsLinkedBytes}
+use Rattle.commands.specs.LinkedRun.{linked_setting}
+use Rattle.commands.specs.BareFile as bare
+use Rattle.commands.specs.BareFile.{ImageFault, blocks_of_code, RunsBareBytes}
 use Rattle.jop_cli.specs.Answer.{RunsFile, lent_of, lent_without_input}
 use Rattle.jop_cli.specs.Calls.{Call, NothingFailed, LacksMemory}
 use Rattle.jop_cli.specs.Courses.{RanLinked, RanBare}
 use Rattle.jop_cli.specs.Correct.{HoldsLinked, HoldsBare, RunsAreTheBytecodes, TracesAreTheRuns, BareRunsAreTheBytecodes, BareTracesAreTheRuns, OneBareImage}
+use Rattle.commands.proofs.Followed.{unrisen}
 use Rattle.jop_cli.proofs.Wholly.{IsWholly, wholly, executed, lacks, quiet_of, quiet_without, same_bytes, file_read}
 use Rattle.jop_cli.proofs.Coming.{ended, uncaught, spent}
 
 -- ---- the bytes of a linked image
 
-pub begins_linked : (bytes : List ℕ) (image : file.Image) → file.IsLinked bytes image → is_linked bytes ≡ true
+pub begins_linked : (bytes : List ℕ) (image : file.LinkedContent) → file.IsLinkedFile bytes image → is_linked bytes ≡ true
 begins_linked bytes image is = ap is_linked is.spelling
 
-begins_bare : (bytes : List ℕ) (image : Image) → IsBare bytes image → is_linked bytes ≡ false
+pub begins_bare : (bytes : List ℕ) (image : BareContent) → IsBareFile bytes image → is_linked bytes ≡ false
 begins_bare bytes image is = ap is_linked is.spelling
 
-wrong_in : (image : file.Image) (refusal : LinkRefusal) → Refuses image.files image.main refusal → IsWrongIn image (faults.Link refusal)
+pub wrong_in : (image : file.LinkedContent) (refusal : LinkRefusal) → Refuses image.files image.main refusal → IsWrongIn image (faults.Link refusal)
 wrong_in image (links.Resolving refusal) h = h
 wrong_in image (links.NotVerified f method pc rule) h = h
 wrong_in image (links.TooLarge what count limit) h = h
 wrong_in image (links.FileTooLarge count limit) h = h
 wrong_in image links.NoMemory h = absurd h
 
-pub is_read : LinkedImagesAreRead → (bytes : List ℕ) (l : Parts) → IsLinked l → file.IsLinked bytes (image_of l) → (ending : Ending) → BytesFault bytes ending → ending ≡ endings.NoMemory
+pub is_read : LinkedImagesAreRead → (bytes : List ℕ) (l : Parts) → IsLinked l → file.IsLinkedFile bytes (image_of l) → (ending : Ending) → BytesFault bytes ending → ending ≡ endings.NoMemory
 is_read law bytes l linked is (endings.Refused refusals.BadImage) h = absurd (h (image_of l) is)
 is_read law bytes l linked is (endings.Refused (refusals.Differs word kept other)) h =
     let e : faults.Differs word kept other ≡ faults.NoMemory = law bytes l (faults.Differs word kept other) linked is h in
@@ -64,6 +69,10 @@ is_read law bytes l linked is endings.NoMemory h = refl
 is_read law bytes l linked is ending h = absurd h
 
 -- ---- the run of what was linked
+
+-- no call on a device failed
+unfailed : (old new : Lent) (fault : DeviceFault) → (Rose old.read_faults new.read_faults → ⊥) → (Rose old.write_faults new.write_faults → ⊥) → HasRisen (Err fault) old new → ⊥
+unfailed old new fault reads writes risen = unrisen (Err fault) old new reads writes risen fault refl
 
 pub not_more : (o : Option Body) (blocks block_words count : ℕ) → IsSomeAnd o (λ b. count ≡ code_blocks block_words b) → IfSome o (λ b. code_blocks block_words b ≤ blocks) → blocks < count → ⊥
 not_more None blocks block_words count is fits more = absurd is
@@ -78,9 +87,9 @@ module _ (c : Call) (settings : Settings) (show : Show) (n : NothingFailed c) (l
   linked_ends (endings.Uncaught class name counts) w (h, names) =
       inl (record { config = h.config; has = h.has; ran = uncaught c l.classes (linked_setting l.classes settings.stack h.config.memory) (linked_reset settings.stack l.laid.words h.config) settings.cycles (lent_of c.old) (lent_of c.new) (linked_shown l.classes show) class name counts names h.ran w })
   linked_ends (endings.Spent counts) w h =
-      inl (record { config = h.config; has = h.has; ran = spent c l.classes (linked_setting l.classes settings.stack h.config.memory) (linked_reset settings.stack l.laid.words h.config) settings.cycles (lent_of c.old) (lent_of c.new) (linked_shown l.classes show) counts h.ran.0 w })
-  linked_ends endings.InputFault w h = absurd (n.input h.ran.1)
-  linked_ends endings.WriteFault w h = absurd (n.out h.ran.1)
+      inl (record { config = h.config; has = h.has; ran = spent c l.classes (linked_setting l.classes settings.stack h.config.memory) (linked_reset settings.stack l.laid.words h.config) settings.cycles (lent_of c.old) (lent_of c.new) (linked_shown l.classes show) counts h.ran w })
+  linked_ends endings.InputFault w h = absurd (unfailed (lent_of c.old) (lent_of c.new) h.fault n.input n.out h.ran.ran.rose)
+  linked_ends endings.WriteFault w h = absurd (unfailed (lent_of c.old) (lent_of c.new) h.fault n.input n.out h.ran.ran.rose)
   linked_ends endings.NoMemory w h = inr (record { outcome = w.outcome; quiet = quiet_of c.old c.new h })
   linked_ends ending w h = absurd h
 
@@ -120,12 +129,12 @@ traces_are_the_runs one law c settings micro word l command holds n =
 
 -- ---- a bare image
 
-image_read : (bytes : List ℕ) (image : Image) → IsBare bytes image → (ending : Ending) → ImageFault bytes ending → ending ≡ endings.NoMemory
+pub image_read : (bytes : List ℕ) (image : BareContent) → IsBareFile bytes image → (ending : Ending) → ImageFault bytes ending → ending ≡ endings.NoMemory
 image_read bytes image is (endings.Refused refusals.BadImage) h = absurd (h image is)
 image_read bytes image is endings.NoMemory h = refl
 image_read bytes image is ending h = absurd h
 
-module _ (c : Call) (settings : Settings) (show : Show) (n : NothingFailed c) (image : Image) (code : blocks_of_code settings image ≤ settings.blocks) (untaken : IsUntaken c.old c.new) where
+module _ (c : Call) (settings : Settings) (show : Show) (n : NothingFailed c) (image : BareContent) (code : blocks_of_code settings image ≤ settings.blocks) (untaken : IsUntaken c.old c.new) where
   bare_ran : (ending : Ending) → IsWholly c ending → bare.RanImageWith settings show image (lent_without_input c.old) (lent_without_input c.new) ending → RanBare c settings show image ⊎ LacksMemory c
   bare_ran (endings.Ended counts) w h =
       inl (record {
@@ -138,10 +147,10 @@ module _ (c : Call) (settings : Settings) (show : Show) (n : NothingFailed c) (i
       inl (record {
         config = h.config;
         has = h.has;
-        ran = spent c [] (bare_setting image settings.stack h.config.memory) (bare_reset settings.stack image h.config) settings.cycles (lent_without_input c.old) (lent_without_input c.new) (bare_shown show) counts h.ran.0 w;
+        ran = spent c [] (bare_setting image settings.stack h.config.memory) (bare_reset settings.stack image h.config) settings.cycles (lent_without_input c.old) (lent_without_input c.new) (bare_shown show) counts h.ran w;
         input = untaken;
       })
-  bare_ran endings.WriteFault w h = absurd (n.out h.ran.1)
+  bare_ran endings.WriteFault w h = absurd (unfailed (lent_without_input c.old) (lent_without_input c.new) h.ran.fault (λ rose. omega (arith, rose)) n.out h.ran.ran.rose)
   bare_ran endings.NoMemory w h = inr (record { outcome = w.outcome; quiet = quiet_without c.old c.new untaken h.ran })
   bare_ran ending w h = absurd h.ran
 
@@ -150,7 +159,7 @@ module _ (c : Call) (settings : Settings) (show : Show) (n : NothingFailed c) (i
   bare_ends ending w (inl long) = absurd (omega (arith, code, long.blocks))
   bare_ends ending w (inr ran) = bare_ran ending w ran
 
-bare_bytes : OneBareImage → (c : Call) (settings : Settings) (show : Show) (word : ℕ) (image : Image) → (holds : HoldsBare c settings word image) → NothingFailed c → IsUntaken c.old c.new → (ending : Ending) → IsWholly c ending
+bare_bytes : OneBareImage → (c : Call) (settings : Settings) (show : Show) (word : ℕ) (image : BareContent) → (holds : HoldsBare c settings word image) → NothingFailed c → IsUntaken c.old c.new → (ending : Ending) → IsWholly c ending
     → RunsBareBytes settings show holds.bytes (lent_without_input c.old) (lent_without_input c.new) ending → RanBare c settings show image ⊎ LacksMemory c
 bare_bytes one c settings show word image holds n untaken ending w h =
     ⊎_elim
@@ -158,10 +167,10 @@ bare_bytes one c settings show word image holds n untaken ending w h =
     (λ r.
     let same : r.image ≡ image = one holds.bytes r.image image r.bare holds.is_file in
     bare_ends c settings show n image holds.code untaken ending w
-    (subst (λ (i : Image). bare.IsCodeTooLong settings i (lent_without_input c.old) (lent_without_input c.new) ending ⊎ bare.RanImageWith settings show i (lent_without_input c.old) (lent_without_input c.new) ending) same r.ran))
+    (subst (λ (i : BareContent). bare.IsCodeTooLong settings i (lent_without_input c.old) (lent_without_input c.new) ending ⊎ bare.RanImageWith settings show i (lent_without_input c.old) (lent_without_input c.new) ending) same r.ran))
     h
 
-bare_file : OneBareImage → (c : Call) (settings : Settings) (show : Show) (word : ℕ) (image : Image) → HoldsBare c settings word image → NothingFailed c → (ending : Ending) → IsWholly c ending
+bare_file : OneBareImage → (c : Call) (settings : Settings) (show : Show) (word : ℕ) (image : BareContent) → HoldsBare c settings word image → NothingFailed c → (ending : Ending) → IsWholly c ending
     → RunsFile settings show word c.old c.new ending → RanBare c settings show image ⊎ LacksMemory c
 bare_file one c settings show word image holds n ending w h =
     ⊎_elim

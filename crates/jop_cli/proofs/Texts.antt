@@ -4,7 +4,7 @@ use Rattle.std.specs.Prelude.{sum_by, Vec}
 use Rattle.std.specs.declared.alloc.Global.{Global}
 use Rattle.std.proofs.lemmas.List.Sums.{sum_by-cons}
 use Rattle.outside.specs.Files.{contents}
-use Rattle.jop_cli.specs.Line.{text_at}
+use Rattle.commands.specs.Line.{text_of_word}
 
 -- each is at most as long as all together
 pub within_all : (files : List (Vec ℕ Global)) (k : ℕ) (d : Vec ℕ Global) → k < length files → length (slice_index_or files k d).items ≤ sum_by length (contents files)
@@ -18,7 +18,7 @@ within_all (f ∷ fs) (suc k) d below =
     omega (arith, all, rest)
 
 -- where none of the files is longer than so much, the text of none is
-pub short_at : (most : ℕ) (files : List (Vec ℕ Global)) → All (λ f. length f.items ≤ most) files → (k : ℕ) → length (text_at (contents files) k) ≤ most
+pub short_at : (most : ℕ) (files : List (Vec ℕ Global)) → All (λ f. length f.items ≤ most) files → (k : ℕ) → length (text_of_word (contents files) k) ≤ most
 short_at most [] all k = omega arith
 short_at most (f ∷ fs) all zero = all 0 f (omega arith)
 short_at most (f ∷ fs) all (suc k) = short_at most fs (λ j d below. all (suc j) d (omega (arith, below))) k

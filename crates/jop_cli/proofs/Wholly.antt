@@ -9,13 +9,13 @@ use Rattle.outside.specs.Files.{AreFiles, IsTooBigAt}
 use Rattle.run_devices.specs.Lent.{Lent}
 use Rattle.command_line.specs.declared.command.Command.{Command}
 use Rattle.command_line.specs.Command.{command_of}
-use Rattle.jop_cli.specs.declared.outcome.Refusal.TheVariants as refusals
-use Rattle.jop_cli.specs.declared.outcome.Ending.{Ending}
-use Rattle.jop_cli.specs.declared.outcome.Ending.TheVariants as endings
-use Rattle.jop_cli.specs.declared.outcome.Outcome.TheVariants as outcomes
-use Rattle.jop_cli.specs.Line.{line_of}
-use Rattle.jop_cli.specs.World.{World, IsQuiet, IsUntaken, Reads}
-use Rattle.jop_cli.specs.Linking.{files_of, OperandsFault}
+use Rattle.commands.specs.declared.outcome.Refusal.TheVariants as refusals
+use Rattle.commands.specs.declared.outcome.Ending.{Ending}
+use Rattle.commands.specs.declared.outcome.Ending.TheVariants as endings
+use Rattle.commands.specs.declared.outcome.Outcome.TheVariants as outcomes
+use Rattle.commands.specs.Line.{line_of}
+use Rattle.commands.specs.World.{World, IsQuiet, IsUntaken, Reads}
+use Rattle.commands.specs.Linking.{files_of, OperandsFault}
 use Rattle.jop_cli.specs.Answer.{Does, FileFault, outcome_of, lent_of, lent_without_input}
 use Rattle.jop_cli.specs.Calls.{Call, NothingFailed, LacksMemory, IsTold, AreTold}
 use Rattle.jop_cli.proofs.Refusing.{unsaid_written, unsaid_holds}
@@ -32,12 +32,15 @@ pub record IsWholly (c : Call) (ending : Ending) : Type 0 where
   pub line : Grew c.err_old c.err_new (line_of c.words ending)
   pub outcome : c.outcome ≡ outcome_of ending
 
-pub wholly : (c : Call) → NothingFailed c → IsWholly c c.answered.ending
-wholly c n =
+pub wholly_by : (c : Call) → ¬ Rose c.err_faults_old c.err_faults_new → IsWholly c c.answered.ending
+wholly_by c unfailed =
     ⊎_elim
     (λ whole. record { line = whole.0; outcome = whole.1 })
-    (λ less. absurd (n.err (less_rose _ _ _ _ _ _ less.0)))
+    (λ less. absurd (unfailed (less_rose _ _ _ _ _ _ less.0)))
     c.answered.said.said
+
+pub wholly : (c : Call) → NothingFailed c → IsWholly c c.answered.ending
+wholly c n = wholly_by c n.err
 
 -- so it is where the outcome is that all was written, or that a certificate holds
 pub wholly_written : (c : Call) → c.outcome ≡ outcomes.Written → IsWholly c c.answered.ending

@@ -2,16 +2,17 @@
 use Rattle.std.proofs.Common.{◌≡◌, ℕ, refl, sym, ◌∙◌, ap, subst, ◌⊎◌, inl, inr, ⊎_elim}
 use Rattle.outside.specs.Outside.{Grew}
 use Rattle.command_line.specs.declared.command.Command.TheVariants.{Work}
-use Rattle.jop_cli.specs.declared.outcome.Ending.{Ending}
-use Rattle.jop_cli.specs.declared.outcome.Ending.TheVariants as endings
-use Rattle.jop_cli.specs.declared.outcome.Outcome.TheVariants as outcomes
-use Rattle.jop_cli.specs.Line.{line_of}
-use Rattle.jop_cli.specs.World.{IsQuiet}
-use Rattle.jop_cli.specs.Working.{PutsLine, NotWorked, OnlyOut}
+use Rattle.commands.specs.declared.outcome.Ending.{Ending}
+use Rattle.commands.specs.declared.outcome.Ending.TheVariants as endings
+use Rattle.commands.specs.declared.outcome.Outcome.TheVariants as outcomes
+use Rattle.commands.specs.Line.{line_of}
+use Rattle.commands.specs.World.{IsQuiet}
+use Rattle.commands.specs.Working.{PutsLine, NotWorked, OnlyOut}
 use Rattle.jop_cli.specs.Answer.{outcome_of}
 use Rattle.jop_cli.specs.Calls.{Call}
-use Rattle.jop_cli.specs.Correct.{IsWorkedBy, Hinders, WorkingIsComplete, WorkLinesAreTrue}
-use Rattle.jop_cli.proofs.Wholly.{IsWholly, wholly, wholly_written, executed, lacks}
+use Rattle.jop_cli.specs.Correct.{IsWorkedBy, Hinders, puts, says, lacks, WorkingIsComplete, WorkLinesAreTrue}
+use Rattle.jop_cli.proofs.Wholly.{IsWholly, wholly, wholly_written, executed}
+use Rattle.jop_cli.proofs.Wholly as whole
 
 in_the_way : (n : ℕ) (ending : Ending) → NotWorked n ending → (ending ≡ endings.NoMemory) ⊎ Hinders n ending
 in_the_way n endings.NoMemory h = inl refl
@@ -26,19 +27,24 @@ quiet : (c : Call) → c.new.out ≡ c.old.out → c.new.out_faults ≡ c.old.ou
 quiet c out faults rest = record { input = rest.input; out = out; out_faults = faults; watch = rest.watch }
 
 written : (c : Call) (n : ℕ) (ending : Ending) → IsWholly c ending → ending ≡ endings.Written → PutsLine n c.old.out c.new.out c.old.out_faults c.new.out_faults → IsWorkedBy c n
-written c n ending w is puts =
+written c n ending w is did =
     let L : Ending → Type 0 = λ e. Grew c.err_old c.err_new (line_of c.words e) in
-    record { outcome = w.outcome ∙ ap outcome_of is; line = puts.line; is = puts.is; puts = record { out = puts.put; err = subst L is w.line } }
+    record { outcome = w.outcome ∙ ap outcome_of is; line = did.line; is = did.is; puts = record { out = did.put; err = subst L is w.line } }
 
 pub complete : WorkingIsComplete
-complete c n command none open_way =
+complete c n command none =
     let w = wholly c none in
     let works = executed c (Work n) command in
     ⊎_elim
-    (λ h. inl (written c n c.answered.ending w h.0 h.1))
+    (λ h. puts (written c n c.answered.ending w h.0 h.1))
     (λ rest. ⊎_elim
     (λ h. absurd (none.out h.1.rose))
-    (λ h. ⊎_elim (λ is. inr (lacks c c.answered.ending w is (quiet c h.1 h.2 works.1))) (λ hinders. absurd (open_way c.answered.ending hinders)) (in_the_way n c.answered.ending h.0))
+    (λ h.
+    let nothing = quiet c h.1 h.2 works.1 in
+    ⊎_elim
+    (λ is. lacks (whole.lacks c c.answered.ending w is nothing))
+    (λ hinders. says c.answered.ending hinders (record { outcome = w.outcome; line = w.line; quiet = nothing }))
+    (in_the_way n c.answered.ending h.0))
     rest)
     works.0
 

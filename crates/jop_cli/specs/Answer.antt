@@ -11,25 +11,26 @@ use Rattle.command_line.specs.Command.{command_of}
 use Rattle.answer_lines.specs.Said.{SaidLess}
 use Rattle.answer_lines.specs.declared.unanswered.Cause.{Cause}
 use Rattle.answer_lines.specs.declared.unanswered.Cause.TheVariants as causes
-use Rattle.jop_cli.specs.declared.outcome.Refusal.{Refusal}
-use Rattle.jop_cli.specs.declared.outcome.Refusal.TheVariants.{Usage, TooBig, MethodTooLong, Link}
-use Rattle.jop_cli.specs.declared.outcome.Refusal.TheVariants.{Check as NotChecked, Bound as Forbidden, Memory as NotMet, NoLoop, Plan as NotPlanned}
-use Rattle.jop_cli.specs.declared.outcome.Ending.{Ending}
-use Rattle.jop_cli.specs.declared.outcome.Ending.TheVariants.{Ended, Written, Linked, Holds, Uncaught, Refused, TooLong, NotLinked, NotHeld, NotAnswered, Spent}
-use Rattle.jop_cli.specs.declared.outcome.Ending.TheVariants.{CycleEnded, CycleUncaught, CycleSpent}
-use Rattle.jop_cli.specs.declared.outcome.Ending.TheVariants.{ReadFault, InputFault, WriteFault, NoMemory}
-use Rattle.jop_cli.specs.declared.outcome.Outcome.{Outcome}
-use Rattle.jop_cli.specs.declared.outcome.Outcome.TheVariants as outcomes
-use Rattle.jop_cli.specs.declared.show.Show.{Show}
-use Rattle.jop_cli.specs.declared.show.Show.TheVariants as shows
-use Rattle.jop_cli.specs.Line.{text_at, line_of, is_fault}
-use Rattle.jop_cli.specs.Phase.{is_linked}
-use Rattle.jop_cli.specs.BareFile.{RunsBareBytes}
+use Rattle.commands.specs.declared.outcome.Refusal.{Refusal}
+use Rattle.commands.specs.declared.outcome.Refusal.TheVariants.{Usage, TooBig, MethodTooLong, Link}
+use Rattle.commands.specs.declared.outcome.Refusal.TheVariants.{Check as NotChecked, Bound as Forbidden, Memory as NotMet, NoLoop, Plan as NotPlanned}
+use Rattle.commands.specs.declared.outcome.Ending.{Ending}
+use Rattle.commands.specs.declared.outcome.Ending.TheVariants.{Ended, Written, Linked, Holds, Uncaught}
+use Rattle.commands.specs.declared.outcome.Ending.TheVariants.{Refused, TooLong, NotLinked, NotHeld, NotAnswered, Spent}
+use Rattle.commands.specs.declared.outcome.Ending.TheVariants.{CycleEnded, CycleUncaught, CycleSpent}
+use Rattle.commands.specs.declared.outcome.Ending.TheVariants.{ReadFault, InputFault, WriteFault, NoMemory}
+use Rattle.commands.specs.declared.outcome.Outcome.{Outcome}
+use Rattle.commands.specs.declared.outcome.Outcome.TheVariants as outcomes
+use Rattle.commands.specs.declared.show.Show.{Show}
+use Rattle.commands.specs.declared.show.Show.TheVariants as shows
+use Rattle.commands.specs.Line.{text_of_word, line_of, is_fault}
+use Rattle.commands.specs.Phase.{is_linked}
+use Rattle.commands.specs.BareFile.{RunsBareBytes}
 use Rattle.run_devices.specs.Lent.{Lent, lent}
-use Rattle.jop_cli.specs.LinkedFile.{RunsLinkedBytes}
-use Rattle.jop_cli.specs.World.{World, IsQuiet, IsUntaken, FilesStayBut, IsUnchanged, Reads, IsTooBig}
-use Rattle.jop_cli.specs.Assembling.{Assembles}
-use Rattle.jop_cli.specs.Linking.{LinksFiles}
+use Rattle.commands.specs.LinkedFile.{RunsLinkedBytes}
+use Rattle.commands.specs.World.{World, IsQuiet, IsUntaken, FilesStayBut, IsUnchanged, Reads, IsTooBig}
+use Rattle.commands.specs.Assembling.{Assembles}
+use Rattle.commands.specs.Linking.{LinksFiles}
 use Rattle.jop_cli.specs.Asking.{AsksFiles}
 use Rattle.jop_cli.specs.Profiling.{ProfilesFiles}
 use Rattle.jop_cli.specs.Planning.{PlansFiles}
@@ -37,7 +38,7 @@ use Rattle.jop_cli.specs.Cycling.{CyclesFiles}
 use Rattle.jop_cli.specs.declared.task.Task.{Task}
 use Rattle.jop_cli.specs.declared.task.Task.TheVariants as tasks
 use Rattle.jop_cli.specs.Tasks.{task_of}
-use Rattle.jop_cli.specs.Working.{Works}
+use Rattle.commands.specs.Working.{Works}
 
 -- what a run is lent
 abbrev pub lent_of : World → Lent
@@ -89,7 +90,7 @@ DoesTask words (tasks.Profile settings image) old new ending = ProfilesFiles set
 DoesTask words (tasks.Plan settings rounds table) old new ending = PlansFiles settings rounds table old new ending
 DoesTask words (tasks.Cycle settings rounds table) old new ending = CyclesFiles settings rounds table old new ending
 DoesTask words (tasks.Assemble text) old new ending = Assembles text old new ending
-DoesTask words (tasks.Link main first) old new ending = LinksFiles (text_at words main) first old new ending
+DoesTask words (tasks.Link main first) old new ending = LinksFiles (text_of_word words main) first old new ending
 DoesTask words (tasks.Ask asked) old new ending = AsksFiles words asked old new ending
 DoesTask words (tasks.Work n) old new ending = Works n old new ending
 
@@ -158,7 +159,7 @@ ShowsOutput task = ⊥
 abbrev pub TakesFor : Task → World → World → Type 0
 TakesFor (tasks.Run settings show word) old new = (bytes : List ℕ) × ReadsLinked word bytes old new
 TakesFor (tasks.Profile settings word) old new =
-    (operands : List (List ℕ)) × AreFiles old.files word (word + 2) operands × (is_linked (text_at operands 0) ≡ true)
+    (operands : List (List ℕ)) × AreFiles old.files word (word + 2) operands × (is_linked (text_of_word operands 0) ≡ true)
 TakesFor (tasks.Cycle settings rounds table) old new = (operands : List (List ℕ)) × AreFiles old.files table old.words operands
 TakesFor task old new = ⊥
 

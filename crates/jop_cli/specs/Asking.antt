@@ -3,32 +3,32 @@ use Rattle.std.specs.Prelude.{◌≡◌, ℕ, ◌+◌, ◌<◌, ◌≤◌, true,
 use Rattle.std.specs.declared.option.Option.{Option}
 use Rattle.outside.specs.Outside.{Grew, Rose}
 use Rattle.outside.specs.Files.{OnlyWords, AreFiles}
-use Rattle.image_file.specs.Bare.{Image, IsBare}
+use Rattle.image_file.specs.Bare.{BareContent, IsBareFile}
 use Rattle.image_file.specs.Linked as file
 use Rattle.command_line.specs.Range.{AreSettings}
 use Rattle.jopizer.specs.Linked.{Parts, IsLinked, image_of}
 use Rattle.jop_cli.specs.declared.asking.Question.{Question}
 use Rattle.jop_cli.specs.declared.asking.Question.TheVariants.{Check, Bound, Bounds, Shapes, Report, Loops, Headers, Memory}
 use Rattle.jop_cli.specs.declared.asking.Asked.{Asked}
-use Rattle.jop_cli.specs.declared.outcome.Answer.{Answer}
-use Rattle.jop_cli.specs.declared.outcome.Answer.TheVariants.{Text, Ends}
-use Rattle.jop_cli.specs.declared.outcome.Ending.{Ending}
-use Rattle.jop_cli.specs.declared.outcome.Ending.TheVariants.{Written, WriteFault}
+use Rattle.commands.specs.declared.outcome.Answer.{Answer}
+use Rattle.commands.specs.declared.outcome.Answer.TheVariants.{Text, Ends}
+use Rattle.commands.specs.declared.outcome.Ending.{Ending}
+use Rattle.commands.specs.declared.outcome.Ending.TheVariants.{Written, WriteFault}
 use Rattle.program_tables.specs.Resolving.{IsResolved}
 use Rattle.boundary.specs.Setting.{IsSetting}
-use Rattle.jop_cli.specs.LinkedRun.{linked_setting}
-use Rattle.jop_cli.specs.Line.{text_at}
-use Rattle.jop_cli.specs.Phase.{is_linked}
-use Rattle.jop_cli.specs.BareFile.{ImageFault}
-use Rattle.jop_cli.specs.LinkedFile.{BytesFault}
-use Rattle.jop_cli.specs.World.{World, IsQuiet, IsUntaken}
-use Rattle.jop_cli.specs.Linking.{files_of, OperandsFault}
-use Rattle.jop_cli.specs.Checking.{Checks, ChecksBare}
-use Rattle.jop_cli.specs.Bounding.{AnswersBound, BoundsBare, AnswersShapes, EndsNoMethod}
-use Rattle.jop_cli.specs.Reporting.{AnswersReport}
-use Rattle.jop_cli.specs.AllBounds.{AnswersBounds, AnswersBareBounds}
-use Rattle.jop_cli.specs.Headers.{AnswersHeaders, AnswersBareHeaders}
-use Rattle.jop_cli.specs.Needs.{AnswersLoops, AnswersNothing, AnswersNeed, AnswersBareNeed}
+use Rattle.commands.specs.LinkedRun.{linked_setting}
+use Rattle.commands.specs.Line.{text_of_word}
+use Rattle.commands.specs.Phase.{is_linked}
+use Rattle.commands.specs.BareFile.{ImageFault}
+use Rattle.commands.specs.LinkedFile.{BytesFault}
+use Rattle.commands.specs.World.{World, IsQuiet, IsUntaken}
+use Rattle.commands.specs.Linking.{files_of, OperandsFault}
+use Rattle.commands.specs.Checking.{Checks, ChecksBare}
+use Rattle.commands.specs.Bounding.{AnswersBound, BoundsBare, AnswersShapes, EndsNoMethod}
+use Rattle.commands.specs.Reporting.{AnswersReport}
+use Rattle.commands.specs.AllBounds.{AnswersBounds, AnswersBareBounds}
+use Rattle.commands.specs.Headers.{AnswersHeaders, AnswersBareHeaders}
+use Rattle.commands.specs.Needs.{AnswersLoops, AnswersNothing, AnswersNeed, AnswersBareNeed}
 
 -- ---- the answers, question by question; the operands' texts stand in their order, the image's bytes first
 
@@ -50,25 +50,25 @@ HasRightSettings Memory = Unit {0}
 
 -- what was linked answers so; the words name what is asked for
 abbrev pub IsAnswer : (words : List (List ℕ)) → Question → Parts → (operands : List (List ℕ)) → Answer → Type 0
-IsAnswer words (Check s) l operands answer = EndsBy (Checks l.classes s (text_at operands 1) (text_at operands 2)) answer
-IsAnswer words (Bound s method) l operands answer = AnswersBound l.classes s (text_at operands 1) (text_at words method) answer
-IsAnswer words (Bounds s) l operands answer = AnswersBounds l.classes s (text_at operands 1) answer
-IsAnswer words (Shapes s method) l operands answer = AnswersShapes l.classes s (text_at operands 1) (text_at words method) answer
-IsAnswer words (Report s method) l operands answer = AnswersReport l.classes s (text_at operands 1) (text_at words method) answer
+IsAnswer words (Check s) l operands answer = EndsBy (Checks l.classes s (text_of_word operands 1) (text_of_word operands 2)) answer
+IsAnswer words (Bound s method) l operands answer = AnswersBound l.classes s (text_of_word operands 1) (text_of_word words method) answer
+IsAnswer words (Bounds s) l operands answer = AnswersBounds l.classes s (text_of_word operands 1) answer
+IsAnswer words (Shapes s method) l operands answer = AnswersShapes l.classes s (text_of_word operands 1) (text_of_word words method) answer
+IsAnswer words (Report s method) l operands answer = AnswersReport l.classes s (text_of_word operands 1) (text_of_word words method) answer
 IsAnswer words Loops l operands answer = AnswersLoops l.classes answer
-IsAnswer words Headers l operands answer = AnswersHeaders l.classes (text_at operands 1) answer
-IsAnswer words Memory l operands answer = AnswersNeed l (text_at operands 1) (text_at operands 2) answer
+IsAnswer words Headers l operands answer = AnswersHeaders l.classes (text_of_word operands 1) answer
+IsAnswer words Memory l operands answer = AnswersNeed l (text_of_word operands 1) (text_of_word operands 2) answer
 
 -- so does a bare image, which has no classes
-abbrev pub IsBareAnswer : Question → Image → (operands : List (List ℕ)) → Answer → Type 0
-IsBareAnswer (Check s) image operands answer = EndsBy (ChecksBare s image (text_at operands 1) (text_at operands 2)) answer
-IsBareAnswer (Bound s method) image operands answer = EndsBy (BoundsBare s image (text_at operands 1)) answer
-IsBareAnswer (Bounds s) image operands answer = AnswersBareBounds s image (text_at operands 1) answer
-IsBareAnswer (Shapes s method) image operands answer = EndsBy (EndsNoMethod s (text_at operands 1)) answer
-IsBareAnswer (Report s method) image operands answer = EndsBy (BoundsBare s image (text_at operands 1)) answer
+abbrev pub IsBareAnswer : Question → BareContent → (operands : List (List ℕ)) → Answer → Type 0
+IsBareAnswer (Check s) image operands answer = EndsBy (ChecksBare s image (text_of_word operands 1) (text_of_word operands 2)) answer
+IsBareAnswer (Bound s method) image operands answer = EndsBy (BoundsBare s image (text_of_word operands 1)) answer
+IsBareAnswer (Bounds s) image operands answer = AnswersBareBounds s image (text_of_word operands 1) answer
+IsBareAnswer (Shapes s method) image operands answer = EndsBy (EndsNoMethod s (text_of_word operands 1)) answer
+IsBareAnswer (Report s method) image operands answer = EndsBy (BoundsBare s image (text_of_word operands 1)) answer
 IsBareAnswer Loops image operands answer = AnswersNothing answer
-IsBareAnswer Headers image operands answer = AnswersBareHeaders (text_at operands 1) answer
-IsBareAnswer Memory image operands answer = AnswersBareNeed image (text_at operands 1) (text_at operands 2) answer
+IsBareAnswer Headers image operands answer = AnswersBareHeaders (text_of_word operands 1) answer
+IsBareAnswer Memory image operands answer = AnswersBareNeed image (text_of_word operands 1) (text_of_word operands 2) answer
 
 -- ---- the image
 
@@ -76,22 +76,22 @@ IsBareAnswer Memory image operands answer = AnswersBareNeed image (text_at opera
 pub record AnswersLinked (words : List (List ℕ)) (question : Question) (operands : List (List ℕ)) (answer : Answer) : Type 0 where
   pub linked : Parts
   pub is_linked : IsLinked linked
-  pub is_file : file.IsLinked (text_at operands 0) (image_of linked)
+  pub is_file : file.IsLinkedFile (text_of_word operands 0) (image_of linked)
   pub are_resolved : IsResolved linked.classes
   pub setting : (chip memory : ℕ) → IsSetting (linked_setting linked.classes chip memory)
   pub answers : IsAnswer words question linked operands answer
 
 -- the bytes are a bare image, and it answers so
 pub record AnswersBare (question : Question) (operands : List (List ℕ)) (answer : Answer) : Type 0 where
-  pub image : Image
-  pub bare : IsBare (text_at operands 0) image
+  pub image : BareContent
+  pub bare : IsBareFile (text_of_word operands 0) image
   pub answers : IsBareAnswer question image operands answer
 
 -- how an image answers whose bytes begin as those of a linked one, or don't
 abbrev pub Answers : (words : List (List ℕ)) → Question → (operands : List (List ℕ)) → Answer → Type 0
 Answers words question operands answer =
-    ((is_linked (text_at operands 0) ≡ true) × (EndsBy (BytesFault (text_at operands 0)) answer ⊎ AnswersLinked words question operands answer))
-    ⊎ ((is_linked (text_at operands 0) ≡ false) × (EndsBy (ImageFault (text_at operands 0)) answer ⊎ AnswersBare question operands answer))
+    ((is_linked (text_of_word operands 0) ≡ true) × (EndsBy (BytesFault (text_of_word operands 0)) answer ⊎ AnswersLinked words question operands answer))
+    ⊎ ((is_linked (text_of_word operands 0) ≡ false) × (EndsBy (ImageFault (text_of_word operands 0)) answer ⊎ AnswersBare question operands answer))
 
 -- ---- what is put
 

@@ -10,7 +10,7 @@ use Rattle.std.specs.Prelude.{◌≡◌, ◌↔◌, ℕ, suc, ◌+◌, ◌≤◌
 use Rattle.std.specs.Prelude.{Vec, slice_get}
 use Rattle.std.specs.declared.alloc.Global.{Global}
 use Rattle.std.specs.List.{concat}
-use Rattle.image_file.specs.Bare.{Image, IsBare}
+use Rattle.image_file.specs.Bare.{BareContent, IsBareFile}
 use Rattle.image_file.specs.Linked as file
 use Rattle.microcode_asm.specs.declared.Rom.{Rom}
 use Rattle.microcode_asm.specs.Roms.{IsAssembled}
@@ -53,14 +53,14 @@ use Rattle.activation_watch.specs.declared.activation.Activation.{Activation}
 use Rattle.activation_watch.specs.declared.profile.Profile.{Profile}
 use Rattle.activation_watch.specs.Watched.{is_slot, cycles_of as used_by}
 use Rattle.activation_laws.specs.Seen.{IsActivationIn}
-use Rattle.activation_laws.specs.Profiled.{EachKeeps, IsKept}
+use Rattle.activation_laws.specs.Profiled.{EachKeeps, ProfileIsWithin}
 use Rattle.method_bounds.specs.declared.answer.BoundAnswer.{BoundAnswer}
 use Rattle.method_bounds.specs.Profiles.{profile_lines}
 use Rattle.boundary.specs.Runs.{Goes}
 use Rattle.slot_table.specs.declared.slot.Slot.{Slot}
 use Rattle.slot_table.specs.Grammar as tables
-use Rattle.jop_cli.specs.declared.outcome.Ending.{Ending}
-use Rattle.jop_cli.specs.declared.outcome.Ending.TheVariants as endings
+use Rattle.commands.specs.declared.outcome.Ending.{Ending}
+use Rattle.commands.specs.declared.outcome.Ending.TheVariants as endings
 use Rattle.program_tables.specs.Resolved.{resolved}
 use Rattle.program_tables.specs.Resolving.{IsResolved}
 use Rattle.loop_rules.specs.declared.found.FoundLoop.{FoundLoop}
@@ -79,7 +79,7 @@ use Rattle.bound_cert.specs.Certificate.{Certificate, IsInGrammar}
 use Rattle.bound_cert.specs.Texts.{AreLinesOf, text_of}
 use Rattle.bound_rules.specs.declared.faults.CheckFault.{CheckFault}
 use Rattle.bound_rules.specs.Conditions.{MeetsConditions}
-use Rattle.bound_rules.specs.Refused.{IsRefused}
+use Rattle.bound_rules.specs.Refused.{IsCertRefused}
 use Rattle.bound_rules.specs.declared.faults.BoundRefusal.{BoundRefusal}
 use Rattle.bound_rules.specs.declared.faults.BoundRefusal.TheVariants.{NoMemory as Lacking}
 use Rattle.bound_rules.specs.Bounding.{AreReducible, HaveLines, IsCause}
@@ -91,32 +91,32 @@ use Rattle.analysis_commands.specs.Analysis.{timing_of, bounds_of, name_of, name
 use Rattle.analysis_commands.specs.Checking.{fault_name}
 use Rattle.analysis_commands.specs.Memory.{IsNeed}
 use Rattle.analysis_commands.specs.Plan.{IsPlan, IsExecutive}
-use Rattle.analysis_commands.specs.Bounding.{IsNamed, IsBoundBy, cause_of, subject_of}
-use Rattle.jop_cli.specs.declared.outcome.AsmRefusal.{AsmRefusal}
-use Rattle.jop_cli.specs.declared.outcome.Refusal.TheVariants.{Asm as NotAssembled, Check as NotChecked, Bound as Forbidden}
-use Rattle.jop_cli.specs.declared.outcome.Answer.TheVariants.{Text, Ends}
+use Rattle.analysis_commands.specs.Bounding.{MethodHasName, IsBoundBy, cause_of, subject_of}
+use Rattle.commands.specs.declared.outcome.AsmRefusal.{AsmRefusal}
+use Rattle.commands.specs.declared.outcome.Refusal.TheVariants.{Asm as NotAssembled, Check as NotChecked, Bound as Forbidden}
+use Rattle.commands.specs.declared.outcome.Answer.TheVariants.{Text, Ends}
 use Rattle.jop_cli.specs.declared.asking.Question.{Question}
 use Rattle.jop_cli.specs.declared.asking.Asked.{Asked}
-use Rattle.jop_cli.specs.declared.outcome.Outcome.{Outcome}
-use Rattle.jop_cli.specs.declared.outcome.Outcome.TheVariants.{Written, Holds, Refused}
-use Rattle.jop_cli.specs.declared.show.Show.{Show}
-use Rattle.jop_cli.specs.declared.show.Show.TheVariants as shows
-use Rattle.jop_cli.specs.LinkedRun.{linked_setting}
-use Rattle.jop_cli.specs.Line.{text_at, line_of}
-use Rattle.jop_cli.specs.Linking.{class_name, Refuses, HasName, AreLinkedTo}
-use Rattle.jop_cli.specs.Assembling.{IsNoProgram}
-use Rattle.jop_cli.specs.LinkedSettings.{CodesFit}
-use Rattle.jop_cli.specs.BareFile.{blocks_of_code}
+use Rattle.commands.specs.declared.outcome.Outcome.{Outcome}
+use Rattle.commands.specs.declared.outcome.Outcome.TheVariants.{Written, Holds, Refused}
+use Rattle.commands.specs.declared.show.Show.{Show}
+use Rattle.commands.specs.declared.show.Show.TheVariants as shows
+use Rattle.commands.specs.LinkedRun.{linked_setting}
+use Rattle.commands.specs.Line.{text_of_word, line_of}
+use Rattle.commands.specs.Linking.{class_name, Refuses, HasName, AreLinkedTo}
+use Rattle.commands.specs.Assembling.{IsNoProgram}
+use Rattle.commands.specs.LinkedSettings.{CodesFit}
+use Rattle.commands.specs.BareFile.{blocks_of_code}
 use Rattle.outside.specs.Outside.{Grew}
 use Rattle.outside.specs.Files.{AreFiles}
-use Rattle.jop_cli.specs.World.{IsQuiet}
+use Rattle.commands.specs.World.{IsQuiet}
 use Rattle.jop_cli.specs.Calls.{Call, NothingFailed, LacksMemory, Puts, IsTold, AreTold}
-use Rattle.jop_cli.specs.Working.{IsWorkLine, NotWorked}
+use Rattle.commands.specs.Working.{IsWorkLine, NotWorked}
 use Rattle.jop_cli.specs.Courses.{RanLinked, RanBare}
-use Rattle.jop_cli.specs.Following.{run_stages}
+use Rattle.commands.specs.Following.{run_stages}
 use Rattle.jop_cli.specs.Profiling.{RanProfile, EndsRun, input_of, unwatched, bound_told}
-use Rattle.jop_cli.specs.LinkedFile.{IsUnheld}
-use Rattle.jop_cli.specs.Executive.{executive_class, with_executive, IsLinkedWith}
+use Rattle.commands.specs.LinkedFile.{IsUnheld}
+use Rattle.commands.specs.Executive.{executive_class, with_executive, IsLinkedWith}
 use Rattle.jop_cli.specs.Planning.{AnswersPlan}
 use Rattle.jop_cli.specs.Cycling.{RanCycle, EndsCycle}
 use Rattle.jop_cli.specs.declared.task.Task.TheVariants.{Ask}
@@ -138,8 +138,8 @@ pub record IsLinkedBy (c : Call) (files : List (List ℕ)) (main : List ℕ) : T
 abbrev pub LinkingIsComplete : Type 0
 LinkingIsComplete =
     (c : Call) (main first : ℕ) (files : List (List ℕ)) → command_of c.words ≡ Ok (LinkTo main first) → AreTold c first files → NothingFailed c
-    → ((refusal : LinkRefusal) → ¬ Refuses files (class_name (text_at c.words main)) refusal)
-    → IsLinkedBy c files (class_name (text_at c.words main)) ⊎ LacksMemory c
+    → ((refusal : LinkRefusal) → ¬ Refuses files (class_name (text_of_word c.words main)) refusal)
+    → IsLinkedBy c files (class_name (text_of_word c.words main)) ⊎ LacksMemory c
 
 -- This ending was answered: its line was said, and nothing else was done.
 pub record AnswersEnding (c : Call) (ending : Ending) : Type 0 where
@@ -157,7 +157,7 @@ pub record AnswersRefusal (c : Call) (files : List (List ℕ)) (refusal : LinkRe
 abbrev pub LinkRefusalsAreAnswered : Type 0
 LinkRefusalsAreAnswered =
     (c : Call) (main first : ℕ) (files : List (List ℕ)) (refusal : LinkRefusal) → command_of c.words ≡ Ok (LinkTo main first) → AreTold c first files
-    → NothingFailed c → Refuses files (class_name (text_at c.words main)) refusal
+    → NothingFailed c → Refuses files (class_name (text_of_word c.words main)) refusal
     → AnswersRefusal c files refusal ⊎ LacksMemory c
 
 -- For it is one refusal, and what is refused isn't linked.
@@ -172,7 +172,7 @@ LinkRefusalsAreOne =
 pub record HoldsLinked (c : Call) (settings : Settings) (word : ℕ) (l : Parts) : Type 0 where
   pub is_linked : IsLinked l
   pub bytes : List ℕ
-  pub is_file : file.IsLinked bytes (image_of l)
+  pub is_file : file.IsLinkedFile bytes (image_of l)
   pub told : IsTold c word bytes
   pub codes : CodesFit settings l
   pub memory : length l.laid.words ≤ settings.memory
@@ -191,28 +191,39 @@ TracesAreTheRuns =
     → NothingFailed c
     → RanLinked c settings (shows.Trace micro) l ⊎ LacksMemory c
 
+-- the boundary to which a run came, or a traced one
+abbrev pub last_boundary : {c : Call} {settings : Settings} {l : Parts} (show : Show) → RanLinked c settings show l → Stage
+last_boundary shows.Output r = r.ran.last
+last_boundary (shows.Trace cycles) r = r.ran.last
+
+-- And it is one: with the same settings and the same input, `run` and `trace` of what is linked come to the same boundary, and are answered alike.
+abbrev pub RunsAreOne : Type 0
+RunsAreOne =
+    (c d : Call) (settings : Settings) (l : Parts) (input : List ℕ) (show other : Show) (r : RanLinked c settings show l) (q : RanLinked d settings other l)
+    → c.old.left ≡ Some input → d.old.left ≡ Some input → (last_boundary show r ≡ last_boundary other q) × (c.outcome ≡ d.outcome)
+
 -- The bytes of the file of a word are a bare image, and its code fits the method cache.
-pub record HoldsBare (c : Call) (settings : Settings) (word : ℕ) (image : Image) : Type 0 where
+pub record HoldsBare (c : Call) (settings : Settings) (word : ℕ) (image : BareContent) : Type 0 where
   pub bytes : List ℕ
-  pub is_file : IsBare bytes image
+  pub is_file : IsBareFile bytes image
   pub told : IsTold c word bytes
   pub code : blocks_of_code settings image ≤ settings.blocks
 
 -- So it is of a bare image.
 abbrev pub BareRunsAreTheBytecodes : Type 0
 BareRunsAreTheBytecodes =
-    (c : Call) (settings : Settings) (word : ℕ) (image : Image) → command_of c.words ≡ Ok (Run settings word) → HoldsBare c settings word image
+    (c : Call) (settings : Settings) (word : ℕ) (image : BareContent) → command_of c.words ≡ Ok (Run settings word) → HoldsBare c settings word image
     → NothingFailed c → RanBare c settings shows.Output image ⊎ LacksMemory c
 
 abbrev pub BareTracesAreTheRuns : Type 0
 BareTracesAreTheRuns =
-    (c : Call) (settings : Settings) (micro : Bool) (word : ℕ) (image : Image) → command_of c.words ≡ Ok (Trace settings micro word)
+    (c : Call) (settings : Settings) (micro : Bool) (word : ℕ) (image : BareContent) → command_of c.words ≡ Ok (Trace settings micro word)
     → HoldsBare c settings word image → NothingFailed c
     → RanBare c settings (shows.Trace micro) image ⊎ LacksMemory c
 
 -- Bytes are those of one bare image.
 abbrev pub OneBareImage : Type 0
-OneBareImage = (bytes : List ℕ) (a b : Image) → IsBare bytes a → IsBare bytes b → a ≡ b
+OneBareImage = (bytes : List ℕ) (a b : BareContent) → IsBareFile bytes a → IsBareFile bytes b → a ≡ b
 
 -- ---- `asm`
 
@@ -251,7 +262,7 @@ pub record ChecksTexts (c : Call) (settings : Settings) (image : ℕ) (l : Parts
   pub cert_text : List ℕ
   pub told : AreTold c image (bytes ∷ bounds_text ∷ cert_text ∷ [])
   pub is_linked : IsLinked l
-  pub is_file : file.IsLinked bytes (image_of l)
+  pub is_file : file.IsLinkedFile bytes (image_of l)
   pub codes : CodesFit settings l
   pub read : IsRead bounds_text lines
   pub text : AreLinesOf (text_lines cert_text) certificate
@@ -279,14 +290,14 @@ pub record ShowsHeld (c : Call) (settings : Settings) (image : ℕ) : Type 0 whe
   pub are : AreFiles c.old.files image (image + 3) files
   pub linked : Parts
   pub is_linked : IsLinked linked
-  pub is_file : file.IsLinked (text_at files 0) (image_of linked)
+  pub is_file : file.IsLinkedFile (text_of_word files 0) (image_of linked)
   pub are_resolved : IsResolved linked.classes
   pub setting : (chip memory : ℕ) → IsSetting (linked_setting linked.classes chip memory)
   pub codes : CodesFit settings linked
   pub lines : List LoopBound
-  pub read : IsRead (text_at files 1) lines
+  pub read : IsRead (text_of_word files 1) lines
   pub certificate : Certificate
-  pub text : AreLinesOf (text_lines (text_at files 2)) certificate
+  pub text : AreLinesOf (text_lines (text_of_word files 2)) certificate
   pub meets : MeetsConditions (resolved linked.classes) (timing_of settings) (bounds_of linked.classes lines) certificate
   pub says : Grew c.err_old c.err_new (concat (held_parts (name_of linked.classes certificate.root) certificate.bound))
   pub kept : BoundsActivations (resolved linked.classes) (timing_of settings) (bounds_of linked.classes lines) certificate.root certificate.bound
@@ -301,7 +312,7 @@ abbrev pub FaultsAreAnswered : Type 0
 FaultsAreAnswered =
     (c : Call) (settings : Settings) (image : ℕ) (l : Parts) (lines : List LoopBound) (certificate : Certificate) (fault : CheckFault)
     → ChecksTexts c settings image l lines certificate → NothingFailed c
-    → IsRefused (resolved l.classes) (timing_of settings) (bounds_of l.classes lines) certificate fault
+    → IsCertRefused (resolved l.classes) (timing_of settings) (bounds_of l.classes lines) certificate fault
     → AnswersLine c (Refused (NotChecked fault)) (fault_parts fault (fault_name l.classes fault)) ⊎ LacksMemory c
 
 -- ---- `bound`
@@ -311,12 +322,12 @@ pub record BoundsTexts (c : Call) (settings : Settings) (image : ℕ) (l : Parts
   pub method : ℕ
   pub bounds : ℕ
   pub command : command_of c.words ≡ Ok (Bound settings method image bounds)
-  pub named : text_at c.words method ≡ name
+  pub named : text_of_word c.words method ≡ name
   pub bytes : List ℕ
   pub bounds_text : List ℕ
   pub told : AreTold c image (bytes ∷ bounds_text ∷ [])
   pub is_linked : IsLinked l
-  pub is_file : file.IsLinked bytes (image_of l)
+  pub is_file : file.IsLinkedFile bytes (image_of l)
   pub codes : CodesFit settings l
   pub read : IsRead bounds_text lines
 
@@ -324,14 +335,14 @@ pub record BoundsTexts (c : Call) (settings : Settings) (image : ℕ) (l : Parts
 pub record IsBounded (c : Call) (settings : Settings) (l : Parts) (lines : List LoopBound) (name : List ℕ) : Type 0 where
   pub outcome : c.outcome ≡ Written
   pub certificate : Certificate
-  pub is : IsBoundBy (resolved l.classes) (timing_of settings) (bounds_of l.classes lines) (IsNamed l.classes name) certificate
+  pub is : IsBoundBy (resolved l.classes) (timing_of settings) (bounds_of l.classes lines) (MethodHasName l.classes name) certificate
   pub grammar : IsInGrammar certificate
   pub puts : Puts c (text_of certificate) []
 
 -- this forbids a bound of the method
 abbrev pub Forbids : Settings → Parts → List LoopBound → (name : List ℕ) → BoundRefusal → Type 0
 Forbids settings l lines name Lacking = ⊥
-Forbids settings l lines name refusal = IsCause (resolved l.classes) (timing_of settings) (bounds_of l.classes lines) (IsNamed l.classes name) refusal
+Forbids settings l lines name refusal = IsCause (resolved l.classes) (timing_of settings) (bounds_of l.classes lines) (MethodHasName l.classes name) refusal
 
 -- Where nothing forbids it, a certificate of the method is put; or there is no memory.
 abbrev pub BoundingIsComplete : Type 0
@@ -368,15 +379,15 @@ pub record ShowsWritten (c : Call) (settings : Settings) (method image : ℕ) : 
   pub are : AreFiles c.old.files image (image + 2) files
   pub linked : Parts
   pub is_linked : IsLinked linked
-  pub is_file : file.IsLinked (text_at files 0) (image_of linked)
+  pub is_file : file.IsLinkedFile (text_of_word files 0) (image_of linked)
   pub are_resolved : IsResolved linked.classes
   pub setting : (chip memory : ℕ) → IsSetting (linked_setting linked.classes chip memory)
   pub codes : CodesFit settings linked
   pub lines : List LoopBound
-  pub read : IsRead (text_at files 1) lines
+  pub read : IsRead (text_of_word files 1) lines
   pub certificate : Certificate
   pub is : IsBoundBy (resolved linked.classes) (timing_of settings) (bounds_of linked.classes lines)
-      (IsNamed linked.classes (text_at c.words method)) certificate
+      (MethodHasName linked.classes (text_of_word c.words method)) certificate
   pub put : Grew c.old.out c.new.out (text_of certificate)
   pub kept : BoundsActivations (resolved linked.classes) (timing_of settings) (bounds_of linked.classes lines) certificate.root certificate.bound
 
@@ -407,14 +418,30 @@ pub record IsBoundary (settings : Settings) (l : Parts) (config : Config) (a : S
   pub goes : Goes (linked_setting l.classes settings.stack config.memory) settings.cycles
       (record { machine = linked_reset settings.stack l.laid.words config; state = boot }) steps a
 
--- Where `run` or `trace` ran what is linked, a bound of a method with the same waits and method cache holds of the run: each ended activation of the
--- method that begins at a boundary of it takes at most so many cycles, where its loops keep the bounds; where the bound is never, no such activation ends.
+-- `run` or `trace` ran what is linked; an activation of a method that begins at a boundary of the run has ended; and the method has a bound, with the waits
+-- and the method cache of the run.
+pub record BoundInRun : Type 0 where
+  pub call : Call
+  pub settings : Settings
+  pub show : Show
+  pub linked : Parts
+  pub ran : RanLinked call settings show linked
+  pub method : ℕ
+  pub first : Stage
+  pub last : Stage
+  pub begins : IsBoundary settings linked ran.config first
+  pub ended : IsActivation (linked_setting linked.classes settings.stack ran.config.memory) method first last
+  pub bound_of : BoundOf
+  pub bound : Option ℕ
+  pub holds : BoundsActivations (resolved linked.classes) (timing_of settings) bound_of method bound
+
+-- The activation takes at most so many cycles; where the bound is never, there is no such activation.
+abbrev pub TakesAtMost : BoundInRun → Type 0
+TakesAtMost x = MatchOption x.bound ⊥ (λ most. cycles_of x.first x.last ≤ most)
+
+-- So it is where its loops keep the bounds.
 abbrev pub BoundsHoldInRuns : Type 0
-BoundsHoldInRuns =
-    (c : Call) (settings : Settings) (show : Show) (l : Parts) (r : RanLinked c settings show l) (bound_of : BoundOf) (m : ℕ) (bound : Option ℕ) (a b : Stage)
-    → BoundsActivations (resolved l.classes) (timing_of settings) bound_of m bound → IsBoundary settings l r.config a
-    → (h : IsActivation (linked_setting l.classes settings.stack r.config.memory) m a b) → Keeps bound_of h
-    → MatchOption bound ⊥ (λ most. cycles_of a b ≤ most)
+BoundsHoldInRuns = (x : BoundInRun) → Keeps x.bound_of x.ended → TakesAtMost x
 
 -- ---- what is loaded
 
@@ -433,7 +460,7 @@ pub record ProfilesTexts (c : Call) (settings : Settings) (image : ℕ) (l : Par
   pub bytes : List ℕ
   pub told : AreTold c image (bytes ∷ bounds_text ∷ [])
   pub is_linked : IsLinked l
-  pub is_file : file.IsLinked bytes (image_of l)
+  pub is_file : file.IsLinkedFile bytes (image_of l)
   pub codes : CodesFit settings l
   pub memory : length l.laid.words ≤ settings.memory
   pub lines : List LoopBound
@@ -469,7 +496,7 @@ ProfilesAreKept =
     → AreSettings settings → slice_get r.rows m ≡ Some row → slice_get r.answers m ≡ Some answer → bound_told answer ≡ Some bound
     → EachKeeps (linked_setting l.classes settings.stack r.ran.config.memory) (boundaries_of settings l bounds_text old new ending r)
     (bounds_of l.classes r.bounds) m
-    → IsKept row bound
+    → ProfileIsWithin row bound
 
 -- ---- `report`
 
@@ -486,7 +513,7 @@ ReportsAddUp =
 pub record AreReadied (c : Call) (table rounds : ℕ) (slots : List Slot) (texts files : List (List ℕ)) : Type 0 where
   pub table_text : List ℕ
   pub told : AreTold c table (table_text ∷ (texts ++ files))
-  pub read : tables.IsRead table_text slots
+  pub read : tables.IsTableRead table_text slots
   pub none : (refusal : LinkRefusal) → ¬ Refuses (with_executive slots rounds files) executive_class refusal
 
 -- What is linked with an executive has it: there is a first method with code that has its name.
@@ -533,16 +560,29 @@ cycle_boundaries settings l slots old new ending r =
     run_stages (linked_setting l.classes settings.stack r.ran.config.memory) (linked_reset settings.stack l.laid.words r.ran.config) settings.cycles
     (wired old) (wired new) r.followed r.ran.cycles.ran
 
--- Where there is a plan, each activation of a slot in the run of a cycle with the same settings takes at most as many cycles as the slot's length, where it
--- keeps the bounds of loops.
+-- a plan of slots, and a cycle of the same that ran, with the same settings
+pub record PlannedCycle : Type 0 where
+  pub settings : Settings
+  pub are : AreSettings settings
+  pub linked : Parts
+  pub slots : List Slot
+  pub bounds_text : List ℕ
+  pub text : List ℕ
+  pub plan : IsPlan linked.classes settings bounds_text slots text
+  pub old : Lent
+  pub new : Lent
+  pub ending : Ending
+  pub ran : RanCycle settings linked slots old new ending
+
+-- An activation of a slot in the run of the cycle takes at most as many cycles as the slot's length, where it keeps the bounds of loops.
 abbrev pub SlotsAreKept : Type 0
 SlotsAreKept =
-    (settings : Settings) (l : Parts) (slots : List Slot) (bounds_text text : List ℕ) (plan : IsPlan l.classes settings bounds_text slots text)
-    (old new : Lent) (ending : Ending) (r : RanCycle settings l slots old new ending) (executive number : ℕ) (slot : Slot) (x : Activation)
-    → AreSettings settings → IsExecutive (resolved l.classes) (named_or_number l.classes) executive → slice_get slots number ≡ Some slot
+    (c : PlannedCycle) (executive number : ℕ) (slot : Slot) (x : Activation)
+    → IsExecutive (resolved c.linked.classes) (named_or_number c.linked.classes) executive → slice_get c.slots number ≡ Some slot
     → is_slot executive number x.begun ≡ true
-    → (is : IsActivationIn (linked_setting l.classes settings.stack r.ran.config.memory) (cycle_boundaries settings l slots old new ending r) x)
-    → Keeps (bounds_of l.classes plan.bounds) is.is → used_by x ≤ slot.length
+    → (is : IsActivationIn (linked_setting c.linked.classes c.settings.stack c.ran.ran.config.memory)
+    (cycle_boundaries c.settings c.linked c.slots c.old c.new c.ending c.ran) x)
+    → Keeps (bounds_of c.linked.classes c.plan.bounds) is.is → used_by x ≤ slot.length
 
 -- ---- `loops`
 
@@ -550,7 +590,7 @@ SlotsAreKept =
 pub record LoopsCount (c : Call) (bytes : List ℕ) : Type 0 where
   pub linked : Parts
   pub is_linked : IsLinked linked
-  pub is_file : file.IsLinked bytes (image_of linked)
+  pub is_file : file.IsLinkedFile bytes (image_of linked)
   pub are_resolved : IsResolved linked.classes
   pub text : List ℕ
   pub lines : AreLoopLines linked.classes text
@@ -559,29 +599,25 @@ pub record LoopsCount (c : Call) (bytes : List ℕ) : Type 0 where
 
 -- no line was put of a bare image, which has no classes
 pub record HasNoLoop (c : Call) (bytes : List ℕ) : Type 0 where
-  pub image : Image
-  pub bare : IsBare bytes image
+  pub image : BareContent
+  pub bare : IsBareFile bytes image
   pub put : Grew c.old.out c.new.out []
 
 -- What a call shows that answers that the lines of loops are written.
 pub record ShowsLoops (c : Call) (image : ℕ) : Type 0 where
   pub files : List (List ℕ)
   pub are : AreFiles c.old.files image (image + 1) files
-  pub shows : LoopsCount c (text_at files 0) ⊎ HasNoLoop c (text_at files 0)
+  pub shows : LoopsCount c (text_of_word files 0) ⊎ HasNoLoop c (text_of_word files 0)
 
 abbrev pub WrittenLoopsCount : Type 0
 WrittenLoopsCount = (c : Call) (image : ℕ) → command_of c.words ≡ Ok (Loops image) → c.outcome ≡ Written → ShowsLoops c image
 
--- In the runs of what is linked a bound of a method asks for the other loops alone: each ended activation of the method that begins at a boundary of such a
--- run takes at most so many cycles, where it keeps the bounds of the loops that don't count to them; where the bound is never, no such activation ends.
+-- In the runs of what is linked a bound of a method asks for the other loops alone: an ended activation keeps it that keeps the bounds of the loops that
+-- don't count to them.
 abbrev pub CountedLoopsAreKept : Type 0
 CountedLoopsAreKept =
-    (c : Call) (settings : Settings) (show : Show) (l : Parts) (r : RanLinked c settings show l) (constants : List (Option ℤ)) (bound_of : BoundOf) (m : ℕ)
-    (bound : Option ℕ) (a b : Stage)
-    → IsResolved l.classes → AreConstants l.classes constants → BoundsActivations (resolved l.classes) (timing_of settings) bound_of m bound
-    → IsBoundary settings l r.config a
-    → (h : IsActivation (linked_setting l.classes settings.stack r.config.memory) m a b) → KeepsOthers (int_at constants) bound_of h
-    → MatchOption bound ⊥ (λ most. cycles_of a b ≤ most)
+    (x : BoundInRun) (constants : List (Option ℤ)) → IsResolved x.linked.classes → AreConstants x.linked.classes constants
+    → KeepsOthers (int_at constants) x.bound_of x.ended → TakesAtMost x
 
 -- ---- `headers`
 
@@ -601,17 +637,13 @@ HeaderFilesHaveBounds =
     → (AreReducible (resolved cs) root × HaveLines (resolved cs) (bounds_of cs bounds) root)
     ↔ ((m : ℕ) → IsWithin (resolved cs) root m → (shape : Shape) → IsShape (resolved cs) m shape → HasNumbers cs h.notes h.found m shape)
 
--- In the runs of what is linked a bound of a method, by what is taken, holds of each ended activation of the method that begins at a boundary of such a run and
--- keeps what the lines say of sources and of places: the loops that are found to count need no premise. Where the bound is never, no such activation ends.
+-- In the runs of what is linked a bound of a method, by what is taken, asks for what the lines say of sources and of places alone: the loops that are found to
+-- count need no premise.
 abbrev pub NotedLoopsAreKept : Type 0
 NotedLoopsAreKept =
-    (c : Call) (settings : Settings) (show : Show) (l : Parts) (r : RanLinked c settings show l) (lines text : List ℕ) (h : IsHeaderFile l.classes lines text)
-    (bounds : List LoopBound) (m : ℕ) (bound : Option ℕ) (a b : Stage)
-    → IsResolved l.classes → IsRead text bounds → BoundsActivations (resolved l.classes) (timing_of settings) (bounds_of l.classes bounds) m bound
-    → IsBoundary settings l r.config a
-    → (x : IsActivation (linked_setting l.classes settings.stack r.config.memory) m a b) → Keeps (line_bound l.classes h.notes) x
-    → Keeps (place_bound l.classes h.notes) x
-    → MatchOption bound ⊥ (λ most. cycles_of a b ≤ most)
+    (x : BoundInRun) (lines text : List ℕ) (h : IsHeaderFile x.linked.classes lines text) (bounds : List LoopBound)
+    → IsResolved x.linked.classes → IsRead text bounds → x.bound_of ≡ bounds_of x.linked.classes bounds
+    → Keeps (line_bound x.linked.classes h.notes) x.ended → Keeps (place_bound x.linked.classes h.notes) x.ended → TakesAtMost x
 
 -- ---- what is asked of an image: `check`, `bound`, `loops`, `headers`, `memory`
 
@@ -628,7 +660,7 @@ pub data IsAnswered (c : Call) (question : Question) (l : Parts) (files : List (
 abbrev pub QuestionsAreAnswered : Type 0
 QuestionsAreAnswered =
     (c : Call) (command : Command) (asked : Asked) (l : Parts) (files : List (List ℕ)) → command_of c.words ≡ Ok command → task_of command ≡ Ask asked
-    → length files ≡ asked.operands → AreTold c asked.image files → IsLinked l → file.IsLinked (text_at files 0) (image_of l) → NothingFailed c
+    → length files ≡ asked.operands → AreTold c asked.image files → IsLinked l → file.IsLinkedFile (text_of_word files 0) (image_of l) → NothingFailed c
     → IsAnswered c asked.question l files
 
 -- ---- what `memory` promises
@@ -659,10 +691,14 @@ abbrev pub Hinders : (n : ℕ) → Ending → Type 0
 Hinders n endings.NoMemory = ⊥
 Hinders n ending = NotWorked n ending
 
--- Where nothing does, it is put; or there is no memory.
+-- What comes of the words: the line was put; or a line was said that tells what stands in its way, and nothing was put; or there was no memory.
+pub data IsWorked (c : Call) (n : ℕ) : Type 0 where
+  puts : IsWorkedBy c n → IsWorked c n
+  says : (ending : Ending) → Hinders n ending → AnswersEnding c ending → IsWorked c n
+  lacks : LacksMemory c → IsWorked c n
+
 abbrev pub WorkingIsComplete : Type 0
-WorkingIsComplete = (c : Call) (n : ℕ) → command_of c.words ≡ Ok (Work n) → NothingFailed c → ((ending : Ending) → ¬ Hinders n ending)
-    → IsWorkedBy c n ⊎ LacksMemory c
+WorkingIsComplete = (c : Call) (n : ℕ) → command_of c.words ≡ Ok (Work n) → NothingFailed c → IsWorked c n
 
 -- Where the answer is that it is written, it is true: of the run, and of the bound of main, which is kept.
 abbrev pub WorkLinesAreTrue : Type 0

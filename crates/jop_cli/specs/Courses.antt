@@ -3,7 +3,7 @@ use Rattle.std.specs.Prelude.{◌≡◌, ℕ, ◌≤◌, Bool, List, [], Some, V
 use Rattle.std.specs.declared.alloc.Global.{Global}
 use Rattle.class_pool.specs.declared.class.ClassFile.{ClassFile}
 use Rattle.memory_timing.specs.declared.Config.{Config}
-use Rattle.image_file.specs.Bare.{Image}
+use Rattle.image_file.specs.Bare.{BareContent}
 use Rattle.device_traits.specs.Told.{Told, GivesEach}
 use Rattle.outside.specs.Outside.{Grew}
 use Rattle.run_devices.specs.Traced.{traced}
@@ -21,24 +21,24 @@ use Rattle.run_devices.specs.Lent.{Lent, wired}
 use Rattle.answer_lines.specs.declared.line.Counts.{Counts}
 use Rattle.command_line.specs.declared.command.Settings.{Settings}
 use Rattle.jopizer.specs.Linked.{Parts}
-use Rattle.jop_cli.specs.declared.outcome.Ending.{Ending}
-use Rattle.jop_cli.specs.declared.outcome.Ending.TheVariants as endings
-use Rattle.jop_cli.specs.declared.outcome.Outcome.TheVariants as outcomes
-use Rattle.jop_cli.specs.declared.show.Show.{Show}
-use Rattle.jop_cli.specs.Line.{line_of}
-use Rattle.jop_cli.specs.Phase.{HasSettings}
-use Rattle.jop_cli.specs.Run.{AreCounts}
-use Rattle.jop_cli.specs.Show.{Shown, Output, Trace, bare_shown, linked_shown}
-use Rattle.jop_cli.specs.LinkedRun.{linked_setting}
-use Rattle.jop_cli.specs.LinkedFile.{NamesClass}
-use Rattle.jop_cli.specs.World.{IsUntaken}
+use Rattle.commands.specs.declared.outcome.Ending.{Ending}
+use Rattle.commands.specs.declared.outcome.Ending.TheVariants as endings
+use Rattle.commands.specs.declared.outcome.Outcome.TheVariants as outcomes
+use Rattle.commands.specs.declared.show.Show.{Show}
+use Rattle.commands.specs.Line.{line_of}
+use Rattle.commands.specs.Phase.{HasSettings}
+use Rattle.commands.specs.Run.{AreCounts}
+use Rattle.commands.specs.Show.{Shown, Output, Trace, bare_shown, linked_shown}
+use Rattle.commands.specs.LinkedRun.{linked_setting}
+use Rattle.commands.specs.LinkedFile.{NamesClass}
+use Rattle.commands.specs.World.{IsUntaken}
 use Rattle.jop_cli.specs.Answer.{lent_of, lent_without_input}
 use Rattle.jop_cli.specs.Calls.{Call}
 
 -- ---- what is answered
 
 -- err was given the line of this ending, with the counts of the machine's state
-pub record Says (c : Call) (now : machine.State) (ending : Counts → Ending) : Type 0 where
+pub record SaysLine (c : Call) (now : machine.State) (ending : Counts → Ending) : Type 0 where
   pub counts : Counts
   pub are : AreCounts counts now
   pub line : Grew c.err_old c.err_new (line_of c.words (ending counts))
@@ -46,20 +46,20 @@ pub record Says (c : Call) (now : machine.State) (ending : Counts → Ending) : 
 -- the program has ended
 pub record AnswersEnded (c : Call) (now : machine.State) : Type 0 where
   pub outcome : c.outcome ≡ outcomes.Ended
-  pub says : Says c now (λ counts. endings.Ended counts)
+  pub says : SaysLine c now (λ counts. endings.Ended counts)
 
 -- an object of a class of the program wasn't caught, and the line names the class
 pub record AnswersUncaught (c : Call) (cs : List ClassFile) (class : ℕ) (now : machine.State) : Type 0 where
   pub outcome : c.outcome ≡ outcomes.Uncaught class
   pub name : Vec ℕ Global
   pub names : NamesClass cs class name.items
-  pub says : Says c now (λ counts. endings.Uncaught class name counts)
+  pub says : SaysLine c now (λ counts. endings.Uncaught class name counts)
 
 -- the program goes on, and the clock has reached the limit
 pub record AnswersSpent (c : Call) (limit : ℕ) (now : machine.State) : Type 0 where
   pub outcome : c.outcome ≡ outcomes.Spent
   pub late : limit ≤ now.clock
-  pub says : Says c now (λ counts. endings.Spent counts)
+  pub says : SaysLine c now (λ counts. endings.Spent counts)
 
 -- what is answered of a program of these classes whose state has this mode
 abbrev pub AnswersMode : (c : Call) → (cs : List ClassFile) → (limit : ℕ) → (now : machine.State) → Mode → Type 0
@@ -111,7 +111,7 @@ pub record RanLinked (c : Call) (settings : Settings) (show : Show) (l : Parts) 
       (linked_reset settings.stack l.laid.words config) settings.cycles (lent_of c.old) (lent_of c.new)
 
 -- a bare image ran so, with an input that has ended, and no class is uncaught; the input itself wasn't asked
-pub record RanBare (c : Call) (settings : Settings) (show : Show) (image : Image) : Type 0 where
+pub record RanBare (c : Call) (settings : Settings) (show : Show) (image : BareContent) : Type 0 where
   pub config : Config
   pub has : HasSettings settings config
   pub ran : RanShown (bare_shown show) c [] (bare_setting image settings.stack config.memory) (bare_reset settings.stack image config) settings.cycles

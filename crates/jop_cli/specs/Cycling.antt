@@ -20,32 +20,31 @@ use Rattle.analysis_commands.specs.Analysis.{named_or_number}
 use Rattle.analysis_commands.specs.Plan.{IsExecutive}
 use Rattle.answer_lines.specs.declared.line.Counts.{Counts}
 use Rattle.answer_lines.specs.declared.line.SlotCounts.{SlotCounts}
-use Rattle.jop_cli.specs.declared.following.Followed.{Followed}
-use Rattle.jop_cli.specs.declared.outcome.Ending.{Ending}
-use Rattle.jop_cli.specs.declared.outcome.Ending.TheVariants.{Ended, Uncaught, Spent, CycleEnded, CycleUncaught, CycleSpent, NoMemory}
-use Rattle.jop_cli.specs.Line.{text_at}
-use Rattle.jop_cli.specs.Phase.{HasSettings}
-use Rattle.jop_cli.specs.Run.{program_end}
-use Rattle.jop_cli.specs.World.{World, IsQuiet}
-use Rattle.jop_cli.specs.LinkedRun.{linked_setting}
-use Rattle.jop_cli.specs.LinkedSettings.{CodesFit}
-use Rattle.jop_cli.specs.LinkedFile.{SaysEnd, IsUnheld}
-use Rattle.jop_cli.specs.Linking.{files_of, OperandsFault}
-use Rattle.jop_cli.specs.Following.{RanSo, heres_of}
+use Rattle.commands.specs.declared.program_end.ProgramEnd.{ProgramEnd}
+use Rattle.commands.specs.declared.outcome.Ending.{Ending}
+use Rattle.commands.specs.declared.outcome.Ending.TheVariants.{Ended, Uncaught, Spent, CycleEnded, CycleUncaught, CycleSpent, NoMemory}
+use Rattle.commands.specs.Line.{text_of_word}
+use Rattle.commands.specs.Phase.{HasSettings}
+use Rattle.commands.specs.World.{World, IsQuiet}
+use Rattle.commands.specs.LinkedRun.{linked_setting}
+use Rattle.commands.specs.LinkedSettings.{CodesFit}
+use Rattle.commands.specs.LinkedFile.{SaysEnd, IsUnheld}
+use Rattle.commands.specs.Linking.{files_of, OperandsFault}
+use Rattle.commands.specs.Following.{RanSo, heres_of}
 use Rattle.jop_cli.specs.Profiling.{unwatched}
-use Rattle.jop_cli.specs.Executive.{EndsUnready, IsReadied}
+use Rattle.commands.specs.Executive.{EndsUnready, IsReadied}
 
 -- ---- the run
 
 -- Of the slots of these lengths the numbers are those of the activations that are among all that is seen of the run, and that the executive's calls began.
-pub record Cycles (g : Setting) (reset : machine.State) (limit : ℕ) (old new : Lent) (name : ℕ → List ℕ) (lengths : List ℕ) (numbers : Slots) (f : Followed)
+pub record Cycles (g : Setting) (reset : machine.State) (limit : ℕ) (old new : Lent) (name : ℕ → List ℕ) (lengths : List ℕ) (numbers : Slots) (f : ProgramEnd)
     : Type 0 where
   pub ran : RanSo g reset limit (wired old) (wired new) f
   pub numbers_are : (executive : ℕ) → IsExecutive g.program name executive
       → numbers ≡ slots_of executive lengths (heres_of g reset limit (wired old) (wired new) f ran)
 
 -- A machine with the settings holds the image, and it was run from reset.
-pub record CyclesWith (s : Settings) (l : Parts) (slots : List Slot) (old new : Lent) (numbers : Slots) (f : Followed) : Type 0 where
+pub record CyclesWith (s : Settings) (l : Parts) (slots : List Slot) (old new : Lent) (numbers : Slots) (f : ProgramEnd) : Type 0 where
   pub config : Config
   pub has : HasSettings s config
   pub cycles : Cycles (linked_setting l.classes s.stack config.memory) (linked_reset s.stack l.laid.words config) s.cycles old new
@@ -84,10 +83,10 @@ pub record RanCycle (s : Settings) (l : Parts) (slots : List Slot) (old new : Le
   pub codes : CodesFit s l
   pub memory : length l.laid.words ≤ s.memory
   pub numbers : Slots
-  pub followed : Followed
+  pub followed : ProgramEnd
   pub ran : CyclesWith s l slots old new numbers followed
   pub end : Ending
-  pub says : SaysEnd l.classes (program_end followed.end followed.counts) end
+  pub says : SaysEnd l.classes followed.end followed.counts end
   pub ending_is : ending ≡ with_slots numbers end
 
 -- or there was no memory
@@ -108,12 +107,12 @@ cycled_files operands = drop 1 operands
 pub record CyclesReadied (s : Settings) (rounds : ℕ) (operands : List (List ℕ)) (old new : Lent) (ending : Ending) : Type 0 where
   pub slots : List Slot
   pub linked : Parts
-  pub readied : IsReadied (text_at operands 0) rounds (cycled_files operands) slots linked
+  pub readied : IsReadied (text_of_word operands 0) rounds (cycled_files operands) slots linked
   pub cycles : CyclesLinked s linked slots old new ending
 
 abbrev pub CyclesOperands : Settings → (rounds : ℕ) → (operands : List (List ℕ)) → (old new : Lent) → Ending → Type 0
 CyclesOperands s rounds operands old new ending =
-    (EndsUnready (text_at operands 0) rounds (cycled_files operands) ending × (new ≡ old)) ⊎ CyclesReadied s rounds operands old new ending
+    (EndsUnready (text_of_word operands 0) rounds (cycled_files operands) ending × (new ≡ old)) ⊎ CyclesReadied s rounds operands old new ending
 
 -- ---- the files
 

@@ -10,16 +10,16 @@ use Rattle.answer_lines.specs.declared.unanswered.Cause.TheVariants.{Plan}
 use Rattle.analysis_commands.specs.declared.plan.NotPlanned.{NotPlanned}
 use Rattle.analysis_commands.specs.declared.plan.NotPlanned.TheVariants as plans
 use Rattle.analysis_commands.specs.Plan.{IsPlan, IsNotPlanned}
-use Rattle.jop_cli.specs.declared.outcome.Answer.{Answer}
-use Rattle.jop_cli.specs.declared.outcome.Answer.TheVariants.{Text, Ends}
-use Rattle.jop_cli.specs.declared.outcome.Ending.{Ending}
-use Rattle.jop_cli.specs.declared.outcome.Ending.TheVariants.{NotAnswered, NoMemory}
-use Rattle.jop_cli.specs.Line.{text_at}
-use Rattle.jop_cli.specs.World.{World, IsQuiet, IsUntaken}
-use Rattle.jop_cli.specs.Linking.{files_of, OperandsFault}
-use Rattle.jop_cli.specs.Checking.{fault_ending}
+use Rattle.commands.specs.declared.outcome.Answer.{Answer}
+use Rattle.commands.specs.declared.outcome.Answer.TheVariants.{Text, Ends}
+use Rattle.commands.specs.declared.outcome.Ending.{Ending}
+use Rattle.commands.specs.declared.outcome.Ending.TheVariants.{NotAnswered, NoMemory}
+use Rattle.commands.specs.Line.{text_of_word}
+use Rattle.commands.specs.World.{World, IsQuiet, IsUntaken}
+use Rattle.commands.specs.Linking.{files_of, OperandsFault}
+use Rattle.commands.specs.Checking.{fault_ending}
 use Rattle.jop_cli.specs.Asking.{PutsAnswer}
-use Rattle.jop_cli.specs.Executive.{EndsUnready, IsReadied}
+use Rattle.commands.specs.Executive.{EndsUnready, IsReadied}
 
 -- ---- what was linked
 
@@ -50,13 +50,13 @@ planned_files operands = drop 2 operands
 pub record PlansLinked (s : Settings) (rounds : ℕ) (operands : List (List ℕ)) (answer : Answer) : Type 0 where
   pub slots : List Slot
   pub linked : Parts
-  pub readied : IsReadied (text_at operands 0) rounds (planned_files operands) slots linked
-  pub answers : AnswersPlan linked.classes s slots (text_at operands 1) answer
+  pub readied : IsReadied (text_of_word operands 0) rounds (planned_files operands) slots linked
+  pub answers : AnswersPlan linked.classes s slots (text_of_word operands 1) answer
 
 -- or they aren't, and the ending says why
 abbrev pub PlansUnready : (rounds : ℕ) → (operands : List (List ℕ)) → Answer → Type 0
 PlansUnready rounds operands (Text text) = ⊥
-PlansUnready rounds operands (Ends ending) = EndsUnready (text_at operands 0) rounds (planned_files operands) ending
+PlansUnready rounds operands (Ends ending) = EndsUnready (text_of_word operands 0) rounds (planned_files operands) ending
 
 abbrev pub Plans : Settings → (rounds : ℕ) → (operands : List (List ℕ)) → Answer → Type 0
 Plans s rounds operands answer = PlansUnready rounds operands answer ⊎ PlansLinked s rounds operands answer

@@ -14,8 +14,8 @@ use Rattle.command_line.specs.declared.command.Settings.{Settings}
 use Rattle.analysis_commands.specs.declared.analysis.AnalysisFault.{AnalysisFault}
 use Rattle.analysis_commands.specs.Analysis.{timing_of, name_of, IsBoundsFault}
 use Rattle.jop_cli.specs.declared.profiling.Prepared.{Prepared}
-use Rattle.jop_cli.specs.declared.outcome.Ending.{Ending}
-use Rattle.jop_cli.specs.Checking.{fault_ending}
+use Rattle.commands.specs.declared.outcome.Ending.{Ending}
+use Rattle.commands.specs.Checking.{fault_ending}
 
 pub record IsPrepared (s : Settings) (cs : List ClassFile) (bounds : List LoopBound) (p : Prepared) : Type 0 where
   pub flow : IsFlowOf (resolved cs) p.flow

@@ -9,7 +9,7 @@ use Rattle.program_tables.specs.Resolved.{resolved}
 use Rattle.memory_timing.specs.declared.Config.{Config}
 use Rattle.jop_core.specs.State as machine
 use Rattle.jop_core.specs.Reset.{linked_reset}
-use Rattle.image_file.specs.Bare.{Image, IsBare}
+use Rattle.image_file.specs.Bare.{BareContent, IsBareFile}
 use Rattle.image_file.specs.Linked as file
 use Rattle.jopizer.specs.Linked.{Parts, IsLinked, image_of}
 use Rattle.bytecode_model.specs.Program.{Program, body_of}
@@ -21,6 +21,7 @@ use Rattle.run_follower.specs.declared.here.Here.{Here}
 use Rattle.activation_watch.specs.declared.profile.Profile.{Profile}
 use Rattle.activation_watch.specs.Watched.{activations, of_method, profile_of}
 use Rattle.boundary.specs.Setting.{Setting}
+use Rattle.bound_rules.specs.Told.{Value}
 use Rattle.method_bounds.specs.declared.answer.BoundAnswer.{BoundAnswer}
 use Rattle.method_bounds.specs.declared.answer.BoundAnswer.TheVariants.{Cycles, Never, Refused}
 use Rattle.method_bounds.specs.Answers.{IsBoundAnswer}
@@ -29,24 +30,23 @@ use Rattle.run_devices.specs.Lent.{Lent, lent, wired}
 use Rattle.command_line.specs.declared.command.Settings.{Settings}
 use Rattle.analysis_commands.specs.declared.analysis.AnalysisFault.{AnalysisFault}
 use Rattle.analysis_commands.specs.Analysis.{timing_of, bounds_of, named_or_number, IsBoundsFault}
-use Rattle.jop_cli.specs.declared.following.Followed.{Followed}
-use Rattle.jop_cli.specs.declared.outcome.Ending.{Ending}
-use Rattle.jop_cli.specs.declared.outcome.Ending.TheVariants.{Ended, Uncaught, Spent, WriteFault, NoMemory}
-use Rattle.jop_cli.specs.declared.show.Show.TheVariants as shows
-use Rattle.jop_cli.specs.Line.{text_at}
-use Rattle.jop_cli.specs.Phase.{HasSettings, is_linked}
-use Rattle.jop_cli.specs.Run.{program_end}
-use Rattle.jop_cli.specs.World.{World, IsQuiet}
-use Rattle.jop_cli.specs.BareFile.{ImageFault}
-use Rattle.jop_cli.specs.BareFile as bare
-use Rattle.jop_cli.specs.LinkedRun.{linked_setting}
-use Rattle.jop_cli.specs.LinkedSettings.{CodesFit}
-use Rattle.jop_cli.specs.LinkedFile.{BytesFault, SaysEnd, IsUnheld}
-use Rattle.jop_cli.specs.Linking.{files_of, OperandsFault}
-use Rattle.jop_cli.specs.Checking.{fault_ending, EndsTooLong}
-use Rattle.jop_cli.specs.AllBounds.{EndsUnread}
+use Rattle.commands.specs.declared.program_end.ProgramEnd.{ProgramEnd}
+use Rattle.commands.specs.declared.outcome.Ending.{Ending}
+use Rattle.commands.specs.declared.outcome.Ending.TheVariants.{Ended, Uncaught, Spent, WriteFault, NoMemory}
+use Rattle.commands.specs.declared.show.Show.TheVariants as shows
+use Rattle.commands.specs.Line.{text_of_word}
+use Rattle.commands.specs.Phase.{HasSettings, is_linked}
+use Rattle.commands.specs.World.{World, IsQuiet}
+use Rattle.commands.specs.BareFile.{ImageFault}
+use Rattle.commands.specs.BareFile as bare
+use Rattle.commands.specs.LinkedRun.{linked_setting}
+use Rattle.commands.specs.LinkedSettings.{CodesFit}
+use Rattle.commands.specs.LinkedFile.{BytesFault, SaysEnd, IsUnheld}
+use Rattle.commands.specs.Linking.{files_of, OperandsFault}
+use Rattle.commands.specs.Checking.{fault_ending, EndsTooLong}
+use Rattle.commands.specs.AllBounds.{EndsUnread}
 use Rattle.jop_cli.specs.Asking.{PutsPart}
-use Rattle.jop_cli.specs.Following.{RanSo, heres_of}
+use Rattle.commands.specs.Following.{RanSo, heres_of}
 
 -- ---- the run, whose output isn't kept
 
@@ -63,12 +63,12 @@ pub record AreRows (methods : ℕ) (heres : List Here) (rows : List Profile) : T
   pub long : length rows ≡ methods
   pub each : (m : ℕ) → m < methods → slice_get rows m ≡ Some (profile_of (of_method m (activations heres)))
 
-pub record Profiles (g : Setting) (reset : machine.State) (limit : ℕ) (old new : Lent) (methods : ℕ) (rows : List Profile) (f : Followed) : Type 0 where
+pub record Profiles (g : Setting) (reset : machine.State) (limit : ℕ) (old new : Lent) (methods : ℕ) (rows : List Profile) (f : ProgramEnd) : Type 0 where
   pub ran : RanSo g reset limit (wired old) (wired new) f
   pub rows_are : AreRows methods (heres_of g reset limit (wired old) (wired new) f ran) rows
 
 -- A machine with the settings holds the image, and it was run from reset.
-pub record ProfilesWith (s : Settings) (l : Parts) (old new : Lent) (methods : ℕ) (rows : List Profile) (f : Followed) : Type 0 where
+pub record ProfilesWith (s : Settings) (l : Parts) (old new : Lent) (methods : ℕ) (rows : List Profile) (f : ProgramEnd) : Type 0 where
   pub config : Config
   pub has : HasSettings s config
   pub profiles : Profiles (linked_setting l.classes s.stack config.memory) (linked_reset s.stack l.laid.words config) s.cycles old new methods rows f
@@ -81,7 +81,7 @@ pub record AreAnswers (P : Program) (t : Timing) (bound_of : BoundOf) (answers :
   pub each : (m : ℕ) (x : BoundAnswer) → slice_get answers m ≡ Some x → IsBoundAnswer P t bound_of m x
 
 -- the bound that is given, if one is
-abbrev pub bound_told : BoundAnswer → Option (Option ℕ)
+abbrev pub bound_told : BoundAnswer → Option Value
 bound_told (Cycles n) = Some (Some n)
 bound_told Never = Some None
 bound_told (Refused cause) = None
@@ -89,9 +89,9 @@ bound_told (Refused cause) = None
 -- ---- what is put
 
 -- All lines were put, and the ending says how the run ended; or a front of them, where out failed.
-abbrev pub PutsProfile : List ClassFile → (text : List ℕ) → Followed → (old new : Option (List ℕ)) → (before now : ℕ) → Ending → Type 0
+abbrev pub PutsProfile : List ClassFile → (text : List ℕ) → ProgramEnd → (old new : Option (List ℕ)) → (before now : ℕ) → Ending → Type 0
 PutsProfile cs text f old new before now ending =
-    (Grew old new text × (before ≤ now) × SaysEnd cs (program_end f.end f.counts) ending) ⊎ ((ending ≡ WriteFault) × PutsPart text old new before now)
+    (Grew old new text × (before ≤ now) × SaysEnd cs f.end f.counts ending) ⊎ ((ending ≡ WriteFault) × PutsPart text old new before now)
 
 -- an ending of a run without a fault
 abbrev pub EndsRun : Ending → Type 0
@@ -111,7 +111,7 @@ pub record RanProfile (s : Settings) (l : Parts) (bounds_text : List ℕ) (old n
   pub answers : List BoundAnswer
   pub answered : AreAnswers (resolved l.classes) (timing_of s) (bounds_of l.classes bounds) answers
   pub rows : List Profile
-  pub followed : Followed
+  pub followed : ProgramEnd
   pub ran : ProfilesWith s l (input_of old) (input_of new) (length answers) rows followed
   pub puts : PutsProfile l.classes (profile_lines (named_or_number l.classes) 0 rows answers) followed
       old.held new.held old.write_faults new.write_faults ending
@@ -136,12 +136,12 @@ abbrev pub ProfilesHeld : Settings → Parts → (bounds_text : List ℕ) → (o
 ProfilesHeld s l bounds_text old new ending = ((ending ≡ NoMemory) × (new ≡ old)) ⊎ RanProfile s l bounds_text old new ending
 
 -- A bare image, whose one method starts the program, was run with an input that has ended; no activation of it ends, and no line is put.
-pub record RanBareProfile (s : Settings) (image : Image) (bounds_text : List ℕ) (ending : Ending) : Type 0 where
+pub record RanBareProfile (s : Settings) (image : BareContent) (bounds_text : List ℕ) (ending : Ending) : Type 0 where
   pub bounds : List LoopBound
   pub read : IsRead bounds_text bounds
   pub ran : bare.RanImageWith s shows.Output image nothing nothing ending
 
-abbrev pub ProfilesBare : Settings → Image → (bounds_text : List ℕ) → Ending → Type 0
+abbrev pub ProfilesBare : Settings → BareContent → (bounds_text : List ℕ) → Ending → Type 0
 ProfilesBare s image bounds_text ending =
     EndsTooLong s image ending ⊎ (EndsUnread s image bounds_text ending ⊎ RanBareProfile s image bounds_text ending)
 
@@ -149,18 +149,18 @@ ProfilesBare s image bounds_text ending =
 pub record ProfilesParts (s : Settings) (operands : List (List ℕ)) (old new : Lent) (ending : Ending) : Type 0 where
   pub linked : Parts
   pub is_linked : IsLinked linked
-  pub is_file : file.IsLinked (text_at operands 0) (image_of linked)
-  pub profiles : ProfilesLinked s linked (text_at operands 1) old new ending
+  pub is_file : file.IsLinkedFile (text_of_word operands 0) (image_of linked)
+  pub profiles : ProfilesLinked s linked (text_of_word operands 1) old new ending
 
 pub record ProfilesBareFile (s : Settings) (operands : List (List ℕ)) (ending : Ending) : Type 0 where
-  pub image : Image
-  pub is_bare : IsBare (text_at operands 0) image
-  pub profiles : ProfilesBare s image (text_at operands 1) ending
+  pub image : BareContent
+  pub is_bare : IsBareFile (text_of_word operands 0) image
+  pub profiles : ProfilesBare s image (text_of_word operands 1) ending
 
 abbrev pub ProfilesImage : Settings → (operands : List (List ℕ)) → (old new : Lent) → Ending → Type 0
 ProfilesImage s operands old new ending =
-    ((is_linked (text_at operands 0) ≡ true) × ((BytesFault (text_at operands 0) ending × (new ≡ old)) ⊎ ProfilesParts s operands old new ending))
-    ⊎ ((is_linked (text_at operands 0) ≡ false) × (new ≡ old) × (ImageFault (text_at operands 0) ending ⊎ ProfilesBareFile s operands ending))
+    ((is_linked (text_of_word operands 0) ≡ true) × ((BytesFault (text_of_word operands 0) ending × (new ≡ old)) ⊎ ProfilesParts s operands old new ending))
+    ⊎ ((is_linked (text_of_word operands 0) ≡ false) × (new ≡ old) × (ImageFault (text_of_word operands 0) ending ⊎ ProfilesBareFile s operands ending))
 
 -- ---- the files
 

@@ -6,7 +6,7 @@ use Rattle.command_line.specs.declared.command.Command.TheVariants as commands
 use Rattle.command_line.specs.Range.{AreSettings}
 use Rattle.jop_cli.specs.declared.asking.Question.TheVariants.{Check, Bound, Bounds, Shapes, Report, Loops, Headers, Memory}
 use Rattle.jop_cli.specs.declared.asking.Asked.{Asked}
-use Rattle.jop_cli.specs.declared.show.Show.TheVariants as shows
+use Rattle.commands.specs.declared.show.Show.TheVariants as shows
 use Rattle.jop_cli.specs.declared.task.Task.{Task}
 use Rattle.jop_cli.specs.declared.task.Task.TheVariants.{Run, Profile, Plan, Cycle, Assemble, Link, Ask, Work}
 use Rattle.jop_cli.specs.Asking.{HasRightSettings}

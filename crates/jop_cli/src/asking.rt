@@ -4,23 +4,23 @@ ghost use Rattle.base.specs.Sizes.{longest_file};
 ghost use Rattle.device_traits.specs.declared.seen.Seen.{Seen};
 ghost use Rattle.image_file.specs.Linked.{contents};
 ghost use Rattle.command_line.specs.Command.{texts};
-ghost use Rattle.jop_cli.specs.Line.{text_at};
-ghost use Rattle.jop_cli.specs.World.{world};
-ghost use Rattle.jop_cli.specs.Leaving.{Leaves};
-ghost use Rattle.jop_cli.specs.Opening.{Opens};
+ghost use Rattle.commands.specs.Line.{text_of_word};
+ghost use Rattle.commands.specs.World.{world};
+ghost use Rattle.commands.specs.Leaving.{Leaves};
+ghost use Rattle.commands.specs.Opening.{Opens};
 ghost use Rattle.jop_cli.specs.Asking.{HasRightSettings, IsAnswer, IsBareAnswer, Answers, PutsText, PutsAnswer, AsksFiles};
 
-use crate::all_bounds::{bounds_bare, bounds_linked};
-use crate::bounding::{bound_bare_image, bound_linked, shapes_bare, shapes_linked};
-use crate::checking::{check_bare_image, check_linked};
-use crate::headers::{headers_bare, headers_linked};
-use crate::image::{Image, open_image};
-use crate::lines::text_of;
-use crate::linking::read_operands;
-use crate::needs::{loops_linked, memory_bare, memory_linked};
-use crate::outcome::{Answer, Ending};
-use crate::reporting::report_linked;
 use command_line::Settings;
+use commands::all_bounds::{bounds_bare, bounds_linked};
+use commands::bounding::{bound_bare_image, bound_linked, shapes_bare, shapes_linked};
+use commands::checking::{check_bare_image, check_linked};
+use commands::headers::{headers_bare, headers_linked};
+use commands::image::{Image, open_image};
+use commands::lines::text_of;
+use commands::linking::read_operands;
+use commands::needs::{loops_linked, memory_bare, memory_linked};
+use commands::outcome::{Answer, Ending};
+use commands::reporting::report_linked;
 use jop_core::Bare;
 use jopizer::Linked;
 use outside::{Files, Sink, put_all};
@@ -59,7 +59,7 @@ pub(crate) struct Asked {
 
 /// The text of the operand of this number.
 pub(crate) fn operand_text(operands: &[Vec<u8>], number: usize) -> &[u8]
-    ensures { result.now ≡ text_at (contents operands.now) number }
+    ensures { result.now ≡ text_of_word (contents operands.now) number }
 {
     match operands.get(number) {
         Some(text) => text.as_slice(),
@@ -70,7 +70,7 @@ pub(crate) fn operand_text(operands: &[Vec<u8>], number: usize) -> &[u8]
 /// The text of the operand of this number, where none is too long; that of the image is number 0.
 pub(crate) fn operand(operands: &[Vec<u8>], number: usize) -> &[u8]
     requires { All (λ text. length text.items ≤ longest_file) operands.now }
-    ensures text { result.now ≡ text_at (contents operands.now) number }
+    ensures text { result.now ≡ text_of_word (contents operands.now) number }
     ensures short { length result.now ≤ longest_file }
 {
     operand_text(operands, number)
@@ -143,7 +143,7 @@ fn answer_image(
 ) -> Answer
     requires settings { HasRightSettings question }
     requires short { All (λ text. length text.items ≤ longest_file) operands.now }
-    requires opens { Opens (text_at (contents operands.now) 0) image.now }
+    requires opens { Opens (text_of_word (contents operands.now) 0) image.now }
     ensures { Answers (texts words.now) question (contents operands.now) result }
 {
     match image {

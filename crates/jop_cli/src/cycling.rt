@@ -5,21 +5,15 @@ ghost use Rattle.device_traits.specs.declared.seen.Seen.{Seen};
 ghost use Rattle.outside.specs.Files.{contents, AreFiles};
 ghost use Rattle.command_line.specs.Range.{AreSettings};
 ghost use Rattle.slot_table.specs.declared.slot.Slot.{Slot};
-ghost use Rattle.slot_table.specs.Grammar.{IsRead};
+ghost use Rattle.slot_table.specs.Grammar.{IsTableRead};
 ghost use Rattle.run_devices.specs.Lent.{lent};
-ghost use Rattle.jop_cli.specs.Line.{text_at};
-ghost use Rattle.jop_cli.specs.World.{world};
-ghost use Rattle.jop_cli.specs.Leaving.{Leaves, FailsRisen};
-ghost use Rattle.jop_cli.specs.LinkedSettings.{CodesFit};
+ghost use Rattle.commands.specs.Line.{text_of_word};
+ghost use Rattle.commands.specs.World.{world};
+ghost use Rattle.commands.specs.Leaving.{Leaves, FailsRisen};
+ghost use Rattle.commands.specs.LinkedSettings.{CodesFit};
 ghost use Rattle.jop_cli.specs.Cycling.{counts_with, with_slots, IsCounter, CyclesHeld, CyclesLinked, CyclesOperands, CyclesFiles};
 
 use crate::asking::operand;
-use crate::executive::{link_behind, table_ending};
-use crate::following::follow_lent;
-use crate::linked_file::{said, unheld};
-use crate::linking::read_operands;
-use crate::outcome::Ending;
-use crate::program_end::program_end;
 use activation_laws::seen_are_within;
 use activation_watch::laws::slots_are_exact;
 use activation_watch::{SlotCounter, Slots};
@@ -29,6 +23,11 @@ use base::NoMemory;
 use boundary::laws::runs_are_in_a_row;
 use boundary::uncaught_classes_are_there;
 use command_line::Settings;
+use commands::executive::{link_behind, table_ending};
+use commands::following::follow_lent;
+use commands::linked_file::{said, unheld};
+use commands::linking::read_operands;
+use commands::outcome::Ending;
 use jop_core::NoWatch;
 use jopizer::Linked;
 use outside::{Files, Sink, Source};
@@ -119,10 +118,7 @@ fn cycle_held<S: Source, O: Sink>(
         &mut watch,
         &mut counter,
     ) {
-        Ok(followed) => {
-            let end = program_end(followed.end, followed.counts);
-            with_slots(said(program, room, end), counter.slots())
-        }
+        Ok(followed) => with_slots(said(program, room, followed), counter.slots()),
         Err(NoMemory) => Ending::NoMemory,
     }
 }
@@ -167,7 +163,7 @@ fn cycle_table<S: Source, O: Sink>(
     requires few { rounds ≤ 32767 }
     requires there { 1 ≤ length operands.old.items }
     requires few_files { length operands.old.items < 2 ^ 32 }
-    requires read { IsRead (text_at (contents operands.old.items) 0) table.now }
+    requires read { IsTableRead (text_of_word (contents operands.old.items) 0) table.now }
     ensures cycles { CyclesOperands settings.now rounds (contents operands.old.items)
         (lent (S.left input.old) (S.faults input.old) (O.held out.old) (O.faults out.old) None)
         (lent (S.left input.new) (S.faults input.new) (O.held out.new) (O.faults out.new) None) result }

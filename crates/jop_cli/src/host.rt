@@ -1,7 +1,7 @@
 //! The program over the real files and streams.
 ghost use Rattle.std.specs.Prelude.{◌≡◌, ◌<◌, ◌≤◌, ◌^◌, ◌⊎◌, length, map, None, string_bytes, IfOk};
 ghost use Rattle.command_line.specs.Command.{texts};
-ghost use Rattle.jop_cli.specs.World.{world};
+ghost use Rattle.commands.specs.World.{world};
 ghost use Rattle.jop_cli.specs.Process.{IsStatus, IsNewStatus, IsProcessStatus};
 
 use crate::jop;

@@ -7,7 +7,9 @@ ghost use Rattle.jop_cli.specs.Correct.{BoundsAreKept, CheckingIsComplete, Fault
 ghost use Rattle.jop_cli.specs.Correct.{BoundsHoldInRuns, MethodsAreLoadedOnce, WrittenLoopsCount, CountedLoopsAreKept, HeaderFilesAreTaken};
 ghost use Rattle.jop_cli.specs.Correct.{HeaderFilesHaveBounds, NotedLoopsAreKept, QuestionsAreAnswered, NeedsSuffice, NamesTellMethods, ProfilesAreComplete};
 ghost use Rattle.jop_cli.specs.Correct.{ProfilesAreKept, ExecutivesAreThere, PlansAreAnswered, CyclesAreRuns, SlotsAreKept, ReportsAddUp, WorkingIsComplete};
-ghost use Rattle.jop_cli.specs.Correct.{WorkLinesAreTrue};
+ghost use Rattle.jop_cli.specs.Correct.{RunsAreOne, WorkLinesAreTrue};
+ghost use Rattle.jop_cli.specs.Refusals.{NoCommandIsRefused, LongFilesAreRefused, BadImagesAreRefused, UnlinkedImagesAreRefused, DifferingImagesAreRefused};
+ghost use Rattle.jop_cli.specs.Refusals.{LongMethodsAreRefused, LongBareCodesAreRefused, SmallMemoriesAreRefused};
 
 use activation_laws::{called_keep_bounds, profiles_keep_bounds};
 use activations::laws::{places_tell_words, steps_are_told};
@@ -17,7 +19,9 @@ use bound_rules::laws::{faults_are_one, refused_is_not_met};
 use bound_sound::certificates_are_sound;
 use bound_sound::loads::{activations_load_once, loads_are_misses, stays_load_once};
 use boundary::laws::runs_are_in_a_row;
+use class_file::laws::one_class;
 use counted_activations::laws::{counted_loops_of_runs, found_loops_count};
+use image_file::one_image;
 use jopizer::laws::{
     linked_files_are_not_refused, linked_images_are_read, main_is_there, one_linked,
     refusals_are_one,
@@ -38,10 +42,11 @@ pub fn linking_is_exact()
     refusals_are_one();
 }
 
-/// The run of an image that is linked is that of its program, and its trace that of the run.
+/// The run of an image that is linked is that of its program, and its trace that of the run, which is one.
 pub fn runs_are_the_bytecodes()
     ensures runs { RunsAreTheBytecodes }
     ensures traces { TracesAreTheRuns }
+    ensures one { RunsAreOne }
 {
     one_linked();
     linked_images_are_read();
@@ -82,11 +87,12 @@ pub fn checking_is_exact()
 }
 
 /// A certificate of a method is written where nothing forbids a bound; where none is, the cause that is answered forbids it, and a cause
-/// that stands is answered.
+/// that stands is answered. A name is that of one method with code.
 pub fn bounding_is_exact()
     ensures complete { BoundingIsComplete }
     ensures caused { BoundRefusalsAreCaused }
     ensures answered { CausesAreAnswered }
+    ensures names { NamesTellMethods }
 {
     one_linked();
     linked_images_are_read();
@@ -103,13 +109,6 @@ pub fn bounding_is_exact()
 pub fn bounds_are_kept()
     ensures { BoundsAreKept }
 {}
-
-/// A name is that of one method with code.
-pub fn names_tell_methods()
-    ensures { NamesTellMethods }
-{
-    names_are_one();
-}
 
 /// A bound of a method holds of the runs of what is linked, in which activations of methods that fit the cache load each method at most
 /// once.
@@ -207,8 +206,30 @@ pub fn needs_suffice()
     heap_need_suffices();
 }
 
-/// The line of `work` is put where nothing stands in its way, and where the answer is that it is written, it is true.
+/// The line of `work` is put, or what stands in its way is answered; and where the answer is that it is written, it is true.
 pub fn working_is_exact()
     ensures complete { WorkingIsComplete }
     ensures right { WorkLinesAreTrue }
 {}
+
+/// Words that give no command are answered, and what is wrong with files, with their image, or with its machine, the first of these that
+/// stands.
+pub fn refusals_are_answered()
+    ensures words { NoCommandIsRefused }
+    ensures files { LongFilesAreRefused }
+    ensures bad { BadImagesAreRefused }
+    ensures unlinked { UnlinkedImagesAreRefused }
+    ensures differs { DifferingImagesAreRefused }
+    ensures methods { LongMethodsAreRefused }
+    ensures bare { LongBareCodesAreRefused }
+    ensures memory { SmallMemoriesAreRefused }
+{
+    one_class();
+    one_image();
+    one_linked();
+    linked_images_are_read();
+    linked_files_are_not_refused();
+    refusals_are_one();
+    one_bare_image();
+    executives_are_answered();
+}

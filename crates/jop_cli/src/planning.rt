@@ -4,20 +4,20 @@ ghost use Rattle.base.specs.Sizes.{longest_file};
 ghost use Rattle.device_traits.specs.declared.seen.Seen.{Seen};
 ghost use Rattle.outside.specs.Files.{contents};
 ghost use Rattle.command_line.specs.Range.{AreSettings};
-ghost use Rattle.jop_cli.specs.Line.{text_at};
-ghost use Rattle.jop_cli.specs.World.{world};
-ghost use Rattle.jop_cli.specs.Leaving.{Leaves};
-ghost use Rattle.slot_table.specs.Grammar.{IsRead};
+ghost use Rattle.commands.specs.Line.{text_of_word};
+ghost use Rattle.commands.specs.World.{world};
+ghost use Rattle.commands.specs.Leaving.{Leaves};
+ghost use Rattle.slot_table.specs.Grammar.{IsTableRead};
 ghost use Rattle.jop_cli.specs.Planning.{plan_ending, AnswersPlan, Plans, PlansFiles};
 
 use crate::asking::{operand, operand_text, put_answer};
-use crate::checking::fault_ending;
-use crate::executive::{link_behind, table_ending};
-use crate::linking::read_operands;
-use crate::outcome::{Answer, Ending};
 use analysis_commands::{NotPlanned, plan_lines};
 use answer_lines::Cause;
 use command_line::Settings;
+use commands::checking::fault_ending;
+use commands::executive::{link_behind, table_ending};
+use commands::linking::read_operands;
+use commands::outcome::{Answer, Ending};
 use jopizer::Linked;
 use outside::{Files, Sink};
 use slot_table::{SlotTable, read_table};
@@ -66,7 +66,7 @@ fn plan_table(
     requires there { 2 ≤ length operands.old.items }
     requires few_files { length operands.old.items < 2 ^ 32 }
     requires short { All (λ text. length text.items ≤ longest_file) operands.old.items }
-    requires read { IsRead (text_at (contents operands.old.items) 0) table.now }
+    requires read { IsTableRead (text_of_word (contents operands.old.items) 0) table.now }
     ensures { Plans settings.now rounds (contents operands.old.items) result }
 {
     match link_behind(alloc, operands, 2, table, rounds) {

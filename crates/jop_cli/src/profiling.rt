@@ -1,38 +1,28 @@
 //! The profile of a run: what the activations of each method took, beside its bound.
-ghost use Rattle.std.specs.Prelude.{◌≡◌, ◌≢◌, ◌<◌, ◌≤◌, ◌+◌, ◌^◌, ℕ, List, [], None, length, vec_capacity, All, IfOk, IfErr, true, false};
+ghost use Rattle.std.specs.Prelude.{◌≡◌, ◌<◌, ◌≤◌, ◌+◌, ◌^◌, ℕ, List, [], None, length, vec_capacity, All, IfOk, IfErr, true, false};
+ghost use Rattle.device_traits.specs.declared.fault.DeviceFault.TheVariants as faults;
 ghost use Rattle.std.specs.declared.option.Option.{Option};
 ghost use Rattle.base.specs.Sizes.{longest_file};
 ghost use Rattle.command_line.specs.Range.{AreSettings};
 ghost use Rattle.device_traits.specs.declared.seen.Seen.{Seen};
-ghost use Rattle.image_file.specs.Bare.{IsImage};
+ghost use Rattle.image_file.specs.Bare.{IsBareContent};
 ghost use Rattle.outside.specs.Files.{contents, AreFiles};
 ghost use Rattle.outside.specs.Outside.{Rose};
 ghost use Rattle.refusal_lines.specs.Room.{HasRoom};
 ghost use Rattle.run_devices.specs.Lent.{lent};
 ghost use Rattle.activation_watch.specs.Counting.{no_totals};
-ghost use Rattle.boundary.specs.declared.runs.RunEnd.TheVariants as ends;
 ghost use Rattle.method_bounds.specs.Lines.{name_in};
 ghost use Rattle.method_bounds.specs.Profiles.{profile_lines};
-ghost use Rattle.jop_cli.specs.World.{world};
-ghost use Rattle.jop_cli.specs.Line.{text_at};
-ghost use Rattle.jop_cli.specs.Phase.{is_linked};
-ghost use Rattle.jop_cli.specs.Leaving.{Leaves, FailsRisen};
-ghost use Rattle.jop_cli.specs.Run.{program_end};
-ghost use Rattle.jop_cli.specs.LinkedRun.{HasClass};
-ghost use Rattle.jop_cli.specs.LinkedSettings.{CodesFit};
+ghost use Rattle.commands.specs.World.{world};
+ghost use Rattle.commands.specs.Line.{text_of_word};
+ghost use Rattle.commands.specs.Phase.{is_linked};
+ghost use Rattle.commands.specs.Leaving.{Leaves, FailsRisen};
+ghost use Rattle.commands.specs.LinkedRun.{HasClass};
+ghost use Rattle.commands.specs.LinkedSettings.{CodesFit};
 ghost use Rattle.jop_cli.specs.Preparing.{IsPrepared, IsPreparedBy, IsUnprepared};
 ghost use Rattle.jop_cli.specs.Profiling.{PutsProfile, ProfilesWith, ProfilesHeld, ProfilesLinked, ProfilesBare, ProfilesImage, ProfilesFiles};
 
 use crate::asking::operand;
-use crate::bare_file::run_with;
-use crate::checking::{fault_ending, too_long_ending};
-use crate::following::{Followed, follow_lent};
-use crate::image::{Image, open_image};
-use crate::linked_file::{said, unheld};
-use crate::linking::read_operands;
-use crate::outcome::Ending;
-use crate::program_end::program_end;
-use crate::show::Show;
 use activation_laws::seen_are_within;
 use activation_watch::MethodTotals;
 use activation_watch::laws::{profiles_are_exact, profiles_are_told};
@@ -42,6 +32,15 @@ use boundary::laws::runs_are_in_a_row;
 use boundary::uncaught_classes_are_there;
 use bytecode_verifier::Verified;
 use command_line::Settings;
+use commands::bare_file::run_with;
+use commands::checking::{fault_ending, too_long_ending};
+use commands::following::follow_lent;
+use commands::image::{Image, open_image};
+use commands::linked_file::{said, unheld};
+use commands::linking::read_operands;
+use commands::outcome::Ending;
+use commands::program_end::ProgramEnd;
+use commands::show::Show;
 use jop_core::{Bare, NoWatch};
 use jopizer::Linked;
 use loop_bounds::Bounds;
@@ -109,7 +108,7 @@ fn run_totals<S: Source>(
     settings: &Settings,
     totals: &mut MethodTotals,
     input: &mut S,
-) -> Result<Followed, NoMemory>
+) -> Result<ProgramEnd, NoMemory>
     requires settings { AreSettings settings.now }
     requires codes { CodesFit settings.now linked.now }
     requires memory { length linked.now.laid.words ≤ settings.now.memory }
@@ -134,19 +133,18 @@ fn conclude<O: Sink>(
     program: &Program,
     prepared: &Prepared,
     room: Vec<u8>,
-    followed: Followed,
+    followed: ProgramEnd,
     out: &mut O,
 ) -> Ending
     requires empty { room.items ≡ [] }
     requires room { HasRoom program.now (vec_capacity room) }
-    requires class { HasClass program.now (program_end followed.end followed.counts) }
-    requires end { followed.end ≢ ends.SeenFault }
+    requires class { HasClass program.now followed.end }
     requires answers { length prepared.now.answers.items ≡ length prepared.now.flow.methods }
     requires rows { length prepared.now.totals.rows ≡ length prepared.now.flow.methods }
     ensures puts { PutsProfile program.now (profile_lines (name_in prepared.now.flow) 0 prepared.now.totals.rows prepared.now.answers.items) followed
         (O.held out.old) (O.held out.new) (O.faults out.old) (O.faults out.new) result }
     ensures done { Leaves result → ⊥ }
-    ensures rose { (before now : ℕ) → (followed.end ≡ ends.ReadFault → Rose before now) → FailsRisen result before now }
+    ensures rose { (before now : ℕ) → (followed.end ≡ Err faults.Input → Rose before now) → FailsRisen result before now }
 {
     match put_profile(
         out,
@@ -154,7 +152,7 @@ fn conclude<O: Sink>(
         prepared.totals.rows(),
         &prepared.answers,
     ) {
-        Ok(()) => said(program, room, program_end(followed.end, followed.counts)),
+        Ok(()) => said(program, room, followed),
         Err(_) => Ending::WriteFault,
     }
 }
@@ -223,7 +221,7 @@ fn profile_linked<S: Source, O: Sink>(
 /// The profile of a bare image, whose one method starts the program: no activation of it ends.
 fn profile_bare(alloc: Global, bare: &Bare, settings: &Settings, bounds: &[u8]) -> Ending
     requires settings { AreSettings settings.now }
-    requires grammar { IsImage bare.now }
+    requires grammar { IsBareContent bare.now }
     requires short { length bounds.now ≤ longest_file }
     ensures { ProfilesBare settings.now bare.now bounds.now result }
 {
@@ -257,7 +255,7 @@ fn profile_operands<S: Source, O: Sink>(
         (lent (S.left input.old) (S.faults input.old) (O.held out.old) (O.faults out.old) None)
         (lent (S.left input.new) (S.faults input.new) (O.held out.new) (O.faults out.new) None) result }
     ensures leaves { Leaves result → (input.new ≡ input.old) × (out.new ≡ out.old) }
-    ensures input { is_linked (text_at (contents operands.now) 0) ≡ false → input.new ≡ input.old }
+    ensures input { is_linked (text_of_word (contents operands.now) 0) ≡ false → input.new ≡ input.old }
     ensures rose { FailsRisen result (S.faults input.old) (S.faults input.new) }
 {
     let bounds = operand(operands, 1);
@@ -290,7 +288,7 @@ pub(crate) fn profile_files<F: Files, S: Source, O: Sink>(
         (world (F.words files.new) (F.told files.new) (F.faults files.new) (S.left input.new) (S.faults input.new) (O.held out.new) (O.faults out.new) watch)
         result }
     ensures leaves { Leaves result → (input.new ≡ input.old) × (out.new ≡ out.old) }
-    ensures input { ((operands : List (List ℕ)) → AreFiles (F.told files.old) image (image + 2) operands → is_linked (text_at operands 0) ≡ true → ⊥)
+    ensures input { ((operands : List (List ℕ)) → AreFiles (F.told files.old) image (image + 2) operands → is_linked (text_of_word operands 0) ≡ true → ⊥)
         → input.new ≡ input.old }
     ensures rose { FailsRisen result (S.faults input.old) (S.faults input.new) }
 {

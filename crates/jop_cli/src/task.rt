@@ -4,8 +4,8 @@ ghost use Rattle.command_line.specs.Range.{AreInRange, AreThere, OperandsFollow}
 ghost use Rattle.jop_cli.specs.Tasks.{task_of, IsAmong};
 
 use crate::asking::{Asked, Question};
-use crate::show::Show;
 use command_line::{Command, Settings};
+use commands::show::Show;
 
 /// What a command does.
 #[derive(Clone, Copy)]

@@ -5,3 +5,4 @@ pub mod Tells
 pub mod StepTable
 pub mod Fetching
 pub mod Pausing
+pub mod Failing

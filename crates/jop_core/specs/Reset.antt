@@ -11,7 +11,7 @@ use Rattle.jop_core.specs.State.{State}
 pub use Rattle.base.specs.Packed.{word_at_bytes, words_from, words_for, words_of_bytes}
 use Rattle.jop_core.specs.Operations.{code_words, code_place}
 use Rattle.jop_core.specs.Cycle.{byte_of, entry_of}
-use Rattle.image_file.specs.Bare.{Image, frame_words}
+use Rattle.image_file.specs.Bare.{BareContent, frame_words}
 
 -- What a machine begins with: the words of its image, boot's place, locals and frame, its code, and the places of boot's pool and of the raise list.
 pub record Start : Type 0 where
@@ -61,7 +61,7 @@ reset_of n start config = record {
 }
 
 -- a bare image has no words, and its method is at place 0
-abbrev pub bare_start : Image → Start
+abbrev pub bare_start : BareContent → Start
 bare_start image = record {
   image = [];
   boot = 0;
@@ -72,7 +72,7 @@ bare_start image = record {
   raise_list = 0;
 }
 
-abbrev pub bare_reset : (n : ℕ) → Image → Config → State
+abbrev pub bare_reset : (n : ℕ) → BareContent → Config → State
 bare_reset n image config = reset_of n (bare_start image) config
 
 -- Of image words, word 1 is the place of boot's method, word 2 that of its pool, and word 4 that of the raise list. A method's first word has its
@@ -102,7 +102,7 @@ pub record CanStart (image : List ℕ) (config : Config) : Type 0 where
   pub blocks : IsTrue (can_load (code_words image (slice_index image 1)) (empty config.blocks config.block_words))
 
 -- a bare image that a machine with these settings can begin with: its code fits the cache
-abbrev pub CanStartBare : Image → Config → Type 0
+abbrev pub CanStartBare : BareContent → Config → Type 0
 CanStartBare image config = IsTrue (can_load (words_for (length image.code)) (empty config.blocks config.block_words))
 
 -- where the machine has halted uncaught, the number of the class of the object that was raised: the first word of its type

@@ -114,49 +114,41 @@ impl<const N: usize> Machine<N> {
 
     /// A call of `cycle` where no microinstruction runs.
     #[tactic(auto, unfolding(crate::specs::Cycle::cycle_of, crate::specs::Cycle::asks_input, crate::specs::Cycle::output_of))]
-    fn pause<D: Devices>(&mut self, device: &mut D) -> Tick
+    fn pause<D: Devices>(&mut self, device: &mut D) -> Result<Tick, DeviceFault>
         requires clock { self.old.clock < 2 ^ 64 - 1 }
         requires paused { is_paused self.old.stall self.old.halt ≡ true }
         ensures ticked { Ticked self.old self.new (D.told device.old) (D.told device.new) result }
-        ensures clock { result ≡ Tick.Went → self.new.clock ≡ self.old.clock + 1 }
+        ensures clock { result ≡ Ok Tick.Went → self.new.clock ≡ self.old.clock + 1 }
         ensures names { D.names device.new ≡ D.names device.old }
     {
         if self.halt != Halt::Running {
-            return Tick::Halted;
+            return Ok(Tick::Halted);
         }
-        if let Err(_) = device.seen(self.seen()) {
-            return Tick::SeenFault;
-        }
+        device.seen(self.seen())?;
         self.count();
         self.stall -= 1;
         self.paused = self.stall > 0;
-        Tick::Went
+        Ok(Tick::Went)
     }
 
     /// One clock: hands the state to the device, and then does a cycle. A machine that has halted does
-    /// nothing.
-    pub fn cycle<D: Devices>(&mut self, device: &mut D) -> Tick
+    /// nothing. Where a call on the device fails, only the device has changed.
+    pub fn cycle<D: Devices>(&mut self, device: &mut D) -> Result<Tick, DeviceFault>
         requires { self.old.clock < 2 ^ 64 - 1 }
         ensures ticked { Ticked self.old self.new (D.told device.old) (D.told device.new) result }
-        ensures clock { result ≡ Tick.Went → self.new.clock ≡ self.old.clock + 1 }
+        ensures clock { result ≡ Ok Tick.Went → self.new.clock ≡ self.old.clock + 1 }
         ensures names { D.names device.new ≡ D.names device.old }
     {
         if self.paused {
             return self.pause(device);
         }
-        if let Err(_) = device.seen(self.seen()) {
-            return Tick::SeenFault;
-        }
+        device.seen(self.seen())?;
         let step = step_at(self.mpc);
-        let Ok(input) = ask_in(device, step) else {
-            return Tick::ReadFault;
-        };
-        if let Err(_) = put_out(device, step, self.a) {
-            return Tick::WriteFault;
-        }
+        let input = ask_in(device, step)?;
+        put_out(device, step, self.a)?;
         self.count();
         self.run(step, input);
-        Tick::Went
+        Ok(Tick::Went)
     }
 
     /// Whether the machine is about to run the first microinstruction of a bytecode or of the raise

@@ -9,7 +9,7 @@ use Rattle.class_pool.specs.declared.class.Code.{Code}
 use Rattle.class_pool.specs.declared.class.ClassFile.{ClassFile}
 use Rattle.class_rules.specs.Found.{MethodsHaveCode}
 use Rattle.lists.specs.Numbers.{is_among}
-use Rattle.lists.specs.Lemmas.{none≢some, index_there}
+use Rattle.lists.proofs.Lemmas.{none≢some, index_there}
 use Rattle.opcodes.specs.Start.{starts_of, first_bad}
 use Rattle.frame_types.specs.Laws.{FramesLaw}
 use Rattle.frame_types.specs.Frames.{frames_of}

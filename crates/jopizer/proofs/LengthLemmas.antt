@@ -4,11 +4,11 @@ use Rattle.std.proofs.lemmas.List.{length-append}
 use Rattle.std.proofs.lemmas.List.Concat.{flat_map-cons}
 use Rattle.std.proofs.lemmas.Grind.{flat_map-append}
 use Rattle.std.specs.List.{flat_map, AllByRecursion}
-use Rattle.image_file.specs.Linked.{Image, IsFile, u4, file_bytes}
+use Rattle.image_file.specs.Linked.{LinkedContent, IsFile, u4, file_bytes}
 use Rattle.image_file.proofs.Sequences.{words_long}
 use Rattle.jopizer.specs.Linked.{file_length}
 
-pub length_is : (image : Image) → file_length image ≡ 16 + length image.main + 4 * length image.words + length (flat_map file_bytes image.files)
+pub length_is : (image : LinkedContent) → file_length image ≡ 16 + length image.main + 4 * length image.words + length (flat_map file_bytes image.files)
 unfolding file_length
 length_is image =
     let files = flat_map file_bytes image.files in

@@ -1,11 +1,11 @@
 -- What is linked has the main of its main class, and that has code.
-use Rattle.std.proofs.Common.{◌≡◌, ℕ, suc, ◌+◌, Bool, true, false, ◌&&◌, ◌||◌, List, [], ◌∷◌, ◌++◌, map, Option, Some, None, refl, sym, ap, ap₂, ◌∙◌, arith, append_assoc}
-use Rattle.std.specs.Prelude.{codes, find, is_some, slice_get, if◌then◌else◌, IsSome}
+use Rattle.std.proofs.Common.{◌≡◌, ℕ, suc, ◌+◌, Bool, true, false, ◌&&◌, ◌||◌, List, [], ◌∷◌, ◌++◌, map, Option, Some, None, refl, sym, ap, ap₂, ◌∙◌}
+use Rattle.std.specs.Prelude.{find, is_some, slice_get, if◌then◌else◌, IsSome}
 use Rattle.std.specs.Cmp.Lexicographic as texts
 use Rattle.std.specs.Option.{option_map, option_map_or}
-use Rattle.std.specs.List.{list_any, AllByRecursion}
+use Rattle.std.specs.List.{list_any}
 use Rattle.std.proofs.lemmas.Bool.{false≢true, both_ways, false_from_ne_true, and_parts}
-use Rattle.lists.specs.Lemmas.{some_same, index_found}
+use Rattle.lists.proofs.Lemmas.{some_same, index_found}
 use Rattle.class_pool.specs.Utf8.{utf8_bytes}
 use Rattle.class_pool.specs.declared.class.Code.{Code}
 use Rattle.class_pool.specs.declared.class.Member.{Member}
@@ -19,7 +19,7 @@ use Rattle.class_lookup.specs.Lookup.{Place, method_at, same_place}
 use Rattle.bytecode_model.specs.Lists.{onto}
 use Rattle.bytecode_model.specs.Program.{Method, body_of}
 use Rattle.program_tables.specs.Numbers.{methods_by_number, method_text, member_text}
-use Rattle.program_tables.specs.Resolved.{resolved, at_method, body_in, method_in}
+use Rattle.program_tables.specs.Resolved.{resolved, at_method, body_in}
 use Rattle.program_tables.specs.declared.refusal.Site.{Site}
 use Rattle.program_tables.specs.declared.refusal.Item.{Item}
 use Rattle.program_tables.specs.Unsupported.{unsupported_in}
@@ -30,7 +30,8 @@ use Rattle.program_laws.proofs.Selections.{not_native}
 use Rattle.core_classes.specs.Core.{core, boot}
 use Rattle.core_classes.specs.Laws.{CoreIsNamed}
 use Rattle.program_resolution.specs.declared.refusal.ProgramRefusal.TheVariants as resolving
-use Rattle.program_resolution.specs.Linked.{main_class, main_name, main_signature, declares_main, calls_of, linked_classes, number_of}
+use Rattle.program_resolution.specs.Linked.{main_class, main_name, declares_main, calls_of, linked_classes, number_of}
+use Rattle.core_classes.specs.Linkage.{main_signature}
 use Rattle.program_resolution.specs.Refusals.{Names, Support, Supertypes, Places, Mentions, causes, causes_in, too_many, without_main, refusals}
 use Rattle.program_resolution.specs.Resolving.{IsProgramOf}
 use Rattle.program_resolution.proofs.RefusalLemmas.{are_classes}

@@ -1,11 +1,11 @@
 -- The file of an image is that of one linked program; and what the limits of an image are.
 use Rattle.std.proofs.Common.{◌≡◌, ℕ, ◌≤◌, Bool, true, false, List, [], ◌∷◌, length, Option, Some, None, refl, sym, ap, ap₂, ◌∙◌, subst, arith}
 use Rattle.std.specs.Prelude.{nat_le, if◌then◌else◌}
-use Rattle.image_file.specs.Linked.{Image, OneImage}
+use Rattle.image_file.specs.Linked.{LinkedContent, OneImage}
 use Rattle.class_pool.specs.declared.class.ClassFile.{ClassFile}
 use Rattle.class_rules.specs.Grammar.{IsClassOf}
 use Rattle.image_builder.specs.Laid.{Laid}
-use Rattle.image_builder.specs.Passed.{Passed, passed}
+use Rattle.image_builder.specs.Passed.{CountPastLimit, passed}
 use Rattle.image_builder.specs.declared.fault.Counted.{Counted}
 use Rattle.image_builder.specs.declared.fault.Counted.TheVariants.{Types, InterfaceMethods, Methods, Words}
 use Rattle.image_words.specs.Limits.{IsWithinLimits, coded_methods, most_types, most_interface_methods, most_methods, most_words}
@@ -57,22 +57,22 @@ same_parts a b classes laid files main =
 pub one_linked : OneClass → OneImage → OneLinked
 one_linked law images bytes a b ga gb ia ib =
     let image : image_of a ≡ image_of b = images bytes (image_of a) (image_of b) ia ib in
-    let files : a.files ≡ b.files = ap (λ (i : Image). i.files) image in
-    let main : a.main ≡ b.main = ap (λ (i : Image). i.main) image in
+    let files : a.files ≡ b.files = ap (λ (i : LinkedContent). i.files) image in
+    let main : a.main ≡ b.main = ap (λ (i : LinkedContent). i.main) image in
     let moved : IsProgramOf b.files b.main a.classes = subst (λ (f : List (List ℕ)). IsProgramOf f b.main a.classes) files (subst (λ (m : List ℕ). IsProgramOf a.files m a.classes) main ga.linked.program) in
     let classes = same_program law b.files b.main a.classes b.classes moved gb.linked.program in
     same_parts a b classes (both_laid b.classes a.laid b.laid (subst (λ (cs : List ClassFile). IsLaidOut cs a.laid) classes ga.laid) gb.laid) files main
 
 -- ---- limits
 
-within_case : (what : Counted) (count limit : ℕ) (b : Bool) → nat_le count limit ≡ b → ◌≡◌ {A = Option Passed} (if b then None else Some (what, count, limit)) None → count ≤ limit
+within_case : (what : Counted) (count limit : ℕ) (b : Bool) → nat_le count limit ≡ b → ◌≡◌ {A = Option CountPastLimit} (if b then None else Some (what, count, limit)) None → count ≤ limit
 within_case what count limit true e h = grind arith
-within_case what count limit false e h = absurd (let f : ◌≡◌ {A = Option Passed} (Some (what, count, limit)) None = h in cc)
+within_case what count limit false e h = absurd (let f : ◌≡◌ {A = Option CountPastLimit} (Some (what, count, limit)) None = h in cc)
 
 within_one : (what : Counted) (count limit : ℕ) → passed what count limit ≡ None → count ≤ limit
 within_one what count limit h = within_case what count limit (nat_le count limit) refl h
 
-first_is_none : (o : Option Passed) (os : List (Option Passed)) → first_some (o ∷ os) ≡ None → (o ≡ None) × (first_some os ≡ None)
+first_is_none : (o : Option CountPastLimit) (os : List (Option CountPastLimit)) → first_some (o ∷ os) ≡ None → (o ≡ None) × (first_some os ≡ None)
 first_is_none None os h = (refl, h)
 first_is_none (Some p) os h = absurd (let f : Some p ≡ None = h in cc)
 

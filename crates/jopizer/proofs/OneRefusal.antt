@@ -1,11 +1,10 @@
 -- Files are refused for one cause.
-use Rattle.std.proofs.Common.{◌≡◌, ◌≢◌, ℕ, zero, suc, ◌+◌, ◌<◌, ◌⊎◌, inl, inr, List, [], ◌∷◌, take, Option, Some, None, refl, sym, ap, ap₂, ◌∙◌, subst, arith}
+use Rattle.std.proofs.Common.{◌≡◌, ◌≢◌, ℕ, zero, suc, ◌<◌, ◌⊎◌, inl, inr, List, [], ◌∷◌, take, Some, refl, sym, ap, ap₂, ◌∙◌, subst, arith}
 use Rattle.std.specs.Prelude.{slice_get}
 use Rattle.std.proofs.lemmas.Bool.{cases_lt}
 use Rattle.lists.specs.Lists.{first}
-use Rattle.lists.specs.Lemmas.{none≢some, some_same}
+use Rattle.lists.proofs.Lemmas.{none≢some, some_same}
 use Rattle.class_pool.specs.declared.class.ClassFile.{ClassFile}
-use Rattle.class_rules.specs.Grammar.{IsClassOf}
 use Rattle.class_file.specs.Grammar.{IsOtherVersion}
 use Rattle.class_file.proofs.ClassLaws.{other_header}
 use Rattle.program_tables.specs.Numbers.{methods_by_number}
@@ -16,7 +15,7 @@ use Rattle.verifier_types.specs.declared.checked.Rule.TheVariants as told
 use Rattle.bytecode_verifier.specs.declared.fault.MethodRule.{MethodRule}
 use Rattle.bytecode_verifier.specs.declared.fault.MethodRule.TheVariants as codes
 use Rattle.bytecode_verifier.specs.Failure.{Broken, Opcode, Table, Map, Walk, Failure, IsVerified, FailsFirst, broken_seen, method_failure}
-use Rattle.image_builder.specs.Passed.{Passed}
+use Rattle.image_builder.specs.Passed.{CountPastLimit}
 use Rattle.image_layout.specs.Layout.{first_passed}
 use Rattle.program_resolution.specs.declared.refusal.ProgramRefusal.{ProgramRefusal}
 use Rattle.program_resolution.specs.declared.refusal.ProgramRefusal.TheVariants as resolving
@@ -26,7 +25,7 @@ use Rattle.program_resolution.specs.Resolving.{AreClassesOf, IsUnread, IsFirstUn
 use Rattle.jopizer.specs.declared.refusal.LinkRefusal.{LinkRefusal}
 use Rattle.jopizer.specs.declared.refusal.LinkRefusal.TheVariants as answers
 use Rattle.jopizer.specs.Linked.{file_length, image_with}
-use Rattle.jopizer.specs.Refused.{FailsInFile, PassesLimit, FileIsTooLong, IsRefusal}
+use Rattle.jopizer.specs.Refused.{FailsInFile, PassesLimit, FileIsTooLong, IsLinkRefusal}
 use Rattle.jopizer.specs.Laws.{RefusalsAreOne}
 use Rattle.jopizer.proofs.OneLemmas.{OneClass, same_classes, same_program}
 use Rattle.jopizer.proofs.RefusedLemmas.{class_at, read, is_resolved}
@@ -95,7 +94,7 @@ one_unread files r s u v =
 abbrev Resolves : (files : List (List ℕ)) (main : List ℕ) → ProgramRefusal → Type 0
 Resolves files main r = IsFirstUnread files r ⊎ IsFirstOfRead files main r
 
-resolves : (files : List (List ℕ)) (main : List ℕ) (r : ProgramRefusal) → IsRefusal files main (answers.Resolving r) → Resolves files main r
+resolves : (files : List (List ℕ)) (main : List ℕ) (r : ProgramRefusal) → IsLinkRefusal files main (answers.Resolving r) → Resolves files main r
 resolves files main (resolving.BadClass f) h = h
 resolves files main (resolving.UnsupportedVersion f major) h = h
 resolves files main (resolving.Duplicate a b) h = h
@@ -196,10 +195,10 @@ module _ (law : OneClass) (files : List (List ℕ)) (main : List ℕ) where
 
   limits : (w v : _) (c d l m : ℕ) → PassesLimit files main w c l → PassesLimit files main v d m → answers.TooLarge w c l ≡ answers.TooLarge v d m
   limits w v c d l m h g =
-      let x : Passed = (w, c, l) in
-      let y : Passed = (v, d, m) in
+      let x : CountPastLimit = (w, c, l) in
+      let y : CountPastLimit = (v, d, m) in
       let e : x ≡ y = some_same x y (sym h.passed ∙ (ap first_passed (same h.classes g.classes h.program g.program) ∙ g.passed)) in
-      ap (λ (z : Passed). answers.TooLarge z.0 z.1 z.2) e
+      ap (λ (z : CountPastLimit). answers.TooLarge z.0 z.1 z.2) e
 
   within : (w : _) (c d l m : ℕ) → PassesLimit files main w c l → FileIsTooLong files main d m → ⊥
   within w c d l m h g = none≢some (w, c, l) (sym g.within ∙ (ap first_passed (same g.classes h.classes g.program h.program) ∙ h.passed))
@@ -209,7 +208,7 @@ module _ (law : OneClass) (files : List (List ℕ)) (main : List ℕ) where
       let long = ap (λ (xs : List ClassFile). file_length (image_with files main xs)) (same h.classes g.classes h.program g.program) in
       ap₂ answers.FileTooLarge (h.long.counted ∙ (long ∙ sym g.long.counted)) (h.long.limited ∙ sym g.long.limited)
 
-  one : (a b : LinkRefusal) → a ≢ answers.NoMemory → b ≢ answers.NoMemory → IsRefusal files main a → IsRefusal files main b → a ≡ b
+  one : (a b : LinkRefusal) → a ≢ answers.NoMemory → b ≢ answers.NoMemory → IsLinkRefusal files main a → IsLinkRefusal files main b → a ≡ b
   one answers.NoMemory b na nb h g = absurd (na refl)
   one (answers.Resolving r) answers.NoMemory na nb h g = absurd (nb refl)
   one (answers.Resolving r) (answers.Resolving s) na nb h g = ap answers.Resolving (one_resolved law files main r s (resolves files main r h) (resolves files main s g))

@@ -1,7 +1,7 @@
 -- Nothing refuses files that are linked, and nothing is wrong with the file of their image.
 use Rattle.std.proofs.Common.{◌≡◌, ℕ, zero, suc, ◌⊎◌, inl, inr, List, [], ◌∷◌, ◌++◌, Option, Some, refl, sym, ap, ◌∙◌, subst, arith}
 use Rattle.std.specs.Prelude.{slice_get}
-use Rattle.image_file.specs.Linked.{Image, OneImage}
+use Rattle.image_file.specs.Linked.{LinkedContent, OneImage}
 use Rattle.image_file.specs.Linked as file
 use Rattle.class_pool.specs.declared.class.ClassFile.{ClassFile}
 use Rattle.class_pool.specs.Spelling.{pool_bytes}
@@ -10,7 +10,7 @@ use Rattle.class_rules.specs.Grammar.{IsClassOf}
 use Rattle.class_file.specs.Grammar.{IsOtherVersion}
 use Rattle.class_file.proofs.ClassLaws.{class_header, other_behind}
 use Rattle.lists.specs.Lists.{first}
-use Rattle.lists.specs.Lemmas.{none≢some}
+use Rattle.lists.proofs.Lemmas.{none≢some}
 use Rattle.image_words.specs.Regions.{image_words_of}
 use Rattle.image_layout.specs.Layout.{first_passed}
 use Rattle.bytecode_verifier.specs.Failure.{method_failure, IsVerified}
@@ -23,7 +23,7 @@ use Rattle.jopizer.specs.declared.refusal.LinkRefusal.TheVariants as answers
 use Rattle.jopizer.specs.declared.fault.ImageFault.{ImageFault}
 use Rattle.jopizer.specs.declared.fault.ImageFault.TheVariants as faults
 use Rattle.jopizer.specs.Linked.{file_length, image_with, AreLinked, Parts, IsLinked, image_of}
-use Rattle.jopizer.specs.Refused.{FailsInFile, PassesLimit, FileIsTooLong, IsRefusal}
+use Rattle.jopizer.specs.Refused.{FailsInFile, PassesLimit, FileIsTooLong, IsLinkRefusal}
 use Rattle.jopizer.specs.Images.{DiffersFirst, IsWrongIn, IsWrong}
 use Rattle.jopizer.specs.Laws.{LinkedFilesAreNotRefused, LinkedImagesAreRead}
 use Rattle.jopizer.proofs.OneLemmas.{OneClass, same_classes, same_program}
@@ -67,7 +67,7 @@ module _ (law : OneClass) (files : List (List ℕ)) (main : List ℕ) (cs : List
       let same = same_classes law files f.classes p.classes f.read p.read in
       none≢some r (ap first (sym p.none) ∙ (ap (λ (ks : List ClassFile). first (refusals ks main)) (sym same) ∙ f.first))
 
-  pub is_resolved : IsProgramOf files main cs → (r : ProgramRefusal) → IsRefusal files main (answers.Resolving r) → ⊥
+  pub is_resolved : IsProgramOf files main cs → (r : ProgramRefusal) → IsLinkRefusal files main (answers.Resolving r) → ⊥
   is_resolved p (resolving.BadClass f) h = resolves p (resolving.BadClass f) h
   is_resolved p (resolving.UnsupportedVersion f major) h = resolves p (resolving.UnsupportedVersion f major) h
   is_resolved p (resolving.Duplicate a b) h = resolves p (resolving.Duplicate a b) h
@@ -107,7 +107,7 @@ not_refused law files main cs answers.NoMemory are h = refl
 
 -- ---- nothing is wrong with their image's file
 
-module _ (law : OneClass) (images : OneImage) (bytes : List ℕ) (l : Parts) (is : IsLinked l) (of : file.IsLinked bytes (image_of l)) where
+module _ (law : OneClass) (images : OneImage) (bytes : List ℕ) (l : Parts) (is : IsLinked l) (of : file.IsLinkedFile bytes (image_of l)) where
   is_linked : (r : LinkRefusal) → IsWrongIn (image_of l) (faults.Link r) → ⊥
   is_linked (answers.Resolving r) h = is_resolved law l.files l.main l.classes is.linked.program r h
   is_linked (answers.NotVerified file method pc rule) h = is_verified law l.files l.main l.classes is.linked file method pc rule h
@@ -121,13 +121,13 @@ module _ (law : OneClass) (images : OneImage) (bytes : List ℕ) (l : Parts) (is
       let words : l.laid.words ≡ image_words_of h.classes = is.laid.words ∙ ap image_words_of (sym same) in
       h.difference.differ (sym h.difference.at_kept ∙ (ap (λ (ws : List ℕ). slice_get ws place) words ∙ h.difference.at_linked))
 
-  of_it : (image : Image) → file.IsLinked bytes image → image ≡ image_of l
+  of_it : (image : LinkedContent) → file.IsLinkedFile bytes image → image ≡ image_of l
   of_it image h = images bytes image (image_of l) h of
 
   pub nothing_wrong : (f : ImageFault) → IsWrong bytes f → f ≡ faults.NoMemory
   nothing_wrong faults.Bad h = absurd (h (image_of l) of)
-  nothing_wrong (faults.Link r) h = absurd (is_linked r (subst (λ (image : Image). IsWrongIn image (faults.Link r)) (of_it h.0 h.1) h.2))
-  nothing_wrong (faults.Differs place kept linked) h = absurd (is_same place kept linked (subst (λ (image : Image). DiffersFirst image place kept linked) (of_it h.0 h.1) h.2))
+  nothing_wrong (faults.Link r) h = absurd (is_linked r (subst (λ (image : LinkedContent). IsWrongIn image (faults.Link r)) (of_it h.0 h.1) h.2))
+  nothing_wrong (faults.Differs place kept linked) h = absurd (is_same place kept linked (subst (λ (image : LinkedContent). DiffersFirst image place kept linked) (of_it h.0 h.1) h.2))
   nothing_wrong faults.NoMemory h = refl
 
 pub are_read : OneClass → OneImage → LinkedImagesAreRead

@@ -9,7 +9,7 @@ use Rattle.opcodes.specs.declared.instruction.DecodeFault.{DecodeFault}
 use Rattle.opcodes.specs.Instruction.{decoded}
 use Rattle.opcodes.specs.Target.{WholeIsWithin}
 use Rattle.opcodes.specs.Start.{IsStart, starts_of, first_bad, AreStarts, IsFirstBad, IsPartition}
-use Rattle.lists.specs.Lemmas.{none≢some}
+use Rattle.lists.proofs.Lemmas.{none≢some}
 use Rattle.frame_types.specs.Types.{is_start}
 use Rattle.frame_types.proofs.SearchLemmas.{among_contains}
 use Rattle.image_facts.specs.Says.{IsBetween}

@@ -2,14 +2,14 @@
 use Rattle.std.specs.Prelude.{◌≡◌, ℕ, ◌≤◌, List, length, None}
 use Rattle.class_pool.specs.declared.class.ClassFile.{ClassFile}
 use Rattle.image_builder.specs.Laid.{Laid}
-use Rattle.image_file.specs.Linked.{Image, bytes_of}
+use Rattle.image_file.specs.Linked.{LinkedContent, bytes_of}
 use Rattle.image_words.specs.Regions.{image_words_of}
 use Rattle.image_layout.specs.Layout.{IsLaidOut, first_passed}
 use Rattle.program_resolution.specs.Resolving.{IsProgramOf}
 use Rattle.bytecode_verifier.specs.Failure.{IsVerified}
 
 -- how many bytes the file of an image has
-unfoldable pub file_length : Image → ℕ
+unfoldable pub file_length : LinkedContent → ℕ
 file_length image = length (bytes_of image)
 
 -- and how many it may have
@@ -17,7 +17,7 @@ abbrev pub most_bytes : ℕ
 most_bytes = 16777216
 
 -- the image of these classes, with the files of which they came
-abbrev pub image_with : (files : List (List ℕ)) (main : List ℕ) → List ClassFile → Image
+abbrev pub image_with : (files : List (List ℕ)) (main : List ℕ) → List ClassFile → LinkedContent
 image_with files main cs = record { main = main; words = image_words_of cs; files = files }
 
 -- The files are resolved to these classes, no method of them breaks a rule of the verifier, and their image and its file are within their limits.
@@ -40,5 +40,5 @@ pub record IsLinked (l : Parts) : Type 0 where
   pub laid : IsLaidOut l.classes l.laid
 
 -- the image that its file holds
-abbrev pub image_of : Parts → Image
+abbrev pub image_of : Parts → LinkedContent
 image_of l = record { main = l.main; words = l.laid.words; files = l.files }

@@ -3,7 +3,7 @@ use Rattle.std.specs.Prelude.{◌≡◌, ℕ, ◌<◌, ◌++◌, List, Some, Non
 use Rattle.class_pool.specs.declared.class.ClassFile.{ClassFile}
 use Rattle.core_classes.specs.Core.{core}
 use Rattle.program_tables.specs.Numbers.{methods_by_number}
-use Rattle.image_file.specs.Linked.{Image}
+use Rattle.image_file.specs.Linked.{LinkedContent}
 use Rattle.image_layout.specs.Layout.{first_passed}
 use Rattle.program_resolution.specs.Resolving.{IsFirstRefusal, IsProgramOf}
 use Rattle.program_resolution.specs.declared.refusal.ProgramRefusal.TheVariants as resolving
@@ -29,7 +29,7 @@ pub record PassesLimit (files : List (List ℕ)) (main : List ℕ) (what : _) (c
   pub passed : first_passed classes ≡ Some (what, count, limit)
 
 -- the file of this image has so many bytes, past the limit
-pub record FilePassesLimit (image : Image) (count limit : ℕ) : Type 0 where
+pub record FilePassesLimit (image : LinkedContent) (count limit : ℕ) : Type 0 where
   pub counted : count ≡ file_length image
   pub limited : limit ≡ most_bytes
   pub passed : most_bytes < count
@@ -43,13 +43,13 @@ pub record FileIsTooLong (files : List (List ℕ)) (main : List ℕ) (count limi
   pub long : FilePassesLimit (image_with files main classes) count limit
 
 -- what refuses the files first; nothing is said of want of memory
-abbrev pub IsRefusal : (files : List (List ℕ)) (main : List ℕ) → LinkRefusal → Type 0
-IsRefusal files main (Resolving resolving.NoMemory) = ⊥
-IsRefusal files main (Resolving refusal) = IsFirstRefusal files main refusal
-IsRefusal files main (NotVerified file method pc rule) = FailsInFile files main file method pc rule
-IsRefusal files main (TooLarge what count limit) = PassesLimit files main what count limit
-IsRefusal files main (FileTooLarge count limit) = FileIsTooLong files main count limit
-IsRefusal files main NoMemory = Unit {0}
+abbrev pub IsLinkRefusal : (files : List (List ℕ)) (main : List ℕ) → LinkRefusal → Type 0
+IsLinkRefusal files main (Resolving resolving.NoMemory) = ⊥
+IsLinkRefusal files main (Resolving refusal) = IsFirstRefusal files main refusal
+IsLinkRefusal files main (NotVerified file method pc rule) = FailsInFile files main file method pc rule
+IsLinkRefusal files main (TooLarge what count limit) = PassesLimit files main what count limit
+IsLinkRefusal files main (FileTooLarge count limit) = FileIsTooLong files main count limit
+IsLinkRefusal files main NoMemory = Unit {0}
 
 -- ---- by steps, of a program that is resolved
 
@@ -66,13 +66,13 @@ IsUnverified cs NoMemory = Unit {0}
 IsUnverified cs refusal = ⊥
 
 -- the image passes this limit first; or there was no memory
-abbrev pub IsTooLarge : List ClassFile → LinkRefusal → Type 0
-IsTooLarge cs (TooLarge what count limit) = first_passed cs ≡ Some (what, count, limit)
-IsTooLarge cs NoMemory = Unit {0}
-IsTooLarge cs refusal = ⊥
+abbrev pub CountIsTooLarge : List ClassFile → LinkRefusal → Type 0
+CountIsTooLarge cs (TooLarge what count limit) = first_passed cs ≡ Some (what, count, limit)
+CountIsTooLarge cs NoMemory = Unit {0}
+CountIsTooLarge cs refusal = ⊥
 
 -- the file of this image is too long; or there was no memory
-abbrev pub IsTooLongOr : Image → LinkRefusal → Type 0
+abbrev pub IsTooLongOr : LinkedContent → LinkRefusal → Type 0
 IsTooLongOr image (FileTooLarge count limit) = FilePassesLimit image count limit
 IsTooLongOr image NoMemory = Unit {0}
 IsTooLongOr image refusal = ⊥

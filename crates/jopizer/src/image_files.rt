@@ -1,6 +1,6 @@
 //! The files of linked images, written and read. What is read is linked anew.
 ghost use Rattle.std.specs.Prelude.{◌≡◌, ◌↔◌, length, Err, slice_get, MatchOption, IfOk, IfErr, OnOk};
-ghost use Rattle.image_file.specs.Linked.{Image, IsWord};
+ghost use Rattle.image_file.specs.Linked.{LinkedContent, IsWord};
 ghost use Rattle.image_file.specs.Linked as file;
 ghost use Rattle.jopizer.specs.Linked.{IsLinked, image_of};
 ghost use Rattle.jopizer.specs.Images.{IsDifference, IsDifferent, IsUnlinked, IsWrongIn, IsWrong};
@@ -16,7 +16,7 @@ use std::alloc::Global;
 
 /// The file of the image of what was linked.
 pub fn write_image(alloc: Global, linked: &Linked) -> Result<Vec<u8>, NoMemory>
-    ensures { IfOk result (λ bytes. file.IsLinked bytes.items (image_of linked.now)) }
+    ensures { IfOk result (λ bytes. file.IsLinkedFile bytes.items (image_of linked.now)) }
 {
     write_linked(
         alloc,
@@ -109,9 +109,9 @@ fn relinked(alloc: Global, image: LinkedImage) -> Result<Linked, ImageFault>
 /// [`ImageFault::Bad`] exactly where the bytes are the file of no image. Else what refuses its class files first. Else
 /// [`ImageFault::Differs`], exactly where its words aren't those to which its class files are linked, with the first that differs.
 pub fn read_image(alloc: Global, bytes: &[u8]) -> Result<Linked, ImageFault>
-    ensures image { IfOk result (λ linked. file.IsLinked bytes.now (image_of linked)) }
+    ensures image { IfOk result (λ linked. file.IsLinkedFile bytes.now (image_of linked)) }
     ensures linked { IfOk result IsLinked }
-    ensures bad { result ≡ Err Bad ↔ ((image : Image) → ¬ file.IsLinked bytes.now image) }
+    ensures bad { result ≡ Err Bad ↔ ((image : LinkedContent) → ¬ file.IsLinkedFile bytes.now image) }
     ensures wrong { IfErr result (IsWrong bytes.now) }
 {
     match read_linked(alloc, bytes) {

@@ -5,7 +5,7 @@ ghost use Rattle.program_resolution.specs.Resolving.{IsProgramOf};
 ghost use Rattle.bytecode_verifier.specs.Failure.{IsVerified, FailsFirst, broken_seen};
 ghost use Rattle.image_layout.specs.Layout.{IsLaidOut, first_passed};
 ghost use Rattle.jopizer.specs.Linked.{AreLinked, IsLinked};
-ghost use Rattle.jopizer.specs.Refused.{IsRefusal, BeginsWithCore, IsUnverified, IsTooLarge};
+ghost use Rattle.jopizer.specs.Refused.{IsLinkRefusal, BeginsWithCore, IsUnverified, CountIsTooLarge};
 
 use crate::file_length::within_length;
 use crate::linked::Linked;
@@ -22,7 +22,7 @@ use std::alloc::Global;
 fn resolved(alloc: Global, files: &[Vec<u8>], main: &[u8]) -> Result<Program, LinkRefusal>
     requires { length files.now < 2 ^ 32 }
     ensures program { IfOk result (λ p. IsProgramOf (contents files.now) main.now p) }
-    ensures refused { IfErr result (IsRefusal (contents files.now) main.now) }
+    ensures refused { IfErr result (IsLinkRefusal (contents files.now) main.now) }
 {
     match resolve(alloc, files, main) {
         Ok(program) => Ok(program),
@@ -70,7 +70,7 @@ fn verified(alloc: Global, program: Program) -> Result<Verified, LinkRefusal>
 fn laid_out(alloc: Global, program: &Program) -> Result<Layout, LinkRefusal>
     ensures laid { IfOk result (IsLaidOut program.now) }
     ensures within { OnOk result (first_passed program.now ≡ None) }
-    ensures refused { IfErr result (IsTooLarge program.now) }
+    ensures refused { IfErr result (CountIsTooLarge program.now) }
 {
     match lay_out(alloc, program) {
         Ok(layout) => Ok(layout),
@@ -92,7 +92,7 @@ fn image_within(
     requires verified { IsVerified program.now }
     ensures linked { OnOk result (AreLinked (contents files.now) main.now program.now) }
     ensures laid { IfOk result (IsLaidOut program.now) }
-    ensures refused { IfErr result (IsRefusal (contents files.now) main.now) }
+    ensures refused { IfErr result (IsLinkRefusal (contents files.now) main.now) }
 {
     let layout = laid_out(alloc, program)?;
     within_length(main, layout.words(), files)?;
@@ -108,7 +108,7 @@ fn with_image(
 ) -> Result<(Verified, Layout), LinkRefusal>
     requires program { IsProgramOf (contents files.now) main.now program }
     ensures linked { IfOk result (λ made. AreLinked (contents files.now) main.now made.0 × IsLaidOut made.0 made.1) }
-    ensures refused { IfErr result (IsRefusal (contents files.now) main.now) }
+    ensures refused { IfErr result (IsLinkRefusal (contents files.now) main.now) }
 {
     match image_within(alloc, program.program(), files, main) {
         Ok(layout) => Ok((program, layout)),
@@ -128,7 +128,7 @@ fn joined(
 ) -> Result<(Verified, Layout), LinkRefusal>
     requires program { IsProgramOf (contents files.now) main.now program }
     ensures linked { IfOk result (λ made. AreLinked (contents files.now) main.now made.0 × IsLaidOut made.0 made.1) }
-    ensures refused { IfErr result (IsRefusal (contents files.now) main.now) }
+    ensures refused { IfErr result (IsLinkRefusal (contents files.now) main.now) }
 {
     let verified = verified(alloc, program)?;
     with_image(alloc, verified, files, main)
@@ -142,7 +142,7 @@ fn linked_parts(
 ) -> Result<(Verified, Layout), LinkRefusal>
     requires { length files.now < 2 ^ 32 }
     ensures linked { IfOk result (λ made. AreLinked (contents files.now) main.now made.0 × IsLaidOut made.0 made.1) }
-    ensures refused { IfErr result (IsRefusal (contents files.now) main.now) }
+    ensures refused { IfErr result (IsLinkRefusal (contents files.now) main.now) }
 {
     let program = resolved(alloc, files, main)?;
     joined(alloc, program, files, main)
@@ -158,7 +158,7 @@ pub(crate) fn link_kept(
     ensures files { IfOk result (λ linked. linked.files ≡ contents files.items) }
     ensures main { IfOk result (λ linked. linked.main ≡ main_name.items) }
     ensures linked { IfOk result IsLinked }
-    ensures refused { IfErr result (IsRefusal (contents files.items) main_name.items) }
+    ensures refused { IfErr result (IsLinkRefusal (contents files.items) main_name.items) }
 {
     let (program, layout) = linked_parts(alloc, &files, &main_name)?;
     Ok(Linked {
@@ -198,7 +198,7 @@ pub fn link(alloc: Global, files: &[Vec<u8>], main: &[u8]) -> Result<Linked, Lin
     ensures files { IfOk result (λ linked. linked.files ≡ contents files.now) }
     ensures main { IfOk result (λ linked. linked.main ≡ main.now) }
     ensures linked { IfOk result IsLinked }
-    ensures refused { IfErr result (IsRefusal (contents files.now) main.now) }
+    ensures refused { IfErr result (IsLinkRefusal (contents files.now) main.now) }
 {
     let kept = copies(alloc, files)?;
     let main_name = copy_of(alloc, main)?;

@@ -3,7 +3,7 @@ use Rattle.std.proofs.Common.{◌≡◌, ℕ, ◌+◌, ◌<◌, Bool, true, fals
 use Rattle.std.specs.Prelude.{codes}
 use Rattle.std.specs.List.{flat_map}
 use Rattle.std.proofs.lemmas.Grind.{take_at_read}
-use Rattle.lists.specs.FirstLemmas.{flat_map-more}
+use Rattle.lists.proofs.FirstLemmas.{flat_map-more}
 use Rattle.class_pool.specs.declared.entry.Entry.{Entry}
 use Rattle.class_pool.specs.Kind.{is_named}
 use Rattle.line_tables.specs.Lines.{starts_by, table_starts}

@@ -6,9 +6,9 @@ use Rattle.std.proofs.lemmas.Bool.{cases_lt}
 use Rattle.std.proofs.lemmas.List.{get_or-map, length-map}
 use Rattle.std.proofs.lemmas.List.Sums.{sum_by_more}
 use Rattle.std.proofs.lemmas.Option.{slice_get_within, get_or_from_slice_get}
-use Rattle.lists.specs.Lemmas.{some_same, onto_some, some_in}
+use Rattle.lists.proofs.Lemmas.{some_same, onto_some, some_in}
 use Rattle.image_facts.specs.declared.method.CodedMethod.{CodedMethod}
-use Rattle.image_facts.specs.Methods.{IsMethod, AreMethods, places}
+use Rattle.image_facts.specs.Methods.{IsMethodRecord, AreMethods, places}
 use Rattle.class_pool.specs.declared.class.ClassFile.{ClassFile}
 use Rattle.bytecode_model.specs.Program.{Method, Body, body_of}
 use Rattle.program_tables.specs.Resolved.{resolved, resolved_methods}
@@ -22,7 +22,7 @@ pub record IsEntry (cs : List ClassFile) (items : List CodedMethod) (k : ℕ) : 
   pub is_body : body_of (resolved cs) k ≡ Some body
   pub entry : CodedMethod
   pub at : slice_get items k ≡ Some entry
-  pub is : IsMethod (method_place cs k) body entry
+  pub is : IsMethodRecord (method_place cs k) body entry
 
 pub record AreFilled (cs : List ClassFile) (items : List CodedMethod) (n : ℕ) : Type 0 where
   pub count : length items ≡ n
@@ -40,7 +40,7 @@ last : (xs : List CodedMethod) (e : CodedMethod) → slice_get (xs ++ e ∷ []) 
 last [] e = refl
 last (x ∷ xs) e = last xs e
 
-pub one_more : (cs : List ClassFile) (items : List CodedMethod) (n : ℕ) → AreFilled cs items n → (b : Body) → body_of (resolved cs) n ≡ Some b → (e : CodedMethod) → IsMethod (method_place cs n) b e
+pub one_more : (cs : List ClassFile) (items : List CodedMethod) (n : ℕ) → AreFilled cs items n → (b : Body) → body_of (resolved cs) n ≡ Some b → (e : CodedMethod) → IsMethodRecord (method_place cs n) b e
     → AreFilled cs (items ++ e ∷ []) (n + 1)
 one_more cs items n h b is e known = record {
   count = length-append items (e ∷ []) ∙ ap (λ k. k + 1) h.count;
@@ -72,21 +72,21 @@ if_in o x K e h = subst (λ o. IfSome o K) e h
 
 -- and there are no others
 pub only_filled : (cs : List ClassFile) (items : List CodedMethod) (n : ℕ) → AreFilled cs items n → AreOnly cs items
-only_filled cs items n h m = some_case (slice_get items m) (λ e. IsSomeAnd (body_of (resolved cs) m) (λ b. IsMethod ((places_of cs).method m) b e)) (λ e at.
+only_filled cs items n h m = some_case (slice_get items m) (λ e. IsSomeAnd (body_of (resolved cs) m) (λ b. IsMethodRecord ((places_of cs).method m) b e)) (λ e at.
     let x = h.each m (omega (arith, h.count, slice_get_within items m e at)) in
     let same : x.entry ≡ e = some_same x.entry e (sym x.at ∙ at) in
-    some_in (body_of (resolved cs) m) x.body (λ b. IsMethod ((places_of cs).method m) b e) x.is_body
-    (subst (λ place. IsMethod place x.body e) (sym (place_is cs m)) (subst (IsMethod (method_place cs m) x.body) same x.is)))
+    some_in (body_of (resolved cs) m) x.body (λ b. IsMethodRecord ((places_of cs).method m) b e) x.is_body
+    (subst (λ place. IsMethodRecord place x.body e) (sym (place_is cs m)) (subst (IsMethodRecord (method_place cs m) x.body) same x.is)))
 
 -- where no later method has code, the list is whole
 pub all_filled : (cs : List ClassFile) (items : List CodedMethod) (n : ℕ) → AreFilled cs items n → n < 2 ^ 32 → ((m : ℕ) (b : Body) → body_of (resolved cs) m ≡ Some b → m < n)
     → AreMethods (resolved cs) (places_of cs) items
 all_filled cs items n h few none_behind = record {
-  known = λ m. some_case (body_of (resolved cs) m) (λ b. IsSomeAnd (slice_get items m) (IsMethod ((places_of cs).method m) b)) (λ b is.
+  known = λ m. some_case (body_of (resolved cs) m) (λ b. IsSomeAnd (slice_get items m) (IsMethodRecord ((places_of cs).method m) b)) (λ b is.
       let x = h.each m (none_behind m b is) in
       let same : x.body ≡ b = some_same x.body b (sym x.is_body ∙ is) in
-      some_in (slice_get items m) x.entry (IsMethod ((places_of cs).method m) b) x.at
-      (subst (λ place. IsMethod place b x.entry) (sym (place_is cs m)) (subst (λ (c : Body). IsMethod (method_place cs m) c x.entry) same x.is)));
+      some_in (slice_get items m) x.entry (IsMethodRecord ((places_of cs).method m) b) x.at
+      (subst (λ place. IsMethodRecord place b x.entry) (sym (place_is cs m)) (subst (λ (c : Body). IsMethodRecord (method_place cs m) c x.entry) same x.is)));
   rising = λ k lt.
       let count : length (places items) ≡ n = length-map items (λ (e : CodedMethod). e.place) ∙ h.count in
       let x = h.each k (omega (arith, lt, count)) in

@@ -3,7 +3,7 @@ use Rattle.std.proofs.Common.{◌≡◌, ℕ, ◌<◌, List, length, get_or, Som
 use Rattle.std.specs.Prelude.{slice_get}
 use Rattle.std.proofs.lemmas.List.FromFn.{length-map-range_with_len, get_or-map-range_with_len}
 use Rattle.std.proofs.lemmas.Option.{slice_get_within, get_or_from_slice_get}
-use Rattle.lists.specs.Lemmas.{onto_some}
+use Rattle.lists.proofs.Lemmas.{onto_some}
 use Rattle.class_pool.specs.declared.class.ClassFile.{ClassFile}
 use Rattle.bytecode_model.specs.Program.{Method, Body, body_of}
 use Rattle.program_tables.specs.Resolved.{resolved, resolved_methods}

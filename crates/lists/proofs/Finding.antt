@@ -5,7 +5,7 @@ use Rattle.std.specs.Option.{option_or}
 use Rattle.std.specs.List.{flat_map}
 use Rattle.std.proofs.lemmas.List.{map-append}
 use Rattle.std.proofs.lemmas.Bool.{or_cases, or_left, or_right, eqb-true, eq-eqb, false≢true}
-use Rattle.lists.specs.Lemmas.{none≢some}
+use Rattle.lists.proofs.Lemmas.{none≢some}
 use Rattle.lists.specs.Lists.{first_some}
 use Rattle.lists.specs.Numbers.{is_among, IsSameSearch}
 use Rattle.lists.proofs.Searching.{first_cons, first_append}

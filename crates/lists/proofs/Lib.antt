@@ -1,3 +1,5 @@
+pub mod Lemmas
+pub mod FirstLemmas
 pub mod Reached
 pub mod Searching
 pub mod Finding

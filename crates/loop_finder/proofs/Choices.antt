@@ -5,12 +5,12 @@ use Rattle.std.proofs.lemmas.Bool.{false≢true}
 use Rattle.std.proofs.lemmas.List.{take_all}
 use Rattle.lists.specs.Members.{nil_contains}
 use Rattle.section_check.specs.Least.{IsLeast, lesser_of}
-use Rattle.section_check.specs.LeastLemmas.{least_same, least_either}
+use Rattle.section_check.proofs.LeastLemmas.{least_same, least_either}
 use Rattle.loop_nest.specs.Digraph.{Digraph}
 use Rattle.loop_nest.specs.Walks.{IsMember}
 use Rattle.code_scan.specs.declared.rows.Comparison.{Comparison}
 use Rattle.loop_rules.specs.Tests.{LeavesLoop}
-use Rattle.loop_rules.specs.Turns.{ReachesWithout}
+use Rattle.loop_rules.specs.Iterations.{ReachesWithout}
 use Rattle.loop_finder.specs.declared.acts.Test.{Test}
 use Rattle.loop_finder.specs.declared.acts.Act.{Act}
 use Rattle.loop_finder.specs.declared.acts.Act.TheVariants as does
@@ -67,7 +67,7 @@ module _ (b : Body) (h p : ℕ) (t : Test) (act : act_at b.acts p ≡ does.Test 
         };
   }
 
--- ---- on each turn
+-- ---- on each iteration
 
 -- a node is reached without another one where its flag is set
 pub flag_without : (g : Digraph) (h x u : ℕ) (flags : List Bool) → IsWithout g h x flags → (v : Bool) → v ≡ flag_at flags u → (not v ≡ true) ↔ (¬ ReachesWithout g h x u)

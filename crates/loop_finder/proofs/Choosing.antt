@@ -2,11 +2,11 @@
 use Rattle.std.proofs.Common.{◌≡◌, ◌≢◌, ◌↔◌, ◌⊎◌, ℕ, ◌*◌, ◌<◌, Bool, true, false, ℤ, ◌+ℤ◌, Option, Some, None, refl, sym, ◌∙◌, subst, inl, inr, arith}
 use Rattle.std.proofs.lemmas.Bool.{false≢true}
 use Rattle.section_check.specs.Least.{IsLeast, lesser_of}
-use Rattle.section_check.specs.LeastLemmas.{least_same, least_either}
+use Rattle.section_check.proofs.LeastLemmas.{least_same, least_either}
 use Rattle.loop_nest.specs.Digraph.{Digraph}
 use Rattle.code_scan.specs.Rows.{test_of}
-use Rattle.loop_rules.specs.Turns.{ReachesWithout, IsOnEachTurn, FirstTested}
-use Rattle.loop_rules.specs.Turns.FirstTested.{test_first, step_first}
+use Rattle.loop_rules.specs.Iterations.{ReachesWithout, IsOnEachIteration, FirstTested}
+use Rattle.loop_rules.specs.Iterations.FirstTested.{test_first, step_first}
 use Rattle.loop_rules.specs.Tests.{LeavesLoop}
 use Rattle.loop_rules.specs.Tests.LeavesLoop.{where_taken, where_not}
 use Rattle.loop_rules.specs.Values.{IsFirstOut}
@@ -38,7 +38,7 @@ least_when false first k o none = subst (IsLeast (FirstWhen false first k)) (sym
 -- ---- by a choice
 
 module _ (g : Digraph) (h : ℕ) (k : Choice) (test step : Bool) (is_test : (test ≡ true) ↔ (¬ ReachesWithout g h (2 * k.test) (2 * k.step))) (is_step : (step ≡ true) ↔ (¬ ReachesWithout g h (2 * k.step) (2 * k.test)))
-    (each_test : IsOnEachTurn g h (2 * k.test)) (each_step : IsOnEachTurn g h (2 * k.step)) where
+    (each_test : IsOnEachIteration g h (2 * k.test)) (each_step : IsOnEachIteration g h (2 * k.step)) where
   from_test : (n : ℕ) → FirstWhen test k.begin k n → CountsFor g h k n
   from_test n f = record { each_test = each_test; each_step = each_step; first = k.begin; tested = test_first (is_test.0 f.0); first_out = f.1 }
 
@@ -55,15 +55,15 @@ module _ (g : Digraph) (h : ℕ) (k : Choice) (test step : Bool) (is_test : (tes
   pub least_choice : (a b : Option ℕ) → IsFirstIf test k.begin k a → IsFirstIf step (k.begin +ℤ k.by) k b → IsLeast (CountsFor g h k) (lesser_of a b)
   least_choice a b ha hb = least_either (FirstWhen test k.begin k) (FirstWhen step (k.begin +ℤ k.by) k) (CountsFor g h k) a b from_test from_step one_of (least_when test k.begin k a ha) (least_when step (k.begin +ℤ k.by) k b hb)
 
-pub none_on_turn : (g : Digraph) (h : ℕ) (k : Choice) → (IsOnEachTurn g h (2 * k.test) → IsOnEachTurn g h (2 * k.step) → ⊥) → (n : ℕ) → ¬ CountsFor g h k n
-none_on_turn g h k none n c = none c.each_test c.each_step
+pub none_on_iteration : (g : Digraph) (h : ℕ) (k : Choice) → (IsOnEachIteration g h (2 * k.test) → IsOnEachIteration g h (2 * k.step) → ⊥) → (n : ℕ) → ¬ CountsFor g h k n
+none_on_iteration g h k none n c = none c.each_test c.each_step
 
 -- ---- by a test
 
 like : (g : Digraph) (h : ℕ) (k other : Choice) (n : ℕ) → other.test ≡ k.test → IsLikeChoice k other → CountsFor g h other n → CountsFor g h k n
 like g h k other n test same c = record {
-  each_test = subst (λ (p : ℕ). IsOnEachTurn g h (2 * p)) test c.each_test;
-  each_step = subst (λ (p : ℕ). IsOnEachTurn g h (2 * p)) same.step c.each_step;
+  each_test = subst (λ (p : ℕ). IsOnEachIteration g h (2 * p)) test c.each_test;
+  each_step = subst (λ (p : ℕ). IsOnEachIteration g h (2 * p)) same.step c.each_step;
   first = c.first;
   tested =
       subst (λ (p : ℕ). FirstTested g h (2 * p) (2 * k.test) k.begin k.by c.first) same.step
@@ -84,8 +84,8 @@ least_at b h p k o only = least_same (CountsFor b.graph h k) (CountsAt b h p) o 
 pub none_at : (b : Body) (h p : ℕ) → ((k : Choice) → IsChoice b h k → k.test ≢ p) → (n : ℕ) → ¬ CountsAt b h p n
 none_at b h p none n c = none c.0 c.1 c.2
 
-pub none_inner : (b : Body) (h p : ℕ) → (IsOnEachTurn b.graph h (2 * p) → ⊥) → (n : ℕ) → ¬ CountsAt b h p n
-none_inner b h p none n c = none (subst (λ (q : ℕ). IsOnEachTurn b.graph h (2 * q)) c.2 c.3.each_test)
+pub none_inner : (b : Body) (h p : ℕ) → (IsOnEachIteration b.graph h (2 * p) → ⊥) → (n : ℕ) → ¬ CountsAt b h p n
+none_inner b h p none n c = none (subst (λ (q : ℕ). IsOnEachIteration b.graph h (2 * q)) c.2 c.3.each_test)
 
 -- ---- by a node
 

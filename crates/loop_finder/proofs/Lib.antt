@@ -28,3 +28,5 @@ mod Choices
 mod Nests
 mod Programs
 mod HeaderLemmas
+mod Acyclic
+mod Ranking

@@ -12,8 +12,8 @@ use Rattle.code_lines.specs.Lines.{IsLine, IsPushedBefore, Writes, written_by}
 use Rattle.code_lines.specs.Laws.{LinesAreOne, OneIsPushedBefore}
 use Rattle.loop_rules.specs.Tests.{Constants, PushesLimit, IsTest}
 use Rattle.loop_rules.specs.Tests.IsTest.{with_zero, with_limit}
-use Rattle.loop_rules.specs.Turns.{LastWrite, IsSetBefore}
-use Rattle.loop_rules.specs.Turns.LastWrite.{here as rule_here, before as rule_before}
+use Rattle.loop_rules.specs.Iterations.{LastWrite, IsSetBefore}
+use Rattle.loop_rules.specs.Iterations.LastWrite.{here as rule_here, before as rule_before}
 use Rattle.loop_finder.specs.declared.acts.Test.{Test}
 use Rattle.loop_finder.specs.declared.acts.Act.{Act}
 use Rattle.loop_finder.specs.declared.acts.Act.TheVariants as does

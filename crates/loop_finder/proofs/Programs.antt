@@ -7,7 +7,7 @@ use Rattle.std.proofs.lemmas.Bool.{cases_lt}
 use Rattle.std.proofs.lemmas.List.{length-map, map-append, take_more}
 use Rattle.std.proofs.lemmas.List.Elements.{Contains-append_left, Contains-append_right, Contains-append_cases, Contains-get_or}
 use Rattle.lists.specs.Members.{at_head, in_tail, nil_contains, map_contains}
-use Rattle.lists.specs.Lemmas.{some_is}
+use Rattle.lists.proofs.Lemmas.{some_is}
 use Rattle.bytecode_model.specs.Program.{Program, body_of}
 use Rattle.loop_nest.specs.Digraph.{IsBefore}
 use Rattle.loop_nest.proofs.Elements.{from_map}

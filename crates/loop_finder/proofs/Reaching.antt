@@ -7,7 +7,7 @@ use Rattle.lists.specs.Members.{at_head, in_tail, cons_cases, nil_contains}
 use Rattle.loop_nest.specs.Digraph.{Digraph, Edge}
 use Rattle.loop_nest.specs.Walks.{Walk, IsMember}
 use Rattle.loop_nest.specs.Walks.Walk.{stay, along}
-use Rattle.loop_rules.specs.Turns.{ReachesWithout}
+use Rattle.loop_rules.specs.Iterations.{ReachesWithout}
 use Rattle.loop_finder.specs.Reach.{Reaches, AreReached, flag_at}
 use Rattle.loop_finder.specs.Reach.Reaches.{first, along as on_to}
 use Rattle.loop_finder.specs.Marking.{IsWithout}

@@ -1,29 +1,14 @@
 -- The search for the nodes that are reached, step by step.
-use Rattle.std.proofs.Common.{◌≡◌, ℕ, zero, suc, ◌<◌, ◌⊎◌, Bool, true, false, not, List, [], ◌∷◌, ◌++◌, length, get_or, set, replicate, filter, All, Contains, refl, sym, ap, ◌∙◌, subst, inl, inr, arith}
+use Rattle.std.proofs.Common.{◌≡◌, ℕ, zero, suc, ◌+◌, ◌*◌, ◌<◌, ◌⊎◌, Bool, true, false, not, List, [], ◌∷◌, ◌++◌, length, get_or, set, replicate, filter, All, Contains, refl, sym, ap, ◌∙◌, subst, inl, inr, arith}
 use Rattle.std.proofs.lemmas.Bool.{cases_eq, both_ways}
-use Rattle.std.proofs.lemmas.List.{length-set, get_or-set_same, get_or-set_other, length-replicate}
+use Rattle.std.proofs.lemmas.List.{length-append, length-set, get_or-set_same, get_or-set_other, length-replicate}
 use Rattle.std.proofs.lemmas.List.Elements.{All-contains, All-append, All-from_get_or, Contains-append_left, Contains-append_right, Contains-push, Contains-push_cases, Contains-append_cases, Contains-get_or}
-use Rattle.lists.specs.Members.{nil_contains, at_head, cons_cases, map_contains}
-use Rattle.loop_nest.specs.Digraph.{Digraph, Edge, IsDigraph, sources_of, turned}
-use Rattle.loop_nest.proofs.Elements.{from_map}
-use Rattle.loop_nest.proofs.Searching.{sources_has, from_sources, same_everywhere, fewer-set, shorter}
+use Rattle.lists.specs.Members.{nil_contains, at_head, cons_cases}
+use Rattle.loop_nest.specs.Digraph.{Digraph, Edge, IsDigraph}
+use Rattle.loop_nest.proofs.Searching.{same_everywhere, fewer-set, fewer_left, shorter}
+use Rattle.flow_graph.specs.Reach.{ArePushed}
 use Rattle.loop_finder.specs.Reach.{Reaches, AreReached, IsSearch, flag_at}
 use Rattle.loop_finder.specs.Reach.Reaches.{first, along}
-
--- ---- the targets of the edges from a node
-
-abbrev pub targets : List (ℕ × ℕ) → ℕ → List ℕ
-targets es u = sources_of (turned es) u
-
-pub targets_has : (es : List (ℕ × ℕ)) (u v : ℕ) → Contains es (u, v) → Contains (targets es u) v
-targets_has es u v has = sources_has (turned es) v u (map_contains (λ (e : ℕ × ℕ). (e.1, e.0)) es (u, v) has)
-
-pub from_targets : (es : List (ℕ × ℕ)) (u v : ℕ) → Contains (targets es u) v → Contains es (u, v)
-from_targets es u v has =
-    let r = from_map (λ (e : ℕ × ℕ). (e.1, e.0)) es (v, u) (from_sources (turned es) v u has) in
-    let P : ℕ × ℕ → Type 0 = λ e. Contains es e in
-    let same : r.0 ≡ (u, v) = ap (λ (e : ℕ × ℕ). (e.1, e.0)) r.2 in
-    subst P same r.1
 
 -- ---- flags
 
@@ -98,10 +83,11 @@ search_skips g allowed start flags left x s at =
     flagged : (y : ℕ) → flag_at allowed y ≡ true → x ≡ y → flag_at flags y ≡ true
     flagged y ok same = let P : ℕ → Type 0 = λ z. flag_at allowed z ≡ true → flag_at flags z ≡ true in subst P same at ok
 
-pub search_takes : (g : Digraph) (allowed : List Bool) (start : ℕ) (flags : List Bool) (left : List ℕ) (x : ℕ) → IsDigraph g → IsSearch g allowed start (left ++ x ∷ []) flags → flag_at allowed x ≡ true → IsSearch g allowed start (left ++ targets g.edges x) (set flags x true)
-search_takes g allowed start flags left x wf s fine =
+pub search_takes : (g : Digraph) (allowed : List Bool) (start : ℕ) (flags : List Bool) (left : List ℕ) (x : ℕ) (stack : List ℕ) → IsDigraph g → IsSearch g allowed start (left ++ x ∷ []) flags → flag_at allowed x ≡ true → ArePushed g.edges x left stack → IsSearch g allowed start stack (set flags x true)
+search_takes g allowed start flags left x stack wf s fine p =
     let long = s.long in
-    let next = targets g.edges x in
+    let next = p.next in
+    let R : List ℕ → Type 0 = λ us. IsSearch g allowed start us (set flags x true) in
     let new' = set flags x true in
     let below : x < g.nodes = All-contains (λ y. y < g.nodes) (left ++ x ∷ []) x s.stack_within (Contains-push left x) in
     let inside : x < length flags = omega arith in
@@ -116,10 +102,10 @@ search_takes g allowed start flags left x wf s fine =
             | inr same ↦ let P : ℕ → Type 0 = λ z. flag_at new' z ≡ true in inl (subst P same (flagged_at x flags inside))
           ]
     ] in
-    record {
+    subst R (sym p.is) (record {
       long = length-set flags x true ∙ long;
       stack_within = All-append (λ y. y < g.nodes) left next (shorter g.nodes x left s.stack_within) (All-from_get_or (λ y. y < g.nodes) next 0 (λ i lt.
-          target_within g x (get_or next i 0) wf (from_targets g.edges x (get_or next i 0) (Contains-get_or next i 0 lt))));
+          target_within g x (get_or next i 0) wf ((p.each (get_or next i 0)).0 (Contains-get_or next i 0 lt))));
       found = λ y at.
           elim (flagged_cases x y flags at) [
             | inl same ↦ subst (Reaches g allowed start) (sym same) reached
@@ -128,17 +114,17 @@ search_takes g allowed start flags left x wf s fine =
       waiting = λ y has ok.
           elim (Contains-append_cases left next y has) [
             | inl old ↦ s.waiting y (Contains-append_left left (x ∷ []) y old) ok
-            | inr later ↦ along reached (from_targets g.edges x y later) ok
+            | inr later ↦ along reached ((p.each y).0 later) ok
           ];
       entry = λ ok. settle start (s.entry ok);
       closed = λ u v at e ok.
           elim (flagged_cases x u flags at) [
             | inl same ↦
                 let P : ℕ → Type 0 = λ z. Contains g.edges (z, v) in
-                inr (Contains-append_right left next v (targets_has g.edges x v (subst P same e)))
+                inr (Contains-append_right left next v ((p.each v).1 (subst P same e)))
             | inr old ↦ settle v (s.closed u v old e ok)
           ];
-    }
+    })
 
 all_found : {g : Digraph} {allowed : List Bool} {start : ℕ} {flags : List Bool} → IsSearch g allowed start [] flags → {x : ℕ} → Reaches g allowed start x → flag_at flags x ≡ true
 all_found {start = start} s (first ok) = elim (s.entry ok) [ inl m ↦ m | inr w ↦ absurd (nil_contains start w) ]
@@ -151,3 +137,13 @@ search_ends g allowed start flags s = record { long = s.long; each = λ x. (s.fo
 
 pub stacked_within : (n x : ℕ) (stack left : List ℕ) → stack ≡ left ++ x ∷ [] → All (λ y. y < n) stack → x < n
 stacked_within n x stack left is all = let P : List ℕ → Type 0 = λ ls. Contains ls x in All-contains (λ y. y < n) stack x all (subst P (sym is) (Contains-push left x))
+
+pub smaller : (es : List (ℕ × ℕ)) (x : ℕ) (flags : List Bool) (stack left new : List ℕ) → x < length flags → flag_at flags x ≡ false → stack ≡ left ++ x ∷ [] → ArePushed es x left new → unflagged (set flags x true) * suc (length es) + length new < unflagged flags * suc (length es) + length stack
+smaller es x flags stack left new lt fresh is p =
+    let a = ap length is in
+    let b = ap length p.is in
+    let l = length-append left (x ∷ []) in
+    let k = length-append left p.next in
+    let e : length stack ≡ suc (length left) = omega arith in
+    let f : length new ≡ length left + length p.next = omega arith in
+    rw (e, f) (fewer_left (unflagged (set flags x true)) (unflagged flags) (length es) (length left) (length p.next) (unflagged-set x flags lt fresh) p.few)

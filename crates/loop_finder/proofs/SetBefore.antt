@@ -1,6 +1,6 @@
 -- The constant that a local variable is set to before a loop, by the last write on the one way in.
-use Rattle.std.proofs.Common.{◌≡◌, ℕ, ℤ, List, Option, Some, None, sym, ap, ◌∙◌}
-use Rattle.lists.specs.Lemmas.{none≢some, some_same}
+use Rattle.std.proofs.Common.{◌≡◌, ℕ, ℤ, List, Option, Some, None, refl, sym, ap, ◌∙◌}
+use Rattle.lists.proofs.Lemmas.{none≢some, some_same}
 use Rattle.loop_nest.specs.Digraph.{Digraph}
 use Rattle.loop_finder.specs.declared.acts.Act.{Act}
 use Rattle.loop_finder.specs.declared.acts.Act.TheVariants as does
@@ -12,6 +12,10 @@ stored_cases : (a : Act) (c : ℤ) → stored_by a ≡ Some c → (j : ℕ) × (
 stored_cases (does.Set j None) c e = absurd (none≢some c e)
 stored_cases (does.Set j (Some d)) c e = (j, ap (λ (z : ℤ). does.Set j (Some z)) (some_same d c e))
 stored_cases _ c e = absurd (none≢some c e)
+
+pub no_store : (a : Act) → ((k : ℕ) (o : Option ℤ) → a ≡ does.Set k o → ⊥) → None ≡ stored_by a
+no_store (does.Set k o) never = absurd (never k o refl)
+no_store _ never = refl
 
 module _ (acts : List Act) (g : Digraph) (h k entry place : ℕ) (only : IsOnlyEntry g h entry) (last : LastWriteFrom acts g k entry place) where
   stored : (c : ℤ) → IsSetTo acts g h k c → stored_by (act_at acts place) ≡ Some c

@@ -2,7 +2,7 @@
 use Rattle.std.proofs.Common.{◌≡◌, ℕ, ℤ, pos, Bool, true, false, List, [], ◌∷◌, Option, Some, None, refl, sym, ap, ◌∙◌, subst}
 use Rattle.std.specs.Prelude.{MatchOption, if◌then◌else◌}
 use Rattle.std.proofs.lemmas.Bool.{false≢true}
-use Rattle.lists.specs.Lemmas.{none≢some, some_same, onto_some}
+use Rattle.lists.proofs.Lemmas.{none≢some, some_same, onto_some}
 use Rattle.lists.specs.Lists.{onto}
 use Rattle.bytecode_model.specs.declared.Value.TheVariants.{Int}
 use Rattle.bytecode_model.specs.Program.{Program}

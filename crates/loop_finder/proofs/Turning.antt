@@ -7,7 +7,7 @@ use Rattle.loop_nest.specs.Walks.{IsMember}
 use Rattle.loop_nest.specs.Laws.{EdgesToHeaderAreBackEdges}
 use Rattle.loop_nest.proofs.Ends.{ends_within}
 use Rattle.loop_nest.proofs.Searching.{sources_has, from_sources}
-use Rattle.loop_rules.specs.Turns.{IsOnEachTurn}
+use Rattle.loop_rules.specs.Iterations.{IsOnEachIteration}
 use Rattle.loop_finder.specs.Reach.{flag_at}
 use Rattle.loop_finder.specs.Marking.{Marks, AreMarksOf, IsWithout}
 use Rattle.loop_finder.proofs.Reaching.{last_visited}
@@ -27,14 +27,14 @@ at_edges P g v xs is all u e = All-contains P xs u all (subst (λ (ys : List ℕ
 pub from_edges : (P : ℕ → Type 0) (g : Digraph) (v : ℕ) (xs : List ℕ) → xs ≡ sources_of g.edges v → ((u : ℕ) → Edge g u v → P u) → All P xs
 from_edges P g v xs is each = All-from_get_or P xs 0 (λ i lt. each (get_or xs i 0) (edge_at g v xs is (get_or xs i 0) (Contains-get_or xs i 0 lt)))
 
--- ---- a node on each turn
+-- ---- a node on each iteration
 
 module _ (g : Digraph) (k : Marks) (x : ℕ) (without : List Bool) (are : AreMarksOf g k) (is : IsWithout g k.header x without) where
   -- no edge to the header comes from a node that is reached without x
   abbrev pub NoneComes : Type 0
   NoneComes = (u : ℕ) → Edge g u k.header → flag_at without u ≡ false
 
-  pub is_turn : flag_at k.members x ≡ true → flag_at k.inner x ≡ false → NoneComes → IsOnEachTurn g k.header x
+  pub is_turn : flag_at k.members x ≡ true → flag_at k.inner x ≡ false → NoneComes → IsOnEachIteration g k.header x
   is_turn member outer none = record {
     member = (are.members x).0 member;
     passed = λ u back w. both_ways (flag_at without u) (none u back.edge) ((is u).1 w);
@@ -44,14 +44,14 @@ module _ (g : Digraph) (k : Marks) (x : ℕ) (without : List Bool) (are : AreMar
     ];
   }
 
-  pub turn_inner : IsOnEachTurn g k.header x → flag_at k.inner x ≡ false
+  pub turn_inner : IsOnEachIteration g k.header x → flag_at k.inner x ≡ false
   turn_inner t =
       elim (cases_Bool (flag_at k.inner x)) [
         | inl set' ↦ let n = (are.inner x).0 set' in absurd (n.differs (t.once n.other n.header n.member n.within))
         | inr unset ↦ unset
       ]
 
-  pub turn_comes : EdgesToHeaderAreBackEdges → IsOnEachTurn g k.header x → NoneComes
+  pub turn_comes : EdgesToHeaderAreBackEdges → IsOnEachIteration g k.header x → NoneComes
   turn_comes back t u edge =
       elim (cases_Bool (flag_at without u)) [
         | inl set' ↦

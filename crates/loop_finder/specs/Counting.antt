@@ -8,7 +8,7 @@ use Rattle.section_check.specs.Least.{IsLeast}
 use Rattle.code_scan.specs.declared.rows.Comparison.{Comparison}
 use Rattle.code_scan.specs.Rows.{test_of}
 use Rattle.loop_rules.specs.Tests.{LeavesLoop}
-use Rattle.loop_rules.specs.Turns.{IsOnEachTurn, FirstTested}
+use Rattle.loop_rules.specs.Iterations.{IsOnEachIteration, FirstTested}
 use Rattle.loop_rules.specs.Values.{IsFirstOut}
 use Rattle.loop_finder.specs.declared.acts.Test.{Test}
 use Rattle.loop_finder.specs.declared.acts.Act.{Act}
@@ -40,10 +40,10 @@ pub record IsChoice (b : Body) (h : ℕ) (k : Choice) : Type 0 where
   pub leaves : LeavesLoop b.graph h k.test test.next test.offset (taken_by test) out
   pub same : (value : ℤ) → out value ≡ test_of k.out k.limit value
 
--- the number of the first value that leaves the loop, where the test and the step are on each turn
+-- the number of the first value that leaves the loop, where the test and the step are on each iteration
 pub record CountsFor (g : Digraph) (h : ℕ) (k : Choice) (n : ℕ) : Type 0 where
-  pub each_test : IsOnEachTurn g h (2 * k.test)
-  pub each_step : IsOnEachTurn g h (2 * k.step)
+  pub each_test : IsOnEachIteration g h (2 * k.test)
+  pub each_step : IsOnEachIteration g h (2 * k.step)
   pub first : ℤ
   pub tested : FirstTested g h (2 * k.step) (2 * k.test) k.begin k.by first
   pub first_out : IsFirstOut first k.by (λ value. test_of k.out k.limit value) n

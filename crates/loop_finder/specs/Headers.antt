@@ -1,5 +1,5 @@
 -- Where the loops of methods are headed.
-use Rattle.std.specs.Prelude.{◌≡◌, ◌≢◌, ℕ, ◌/◌, List, [], length, map, Some, slice_get, slice_index}
+use Rattle.std.specs.Prelude.{◌≡◌, ◌≢◌, ℕ, ◌<◌, ◌/◌, List, [], length, map, All, Some, slice_get, slice_index}
 use Rattle.bytecode_model.specs.Program.{Program}
 use Rattle.loop_nest.specs.Digraph.{Digraph}
 use Rattle.loop_nest.specs.Reduction.{Leaves}
@@ -45,6 +45,10 @@ pub record AreMethodHeaders (P : Program) (count : ℕ) (xs : List LoopHeaders) 
   pub each : (m : ℕ) (x : LoopHeaders) → slice_get xs m ≡ Some x → AreHeadersOf P m x
 
 -- ---- what is found on the way
+
+-- each edge leads to a node of a greater number, so that no walk comes back to a node
+abbrev pub LeadsUp : Digraph → Type 0
+LeadsUp g = All (λ e. e.0 < e.1) g.edges
 
 -- the places of the headers of these loops, whose nodes have these numbers
 abbrev pub ArePlacesOf : List NaturalLoop → (numbers : List ℕ) → LoopHeaders → Type 0

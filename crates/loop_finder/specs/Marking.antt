@@ -1,15 +1,17 @@
 -- The members of a loop, and those of them that lie in an inner loop, as flags by node.
 use Rattle.std.specs.Prelude.{◌≡◌, ◌≢◌, ◌↔◌, ℕ, ◌<◌, true, Bool, List, length, Some, All, Contains}
-use Rattle.loop_nest.specs.Digraph.{Digraph, IsDigraph, AreSources, turned}
+use Rattle.loop_nest.specs.Digraph.{Digraph, IsDigraph, AreSources}
 use Rattle.loop_nest.specs.Walks.{IsHeader, IsMember}
 use Rattle.loop_nest.specs.Nest.{NaturalLoop, header_at, outer_at}
-use Rattle.loop_rules.specs.Turns.{ReachesWithout}
+use Rattle.flow_graph.specs.Reach.{AreSpans}
+use Rattle.loop_rules.specs.Iterations.{ReachesWithout}
 use Rattle.loop_finder.specs.Reach.{flag_at}
 
--- a graph, for each node the targets of the edges from it, and the sources of the edges to it
-pub record AreRoutes (g : Digraph) (ts ss : List (List ℕ)) : Type 0 where
+-- a graph, for each node the span of the edges from it, and the sources of the edges to it
+pub record AreRoutes (g : Digraph) (xs : List (ℕ × ℕ)) (ss : List (List ℕ)) : Type 0 where
   pub valid : IsDigraph g
-  pub targets : AreSources (turned g.edges) g.nodes ts
+  pub long : length xs ≡ g.nodes
+  pub spans : AreSpans g.edges xs
   pub sources : AreSources g.edges g.nodes ss
 
 -- a header, the members, and flags

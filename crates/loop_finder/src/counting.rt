@@ -4,7 +4,7 @@ ghost use Rattle.std.specs.Prelude.{◌≡◌, ◌≢◌, ℕ, ◌*◌, ◌^◌,
 ghost use Rattle.loop_nest.specs.Digraph.{Digraph};
 ghost use Rattle.section_check.specs.Least.{IsLeast};
 ghost use Rattle.method_flow.specs.Nodes.{IsAtOffset};
-ghost use Rattle.loop_rules.specs.Turns.{IsOnEachTurn};
+ghost use Rattle.loop_rules.specs.Iterations.{IsOnEachIteration};
 ghost use Rattle.loop_finder.specs.Acts.{act_at};
 ghost use Rattle.loop_finder.specs.Counting.{Counts, CountsAt, CountsByNode, CountsFor, IsAddedBy, IsChoiceAt, IsFirstIf, IsLeaving, IsStepFound};
 ghost use Rattle.loop_finder.specs.Counting.{IsWriterAmong, IsWriterAt, is_other};
@@ -12,8 +12,8 @@ ghost use Rattle.loop_finder.specs.Marking.{AreMarksOf, AreSized, IsWithout};
 ghost use Rattle.loop_finder.specs.Setting.{IsOnlyOf};
 
 use crate::acts::{Act, Test};
+use crate::iterations::{LoopMarks, Routes, is_flagged, is_on_each_iteration, reached_without};
 use crate::setting::{act_at, set_before, writes_at};
-use crate::turns::{LoopMarks, Routes, is_flagged, is_on_each_turn, reached_without};
 use crate::values::{first_out, opposite};
 use base::NoMemory;
 use code_scan::Comparison;
@@ -186,11 +186,11 @@ fn node_at(routes: &Routes, place: u32) -> u32
     2 * place
 }
 
-/// The least number by a choice whose test and step are on each turn.
-fn least_on_turns(choice: Choice, without_test: &[bool], without_step: &[bool]) -> Option<u32>
+/// The least number by a choice whose test and step are on each iteration.
+fn least_on_iterations(choice: Choice, without_test: &[bool], without_step: &[bool]) -> Option<u32>
     requires { choice.by ≢ pos 0 }
-    ensures { (g : Digraph) (h : ℕ) → IsOnEachTurn g h (2 * choice.test) → IsOnEachTurn g h (2 * choice.step) → IsWithout g h (2 * choice.test) without_test.now
-        → IsWithout g h (2 * choice.step) without_step.now → IsLeast (CountsFor g h choice) result }
+    ensures { (g : Digraph) (h : ℕ) → IsOnEachIteration g h (2 * choice.test) → IsOnEachIteration g h (2 * choice.step)
+        → IsWithout g h (2 * choice.test) without_test.now → IsWithout g h (2 * choice.step) without_step.now → IsLeast (CountsFor g h choice) result }
 {
     let begin = i64::from(choice.begin);
     let test_first = !is_flagged(without_test, 2 * u64::from(choice.step));
@@ -216,13 +216,13 @@ fn least_by(
     ensures { AreMarksOf routes.now marks.now → IsWithout routes.now marks.now.header (2 * choice.test) without_test.now
         → IsWithout routes.now marks.now.header (2 * choice.step) without_step.now → IsLeast (CountsFor routes.now marks.now.header choice) result }
 {
-    if !is_on_each_turn(routes, marks, node_at(routes, choice.test), without_test) {
+    if !is_on_each_iteration(routes, marks, node_at(routes, choice.test), without_test) {
         return None;
     }
-    if !is_on_each_turn(routes, marks, node_at(routes, choice.step), without_step) {
+    if !is_on_each_iteration(routes, marks, node_at(routes, choice.step), without_step) {
         return None;
     }
-    least_on_turns(choice, without_test, without_step)
+    least_on_iterations(choice, without_test, without_step)
 }
 
 /// The least number by a choice.
@@ -257,7 +257,7 @@ fn bound_at(
     requires test { act_at body.now.acts place ≡ Act.Test test }
     ensures { IfOk result (λ n. AreMarksOf body.now.graph marks.now → IsLeast (CountsAt body.now marks.now.header place) n) }
 {
-    // The test is on each turn of one loop at most, which spares the search in the others.
+    // The test is on each iteration of one loop at most, which spares the search in the others.
     if marks.is_inner(2 * u64::from(place)) {
         return Ok(None);
     }

@@ -1,6 +1,6 @@
 //! The loops that count, of each method.
 
-ghost use Rattle.std.specs.Prelude.{◌≡◌, ◌↔◌, ℕ, ◌<◌, length, All, IsTrue, IfOk, OnOk, slice_index};
+ghost use Rattle.std.specs.Prelude.{◌≡◌, ◌↔◌, ℕ, ◌<◌, List, [], length, All, IsTrue, IfOk, OnOk, slice_index};
 ghost use Rattle.bytecode_model.specs.Program.{Program};
 ghost use Rattle.loop_nest.specs.Digraph.{Digraph};
 ghost use Rattle.loop_nest.specs.Nest.{IsNest};
@@ -13,13 +13,13 @@ ghost use Rattle.loop_rules.specs.Finding.{AreCountedLoops};
 ghost use Rattle.loop_rules.specs.Sites.{AreIntSites, AreNeverPut, AreSitesOf, constants_in};
 ghost use Rattle.loop_rules.specs.Tests.{Constants};
 ghost use Rattle.loop_finder.specs.Counting.{AreBounds};
-ghost use Rattle.loop_finder.specs.Headers.{AreHeadersOf, AreMethodHeaders, ArePlacesOf};
+ghost use Rattle.loop_finder.specs.Headers.{AreHeadersOf, AreMethodHeaders, ArePlacesOf, LeadsUp};
 ghost use Rattle.loop_finder.specs.Methods.{AreBoundsBy, AreMethodBounds, IsAppended, IsBoundOfLoop, IsNestBy, with_bound};
 
 use crate::counting::{MethodBody, bound_of};
 use crate::headers::{LoopHeaders, header_places};
+use crate::iterations::{Routes, marks_of};
 use crate::reading::acts;
-use crate::turns::{Routes, marks_of};
 use base::NoMemory;
 use compact_walks::numbers;
 use flow_graph::{compact, whole_graph};
@@ -141,21 +141,21 @@ fn nested_loops(
     Ok(FoundLoops { headers, bounds })
 }
 
-/// The loops of a method.
-fn loops_of_method(
+/// The loops of a method with this graph.
+fn loops_of_graph(
     alloc: Global,
     method: &FlowMethod,
     sites: &MethodSites,
+    graph: Graph,
 ) -> Result<FoundLoops, NoMemory>
-    ensures headers { IfOk result (λ x. (P : Program) (m : ℕ) → IsCodedOf P m method.now → AreHeadersOf P m x.headers) }
-    ensures bounds { IfOk result (λ x. (P : Program) (constants : Constants) (m : ℕ) → IsCodedOf P m method.now → AreSitesOf P constants m sites.now
-        → AreNeverPut P constants → AreMethodBounds P constants m x.bounds.items) }
+    ensures headers { IfOk result (λ x. (P : Program) (m : ℕ) → IsGraphOf P m graph → AreHeadersOf P m x.headers) }
+    ensures bounds { IfOk result (λ x. (P : Program) (constants : Constants) (m : ℕ) → IsGraphOf P m graph → IsCodedOf P m method.now
+        → AreSitesOf P constants m sites.now → AreNeverPut P constants → AreMethodBounds P constants m x.bounds.items) }
 {
     loop_nest::laws::parts_are_reducible();
     loop_nest::laws::reduction_has_one_end();
     compact_walks::laws::graphs_are_moved();
     bound_rules::laws::graphs_are_one();
-    let graph = whole_graph(alloc, method)?;
     let compact = compact(alloc, &graph)?;
     let nodes = compact.nodes.as_slice();
     match nest(alloc, &compact.graph) {
@@ -166,6 +166,44 @@ fn loops_of_method(
         }),
         Err(NestFault::NoMemory) => Err(NoMemory),
     }
+}
+
+/// Whether each edge of a graph leads to a node of a greater number. Such a graph has no loops.
+fn leads_up(graph: &Graph) -> bool
+    ensures { IsTrue result ↔ LeadsUp graph.now }
+{
+    graph.edges().iter().all(|edge| edge.0 < edge.1)
+}
+
+/// The loops of a method that has none.
+fn no_loops(alloc: Global) -> FoundLoops
+    ensures headers { (numbers : List ℕ) → ArePlacesOf [] numbers result.headers }
+    ensures bounds { result.bounds.items ≡ [] }
+{
+    FoundLoops {
+        headers: LoopHeaders::Reducible(Vec::new(alloc)),
+        bounds: Vec::new(alloc),
+    }
+}
+
+/// The loops of a method.
+fn loops_of_method(
+    alloc: Global,
+    method: &FlowMethod,
+    sites: &MethodSites,
+) -> Result<FoundLoops, NoMemory>
+    ensures headers { IfOk result (λ x. (P : Program) (m : ℕ) → IsCodedOf P m method.now → AreHeadersOf P m x.headers) }
+    ensures bounds { IfOk result (λ x. (P : Program) (constants : Constants) (m : ℕ) → IsCodedOf P m method.now → AreSitesOf P constants m sites.now
+        → AreNeverPut P constants → AreMethodBounds P constants m x.bounds.items) }
+{
+    compact_walks::laws::graphs_are_moved();
+    compact_walks::laws::moved_is_nest();
+    bound_rules::laws::graphs_are_one();
+    let graph = whole_graph(alloc, method)?;
+    if leads_up(&graph) {
+        return Ok(no_loops(alloc));
+    }
+    loops_of_graph(alloc, method, sites, graph)
 }
 
 /// Adds the loops of a method.
@@ -180,13 +218,6 @@ fn add_loops(method: u32, bounds: &[(u32, u32)], found: &mut Vec<FoundLoop>) -> 
         })?;
     }
     Ok(())
-}
-
-/// Whether there are sites of the method of this number.
-fn has_sites(s: &IntSites, number: u32) -> bool
-    ensures { IsTrue result ↔ (number < length s.now.methods) }
-{
-    (number as usize) < s.method_count()
 }
 
 /// The loops of a program: where they are headed, by method, and those that count.
@@ -205,7 +236,7 @@ pub fn find_all(alloc: Global, f: &FlowProgram, s: &IntSites) -> Result<ProgramL
     let mut headers = Vec::new(alloc);
     let mut counted = Vec::new(alloc);
     for number in 0..f.method_count() {
-        if !has_sites(s, number) {
+        if number as usize >= s.method_count() {
             return Ok(ProgramLoops { headers, counted });
         }
         let found = loops_of_method(alloc, f.method(number), s.method(number))?;

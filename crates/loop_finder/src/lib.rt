@@ -5,11 +5,11 @@ mod acts;
 mod counting;
 mod finding;
 mod headers;
+mod iterations;
 pub mod laws;
 mod reach;
 mod reading;
 mod setting;
-mod turns;
 mod values;
 
 pub use finding::{ProgramLoops, find, find_all};

@@ -1,25 +1,26 @@
 //! Which nodes are reached through some nodes alone.
 
 ghost use Rattle.std.specs.Prelude.{◌≡◌, ◌<◌, length, IfOk};
-ghost use Rattle.loop_nest.specs.Digraph.{AreSources, IsDigraph, turned};
+ghost use Rattle.loop_nest.specs.Digraph.{IsDigraph};
+ghost use Rattle.flow_graph.specs.Reach.{AreSpans, ArePushed};
 ghost use Rattle.loop_finder.specs.Reach.{AreReached};
 
 use base::NoMemory;
+use flow_graph::push_targets;
 use loop_nest::Graph;
-use loop_nest::digraph::Sources;
 use std::alloc::Global;
 
-/// The nodes that a walk from `start` through nodes that are allowed leads to. `targets` has for each node the targets of the edges
-/// from it.
+/// The nodes that a walk from `start` through nodes that are allowed leads to. `spans` has for each node where the edges from it stand.
 pub fn reached(
     alloc: Global,
     g: &Graph,
-    targets: &Sources,
+    spans: &[(usize, usize)],
     allowed: &[bool],
     start: u32,
 ) -> Result<Vec<bool>, NoMemory>
     requires start { start < g.now.nodes }
-    requires targets { AreSources (turned g.now.edges) g.now.nodes targets.now }
+    requires spans { AreSpans g.now.edges spans.now }
+    requires each { length spans.now ≡ g.now.nodes }
     requires long { length allowed.now ≡ g.now.nodes }
     ensures { IfOk result (λ flags. AreReached g.now allowed.now start flags.items) }
 {
@@ -30,7 +31,7 @@ pub fn reached(
         let index = x as usize;
         if allowed[index] && !flags[index] {
             flags[index] = true;
-            stack.extend_from_slice(targets.of(x))?;
+            push_targets(g.edges(), spans, x, &mut stack)?;
         }
     }
     Ok(flags)

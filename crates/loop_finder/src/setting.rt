@@ -7,7 +7,7 @@ ghost use Rattle.loop_finder.specs.Reach.{flag_at};
 ghost use Rattle.loop_finder.specs.Setting.{IsOnly, IsOnlyEntry, IsOnlyOf, IsOnlySource, IsSetTo, LastWriteFrom, WritesAt, stored_by};
 
 use crate::acts::Act;
-use crate::turns::{LoopMarks, Routes};
+use crate::iterations::{LoopMarks, Routes};
 
 /// What the instruction at a place does.
 pub fn act_at(acts: &[Act], place: u32) -> Act
@@ -125,16 +125,6 @@ fn last_write(acts: &[Act], routes: &Routes, from: u32, local: u32) -> Option<u3
     None
 }
 
-/// The constant that an instruction stores.
-fn stored(act: Act) -> Option<i32>
-    ensures { result ≡ stored_by act }
-{
-    match act {
-        Act::Set(_, constant) => constant,
-        _ => None,
-    }
-}
-
 /// The constant that the local variable is set to before the loop.
 pub fn set_before(acts: &[Act], routes: &Routes, marks: &LoopMarks, local: u32) -> Option<i32>
     requires { AreSized routes.now marks.now }
@@ -142,5 +132,8 @@ pub fn set_before(acts: &[Act], routes: &Routes, marks: &LoopMarks, local: u32) 
 {
     let entry = only_entry(routes, marks)?;
     let place = last_write(acts, routes, entry, local)?;
-    stored(act_at(acts, place))
+    match act_at(acts, place) {
+        Act::Set(_, constant) => constant,
+        _ => None,
+    }
 }

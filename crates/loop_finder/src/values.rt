@@ -70,16 +70,6 @@ fn away(step: u64, room: u64) -> Option<u64>
     if step <= room { Some(1) } else { None }
 }
 
-/// How far a number is above another one.
-fn gap(high: i64, low: i64) -> u64
-    requires order { low ≤ℤ high }
-    requires from { negsuc (2 ^ 34) ≤ℤ low }
-    requires to { high ≤ℤ pos (2 ^ 34) }
-    ensures { pos result ≡ high -ℤ low }
-{
-    (high - low) as u64
-}
-
 /// How many steps come first to a value that isn't below the bound.
 fn above(first: i64, up: bool, step: u64, room: u64, bound: i64) -> Option<u64>
     requires some { 0 < step }
@@ -114,7 +104,7 @@ fn below(first: i64, up: bool, step: u64, room: u64, bound: i64) -> Option<u64>
     } else if up {
         None
     } else {
-        over(gap(first, bound), step, room)
+        over((first - bound) as u64, step, room)
     }
 }
 

@@ -7,7 +7,7 @@ use Rattle.loop_nest.specs.Walks.{Walk, IsMember, IsBackEdge, Takes}
 use Rattle.method_flow.specs.Nodes.{At, number_of}
 use Rattle.code_lines.specs.Lines.{IsLine, Writes}
 use Rattle.loop_rules.specs.Tests.{Constants, Pushing, PushesLimit, IsTest, LeavesLoop}
-use Rattle.loop_rules.specs.Turns.{IsOnEachTurn, FirstTested, IsSetBefore}
+use Rattle.loop_rules.specs.Iterations.{IsOnEachIteration, FirstTested, IsSetBefore}
 use Rattle.loop_rules.specs.Values.{IsFirstOut}
 
 -- The loop with the header at the place h counts a local variable by s at one place, its step, and is left by a test at another; value n is the first one
@@ -19,7 +19,7 @@ pub record CountsBy (P : Program) (Limit : Pushing) (Start : (local : ℕ) → �
   pub s : ℤ
   pub increment : IsLine P m step behind_step (rows.Increment local s)
   pub moves : s ≢ pos 0
-  pub each_step : IsOnEachTurn g (number_of (At h)) (number_of (At step))
+  pub each_step : IsOnEachIteration g (number_of (At h)) (number_of (At step))
   pub no_other : (p : ℕ) → IsMember g (number_of (At h)) (number_of (At p)) → Writes P m p local → p ≡ step
   pub test : ℕ
   pub behind_test : ℕ
@@ -27,7 +27,7 @@ pub record CountsBy (P : Program) (Limit : Pushing) (Start : (local : ℕ) → �
   pub taken : ℤ → Bool
   pub out : ℤ → Bool
   pub is_test : IsTest P Limit m test behind_test local offset taken
-  pub each_test : IsOnEachTurn g (number_of (At h)) (number_of (At test))
+  pub each_test : IsOnEachIteration g (number_of (At h)) (number_of (At test))
   pub leaves : LeavesLoop g (number_of (At h)) test behind_test offset taken out
   pub c : ℤ
   pub begins : Start local c

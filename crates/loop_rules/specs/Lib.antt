@@ -1,5 +1,5 @@
 pub mod Tests
-pub mod Turns
+pub mod Iterations
 pub mod Values
 pub mod Counted
 pub mod Sites

@@ -3,17 +3,17 @@ use Rattle.std.proofs.Common.{◌≡◌, ℕ, ◌<◌, List, Some, None, refl, s
 use Rattle.std.proofs.lemmas.Option.{slice_get_within}
 use Rattle.std.specs.declared.option.Option.{Option}
 use Rattle.std.specs.Prelude.{slice_get, length, IsSomeAnd}
-use Rattle.lists.specs.Lemmas.{some_in, some_is}
+use Rattle.lists.proofs.Lemmas.{some_in, some_is}
 use Rattle.image_facts.specs.declared.method.CodedMethod.{CodedMethod}
-use Rattle.image_facts.specs.Methods.{IsMethod, AreMethods}
+use Rattle.image_facts.specs.Methods.{IsMethodRecord, AreMethods}
 use Rattle.bytecode_model.specs.Program.{Program, Body, body_of}
 use Rattle.image_facts.specs.Places.{Places}
 use Rattle.machine_frames.specs.Methods.{IsThere, IsMethodAt}
 use Rattle.machine_frames.proofs.Options.{if_at}
 
 module _ (P : Program) (pl : Places) (methods : List CodedMethod) (are : AreMethods P pl methods) (m : ℕ) (b : Body) (is : body_of P m ≡ Some b) where
-  pub known_at : (e : CodedMethod) × (slice_get methods m ≡ Some e) × IsMethod (pl.method m) b e
-  known_at = some_is (slice_get methods m) (IsMethod (pl.method m) b) (if_at (body_of P m) b (λ b. IsSomeAnd (slice_get methods m) (IsMethod (pl.method m) b)) is (are.known m))
+  pub known_at : (e : CodedMethod) × (slice_get methods m ≡ Some e) × IsMethodRecord (pl.method m) b e
+  known_at = some_is (slice_get methods m) (IsMethodRecord (pl.method m) b) (if_at (body_of P m) b (λ b. IsSomeAnd (slice_get methods m) (IsMethodRecord (pl.method m) b)) is (are.known m))
 
   pub lies : (place : ℕ) → place ≡ pl.method m → IsSomeAnd (slice_get methods m) (λ e. e.place ≡ place)
   lies place at = let (e, got, known) = known_at in some_in (slice_get methods m) e (λ e. e.place ≡ place) got (known.place_is ∙ sym at)

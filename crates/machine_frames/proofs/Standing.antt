@@ -4,7 +4,7 @@ use Rattle.std.specs.Prelude.{sum_by, slice_index, IsSomeAnd, Result, Ok, Err}
 use Rattle.std.proofs.lemmas.List.{length-reverse}
 use Rattle.std.proofs.lemmas.List.Sums.{sum_by-cons}
 use Rattle.machine_stands.proofs.Counting.{locals_count, operands_count}
-use Rattle.lists.specs.Lemmas.{some_in, some_is}
+use Rattle.lists.proofs.Lemmas.{some_in, some_is}
 use Rattle.image_facts.specs.declared.method.CodedMethod.{CodedMethod}
 use Rattle.opcodes.specs.declared.instruction.Instr.{Instr}
 use Rattle.opcodes.specs.Instruction.{decoded}

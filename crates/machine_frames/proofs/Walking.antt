@@ -3,7 +3,7 @@ use Rattle.std.proofs.Common.{◌≡◌, ℕ, suc, Some, ◌+◌, ◌-◌, ◌<�
 use Rattle.std.specs.Prelude.{slice_index}
 use Rattle.std.proofs.lemmas.List.{length-reverse}
 use Rattle.machine_stands.proofs.Counting.{locals_count}
-use Rattle.lists.specs.Lemmas.{some_is}
+use Rattle.lists.proofs.Lemmas.{some_is}
 use Rattle.image_facts.specs.declared.method.CodedMethod.{CodedMethod}
 use Rattle.jop_core.specs.declared.places.TheConstants.{STACK, METHOD}
 use Rattle.jop_core.specs.State as machine

@@ -7,14 +7,14 @@ use Rattle.std.proofs.lemmas.List.{append-nil, replicate-append-replicate}
 use Rattle.std.proofs.Math.Nat.{mod-eq_of_lt, mod-lt}
 use Rattle.std.proofs.lemmas.List.{get_or_append_left, take-replicate, length-replicate}
 use Rattle.std.proofs.Math.Seq.{drop-append_seam, take-append_seam}
-use Rattle.lists.specs.Lemmas.{some_same}
+use Rattle.lists.proofs.Lemmas.{some_same}
 use Rattle.stack_cache.specs.Size.{IsSize}
 use Rattle.microcode_rom.specs.declared.TheConstants.{CONSTANTS as NUMBERS}
 use Rattle.jop_core.specs.declared.places.TheConstants.{CONSTANTS, STACK}
 use Rattle.base.specs.Packed.{words_for, words_of_bytes, PackedHasBytes, PackedHasWords}
 use Rattle.method_cache.specs.Contents.{Entry, Cache, IsCache, AreApart, HaveWords, total_blocks, blocks_for, empty, loaded, can_load, find_words}
 use Rattle.memory_timing.specs.declared.Config.{Config}
-use Rattle.image_file.specs.Bare.{Image, IsImage, frame_words}
+use Rattle.image_file.specs.Bare.{BareContent, IsBareContent, frame_words}
 use Rattle.jop_core.specs.Reset.{bare_reset, CanStartBare, reset_words, places}
 use Rattle.bytecode_model.specs.declared.Value.{Value}
 use Rattle.bytecode_model.specs.declared.Value.TheVariants.{Int, Unset}
@@ -55,13 +55,13 @@ zeros_padded : (n : ℕ) → slots.padded Unset n (zeros n) ≡ Some (zeros n)
 zeros_padded zero = refl
 zeros_padded (suc n) = ap (λ o. onto o (λ (ws : List Value). Some (Int (pos 0) ∷ ws))) (zeros_padded n)
 
-abbrev first_of : Image → Frame
+abbrev first_of : BareContent → Frame
 first_of image = record { method = 0; pc = 0; locals = zeros image.max_locals; operands = [] }
 
-abbrev begun : Image → State
+abbrev begun : BareContent → State
 begun image = record { frames = first_of image ∷ []; objects = []; statics = []; answers = []; output = []; mode = Running }
 
-frame_is : (image : Image) (args : List Value) → args ≡ zeros image.max_locals → first_frame (bare.program_of image) 0 args ≡ Some (first_of image)
+frame_is : (image : BareContent) (args : List Value) → args ≡ zeros image.max_locals → first_frame (bare.program_of image) 0 args ≡ Some (first_of image)
 frame_is image args e =
     let n = image.max_locals in
     let made : Option (List Value) → Option Frame = λ o. onto o (λ ls. Some (record { method = 0; pc = 0; locals = ls; operands = [] })) in
@@ -69,7 +69,7 @@ frame_is image args e =
     ap start e ∙ ap (λ (b : Bool). if b then made (slots.padded Unset n (spread is_long Unset (zeros n))) else None) (zeros_suit n)
     ∙ ap (λ (vs : List Value). made (slots.padded Unset n vs)) (zeros_spread n) ∙ ap made (zeros_padded n)
 
-boot_is : (image : Image) → boot_state (bare.program_of image) ≡ Some (begun image)
+boot_is : (image : BareContent) → boot_state (bare.program_of image) ≡ Some (begun image)
 boot_is image =
     let state : Option Frame → Option State = λ o. onto o (λ f. Some (record { frames = f ∷ []; objects = []; statics = []; answers = []; output = []; mode = Running })) in
     ap state (frame_is image (map default (ints image.max_locals)) (defaults_are image.max_locals))
@@ -80,7 +80,7 @@ locals_are : (place : ℕ → ℕ) (n : ℕ) → AreLocals place (zeros n) (repl
 locals_are place zero = tt
 locals_are place (suc n) = (refl, locals_are place n)
 
-abbrev words_of_boot : Image → FrameWords
+abbrev words_of_boot : BareContent → FrameWords
 words_of_boot image = record { locals = replicate image.max_locals 0; saved = 0 ∷ 0 ∷ 0 ∷ 0 ∷ 0 ∷ []; operands = [] }
 
 pub least : (n : ℕ) → IsSize n → 256 ≤ n
@@ -133,7 +133,7 @@ cache_is m ws M W some words h =
 
 -- ---- all of it
 
-pub bare_begins : PackedHasWords → PackedHasBytes → (n : ℕ) (image : Image) (config : Config) (s : State) → IsSize n → IsImage image → CanStartBare image config
+pub bare_begins : PackedHasWords → PackedHasBytes → (n : ℕ) (image : BareContent) (config : Config) (s : State) → IsSize n → IsBareContent image → CanStartBare image config
     → boot_state (bare.program_of image) ≡ Some s → StandsFor (bare.program_of image) bare_places n config.memory (bare_reset n image config) s
 bare_begins packed bytes n image config s size grammar can boot =
     let P = bare.program_of image in
@@ -205,10 +205,10 @@ bare_begins packed bytes n image config s size grammar can boot =
       };
     })
   where
-    rooms : (image : Image) (c : Cache) → IsTrue (can_load (words_for (length image.code)) c) → (k : ℕ) → IfSome (body_of (bare.program_of image) k) (λ b. IsTrue (can_load (words_for (length b.code)) c))
+    rooms : (image : BareContent) (c : Cache) → IsTrue (can_load (words_for (length image.code)) c) → (k : ℕ) → IfSome (body_of (bare.program_of image) k) (λ b. IsTrue (can_load (words_for (length b.code)) c))
     rooms image c h zero = h
     rooms image c h (suc k) = tt
 
-    one_copy : (image : Image) → All (IsCopy (bare.program_of image) bare_places) (record { method = 0; words = words_of_bytes image.code } ∷ [])
+    one_copy : (image : BareContent) → All (IsCopy (bare.program_of image) bare_places) (record { method = 0; words = words_of_bytes image.code } ∷ [])
     one_copy image zero d h = record { method = 0; place = refl; words = refl }
     one_copy image (suc k) d h = absurd (omega (arith, h))

@@ -2,7 +2,7 @@
 use Rattle.std.proofs.Common.{◌≡◌, ℕ, suc, ◌/◌, ◌%◌, Bool, true, false, ◌==◌, List, [], ◌∷◌, Option, Some, refl, sym, ◌∙◌, ap, subst, arith}
 use Rattle.std.specs.Prelude.{slice_index, All, IsSome, IfSome, if◌then◌else◌, is_some, unwrap_or}
 use Rattle.std.proofs.lemmas.Bool.Decides.{nat_tests}
-use Rattle.lists.specs.Lemmas.{some_same}
+use Rattle.lists.proofs.Lemmas.{some_same}
 use Rattle.base.specs.Packed.{byte_of, words_of_bytes, PackedHasBytes}
 use Rattle.method_cache.specs.Contents.{Entry, Cache, find_words, is_cached, word_of}
 use Rattle.opcodes.specs.Bytes.{u1}

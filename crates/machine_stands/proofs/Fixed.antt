@@ -1,7 +1,7 @@
 -- What is read of the words of the image that nothing writes.
 use Rattle.std.proofs.Common.{◌≡◌, ℕ, ◌+◌, ◌*◌, ◌<◌, Bool, true, false, List, [], ◌∷◌, ◌++◌, length, Option, Some, None, refl, sym, ◌∙◌, ap, subst, arith, length-append}
 use Rattle.std.specs.Prelude.{slice_index, slice_get}
-use Rattle.lists.specs.Lemmas.{holds_at, onto_some}
+use Rattle.lists.proofs.Lemmas.{holds_at, onto_some}
 use Rattle.bytecode_model.specs.State.{Frame}
 use Rattle.bytecode_model.specs.Program.{Program, Method, Operand, NoOperand, AnInt, ALong, AString, AStatic, AField, AMethod, AType, body_of}
 use Rattle.bytecode_model.specs.Effects.{Fault, fault_object, ArithmeticException, ArrayIndexOutOfBoundsException, ArrayStoreException, ClassCastException, IncompatibleClassChangeError, NegativeArraySizeException, NullPointerException, OutOfMemoryError, StackOverflowError}

@@ -1,7 +1,7 @@
 -- Rows whose effect is to go on in the frame, or to raise.
 use Rattle.std.proofs.Common.{◌≡◌, ℕ, List, [], ◌∷◌, ◌++◌, None, length, reverse, refl, sym, ◌∙◌, ap, subst}
 use Rattle.std.proofs.lemmas.List.{append-nil}
-use Rattle.lists.specs.Lemmas.{some_same}
+use Rattle.lists.proofs.Lemmas.{some_same}
 use Rattle.bytecode_model.specs.State.{Frame, State}
 use Rattle.bytecode_model.specs.Effects.{Effect}
 use Rattle.bytecode_model.specs.Steps.{applied, with_top, raising}

@@ -1,7 +1,7 @@
 -- A `putfield` of a long, over the words of the memory.
 use Rattle.std.proofs.Common.{◌≡◌, ℕ, ◌+◌, ◌*◌, ℤ, pos, Bool, true, false, List, [], ◌∷◌, Option, Some, None, map, length, refl, sym, ◌∙◌, ap, subst, arith}
 use Rattle.std.specs.Prelude.{slice_get, slice_set, IsSomeAnd}
-use Rattle.lists.specs.Lemmas.{holds_at, onto_some, some_same}
+use Rattle.lists.proofs.Lemmas.{holds_at, onto_some, some_same}
 use Rattle.opcodes.specs.declared.instruction.Instr.{Instr}
 use Rattle.jop_core.specs.State as machine
 use Rattle.bytecode_model.specs.declared.Value.{Value}

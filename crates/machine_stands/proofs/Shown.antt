@@ -2,7 +2,7 @@
 use Rattle.std.proofs.Common.{◌≡◌, ℕ, zero, suc, ◌+◌, ◌/◌, ◌%◌, ◌^◌, ◌<◌, ◌≤◌, true, List, length, sym, ◌∙◌, ap, subst, arith, add-zero}
 use Rattle.std.specs.Prelude.{IfSome, slice_index}
 use Rattle.std.proofs.Math.Nat.{mod-eq_of_lt}
-use Rattle.lists.specs.Lemmas.{holds_at}
+use Rattle.lists.proofs.Lemmas.{holds_at}
 use Rattle.base.specs.Packed.{byte_of, PackedHasBytes}
 use Rattle.method_cache.specs.Contents.{is_cached, word_of}
 use Rattle.opcodes.specs.Bytes.{u1}

@@ -5,7 +5,7 @@ use mathlib.Core.List.{reverse_aux, reverse_aux-eq}
 use Rattle.std.proofs.Math.Nat.{mod-eq_of_lt, mod-lt}
 use Rattle.std.proofs.Math.Seq.{take-append-add, drop-append_seam, take-append_seam}
 use Rattle.std.proofs.lemmas.List.{reverse-append, reverse-reverse, length-reverse}
-use Rattle.lists.specs.Lemmas.{holds_at}
+use Rattle.lists.proofs.Lemmas.{holds_at}
 use Rattle.stack_cache.specs.Size.{IsSize}
 use Rattle.microcode_rom.specs.declared.TheConstants.{CONSTANTS as NUMBERS}
 use Rattle.memory_timing.specs.declared.TheConstants.{MAX_MEMORY}

@@ -10,7 +10,7 @@ use Rattle.jop_core.specs.State as machine
 use Rattle.jop_core.specs.Operations.{load_stall}
 use Rattle.jop_core.specs.Cycle.{at_boundary}
 use Rattle.jop_core.specs.Scene.{run, begun, output_during}
-use Rattle.micro_sketch.specs.Step.{IsQuiet}
+use Rattle.micro_sketch.specs.Step.{HasNoBoundary}
 use Rattle.bytecode_model.specs.declared.Ending.{Ending}
 use Rattle.bytecode_model.specs.declared.Ending.TheVariants.{Running, Raising}
 use Rattle.bytecode_model.specs.State.{Frame, State}
@@ -78,7 +78,7 @@ pub record ComesTo (P : Program) (pl : Places) (n size : ℕ) (m : machine.State
   pub ran : (more : List (Option ℕ)) → (run cycles (begun m (answers ++ more))).state ≡ new
   pub left : (more : List (Option ℕ)) → (run cycles (begun m (answers ++ more))).answers ≡ more
   pub boundary : at_boundary new ≡ true
-  pub quiet : IsQuiet cycles m answers
+  pub quiet : HasNoBoundary cycles m answers
   pub stands : StandsFor P pl n size new s'
   -- what it puts out is the output of the step
   pub put : s'.output ≡ s.output ++ output_during cycles (begun m answers)

@@ -8,7 +8,7 @@ use Rattle.bytecode_model.specs.declared.Ending.TheVariants.{Running, Raising}
 use Rattle.bytecode_model.specs.State.{State}
 use Rattle.bytecode_model.specs.Program.{Program}
 use Rattle.bytecode_model.specs.Steps.{step}
-use Rattle.bytecode_model.specs.WellFormed.{IsAnswer, IsWellFormed}
+use Rattle.bytecode_model.specs.WellFormed.{IsInput, IsWellFormed}
 use Rattle.image_facts.specs.Places.{Places}
 use Rattle.image_facts.specs.Says.{Says}
 use Rattle.machine_stands.specs.StandsFor.{StandsFor, limits_of}
@@ -23,7 +23,7 @@ pub record IsStep (P : Program) (pl : Places) (n size : ℕ) (m : machine.State)
   pub says : Says P pl
   pub stands : StandsFor P pl n size m s
   pub well_formed : IsWellFormed P (limits_of P pl n size) s
-  pub byte : IsAnswer answer
+  pub byte : IsInput answer
   pub step : step P (limits_of P pl n size) answer s ≡ Some s'
   pub next_well_formed : IsWellFormed P (limits_of P pl n size) s'
 

@@ -6,7 +6,7 @@ use Rattle.std.proofs.lemmas.List.Elements.{Contains-append_left, Contains-appen
 use Rattle.loop_nest.proofs.Elements.{from_map}
 use Rattle.loop_nest.proofs.Rising.{rising_push}
 use Rattle.lists.specs.Members.{cons_cases, nil_contains, contains_at, rising_pair}
-use Rattle.lists.specs.Lemmas.{none≢some}
+use Rattle.lists.proofs.Lemmas.{none≢some}
 use Rattle.bytecode_model.specs.declared.Value.TheVariants.{Int}
 use Rattle.bytecode_model.specs.Program.{Program}
 use Rattle.bytecode_model.specs.Rows as rows

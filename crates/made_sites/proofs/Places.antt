@@ -4,7 +4,7 @@ use Rattle.std.specs.Prelude.{slice_get, IsSome}
 use Rattle.std.proofs.lemmas.Option.{slice_get_within, get_or_from_slice_get, slice_get-get_or}
 use Rattle.std.proofs.lemmas.Bool.{cases_lt}
 use Rattle.std.proofs.lemmas.List.{length_push, get_or_append_left, get_or_push}
-use Rattle.lists.specs.Lemmas.{some_is, some_in, holds_at}
+use Rattle.lists.proofs.Lemmas.{some_is, some_in, holds_at}
 use Rattle.opcodes.specs.Start.{IsStart, AreStarts, starts_of}
 use Rattle.bytecode_model.specs.Program.{Program, Body, body_of}
 use Rattle.bytecode_model.specs.Steps.{row_in}

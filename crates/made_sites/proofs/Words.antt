@@ -6,7 +6,7 @@ use Rattle.std.specs.List.{filter_map, cons_option, flat_map, range_with_len}
 use Rattle.std.proofs.lemmas.Bool.{false≢true}
 use Rattle.std.proofs.lemmas.Option.{slice_get_past, slice_get_within}
 use Rattle.std.proofs.lemmas.List.Sums.{sum_by-cons}
-use Rattle.lists.specs.Lemmas.{none≢some, some_same, some_is, onto_some}
+use Rattle.lists.proofs.Lemmas.{none≢some, some_same, some_is, onto_some}
 use Rattle.opcodes.specs.declared.instruction.Instr.{Instr}
 use Rattle.opcodes.specs.Instruction.{decoded}
 use Rattle.opcodes.specs.Start.{IsStart}

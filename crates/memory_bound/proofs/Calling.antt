@@ -7,7 +7,7 @@ use Rattle.bytecode_model.specs.Rows as rows
 use Rattle.bytecode_model.specs.Rows.{Row}
 use Rattle.bytecode_model.specs.Steps.{row_in}
 use Rattle.bytecode_model.specs.WellFormed.{is_call}
-use Rattle.lists.specs.Lemmas.{some_same}
+use Rattle.lists.proofs.Lemmas.{some_same}
 use Rattle.lists.specs.Members.{nil_contains}
 use Rattle.method_flow.specs.declared.flow.Call.{Call}
 use Rattle.method_flow.specs.Calls.{targets_of_row, IsTarget, IsStartOf}

@@ -13,7 +13,7 @@ use Rattle.compact_walks.specs.Laws.{GraphsAreMoved, PartsAreSound, EndsAreOne}
 use Rattle.memory_rules.specs.declared.causes.NeedCause.{NeedCause}
 use Rattle.memory_rules.specs.declared.causes.NeedCause.TheVariants.{Recursion, Irreducible, MissingBound, MissingSize, TooLarge}
 use Rattle.memory_rules.specs.Laws.{FirstLineIsOne, FirstLengthIsOne, LackingIsNotHaving}
-use Rattle.memory_bound.specs.Causes.{IsNeedCause, IsTooLarge}
+use Rattle.memory_bound.specs.Causes.{IsNeedCause, NeedIsTooLarge}
 
 map_nil : (f : ℕ → ℕ) (xs : List ℕ) → [] ≡ map f xs → xs ≡ []
 map_nil f [] e = refl
@@ -44,7 +44,7 @@ module _ (moves : GraphsAreMoved) (sound : PartsAreSound) (ends : EndsAreOne) (o
             ]
       ]
 
-  least_one : (m x : ℕ) → IsLeast (IsTooLarge P bounds lengths) (Some m) → IsLeast (IsTooLarge P bounds lengths) (Some x) → m ≡ x
+  least_one : (m x : ℕ) → IsLeast (NeedIsTooLarge P bounds lengths) (Some m) → IsLeast (NeedIsTooLarge P bounds lengths) (Some x) → m ≡ x
   least_one m x h k =
       elim (cases_order m x) [
         | inl same ↦ same

@@ -7,7 +7,7 @@ use Rattle.std.proofs.lemmas.Option.{slice_get-get_or}
 use Rattle.std.proofs.lemmas.List.Sums.{sum_by-cons}
 use Rattle.std.proofs.lemmas.List.Elements.{Contains-append_left, Contains-append_cases, Contains-push}
 use Rattle.lists.specs.Members.{cons_cases, nil_contains}
-use Rattle.lists.specs.Lemmas.{some_same}
+use Rattle.lists.proofs.Lemmas.{some_same}
 use Rattle.bytecode_model.specs.Program.{Program}
 use Rattle.method_flow.specs.declared.flow.Call.{Call}
 use Rattle.method_flow.specs.Flow.{Flow, Coded, IsCoded, IsFlowOf, targets_of_call}
@@ -17,7 +17,7 @@ use Rattle.call_regions.specs.Tables.{IsOfTable, RunsFrom}
 use Rattle.memory_rules.specs.Stack.{Chain, method_words, chain_words, IsStackNeedOf}
 use Rattle.memory_rules.specs.Stack.Chain.{alone, calling}
 use Rattle.memory_rules.specs.Sites.{MethodNeeds, AreSitesOf}
-use Rattle.memory_bound.specs.Setting.{Setting, words_of}
+use Rattle.memory_bound.specs.Setting.{NeedSetting, words_of}
 use Rattle.memory_bound.specs.Stacks.{IsGreatestAmong, IsCalled, AreStacks}
 
 -- the greater of the greatest of two sets
@@ -99,7 +99,7 @@ words_told : Option MethodNeeds → ℕ
 words_told None = 0
 words_told (Some k) = k.words
 
-pub frame_words : (P : Program) (s : Setting) (m : ℕ) → AreSitesOf P s.sites → m < length s.sites → words_of s m ≡ method_words P m
+pub frame_words : (P : Program) (s : NeedSetting) (m : ℕ) → AreSitesOf P s.sites → m < length s.sites → words_of s m ≡ method_words P m
 unfolding words_told
 frame_words P s m sites lt =
     let none : MethodNeeds = record { words = 0; sites = [] } in

@@ -3,7 +3,7 @@ use Rattle.std.proofs.Common.{◌≡◌, ℕ, ◌*◌, ◌/◌, ◌<◌, ◌≤�
 use Rattle.std.specs.Prelude.{is_some, not}
 use Rattle.std.specs.List.Sorted.{IsStrictlyIncreasing}
 use Rattle.std.proofs.lemmas.Bool.{cases_lt, false≢true}
-use Rattle.lists.specs.Lemmas.{some_same}
+use Rattle.lists.proofs.Lemmas.{some_same}
 use Rattle.lists.specs.Members.{contains_at, place_of, rising_all}
 use Rattle.bytecode_model.specs.Program.{Program}
 use Rattle.method_flow.specs.Flow.{IsFlowOf}
@@ -14,7 +14,7 @@ use Rattle.memory_rules.specs.declared.sites.Makes.TheVariants.{Object, Array}
 use Rattle.memory_rules.specs.Heap.{Made, AnObject, AnArray, made_by}
 use Rattle.memory_rules.specs.Given.{MakesArrays}
 use Rattle.memory_rules.specs.Sites.{MethodNeeds, IsMadeAt, IsToldAs, IsSiteOf, AreNeedsOf, AreSitesOf}
-use Rattle.memory_bound.specs.Setting.{Setting, sites_of}
+use Rattle.memory_bound.specs.Setting.{NeedSetting, sites_of}
 use Rattle.memory_bound.specs.Found.{HasLength, IsUnlimited}
 use Rattle.memory_bound.specs.Lengths.{AreOn, IsFirstAmong, IsReachedIn, TellsLength, TellsNode, lacks_constant}
 use Rattle.memory_bound.proofs.Sited.{has_needs, made_in}
@@ -58,7 +58,7 @@ module _ (P : Program) (lengths : BoundOf) (m p : ℕ) (k : MethodNeeds) (needs 
       by (AnArray e) makes told (Some n) is true given = absurd (false≢true (sym given))
       by (AnArray e) makes told (Some n) is false given = λ arrays. inr (n, is)
 
-module _ (P : Program) (s : Setting) (lengths : BoundOf) (m p : ℕ) (flow : IsFlowOf P s.flow) (sites : AreSitesOf P s.sites) (lt : m < length s.flow.methods) (o : Option Makes)
+module _ (P : Program) (s : NeedSetting) (lengths : BoundOf) (m p : ℕ) (flow : IsFlowOf P s.flow) (sites : AreSitesOf P s.sites) (lt : m < length s.flow.methods) (o : Option Makes)
     (is : IsMadeAt (sites_of s m) p o) where
   pub has_length : lacks_constant o ≡ false → HasLength P lengths m p
   has_length constant = let h = has_needs P s m flow sites lt in by h.needs h.are o (made_in P s m p h o is) constant

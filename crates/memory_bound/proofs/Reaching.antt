@@ -1,7 +1,7 @@
 -- The nodes of a method's graph that are reached, by their numbers, and its compact graph.
 use Rattle.std.proofs.Common.{◌≡◌, ℕ, ◌*◌, List, [], ◌∷◌, Some, refl, sym, subst}
 use Rattle.std.specs.Prelude.{slice_get}
-use Rattle.lists.specs.Lemmas.{some_in}
+use Rattle.lists.proofs.Lemmas.{some_in}
 use Rattle.opcodes.specs.Start.{IsStart, AreStarts}
 use Rattle.loop_nest.specs.Digraph.{Digraph, Edge}
 use Rattle.loop_nest.specs.Walks.{Walk, IsReachable}

@@ -1,7 +1,7 @@
 -- What is found of all methods that may run tells the need, or the cause why there is none.
 use Rattle.std.proofs.Common.{◌≡◌, ℕ, ◌<◌, List, Contains, Option, Some, None, sym, ◌∙◌, subst, inl, inr, arith}
 use Rattle.std.specs.Prelude.{unwrap_or}
-use Rattle.lists.specs.Lemmas.{none≢some}
+use Rattle.lists.proofs.Lemmas.{none≢some}
 use Rattle.section_check.specs.Least.{IsLeast}
 use Rattle.bytecode_model.specs.Program.{Program}
 use Rattle.method_flow.specs.Keeping.{BoundOf}
@@ -13,7 +13,7 @@ use Rattle.memory_rules.specs.Heap.{OfMethod, IsMostMade}
 use Rattle.memory_rules.specs.Given.{IsFirstLackingLine, LacksLength, IsFirstLackingLength, HaveLengths, HaveMakingLines}
 use Rattle.memory_bound.specs.declared.found.Found.{Found}
 use Rattle.memory_bound.specs.Found.{LacksBound, HasLength, IsFirstUnlimitedOf, HaveBoundsWithin, Exceeds, IsMostOr, IsFoundOf, found_at}
-use Rattle.memory_bound.specs.Causes.{IsTooLarge}
+use Rattle.memory_bound.specs.Causes.{NeedIsTooLarge}
 use Rattle.memory_bound.specs.Needs.{IsSmall, NoneLacksBound, NoneLacksLength, HaveNoCause, IsFoundFault, IsFaultIn}
 
 -- what may run while something runs that may run
@@ -87,7 +87,7 @@ module _ (P : Program) (bounds lengths : BoundOf) (table : List Found) (ms : Lis
             ];
       }
 
-  too_large : NoneLacksBound table ms → (m : ℕ) → Contains ms m → (found_at table m).heap ≡ None → ((x : ℕ) → Contains ms x → x < m → IsSmall (found_at table x).heap) → IsLeast (IsTooLarge P bounds lengths) (Some m)
+  too_large : NoneLacksBound table ms → (m : ℕ) → Contains ms m → (found_at table m).heap ≡ None → ((x : ℕ) → Contains ms x → x < m → IsSmall (found_at table x).heap) → IsLeast (NeedIsTooLarge P bounds lengths) (Some m)
   too_large none m has is first = (
     ((are m).0 has, subst (λ (o : Option ℕ). IsMostOr P bounds lengths (OfMethod m) o) is (heap_is none m has)),
     λ x lt large.

@@ -14,18 +14,18 @@ use Rattle.memory_rules.specs.declared.sites.Site.{Site}
 use Rattle.memory_rules.specs.Heap.{MakesAt, PlaceMakesObjects}
 use Rattle.memory_rules.specs.Sites.{MethodNeeds, IsMadeAt, AreNeedsOf, AreSitesOf}
 use Rattle.memory_bound.specs.declared.found.Found.{Found}
-use Rattle.memory_bound.specs.Setting.{Setting, sites_of}
+use Rattle.memory_bound.specs.Setting.{NeedSetting, sites_of}
 use Rattle.memory_bound.specs.Found.{AreStarts, KnowMaking, found_at}
 
 -- ---- the sites of a method
 
 -- the table of sites has the method
-pub record HasNeeds (P : Program) (s : Setting) (m : ℕ) : Type 0 where
+pub record HasNeeds (P : Program) (s : NeedSetting) (m : ℕ) : Type 0 where
   pub needs : MethodNeeds
   pub is : slice_get s.sites m ≡ Some needs
   pub are : AreNeedsOf P m needs
 
-pub has_needs : (P : Program) (s : Setting) (m : ℕ) → IsFlowOf P s.flow → AreSitesOf P s.sites → m < length s.flow.methods → HasNeeds P s m
+pub has_needs : (P : Program) (s : NeedSetting) (m : ℕ) → IsFlowOf P s.flow → AreSitesOf P s.sites → m < length s.flow.methods → HasNeeds P s m
 has_needs P s m flow sites lt =
     let below : m < length s.sites = (sites.coded m).0 ((flow.coded m).1 lt) in
     let none : MethodNeeds = record { words = 0; sites = [] } in
@@ -33,7 +33,7 @@ has_needs P s m flow sites lt =
     record { needs = get_or s.sites m none; is = is; are = sites.methods m (get_or s.sites m none) is }
 
 -- what is told of an instruction is so by the sites of that method
-pub made_in : (P : Program) (s : Setting) (m p : ℕ) (h : HasNeeds P s m) (o : Option Makes) → IsMadeAt (sites_of s m) p o → IsMadeAt h.needs.sites p o
+pub made_in : (P : Program) (s : NeedSetting) (m p : ℕ) (h : HasNeeds P s m) (o : Option Makes) → IsMadeAt (sites_of s m) p o → IsMadeAt h.needs.sites p o
 made_in P s m p h o is =
     let sites : Option MethodNeeds → List Site = λ k. elim k [ None ↦ [] | Some needs ↦ needs.sites ] in
     subst (λ (ss : List Site). IsMadeAt ss p o) (ap sites h.is) is
@@ -49,7 +49,7 @@ module _ (P : Program) (m p : ℕ) (k : MethodNeeds) (needs : AreNeedsOf P m k) 
   none_there None none absent at = none (needs.each p at.next at.row at.made at.line at.makes)
   none_there (Some told) has absent at = false≢true (sym absent)
 
-module _ (P : Program) (s : Setting) (m p : ℕ) (flow : IsFlowOf P s.flow) (sites : AreSitesOf P s.sites) (lt : m < length s.flow.methods) (o : Option Makes) (is : IsMadeAt (sites_of s m) p o) where
+module _ (P : Program) (s : NeedSetting) (m p : ℕ) (flow : IsFlowOf P s.flow) (sites : AreSitesOf P s.sites) (lt : m < length s.flow.methods) (o : Option Makes) (is : IsMadeAt (sites_of s m) p o) where
   pub makes_at : is_some o ≡ true → MakesAt P m p
   makes_at there = let h = has_needs P s m flow sites lt in made_there P m p h.needs h.are o (made_in P s m p h o is) there
 

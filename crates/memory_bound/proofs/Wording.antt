@@ -17,7 +17,7 @@ use Rattle.memory_rules.specs.Heap.{OfNode}
 use Rattle.memory_rules.specs.Heap.MayMake.{nothing}
 use Rattle.memory_rules.specs.Sites.{IsMadeAt, AreSitesOf}
 use Rattle.memory_bound.specs.declared.found.Found.{Found}
-use Rattle.memory_bound.specs.Setting.{Setting, sites_of}
+use Rattle.memory_bound.specs.Setting.{NeedSetting, sites_of}
 use Rattle.memory_bound.specs.Found.{found_at, IsMostOr}
 use Rattle.memory_bound.specs.Words.{told_words, IsSiteWords, IsGreatestOf, IsNodeWords, AreNodeWords}
 use Rattle.memory_bound.proofs.NodeMost.{site_words_are, raise_none}
@@ -28,7 +28,7 @@ use Rattle.memory_bound.proofs.Sited.{has_needs, made_in}
 one_is_pushed : OneIsPushedBefore
 one_is_pushed = one_is_pushed_before lines_are_one (one_stands_before (lines_are_apart IsWithin-decoded))
 
-pub words_by_site : (P : Program) (s : Setting) (lengths : BoundOf) (m p : ℕ) → IsFlowOf P s.flow → AreSitesOf P s.sites → m < length s.flow.methods
+pub words_by_site : (P : Program) (s : NeedSetting) (lengths : BoundOf) (m p : ℕ) → IsFlowOf P s.flow → AreSitesOf P s.sites → m < length s.flow.methods
     → (o : Option Makes) → IsMadeAt (sites_of s m) p o → IsSiteWords P lengths m p (elim o [ None ↦ 0 | Some makes ↦ told_words makes (lengths m p) ])
 words_by_site P s lengths m p flow sites lt o is =
     let h = has_needs P s m flow sites lt in

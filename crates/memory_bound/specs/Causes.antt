@@ -15,8 +15,8 @@ use Rattle.memory_rules.specs.Given.{IsFirstLackingLine, IsFirstLackingLength, H
 use Rattle.memory_bound.specs.Found.{Exceeds}
 
 -- a method that may run may make more words than 64 bits tell
-abbrev pub IsTooLarge : Program → (bounds lengths : BoundOf) → (method : ℕ) → Type 0
-IsTooLarge P bounds lengths m = IsWithin P P.boot m × Exceeds P bounds lengths (OfMethod m)
+abbrev pub NeedIsTooLarge : Program → (bounds lengths : BoundOf) → (method : ℕ) → Type 0
+NeedIsTooLarge P bounds lengths m = IsWithin P P.boot m × Exceeds P bounds lengths (OfMethod m)
 
 -- What is right to answer: a cause stands only where those above it don't.
 abbrev pub IsNeedCause : Program → (bounds lengths : BoundOf) → NeedCause → Type 0
@@ -26,7 +26,7 @@ IsNeedCause P bounds lengths (causes.MissingBound m p) = HasNoRecursion P P.boot
 IsNeedCause P bounds lengths (causes.MissingSize m p) =
     HasNoRecursion P P.boot × AreReducible P P.boot × HaveMakingLines P bounds × IsFirstLackingLength P lengths m p
 IsNeedCause P bounds lengths (causes.TooLarge m) =
-    HasNoRecursion P P.boot × AreReducible P P.boot × HaveMakingLines P bounds × HaveLengths P lengths × IsLeast (IsTooLarge P bounds lengths) (Some m)
+    HasNoRecursion P P.boot × AreReducible P P.boot × HaveMakingLines P bounds × HaveLengths P lengths × IsLeast (NeedIsTooLarge P bounds lengths) (Some m)
 
 -- methods call one another in this cycle; of want of memory nothing is said
 abbrev pub IsCallFault : Program → NeedFault → Type 0

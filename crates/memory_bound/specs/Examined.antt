@@ -5,7 +5,7 @@ use Rattle.method_flow.specs.Flow.{Flow, IsFlowOf}
 use Rattle.bound_rules.specs.Bounding.{IsLeftWith}
 use Rattle.call_regions.specs.Calling.{IsTargetsFirst}
 use Rattle.memory_bound.specs.declared.found.Found.{Found}
-use Rattle.memory_bound.specs.Setting.{Setting, ForEach, bounds_in, lengths_in}
+use Rattle.memory_bound.specs.Setting.{NeedSetting, ForEach, bounds_in, lengths_in}
 use Rattle.memory_bound.specs.Found.{IsFoundOf, found_at}
 
 -- it is said of a method alone whose graph's reduction leaves no nodes that it is reducible
@@ -16,6 +16,6 @@ abbrev pub AreToldReducible : Flow → (methods : List ℕ) → List Found → T
 AreToldReducible f ms table = (P : Program) → IsFlowOf P f → (m : ℕ) → Contains ms m → TellsReducible P m (found_at table m)
 
 -- of each of these methods, which stand behind what they may run, it is found what it makes, where no graph's reduction leaves nodes
-abbrev pub AreFoundIn : Setting → (order : List ℕ) → List Found → Type 0
+abbrev pub AreFoundIn : NeedSetting → (order : List ℕ) → List Found → Type 0
 AreFoundIn s order table = ForEach s (λ P. IsTargetsFirst P P.boot order → ((m : ℕ) → Contains order m → IsLeftWith P m [])
     → (m : ℕ) → Contains order m → IsFoundOf P (bounds_in s) (lengths_in s) m (found_at table m))

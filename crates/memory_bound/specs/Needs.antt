@@ -12,7 +12,7 @@ use Rattle.memory_rules.specs.Given.{IsFirstLackingLine, IsFirstLackingLength, H
 use Rattle.memory_rules.specs.declared.needs.Need.{Need}
 use Rattle.memory_bound.specs.declared.found.Found.{Found}
 use Rattle.memory_bound.specs.Found.{found_at}
-use Rattle.memory_bound.specs.Causes.{IsTooLarge}
+use Rattle.memory_bound.specs.Causes.{NeedIsTooLarge}
 
 -- ---- among these methods, which rise
 
@@ -69,6 +69,6 @@ pub record IsNeedOf (P : Program) (bounds lengths : BoundOf) (n : Need) : Type 0
 abbrev pub IsFaultIn : Program → (bounds lengths : BoundOf) → NeedFault → Type 0
 IsFaultIn P bounds lengths (MissingBound m p) = IsFirstLackingLine P bounds m p
 IsFaultIn P bounds lengths (MissingSize m p) = HaveMakingLines P bounds × IsFirstLackingLength P lengths m p
-IsFaultIn P bounds lengths (TooLarge m) = HaveMakingLines P bounds × HaveLengths P lengths × IsLeast (IsTooLarge P bounds lengths) (Some m)
+IsFaultIn P bounds lengths (TooLarge m) = HaveMakingLines P bounds × HaveLengths P lengths × IsLeast (NeedIsTooLarge P bounds lengths) (Some m)
 IsFaultIn P bounds lengths NoMemory = Unit {0}
 IsFaultIn P bounds lengths fault = ⊥

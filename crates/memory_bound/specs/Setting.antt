@@ -9,29 +9,29 @@ use Rattle.memory_rules.specs.declared.sites.Site.{Site}
 use Rattle.memory_rules.specs.Sites.{MethodNeeds, AreSitesOf}
 
 -- a program's table, what its instructions make, the bounds of its loops and the lengths of its arrays
-pub record Setting : Type 0 where
+pub record NeedSetting : Type 0 where
   pub flow : Flow
   pub sites : List MethodNeeds
   pub bounds : List LoopBound
   pub lengths : List LoopBound
 
 -- the tables have as many methods
-abbrev pub IsSetting : Setting → Type 0
-IsSetting s = length s.sites ≡ length s.flow.methods
+abbrev pub IsNeedSetting : NeedSetting → Type 0
+IsNeedSetting s = length s.sites ≡ length s.flow.methods
 
-abbrev pub bounds_in : Setting → BoundOf
+abbrev pub bounds_in : NeedSetting → BoundOf
 bounds_in s = bounds_of s.flow s.bounds
 
-abbrev pub lengths_in : Setting → BoundOf
+abbrev pub lengths_in : NeedSetting → BoundOf
 lengths_in s = bounds_of s.flow s.lengths
 
 -- the sites of a method, and the words of its frame
-abbrev pub sites_of : Setting → (method : ℕ) → List Site
+abbrev pub sites_of : NeedSetting → (method : ℕ) → List Site
 sites_of s m = elim (slice_get s.sites m) [ None ↦ [] | Some k ↦ k.sites ]
 
-abbrev pub words_of : Setting → (method : ℕ) → ℕ
+abbrev pub words_of : NeedSetting → (method : ℕ) → ℕ
 words_of s m = elim (slice_get s.sites m) [ None ↦ 0 | Some k ↦ k.words ]
 
 -- this holds for each program of the tables
-abbrev pub ForEach : Setting → (Program → Type 0) → Type 0
+abbrev pub ForEach : NeedSetting → (Program → Type 0) → Type 0
 ForEach s Holds = (P : Program) → IsFlowOf P s.flow → AreSitesOf P s.sites → Holds P

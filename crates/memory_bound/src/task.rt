@@ -16,13 +16,13 @@ pub struct Task<'a> {
 }
 
 impl<'a> Model for Task<'a> {
-    ghost use Rattle.memory_bound.specs.Setting.{Setting, IsSetting};
+    ghost use Rattle.memory_bound.specs.Setting.{NeedSetting, IsNeedSetting};
 
-    ghost Value = { Setting };
+    ghost Value = { NeedSetting };
 
     ghost view = { λ a. record { flow = a.flow.now; sites = a.sites.now; bounds = a.bounds.now; lengths = a.lengths.now } };
 
-    ghost invariant = { λ a. IsSetting (record { flow = a.flow.now; sites = a.sites.now; bounds = a.bounds.now; lengths = a.lengths.now }) };
+    ghost invariant = { λ a. IsNeedSetting (record { flow = a.flow.now; sites = a.sites.now; bounds = a.bounds.now; lengths = a.lengths.now }) };
 }
 
 ghost use Rattle.std.specs.Prelude.{◌≡◌, ◌<◌, ℕ, length, All, Contains, IfSome, IfNone};
@@ -47,7 +47,7 @@ impl<'a> Task<'a> {
     ghost use Rattle.std.specs.Prelude.{◌≡◌, ◌↔◌, ◌^◌, ◌<◌, ℕ, length, All, Contains, Some, slice_get};
     ghost use Rattle.method_flow.specs.Calls.{IsStartOf, IsTarget};
     ghost use Rattle.memory_rules.specs.Sites.{IsMadeAt};
-    ghost use Rattle.memory_bound.specs.Setting.{ForEach, IsSetting, bounds_in, lengths_in, sites_of, words_of};
+    ghost use Rattle.memory_bound.specs.Setting.{ForEach, IsNeedSetting, bounds_in, lengths_in, sites_of, words_of};
 
     /// The task of these parts.
     pub fn new(
@@ -70,7 +70,7 @@ impl<'a> Task<'a> {
     /// The program.
     pub fn flow(&self) -> &FlowProgram
         ensures flow { result.now ≡ self.now.flow }
-        ensures form { IsSetting self.now }
+        ensures form { IsNeedSetting self.now }
     {
         self.flow
     }

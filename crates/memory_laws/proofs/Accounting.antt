@@ -1,7 +1,7 @@
 -- The words of objects that are made along a run from boot.
 use Rattle.std.proofs.Common.{◌≡◌, ◌⊎◌, ℕ, zero, suc, ◌+◌, ◌<◌, ◌≤◌, Bool, true, false, List, [], ◌∷◌, ◌++◌, length, drop, Option, Some, None, refl, sym, ap, ◌∙◌, subst, inl, inr, arith, sum_by, leb-false}
 use Rattle.std.specs.Prelude.{if◌then◌else◌, nat_le, IsSome}
-use Rattle.lists.specs.Lemmas.{some_is, some_same, none≢some, holds_at}
+use Rattle.lists.proofs.Lemmas.{some_is, some_same, none≢some, holds_at}
 use Rattle.lists.specs.Members.{heads}
 use Rattle.bytecode_model.specs.declared.Value.{Value}
 use Rattle.bytecode_model.specs.declared.Value.TheVariants.{Ref}

@@ -3,7 +3,7 @@ use Rattle.std.proofs.Common.{◌≡◌, ◌⊎◌, ℕ, ◌+◌, ◌*◌, ◌<�
 use Rattle.std.specs.Prelude.{◌≤ℤ◌}
 use Rattle.std.proofs.Math.Nat.{mul-le-mul_left}
 use Rattle.std.proofs.lemmas.Int.{ints}
-use Rattle.lists.specs.Lemmas.{onto_some, some_is, some_in, some_same, none≢some, holds_at}
+use Rattle.lists.proofs.Lemmas.{onto_some, some_is, some_in, some_same, none≢some, holds_at}
 use Rattle.lists.specs.Members.{heads}
 use Rattle.opcodes.specs.declared.instruction.Instr.{Instr}
 use Rattle.bytecode_model.specs.declared.Value.{Value}

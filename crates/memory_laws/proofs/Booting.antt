@@ -1,7 +1,7 @@
 -- The boot state, and runs from it, step by step.
 use Rattle.std.proofs.Common.{◌≡◌, ℕ, zero, suc, Bool, true, false, List, [], ◌∷◌, length, map, Option, Some, None, slice_get, refl, sym, ap, ◌∙◌, IsSomeAnd}
 use Rattle.std.specs.Prelude.{if◌then◌else◌}
-use Rattle.lists.specs.Lemmas.{onto_some, some_is, some_in, some_same, none≢some}
+use Rattle.lists.proofs.Lemmas.{onto_some, some_is, some_in, some_same, none≢some}
 use Rattle.opcodes.specs.Start.{IsStart}
 use Rattle.bytecode_model.specs.declared.Value.{Value}
 use Rattle.bytecode_model.specs.declared.Ending.{Ending}

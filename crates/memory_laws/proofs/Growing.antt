@@ -3,7 +3,7 @@ use Rattle.std.proofs.Common.{◌≡◌, ℕ, ◌+◌, ◌*◌, ◌≤◌, Bool,
 use Rattle.std.specs.Prelude.{if◌then◌else◌, nat_le}
 use Rattle.std.proofs.lemmas.List.Sums.{sum_by-cons}
 use Rattle.std.proofs.lemmas.List.Folds.{sum_by-replicate}
-use Rattle.lists.specs.Lemmas.{onto_some, some_same, none≢some, holds_at}
+use Rattle.lists.proofs.Lemmas.{onto_some, some_same, none≢some, holds_at}
 use Rattle.bytecode_model.specs.declared.Value.{Value}
 use Rattle.bytecode_model.specs.declared.Value.TheVariants.{Int, Long, Ref, Null, Unset}
 use Rattle.bytecode_model.specs.declared.Ending.{Ending}
@@ -17,7 +17,7 @@ use Rattle.bytecode_model.specs.Rows as rows
 use Rattle.bytecode_model.specs.Rows.{Row}
 use Rattle.bytecode_model.specs.Effects.{Effect, Stuck, Go, Make, WritePart, WriteStatic, Take, Give, Call, Leave, Raise, fault, on, only_if, on_size, allocate, effect, OutOfMemoryError, fault_object}
 use Rattle.bytecode_model.specs.Steps.{step, step_in, row_at, applied, with_top, raising}
-use Rattle.bytecode_model.specs.WellFormed.{IsAnswer}
+use Rattle.bytecode_model.specs.WellFormed.{IsInput}
 use Rattle.bytecode_typing.specs.Typed.{Typing, Typed}
 use Rattle.bytecode_typing.specs.Lawful.{Lawful}
 use Rattle.bytecode_typing.specs.Fits.{IsGoing, Fits}
@@ -126,7 +126,7 @@ pub data Grows (P : Program) (s t : State) (f : Frame) : Type 0 where
   more : (next words : ℕ) (r : Row) (made : Made) → s.mode ≡ Running → row_at P f ≡ Some (next, r) → made_by P r ≡ Some made → IsAsked made f.operands words → made_words P t ≤ made_words P s + words
       → Grows P s t f
 
-module _ (keep : TypedProgramsKeep) (P : Program) (types : Typing) (frames heap : ℕ) (lawful : Lawful P) (typed : Typed P types) (answer : Option ℕ) (is_answer : IsAnswer answer) (s t : State)
+module _ (keep : TypedProgramsKeep) (P : Program) (types : Typing) (frames heap : ℕ) (lawful : Lawful P) (typed : Typed P types) (answer : Option ℕ) (is_answer : IsInput answer) (s t : State)
     (fits : Fits P types (record { frames = frames; heap = heap }) s) (f : Frame) (callers : List Frame) (frames_are : s.frames ≡ f ∷ callers) where
   abbrev limits : Limits
   limits = record { frames = frames; heap = heap }

@@ -2,7 +2,7 @@
 use Rattle.std.proofs.Common.{◌≡◌, ℕ, suc, ◌+◌, ◌≤◌, Bool, true, false, List, [], ◌∷◌, length, Option, Some, None, refl, sym, ap, ◌∙◌, subst, inl, inr, arith, le-leb, leb-false}
 use Rattle.std.specs.Prelude.{◌⊎◌, if◌then◌else◌, nat_le, IfSome}
 use Rattle.std.proofs.lemmas.List.Sums.{sum_by-cons}
-use Rattle.lists.specs.Lemmas.{onto_some, some_same, none≢some, holds_at}
+use Rattle.lists.proofs.Lemmas.{onto_some, some_same, none≢some, holds_at}
 use Rattle.lists.specs.Members.{heads, tails}
 use Rattle.bytecode_model.specs.declared.Value.{Value}
 use Rattle.bytecode_model.specs.declared.Ending.{Ending}

@@ -4,7 +4,7 @@ use Rattle.std.proofs.lemmas.Bool.{cases_order}
 use Rattle.loop_nest.specs.Digraph.{IsBefore}
 use Rattle.bytecode_model.specs.Program.{Program}
 use Rattle.method_flow.specs.Keeping.{BoundOf}
-use Rattle.lists.specs.Lemmas.{none≢some}
+use Rattle.lists.proofs.Lemmas.{none≢some}
 use Rattle.memory_rules.specs.Stack.{IsStackNeedOf}
 use Rattle.memory_rules.specs.Heap.{Part, IsMostMade}
 use Rattle.memory_rules.specs.Given.{IsFirstLackingLine, HaveMakingLines, IsFirstLackingLength, HaveLengths}

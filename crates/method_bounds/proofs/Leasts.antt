@@ -3,7 +3,7 @@ use Rattle.std.proofs.Common.{◌≡◌, ℕ, List, [], ◌∷◌, ◌++◌, Con
 use Rattle.std.proofs.lemmas.List.Elements.{Contains-push, Contains-push_cases, Contains-append_left}
 use Rattle.lists.specs.Members.{at_head, cons_cases, nil_contains}
 use Rattle.section_check.specs.Least.{IsLeast, lesser_of}
-use Rattle.section_check.specs.LeastLemmas.{least_either}
+use Rattle.section_check.proofs.LeastLemmas.{least_either}
 use Rattle.method_bounds.specs.Loops.{IsAmong}
 
 only_one : (m u : ℕ) → Contains (m ∷ []) u → m ≡ u

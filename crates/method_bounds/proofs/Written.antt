@@ -5,7 +5,7 @@ use Rattle.std.proofs.lemmas.Bool.{cases_eq}
 use Rattle.std.proofs.lemmas.List.{get_or-set_same, get_or-set_other, length-set}
 use Rattle.std.proofs.lemmas.List.Elements.{Contains-push_cases}
 use Rattle.std.proofs.lemmas.Option.{slice_get-get_or, slice_get-map, slice_get_within, get_or_from_slice_get}
-use Rattle.lists.specs.Lemmas.{map_some}
+use Rattle.lists.proofs.Lemmas.{map_some}
 use Rattle.lists.specs.Members.{nil_contains}
 use Rattle.loop_bounds.specs.Bounds.{LoopBound}
 use Rattle.bytecode_model.specs.Program.{Program}

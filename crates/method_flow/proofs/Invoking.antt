@@ -7,7 +7,7 @@ use Rattle.bytecode_model.specs.Program.{Body, body_of, instr_at}
 use Rattle.bytecode_model.specs.Rows.{Row}
 use Rattle.bytecode_model.specs.Steps.{row_in}
 use Rattle.bytecode_model.specs.WellFormed.{is_call}
-use Rattle.lists.specs.Lemmas.{onto_some, some_is, some_in}
+use Rattle.lists.proofs.Lemmas.{onto_some, some_is, some_in}
 use Rattle.micro_flow.specs.Costs.{CostsAreSmall}
 use Rattle.micro_flow.specs.Walk.{IsCost}
 use Rattle.method_flow.specs.Costs.{params, InvokesKeepTheGreatest}

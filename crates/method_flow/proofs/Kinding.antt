@@ -19,7 +19,7 @@ use Rattle.bytecode_model.specs.Rows.{Row}
 use Rattle.bytecode_model.specs.Table.{row_of}
 use Rattle.bytecode_model.specs.Steps.{row_in}
 use Rattle.bytecode_model.specs.WellFormed.{is_call}
-use Rattle.lists.specs.Lemmas.{onto_some, some_same}
+use Rattle.lists.proofs.Lemmas.{onto_some, some_same}
 use Rattle.lists.specs.Members.{at_head, in_tail, cons_cases, nil_contains, map_contains}
 use Rattle.method_flow.specs.Nodes.{IsAtOffset, LeadsTo, IsReturn}
 use Rattle.method_flow.specs.Kinds.{LeadsByKind, IsOfKind, RowsAreOfTheirKinds, CallsAreInvokes}

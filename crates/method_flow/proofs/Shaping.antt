@@ -20,7 +20,7 @@ use Rattle.bytecode_model.specs.Effects.{Effect, Stuck, Go, Make, WritePart, Wri
 use Rattle.bytecode_model.specs.Steps.{taken_types, all_suit, first_frame, with_top, raising, called, resumed, left, written, applied, row_at, catches, handler_for, class_of, unwound, step_in, step}
 use Rattle.bytecode_model.specs.WellFormed.{is_call}
 use Rattle.bytecode_model.specs.Raises.{OnlyMarkedOnesRaise}
-use Rattle.lists.specs.Lemmas.{onto_some, some_same}
+use Rattle.lists.proofs.Lemmas.{onto_some, some_same}
 use Rattle.lists.specs.Members.{at_head, in_tail}
 use Rattle.method_flow.specs.Nodes.{At, LeadsTo, IsReturn, OnRow, MayRaise, IsHandled, IsEdge}
 use Rattle.method_flow.specs.Calls.{targets_of_row}

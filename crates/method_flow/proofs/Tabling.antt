@@ -11,7 +11,7 @@ use Rattle.bytecode_model.specs.Program.{Operand, NoOperand, AnInt, ALong, AStri
 use Rattle.bytecode_model.specs.Rows as rows
 use Rattle.bytecode_model.specs.Rows.{Row}
 use Rattle.bytecode_model.specs.Table.{Meaning, constant, long_constant, by_local, increment, lookup_switch, by_static, by_field, by_method, by_type, by_class, by_code, constants, loads, stores, stack, math, conversions, comparisons, control, references, extended, reserved, instructions, row_among, row_of}
-use Rattle.lists.specs.Lemmas.{none≢some}
+use Rattle.lists.proofs.Lemmas.{none≢some}
 
 -- what a row is where its opcode has this number
 abbrev pub IsOf : (op : ℕ) → (code : List ℕ) → Instr → Row → Type 0

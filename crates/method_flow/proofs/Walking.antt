@@ -8,10 +8,10 @@ use Rattle.bytecode_model.specs.Rows.{Row}
 use Rattle.bytecode_model.specs.Table.{row_of}
 use Rattle.bytecode_model.specs.Steps.{row_in}
 use Rattle.bytecode_model.specs.WellFormed.{is_call}
-use Rattle.lists.specs.Lemmas.{onto_some}
+use Rattle.lists.proofs.Lemmas.{onto_some}
 use Rattle.method_flow.specs.Nodes.{Node, At, RaiseAt, LeadsTo, IsEdge, IsExit}
 use Rattle.method_flow.specs.Calls.{IsCall}
-use Rattle.method_flow.specs.Live.{IsReturning, CanEnd, EndsFrom, GoesOn, IsLiveEdge, LiveWalk}
+use Rattle.method_flow.specs.Live.{IsReturning, CanEnd, EndsFrom, CanBeTaken, IsLiveEdge, LiveWalk}
 use Rattle.method_flow.specs.Live.CanEnd.{ends}
 use Rattle.method_flow.specs.Live.EndsFrom.{here, along as leads_on, behind as leads_behind}
 use Rattle.method_flow.specs.Live.LiveWalk.{stops as stops_at, along as walks_on}
@@ -82,7 +82,7 @@ leads_behind_call P m p q call place = by (row_in P m p) refl call
 
 -- ---- steps
 
-free_goes_on : (P : Program) (m : ℕ) (u v : Node) → (IsReturning P m u v → ⊥) → GoesOn P m u v
+free_goes_on : (P : Program) (m : ℕ) (u v : Node) → (IsReturning P m u v → ⊥) → CanBeTaken P m u v
 free_goes_on P m (At p) (At q) free = λ call. absurd (free call)
 free_goes_on P m (At p) (RaiseAt q) free = tt
 free_goes_on P m (RaiseAt p) v free = tt

@@ -22,13 +22,13 @@ mutual
     behind : {m t p q : ℕ} → IsEdge P m (At p) (At q) → IsTarget P m p t → CanEnd P t → EndsFrom P m (At q) → EndsFrom P m (At p)
 
 -- a run can take the edge: where it leads behind an invoke, one of its targets can end
-abbrev pub GoesOn : Program → (method : ℕ) → Node → Node → Type 0
-GoesOn P m (At p) (At q) = IsCall P m p → (t : ℕ) × IsTarget P m p t × CanEnd P t
-GoesOn P m u v = Unit {0}
+abbrev pub CanBeTaken : Program → (method : ℕ) → Node → Node → Type 0
+CanBeTaken P m (At p) (At q) = IsCall P m p → (t : ℕ) × IsTarget P m p t × CanEnd P t
+CanBeTaken P m u v = Unit {0}
 
 pub record IsLiveEdge (P : Program) (m : ℕ) (u v : Node) : Type 0 where
   pub edge : IsEdge P m u v
-  pub goes_on : GoesOn P m u v
+  pub goes_on : CanBeTaken P m u v
 
 -- a walk that a run can take from a node to an exit, and the numbers of its nodes
 pub data LiveWalk (P : Program) (m : ℕ) : Node → List ℕ → Type 0 where

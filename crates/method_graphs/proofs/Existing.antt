@@ -1,7 +1,7 @@
 -- Graphs of methods exist, where control stays within the code.
 use Rattle.std.proofs.Common.{◌≡◌, ℕ, ◌*◌, ◌<◌, List, length, Contains, Some, refl, inl, inr, arith}
 use Rattle.std.proofs.lemmas.List.Elements.{All-weaker, All-contains_itself}
-use Rattle.lists.specs.Lemmas.{some_in}
+use Rattle.lists.proofs.Lemmas.{some_in}
 use Rattle.opcodes.specs.Start.{AreStarts}
 use Rattle.bytecode_model.specs.Program.{Program, Body, body_of}
 use Rattle.bytecode_typing.specs.Typed.{Typing, Typed}

@@ -2,7 +2,7 @@
 use Rattle.std.proofs.Common.{◌≡◌, ◌⊎◌, ℕ, Bool, true, false, not, List, [], ◌∷◌, ◌++◌, map, reverse, Contains, Option, Some, None, ℤ, pos, ◌+ℤ◌, refl, sym, subst, inl, inr, le-leb, lt-ltb}
 use Rattle.std.specs.Prelude.{IsSome, slice_get, nat_le, nat_lt, ◌&&◌, if◌then◌else◌}
 use Rattle.std.specs.List.{list_all}
-use Rattle.lists.specs.Lemmas.{onto_some, some_is, holds_at, if_at}
+use Rattle.lists.proofs.Lemmas.{onto_some, some_is, holds_at, if_at}
 use Rattle.lists.specs.Members.{cons_cases, nil_contains}
 use Rattle.opcodes.specs.declared.instruction.Case.{Case}
 use Rattle.opcodes.specs.Start.{IsStart}

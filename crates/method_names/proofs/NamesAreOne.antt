@@ -3,7 +3,7 @@ use Rattle.std.proofs.Common.{◌≡◌, ℕ, true, List, [], Option, Some, None
 use Rattle.std.specs.Prelude.{is_some, slice_get}
 use Rattle.std.specs.Option.{option_map_or}
 use Rattle.std.proofs.lemmas.Bool.{false≢true}
-use Rattle.lists.specs.Lemmas.{some_same}
+use Rattle.lists.proofs.Lemmas.{some_same}
 use Rattle.class_pool.specs.declared.class.Member.{Member}
 use Rattle.class_pool.specs.declared.class.ClassFile.{ClassFile}
 use Rattle.class_rules.specs.Grammar.{IsClass}

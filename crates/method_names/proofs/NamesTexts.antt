@@ -5,15 +5,15 @@ use Rattle.std.specs.Option.{option_map_or}
 use Rattle.std.specs.List.{list_all, flat_map, AllByRecursion}
 use Rattle.std.proofs.lemmas.Bool.{false≢true, eqb-true}
 use Prim.Native.Char.{code}
-use Rattle.lists.specs.Lemmas.{some_same}
-use Rattle.lists.specs.FirstLemmas.{flat_map-append}
+use Rattle.lists.proofs.Lemmas.{some_same}
+use Rattle.lists.proofs.FirstLemmas.{flat_map-append}
 use Rattle.lists.specs.Members.{heads, tails}
 use Rattle.lists.specs.Tests.{and_left, and_right}
 use Rattle.class_pool.specs.declared.entry.Entry.{Entry}
 use Rattle.class_pool.specs.declared.entry.Entry.TheVariants as entries
 use Rattle.class_pool.specs.declared.class.Member.{Member}
 use Rattle.class_pool.specs.declared.class.ClassFile.{ClassFile}
-use Rattle.class_pool.specs.Grammar.{entry_at, utf8_of, class_name_of}
+use Rattle.class_pool.specs.Grammar.{entry_at, utf8_of, class_name_of, text_at}
 use Rattle.class_pool.specs.Spelling.{IsInRange}
 use Rattle.class_pool.specs.Utf8.{unit_bytes, utf8_bytes, AreUnits}
 use Rattle.class_pool.specs.Reading.{units_in}
@@ -23,7 +23,7 @@ use Rattle.descriptors.specs.Names.{is_plain, is_path, has_no_parenthesis}
 use Rattle.descriptors.specs.Descriptors.{type_units, result_units}
 use Rattle.class_rules.specs.Rules.{IsClassAt, IsRightMethod}
 use Rattle.class_rules.specs.Grammar.{IsClass}
-use Rattle.class_lookup.specs.Parts.{text_at, name_of, signature_of}
+use Rattle.class_lookup.specs.Parts.{name_of, signature_of}
 use Rattle.program_tables.specs.Numbers.{member_text}
 use Rattle.program_laws.proofs.Facts.{all_at}
 

@@ -11,7 +11,7 @@ use Rattle.bytecode_model.specs.State.{Frame, State}
 use Rattle.bytecode_model.specs.Program.{Program, Limits, body_of, kind_of}
 use Rattle.bytecode_model.specs.Effects.{Effect, Stuck, Go, Make, WritePart, WriteStatic, Take, Give, Call, Leave, Raise, StackOverflowError, fault_object, effect}
 use Rattle.bytecode_model.specs.Steps.{first_frame, with_top, raising, called, resumed, left, written, applied, row_at, handler_for, class_of, unwound, step_in}
-use Rattle.lists.specs.Lemmas.{none≢some, onto_some, some_same}
+use Rattle.lists.proofs.Lemmas.{none≢some, onto_some, some_same}
 use Rattle.method_flow.specs.Shapes.{IsGoingOn}
 use Rattle.method_runs.specs.Standing.{last_node}
 

@@ -5,7 +5,7 @@ use Rattle.opcodes.specs.declared.table.Kind.{Kind}
 use Rattle.opcodes.specs.declared.table.Kind.TheVariants.{Invoke}
 use Rattle.opcodes.specs.Row as opcodes
 use Rattle.opcodes.specs.Target as operands
-use Rattle.lists.specs.Lemmas.{onto_some, some_is, some_in, holds_at}
+use Rattle.lists.proofs.Lemmas.{onto_some, some_is, some_in, holds_at}
 use Rattle.bytecode_model.specs.Program.{Program, body_of, instr_at}
 use Rattle.bytecode_model.specs.Rows.{Row}
 use Rattle.bytecode_model.specs.Steps.{row_in}

@@ -4,7 +4,7 @@ use Rattle.std.specs.declared.option.Option.{Option}
 use Rattle.bytecode_model.specs.State.{Frame, State}
 use Rattle.bytecode_model.specs.Program.{Program, Limits}
 use Rattle.bytecode_model.specs.Steps.{step, run_from, boot_state}
-use Rattle.bytecode_model.specs.WellFormed.{IsAnswer}
+use Rattle.bytecode_model.specs.WellFormed.{IsInput}
 use Rattle.bytecode_typing.specs.Typed.{Typing, Typed}
 use Rattle.bytecode_typing.specs.Lawful.{Lawful}
 use Rattle.bytecode_typing.specs.Fits.{Fits}
@@ -32,7 +32,7 @@ StepsFollowWalks =
 
 -- the input gives bytes, and its end
 abbrev pub GivesBytes : (ℕ → Option ℕ) → Type 0
-GivesBytes input = (k : ℕ) → IsAnswer (input k)
+GivesBytes input = (k : ℕ) → IsInput (input k)
 
 -- what is so of a run and of the walks of its frames, at each number of steps
 pub record HasWalks (P : Program) (types : Typing) (limits : Limits) (input : ℕ → Option ℕ) (s : State) (ws : Walks) (n : ℕ) : Type 0 where

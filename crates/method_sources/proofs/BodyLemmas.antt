@@ -4,7 +4,7 @@ use Rattle.std.specs.Prelude.{List, slice_get, IsSome}
 use Rattle.std.specs.Option.{option_map, option_map_or}
 use Rattle.std.proofs.lemmas.Option.{slice_get_within}
 use Rattle.lists.specs.Lists.{onto}
-use Rattle.lists.specs.Lemmas.{onto_some, map_some}
+use Rattle.lists.proofs.Lemmas.{onto_some, map_some}
 use Rattle.class_pool.specs.declared.class.ClassFile.{ClassFile}
 use Rattle.class_pool.specs.declared.class.Code.{Code}
 use Rattle.class_pool.specs.Found.{code_of}

@@ -8,7 +8,7 @@ use Rattle.micro_flow.specs.declared.price.Price.{Price}
 use Rattle.micro_flow.specs.declared.price.RowCost.{RowCost}
 use Rattle.micro_flow.specs.declared.table.TheConstants.{COSTS}
 use Rattle.micro_flow.specs.declared.table.TheConstants as table
-use Rattle.micro_flow.specs.Walk.{IsGreatest, times_of}
+use Rattle.micro_flow.specs.Walk.{IsGreatestTime, times_of}
 use Rattle.micro_flow.specs.Costs.{worth, larger, total}
 use Rattle.micro_flow.specs.Ceilings.{Ceiling, ceiling_of, raise_ceiling, allowed, Meets, Keeps, CostsKeepCeilings, RaiseKeepsCeiling}
 use Rattle.micro_flow.proofs.Prices.{IsShort, plus, below, below_value, plus_value, first, second}
@@ -18,7 +18,7 @@ use Rattle.micro_flow.proofs.Rows.{opcode_costs, raise_costs}
 use Rattle.micro_flow.proofs.Small.{found_at}
 
 -- there is one greatest walk
-pub greatest_is : (p : CostParams) (at n m : ℕ) → IsGreatest p at n → IsGreatest p at m → n ≡ m
+pub greatest_is : (p : CostParams) (at n m : ℕ) → IsGreatestTime p at n → IsGreatestTime p at m → n ≡ m
 greatest_is p at n m g h =
     let a = g.attained in let b = h.attained in
     let above = h.greatest a.choices a.ends in

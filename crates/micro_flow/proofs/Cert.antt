@@ -8,7 +8,7 @@ use Rattle.microcode_rom.specs.declared.TheConstants.{RAISE}
 use Rattle.micro_flow.specs.declared.CostParams.{CostParams}
 use Rattle.micro_flow.specs.declared.price.Price.{Price}
 use Rattle.micro_flow.specs.Costs.{worth, larger}
-use Rattle.micro_flow.specs.Walk.{Walker, Kind, Reads, Writes, Halts, kind_of, turns_at, walk, begin, Attained, IsGreatest}
+use Rattle.micro_flow.specs.Walk.{Walker, TimeKind, Reads, Writes, Halts, kind_of, turns_at, walk, begin, Attained, IsGreatestTime}
 use Rattle.micro_flow.proofs.Prices.{IsShort, Within, plus, raised, below, all_below, all_within, first, second, plus_value}
 use Rattle.micro_flow.proofs.Upper.{Loop, Ctx, look, cycles, Keeps, bounded, stock, time, told}
 use Rattle.micro_flow.proofs.Lower.{Free, Trace, Follows, trace, trace_follows, is_free, free_is, port_of}
@@ -81,7 +81,7 @@ wait_flag word = elim (micro_of word) [ None ↦ false | Some m ↦ m.nxt ]
 abbrev pub started : Plan → List (List Priced) → ℕ → List ℕ → Price → List Priced
 started c rest at words d = if wait_flag (get_or words 0 0) then finish c d (false ∷ false ∷ []) else reach c rest at (at + 2) d (false ∷ false ∷ [])
 
-abbrev pub of_kind : Plan → List (List Priced) → ℕ → List ℕ → Kind → Bool → List Priced
+abbrev pub of_kind : Plan → List (List Priced) → ℕ → List ℕ → TimeKind → Bool → List Priced
 of_kind c rest at words Reads nxt = started c rest at words (record { fixed = 2; reads = 1; writes = 0 })
 of_kind c rest at words Writes nxt = started c rest at words (record { fixed = 2; reads = 0; writes = 1 })
 of_kind c rest at words Halts nxt = either_way (finish c (cycles 1) (true ∷ [])) (proceed c rest at nxt (cycles 1) (false ∷ []))
@@ -309,7 +309,7 @@ on_top p d (f ∷ fs) base n (inr w) = inr (on_top p d fs base n w)
 
 -- What a good table gives is the greatest walk.
 pub good_greatest : (p : CostParams) → IsShort p → (c : Plan) (table : List (List Priced)) (entry : ℕ) (f : Price) (fs : List Price) → Keeps (all_prices table) c.loop → Good c table entry (f ∷ fs)
-    → IsGreatest p entry (most p (f ∷ fs) + turns_at p c.loop.branch * worth p c.loop.gain)
+    → IsGreatestTime p entry (most p (f ∷ fs) + turns_at p c.loop.branch * worth p c.loop.gain)
 good_greatest p short c table entry f fs keeps g = record {
   attained = ways_take p c entry f fs (get_or table entry []) g.turn g.ways;
   greatest = λ gs e.

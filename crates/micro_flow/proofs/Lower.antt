@@ -12,7 +12,7 @@ use Rattle.microcode_rom.specs.Tables.{turns_in}
 use Rattle.micro_flow.specs.declared.CostParams.{CostParams}
 use Rattle.micro_flow.specs.declared.price.Price.{Price}
 use Rattle.micro_flow.specs.Costs.{worth}
-use Rattle.micro_flow.specs.Walk.{Walker, Kind, Waits, Reads, Writes, Halts, Other, kind_of, times_if, turns_at, passed, arrived, onward, used, turned, branched, timed, stops, step, going, walk}
+use Rattle.micro_flow.specs.Walk.{Walker, TimeKind, Waits, Reads, Writes, Halts, Other, kind_of, times_if, turns_at, passed, arrived, onward, used, turned, branched, timed, stops, step, going, walk}
 use Rattle.micro_flow.proofs.Prices.{plus, first, second, plus_value}
 use Rattle.micro_flow.proofs.Upper.{cycles, used_same}
 
@@ -70,7 +70,7 @@ abbrev pub tbranched : ℕ → Bool → ℕ → Trace → Trace
 tbranched br true to x = tarrived to (tpassed 3 (tturned br (nat_lt x.at to) (to == RAISE) x))
 tbranched br false to x = tonward false (tpassed 1 x)
 
-abbrev pub ttimed : Kind → Trace → Trace
+abbrev pub ttimed : TimeKind → Trace → Trace
 ttimed Waits x = record x { clock = plus x.clock (wait_price x.port); port = Free }
 ttimed Reads x = record (tpassed 1 x) { port = Reading }
 ttimed Writes x = record (tpassed 1 x) { port = Writing }
@@ -204,7 +204,7 @@ wait_takes p Free = omega arith
 wait_takes p Reading = omega arith
 wait_takes p Writing = omega arith
 
-pub time_follows : (p : CostParams) (br rest base : ℕ) (k : Kind) (x : Trace) (s : Walker) → Follows p br rest base x s → (ttimed k x).fine ≡ true → Follows p br rest base (ttimed k x) (timed k p s)
+pub time_follows : (p : CostParams) (br rest base : ℕ) (k : TimeKind) (x : Trace) (s : Walker) → Follows p br rest base x s → (ttimed k x).fine ≡ true → Follows p br rest base (ttimed k x) (timed k p s)
 time_follows p br rest base Waits x s h f =
     let hc = h.clock in
     record { at = h.at; port = refl; clock = ap (λ i. s.clock + suc (pred i)) h.port ∙ ap (λ i. s.clock + i) (wait_takes p x.port) ∙ omega (arith, plus_value p x.clock (wait_price x.port)); left = h.left; others = h.others; over = h.over; fine = h.fine }
@@ -243,7 +243,7 @@ was_tbranched br true to x f = by (nat_lt x.at to) (to == RAISE) (was_tpassed 3 
     by false false k = second (nat_lt 0 x.may) x.fine (second (x.at == br) (nat_lt 0 x.may && x.fine) k)
 was_tbranched br false to x f = was_tpassed 1 x f
 
-pub was_ttimed : (k : Kind) (x : Trace) → (ttimed k x).fine ≡ true → x.fine ≡ true
+pub was_ttimed : (k : TimeKind) (x : Trace) → (ttimed k x).fine ≡ true → x.fine ≡ true
 was_ttimed Waits x f = f
 was_ttimed Reads x f = was_tpassed 1 x f
 was_ttimed Writes x f = was_tpassed 1 x f

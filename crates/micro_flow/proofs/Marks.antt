@@ -7,7 +7,7 @@ use Rattle.micro_isa.specs.Operations.{operation_of}
 use Rattle.micro_isa.specs.Words.{micro_of}
 use Rattle.microcode_rom.specs.declared.TheConstants.{WORDS}
 use Rattle.micro_flow.specs.declared.CostParams.{CostParams}
-use Rattle.micro_flow.specs.Walk.{Walker, Kind, Waits, Reads, Writes, Halts, Other, kind_of, passed, onward, turned, branched, timed, stops, step, going, walk}
+use Rattle.micro_flow.specs.Walk.{Walker, TimeKind, Waits, Reads, Writes, Halts, Other, kind_of, passed, onward, turned, branched, timed, stops, step, going, walk}
 use Rattle.micro_flow.proofs.Prices.{first, second}
 
 abbrev pub marked : List Bool → ℕ → Bool
@@ -83,7 +83,7 @@ closed_at to words (b ∷ from) next holds (suc i) here =
 abbrev pub Lands : (to : List Bool) → (at : ℕ) → Walker → Type 0
 Lands to at s = ((s.over ≡ true) × (s.at ≡ at)) ⊎ (marked to s.at ≡ true)
 
-timed_at : (k : Kind) (p : CostParams) (s : Walker) → (timed k p s).at ≡ s.at
+timed_at : (k : TimeKind) (p : CostParams) (s : Walker) → (timed k p s).at ≡ s.at
 timed_at Waits p s = refl
 timed_at Reads p s = refl
 timed_at Writes p s = refl
@@ -102,7 +102,7 @@ nxt_falls : (nxt falls : Bool) → (nxt || falls) ≡ true → nxt ≡ false →
 nxt_falls true falls holds none = cc
 nxt_falls false falls holds none = holds
 
-stops_falls : (k : Kind) (choice nxt falls : Bool) → (nxt || falls) ≡ true → stops k choice nxt ≡ false → falls ≡ true
+stops_falls : (k : TimeKind) (choice nxt falls : Bool) → (nxt || falls) ≡ true → stops k choice nxt ≡ false → falls ≡ true
 stops_falls Waits choice nxt falls holds none = nxt_falls nxt falls holds none
 stops_falls Reads choice nxt falls holds none = nxt_falls nxt falls holds none
 stops_falls Writes choice nxt falls holds none = nxt_falls nxt falls holds none

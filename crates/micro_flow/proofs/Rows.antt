@@ -9,7 +9,7 @@ use Rattle.micro_flow.specs.declared.price.Price.{Price}
 use Rattle.micro_flow.specs.declared.price.RowCost.{RowCost}
 use Rattle.micro_flow.specs.declared.table.TheConstants.{COSTS}
 use Rattle.micro_flow.specs.declared.table.TheConstants as table
-use Rattle.micro_flow.specs.Walk.{IsGreatest, IsCost, IsRaiseCost, turns_at, times_of}
+use Rattle.micro_flow.specs.Walk.{IsGreatestTime, IsCost, IsRaiseCost, turns_at, times_of}
 use Rattle.micro_flow.specs.Costs.{worth, larger, total}
 use Rattle.micro_flow.proofs.Prices.{IsShort, all_below, raised, first, second}
 use Rattle.micro_flow.proofs.Upper.{cycles, look, Keeps, told}
@@ -83,7 +83,7 @@ all_priced (entry ∷ entries) [] = false
 all_priced (entry ∷ entries) (cost ∷ costs) = entry_ok entry cost && all_priced entries costs
 
 good_costs : (p : CostParams) → IsShort p → (c : Plan) (table : List (List Priced)) (entry : ℕ) (row : RowCost) (turns : ℕ) → Keeps (all_prices table) c.loop → is_good c table entry row ≡ true → turns ≡ turns_at p c.loop.branch
-    → IsGreatest p entry (larger (worth p row.one) (worth p row.other) + turns * worth p row.turn)
+    → IsGreatestTime p entry (larger (worth p row.one) (worth p row.other) + turns * worth p row.turn)
 good_costs p short c table entry row turns keeps h t =
     let known = told (look (all_prices table) entry) in
     let below = all_below (look (all_prices table) entry) (raised c.loop.gain (prices row)) in
@@ -95,14 +95,14 @@ good_costs p short c table entry row turns keeps h t =
     let h3 = second ways (turn && gains) h2 in
     let good : Good c table entry (prices row) = record { known = first known (below && (ways && (turn && gains))) h; prices = first below (ways && (turn && gains)) h1; ways = first ways (turn && gains) h2; turn = first turn gains h3 } in
     let g = good_greatest p short c table entry row.one (row.other ∷ []) keeps good in
-    subst (λ n. IsGreatest p entry (larger (worth p row.one) (worth p row.other) + n)) (ap (λ n. n * worth p c.loop.gain) (sym t) ∙ ap (λ n. turns * n) (sym (same_value p row.turn c.loop.gain (second turn gains h3))))
-    (subst (λ n. IsGreatest p entry (larger (worth p row.one) n + turns_at p c.loop.branch * worth p c.loop.gain)) (larger_none (worth p row.other)) g)
+    subst (λ n. IsGreatestTime p entry (larger (worth p row.one) (worth p row.other) + n)) (ap (λ n. n * worth p c.loop.gain) (sym t) ∙ ap (λ n. turns * n) (sym (same_value p row.turn c.loop.gain (second turn gains h3))))
+    (subst (λ n. IsGreatestTime p entry (larger (worth p row.one) n + turns_at p c.loop.branch * worth p c.loop.gain)) (larger_none (worth p row.other)) g)
 
-entry_costs : (p : CostParams) → IsShort p → (entry : ℕ) (row : RowCost) → entry_ok entry row ≡ true → IsGreatest p entry (total p row)
+entry_costs : (p : CostParams) → IsShort p → (entry : ℕ) (row : RowCost) → entry_ok entry row ≡ true → IsGreatestTime p entry (total p row)
 entry_costs p short entry row h = by row.turns refl h
   where
     shown : Turns → Type 0
-    shown turns = IsGreatest p entry (larger (worth p row.one) (worth p row.other) + times_of p turns * worth p row.turn)
+    shown turns = IsGreatestTime p entry (larger (worth p row.one) (worth p row.other) + times_of p turns * worth p row.turn)
 
     counted : (n : ℕ) (b : Bool) → (n == 0) ≡ b → (if b then is_good (no_loop entry) straight entry row else (n == 31 && is_good division dividing entry row)) ≡ true → shown (Count n)
     counted n true e k = good_costs p short (no_loop entry) straight entry row n straight_keeps k (eqb-true n 0 e)
@@ -113,18 +113,18 @@ entry_costs p short entry row h = by row.turns refl h
           | Count n ↦ if n == 0 then is_good (no_loop entry) straight entry row else (n == 31 && is_good division dividing entry row)
           | PerPair ↦ is_good search searching entry row
           | PerEntry ↦ is_good handlers raising entry row
-        ]) ≡ true → IsGreatest p entry (total p row)
+        ]) ≡ true → IsGreatestTime p entry (total p row)
     by (Count n) e k = subst shown (sym e) (counted n (n == 0) refl k)
     by PerPair e k = subst shown (sym e) (good_costs p short search searching entry row p.pairs searching_keeps k refl)
     by PerEntry e k = subst shown (sym e) (good_costs p short handlers raising entry row p.entries raising_keeps k refl)
 
-priced_at : (p : CostParams) → IsShort p → (entries : List ℕ) (costs : List RowCost) → all_priced entries costs ≡ true → (op : ℕ) (row : RowCost) → slice_get costs op ≡ Some row → IsGreatest p (get_or entries op 0) (total p row)
+priced_at : (p : CostParams) → IsShort p → (entries : List ℕ) (costs : List RowCost) → all_priced entries costs ≡ true → (op : ℕ) (row : RowCost) → slice_get costs op ≡ Some row → IsGreatestTime p (get_or entries op 0) (total p row)
 priced_at p short [] [] h op row e = cc
 priced_at p short [] (cost ∷ costs) h op row e = cc
 priced_at p short (entry ∷ entries) [] h op row e = cc
 priced_at p short (entry ∷ entries) (cost ∷ costs) h zero row e =
     let same : cost ≡ row = cc in
-    subst (λ (x : RowCost). IsGreatest p entry (total p x)) same (entry_costs p short entry cost (first (entry_ok entry cost) (all_priced entries costs) h))
+    subst (λ (x : RowCost). IsGreatestTime p entry (total p x)) same (entry_costs p short entry cost (first (entry_ok entry cost) (all_priced entries costs) h))
 priced_at p short (entry ∷ entries) (cost ∷ costs) h (suc op) row e = priced_at p short entries costs (second (entry_ok entry cost) (all_priced entries costs) h) op row e
 
 pub table_holds : all_priced ENTRIES COSTS ≡ true

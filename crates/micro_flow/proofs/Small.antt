@@ -8,7 +8,7 @@ use Rattle.micro_flow.specs.declared.price.Price.{Price}
 use Rattle.micro_flow.specs.declared.price.RowCost.{RowCost}
 use Rattle.micro_flow.specs.declared.table.TheConstants.{COSTS}
 use Rattle.micro_flow.specs.declared.table.TheConstants as table
-use Rattle.micro_flow.specs.Walk.{IsGreatest, times_of}
+use Rattle.micro_flow.specs.Walk.{IsGreatestTime, times_of}
 use Rattle.micro_flow.specs.Costs.{worth, larger, total, AreInRange, SmallCost, CostsAreSmall, RaiseIsSmall}
 use Rattle.micro_flow.proofs.Prices.{first, second}
 use Rattle.micro_flow.proofs.Rows.{opcode_costs, raise_costs}
@@ -92,7 +92,7 @@ costs_are_small p range op = by (nat_lt op 256) refl
     by true e = small_below p range op (ltb-true op 256 e)
     by false e =
         let zero_cost = small_below p range 0 (omega arith) in
-        record { cycles = zero_cost.cycles; is = subst (λ at. IsGreatest p at zero_cost.cycles) (sym (past_all ENTRIES op (ltb-false op 256 e))) zero_cost.is; small = zero_cost.small }
+        record { cycles = zero_cost.cycles; is = subst (λ at. IsGreatestTime p at zero_cost.cycles) (sym (past_all ENTRIES op (ltb-false op 256 e))) zero_cost.is; small = zero_cost.small }
 
 pub raise_is_small : RaiseIsSmall
 raise_is_small p range = record { cycles = total p table.RAISE; is = raise_costs p (record { r = range.r; w = range.w }); small = total_small p range table.RAISE refl }

@@ -9,7 +9,7 @@ use Rattle.microcode_rom.specs.declared.TheConstants.{WORDS, RAISE}
 use Rattle.micro_flow.specs.declared.CostParams.{CostParams}
 use Rattle.micro_flow.specs.declared.price.Price.{Price}
 use Rattle.micro_flow.specs.Costs.{worth}
-use Rattle.micro_flow.specs.Walk.{Walker, Kind, Waits, Reads, Writes, Halts, Other, kind_of, passed, arrived, onward, used, turned, branched, timed, stops, step, going, walk, Ends}
+use Rattle.micro_flow.specs.Walk.{Walker, TimeKind, Waits, Reads, Writes, Halts, Other, kind_of, passed, arrived, onward, used, turned, branched, timed, stops, step, going, walk, Ends}
 use Rattle.micro_flow.proofs.Prices.{IsShort, Within, plus, plus_value, raised, some_above, all_below, above_within, all_within, raise_within, lower_within, rebase, first, second}
 
 -- A loop: its branch that goes back, and what each turn adds. Prices are told on top of one turn's, so that none is below 0 at the branch.
@@ -55,7 +55,7 @@ wait_ok ns l at fs d (Some m) = elim m.body [ Plain code ↦ (elim (kind_of (ope
 abbrev pub start_ok : List (List Price) → Loop → ℕ → List Price → Price → Bool
 start_ok ns l at fs d = (if at == RAISE then false else true) && wait_ok ns l at fs d (micro_of (get_or WORDS at 0))
 
-abbrev pub plain_ok : List (List Price) → Loop → ℕ → List Price → Kind → Bool → Bool
+abbrev pub plain_ok : List (List Price) → Loop → ℕ → List Price → TimeKind → Bool → Bool
 plain_ok ns l at fs Waits nxt = on_ok ns l at fs (cycles 1) nxt
 plain_ok ns l at fs Reads nxt = (if nxt then false else true) && start_ok ns l ((at + 1) % 2048) fs (record { fixed = 2; reads = 1; writes = 0 })
 plain_ok ns l at fs Writes nxt = (if nxt then false else true) && start_ok ns l ((at + 1) % 2048) fs (record { fixed = 2; reads = 0; writes = 1 })
@@ -115,7 +115,7 @@ pub was_onward : (b : Bool) (s : Walker) → (onward b s).fine ≡ true → s.fi
 was_onward true s f = f
 was_onward false s f = f
 
-pub was_timed : (k : Kind) (p : CostParams) (s : Walker) → (timed k p s).fine ≡ true → s.fine ≡ true
+pub was_timed : (k : TimeKind) (p : CostParams) (s : Walker) → (timed k p s).fine ≡ true → s.fine ≡ true
 was_timed Waits p s f = f
 was_timed Reads p s f = f
 was_timed Writes p s f = f
@@ -261,7 +261,7 @@ pub ended : (c : Ctx) (gs : List Bool) → Holds c gs → (stop nxt : Bool) (s :
 ended c gs ih true nxt s fs base h q z e = go_on c gs ih true s fs (cycles 1) base (first (ends c.loop fs (cycles 1)) (on_ok c.nodes c.loop s.at fs (cycles 1) nxt) h) (omega arith) z e
 ended c gs ih false nxt s fs base h q z e = go_on c gs ih nxt s fs (cycles 1) base (second (ends c.loop fs (cycles 1)) (on_ok c.nodes c.loop s.at fs (cycles 1) nxt) h) (omega arith) z e
 
-pub plain_on : (c : Ctx) (gs : List Bool) → Holds c gs → (k : Kind) (g nxt : Bool) (s : Walker) (fs : List Price) → plain_ok c.nodes c.loop s.at fs k nxt ≡ true → s.port ≡ 0 → Ends (walk c.p gs (onward (stops k g nxt) (timed k c.p s))) →
+pub plain_on : (c : Ctx) (gs : List Bool) → Holds c gs → (k : TimeKind) (g nxt : Bool) (s : Walker) (fs : List Price) → plain_ok c.nodes c.loop s.at fs k nxt ≡ true → s.port ≡ 0 → Ends (walk c.p gs (onward (stops k g nxt) (timed k c.p s))) →
     Within c.p fs (s.clock + stock c s) (time c (walk c.p gs (onward (stops k g nxt) (timed k c.p s))))
 plain_on c gs ih Waits g nxt s fs h z e = go_on c gs ih nxt (timed Waits c.p s) fs (cycles 1) s.clock h (let q : pred s.port ≡ 0 = ap pred z in omega arith) refl e
 plain_on c gs ih Reads g true s fs h z e = cc
@@ -300,7 +300,7 @@ word_on c gs ih None g s fs h z e = let f = was_walk c.p gs (record s { fine = f
 word_on c gs ih (Some m) g s fs h z e = body_on c gs ih m.body m.opd m.nxt g s fs h z e
 
 -- a wait at a port that isn't ready
-pub wait_kind : (c : Ctx) (gs : List Bool) → Holds c gs → (k : Kind) (g nxt : Bool) (s : Walker) (fs : List Price) (d : Price) (base : ℕ) → (elim k [ Waits ↦ on_ok c.nodes c.loop s.at fs d nxt | _ ↦ false ]) ≡ true → 0 < s.port → base + worth c.p d ≡ s.clock + s.port
+pub wait_kind : (c : Ctx) (gs : List Bool) → Holds c gs → (k : TimeKind) (g nxt : Bool) (s : Walker) (fs : List Price) (d : Price) (base : ℕ) → (elim k [ Waits ↦ on_ok c.nodes c.loop s.at fs d nxt | _ ↦ false ]) ≡ true → 0 < s.port → base + worth c.p d ≡ s.clock + s.port
     → Ends (walk c.p gs (onward (stops k g nxt) (timed k c.p s))) → Within c.p fs (base + stock c s) (time c (walk c.p gs (onward (stops k g nxt) (timed k c.p s))))
 wait_kind c gs ih Waits g nxt s fs d base h z r e = go_on c gs ih nxt (timed Waits c.p s) fs d base h (let k : suc (pred s.port) ≡ s.port = omega arith in omega arith) refl e
 wait_kind c gs ih Reads g nxt s fs d base h z r e = cc

@@ -28,14 +28,14 @@ abbrev pub turns_at : CostParams → (address : ℕ) → ℕ
 turns_at p address = times_if p (turns_in address TURNS)
 
 -- what of an operation matters to time; a look-up takes one cycle, since it is supposed to hit
-pub data Kind : Type 0 where
-  Waits : Kind
-  Reads : Kind
-  Writes : Kind
-  Halts : Kind
-  Other : Kind
+pub data TimeKind : Type 0 where
+  Waits : TimeKind
+  Reads : TimeKind
+  Writes : TimeKind
+  Halts : TimeKind
+  Other : TimeKind
 
-abbrev pub kind_of : Operation → Kind
+abbrev pub kind_of : Operation → TimeKind
 kind_of Wait = Waits
 kind_of Stmra = Reads
 kind_of Stmwd = Writes
@@ -79,14 +79,14 @@ abbrev pub branched : (taken : Bool) → (to : ℕ) → Walker → Walker
 branched true to s = arrived to (passed 3 (turned (nat_lt s.at to) s))
 branched false to s = onward false (passed 1 s)
 
-abbrev pub timed : Kind → CostParams → Walker → Walker
+abbrev pub timed : TimeKind → CostParams → Walker → Walker
 timed Waits p s = record s { clock = s.clock + suc (pred s.port); port = 0 }
 timed Reads p s = record (passed 1 s) { port = p.r + 1 }
 timed Writes p s = record (passed 1 s) { port = p.w + 1 }
 timed _ p s = passed 1 s
 
 -- whether the walk is over after an operation: a halting one may go on
-abbrev pub stops : Kind → (choice nxt : Bool) → Bool
+abbrev pub stops : TimeKind → (choice nxt : Bool) → Bool
 stops Halts choice nxt = choice || nxt
 stops _ choice nxt = nxt
 
@@ -128,14 +128,14 @@ pub record Attained (p : CostParams) (at n : ℕ) : Type 0 where
   pub takes : (walk p choices (begin p at)).clock ≡ n
 
 -- n is the greatest number of cycles of the walks from an address to a boundary
-pub record IsGreatest (p : CostParams) (at n : ℕ) : Type 0 where
+pub record IsGreatestTime (p : CostParams) (at n : ℕ) : Type 0 where
   pub attained : Attained p at n
   pub greatest : (choices : List Bool) → Ends (walk p choices (begin p at)) → (walk p choices (begin p at)).clock ≤ n
 
 -- n is the cost of an opcode
 abbrev pub IsCost : (op : ℕ) → CostParams → ℕ → Type 0
-IsCost op p n = IsGreatest p (slice_index ENTRIES op) n
+IsCost op p n = IsGreatestTime p (slice_index ENTRIES op) n
 
 -- n is the cost of a step of the raise routine
 abbrev pub IsRaiseCost : CostParams → ℕ → Type 0
-IsRaiseCost p n = IsGreatest p RAISE n
+IsRaiseCost p n = IsGreatestTime p RAISE n

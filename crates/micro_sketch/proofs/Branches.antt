@@ -7,7 +7,7 @@ use Rattle.jop_core.specs.Cycle.{branched, waits, at_boundary, is_running}
 use Rattle.jop_core.specs.declared.halt.Halt.TheVariants.{Running}
 use Rattle.jop_core.specs.Scene.{Scene, next_scene, run}
 use Rattle.micro_flow.specs.declared.CostParams.{CostParams}
-use Rattle.micro_flow.specs.Walk.{Kind, Waits, Reads, Writes, Halts, Other, kind_of, Walker, passed, arrived, onward, used, turned, timed, stops, step, walk}
+use Rattle.micro_flow.specs.Walk.{Walker, passed, arrived, used, turned, step, walk}
 use Rattle.micro_flow.specs.Walk as f
 use Rattle.micro_sketch.specs.Sketch.{Sketch, jumped, aturned, settled, off_entry, stopped}
 use Rattle.micro_sketch.specs.Stands.{Env, Shaped, Goes, Reaches, Tells, PortFits, conc, scene, tick}

@@ -58,7 +58,7 @@ no_byte m k c early silent =
     ))
 
 pub breaks_silently : SilentBreak
-breaks_silently n x e old new t0 t1 tick same none silent b =
+breaks_silently n x e old new t0 t1 fault same none silent b =
     let all : List (Option ℕ) = b.answers ++ [] in
     let r = silent all in
     let w = whole n x e old same none all r in
@@ -76,7 +76,7 @@ unfolding output_during
 no_output c = refl
 
 pub breaks_at_once : BreaksAtOnce
-breaks_at_once old new t0 t1 tick once broke =
+breaks_at_once old new t0 t1 fault once broke =
     let all : List (Option ℕ) = broke.answers ++ [] in
     let before = broke_before 1 broke.cycles old new t0 broke.before broke.answers [] broke.ran broke.quiet (comes_at_once old all once) in
     let none : broke.cycles ≡ 0 = omega (arith, before) in (

@@ -2,12 +2,12 @@
 use Rattle.std.proofs.Common.{ℕ, ◌+◌, ◌≤◌, refl, sym, ◌∙◌, arith, slice_index}
 use Rattle.microcode_rom.specs.declared.TheConstants.{ENTRIES, RAISE}
 use Rattle.micro_flow.specs.declared.CostParams.{CostParams}
-use Rattle.micro_flow.specs.Walk.{begin, IsGreatest, IsCost, IsRaiseCost}
+use Rattle.micro_flow.specs.Walk.{begin, IsGreatestTime, IsCost, IsRaiseCost}
 use Rattle.micro_sketch.specs.Sketch.{Sketch}
 use Rattle.micro_sketch.specs.Laws.{StartsAt, AtEntry}
 use Rattle.micro_sketch.specs.Stands.{Env, Reaches, IsDone, stalls}
 
-pub within_greatest : (p : CostParams) (address c n : ℕ) (x y : Sketch) (e : Env) → StartsAt p address x e → (r : Reaches n x y e) → IsDone y → IsGreatest p address c → r.cycles ≤ c + stalls y p.r
+pub within_greatest : (p : CostParams) (address c n : ℕ) (x y : Sketch) (e : Env) → StartsAt p address x e → (r : Reaches n x y e) → IsDone y → IsGreatestTime p address c → r.cycles ≤ c + stalls y p.r
 within_greatest p address c n x y e a r d k =
     let s = begin p address in
     let w = r.way p a.read a.write s (record { at = λ _. a.at; port = sym a.idle; left = a.turns; over = sym a.going; fine = refl }) in

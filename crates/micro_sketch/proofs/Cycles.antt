@@ -8,7 +8,7 @@ use Rattle.jop_core.specs.declared.halt.Halt.{Halt}
 use Rattle.jop_core.specs.declared.halt.Halt.TheVariants.{Running, Ended, Uncaught}
 use Rattle.jop_core.specs.Scene.{Scene, next_scene, given, left_over}
 use Rattle.micro_flow.specs.declared.CostParams.{CostParams}
-use Rattle.micro_flow.specs.Walk.{Kind, Waits, Reads, Writes, Halts, Other, kind_of, Walker, passed, arrived, onward, used, turned, timed, stops, step, walk}
+use Rattle.micro_flow.specs.Walk.{Walker, onward, step, walk}
 use Rattle.micro_flow.specs.Walk as f
 use Rattle.micro_sketch.specs.Sketch.{Sketch, lead, opd_byte}
 use Rattle.micro_sketch.specs.Stands.{Env, Does, Goes, Reaches, Tells, PortFits, conc, scene, tick, stalls, stalls_for}

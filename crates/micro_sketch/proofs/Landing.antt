@@ -3,7 +3,7 @@ use Rattle.std.proofs.Common.{◌≡◌, ℕ, suc, pred, ◌+◌, ◌^◌, ◌<�
 use Rattle.jop_core.specs.Cycle.{at_boundary}
 use Rattle.jop_core.specs.Scene.{Scene, run}
 use Rattle.micro_flow.specs.declared.CostParams.{CostParams}
-use Rattle.micro_flow.specs.Walk.{IsGreatest}
+use Rattle.micro_flow.specs.Walk.{IsGreatestTime}
 use Rattle.micro_sketch.specs.Sketch.{Sketch}
 use Rattle.micro_sketch.specs.Stands.{Env, Reaches, IsDone, scene, stalls}
 use Rattle.micro_sketch.specs.Laws.{StartsAt, FirstBoundary, ComesSoon}
@@ -36,7 +36,7 @@ lands n x y e r d cycles f =
     let same : cycles ≡ r.cycles = one_first (scene n x e) cycles r.cycles f (first_boundary n x y e r d) in
     (same, ap (λ k. run k (scene n x e)) same ∙ r.same)
 
-pub comes_soon : (p : CostParams) (address c n : ℕ) (x y : Sketch) (e : Env) → StartsAt p address x e → Reaches n x y e → IsDone y → IsGreatest p address c → c + stalls y p.r < 2 ^ 62 → ComesSoon (scene n x e)
+pub comes_soon : (p : CostParams) (address c n : ℕ) (x y : Sketch) (e : Env) → StartsAt p address x e → Reaches n x y e → IsDone y → IsGreatestTime p address c → c + stalls y p.r < 2 ^ 62 → ComesSoon (scene n x e)
 comes_soon p address c n x y e a r d k l =
     let most = within_greatest p address c n x y e a r d k in
     record { cycles = r.cycles; first = first_boundary n x y e r d; soon = omega arith }

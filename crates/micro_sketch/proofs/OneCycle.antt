@@ -14,7 +14,7 @@ use Rattle.jop_core.specs.Cycle.{is_wait, is_ldin}
 use Rattle.jop_core.specs.declared.halt.Halt.TheVariants.{Running}
 use Rattle.jop_core.specs.Scene.{given}
 use Rattle.micro_flow.specs.declared.CostParams.{CostParams}
-use Rattle.micro_flow.specs.Walk.{Kind, Waits, Reads, Writes, Halts, Other, kind_of, Walker, onward, timed, stops}
+use Rattle.micro_flow.specs.Walk.{TimeKind, Waits, Reads, Writes, Halts, Other, kind_of, Walker, onward, timed, stops}
 use Rattle.micro_sketch.specs.Sketch.{Sketch, apush, apop, need, astm, aplain, lead, opd_byte}
 use Rattle.micro_sketch.specs.Stands.{Env, Shaped, Does, Goes, Reaches, PortFits, conc, tick, env_after, env_kind, constants}
 use Rattle.microcode_rom.specs.declared.TheConstants.{WORDS, CONSTANTS}
@@ -50,21 +50,21 @@ ldi_sim n x e k h f =
     let d = push_sim n x e (get_or CONSTANTS k 0) h ((and_parts (nat_lt k 32) (apush (get_or CONSTANTS k 0) x).fine f).1) in
     record { same = ap (λ v. pushed v (conc n x e)) (read_constant n x e k h lt ∙ constants_are k) ∙ d.same; shape = record { low = d.shape.low; total = d.shape.total }; was = d.was }
 
-pub kind_clock : (k : Kind) (e : Env) → (env_kind k e).clock ≡ e.clock
+pub kind_clock : (k : TimeKind) (e : Env) → (env_kind k e).clock ≡ e.clock
 kind_clock Reads e = refl
 kind_clock Writes e = refl
 kind_clock Waits e = refl
 kind_clock Halts e = refl
 kind_clock Other e = refl
 
-pub kind_read : (k : Kind) (e : Env) → (env_kind k e).read ≡ e.read
+pub kind_read : (k : TimeKind) (e : Env) → (env_kind k e).read ≡ e.read
 kind_read Reads e = refl
 kind_read Writes e = refl
 kind_read Waits e = refl
 kind_read Halts e = refl
 kind_read Other e = refl
 
-pub kind_write : (k : Kind) (e : Env) → (env_kind k e).write ≡ e.write
+pub kind_write : (k : TimeKind) (e : Env) → (env_kind k e).write ≡ e.write
 kind_write Reads e = refl
 kind_write Writes e = refl
 kind_write Waits e = refl
@@ -99,7 +99,7 @@ stops_where Hltu true nxt = refl
 stops_where Hltu false nxt = refl
 stops_where _ choice nxt = refl
 
-pub kind_timed : (k : Kind) (nxt choice over : Bool) (p : CostParams) (s : Walker) (e : Env) → (k ≡ Waits → ⊥) → p.r ≡ e.read → p.w ≡ e.write → s.port ≡ e.port → (code : ℕ) (opd : Bool) → k ≡ kind_of (operation_of code) →
+pub kind_timed : (k : TimeKind) (nxt choice over : Bool) (p : CostParams) (s : Walker) (e : Env) → (k ≡ Waits → ⊥) → p.r ≡ e.read → p.w ≡ e.write → s.port ≡ e.port → (code : ℕ) (opd : Bool) → k ≡ kind_of (operation_of code) →
     stops k choice nxt ≡ (over || nxt) → Timed p (record { body = Plain code; opd = opd; nxt = nxt }) choice over s (env_kind k (tick e))
 kind_timed Waits nxt choice over p s e w r q h code opd same st = absurd (w refl)
 kind_timed Reads nxt choice over p s e w r q h code opd same st = record { next = timed Reads p s; is = ap (λ k. onward (stops k choice nxt) (timed k p s)) (sym same) ∙ ap (λ b. onward b (timed Reads p s)) st; at = refl; left = refl; clock = refl; port = ap (λ i. i + 1) r; fine = refl }

@@ -4,7 +4,7 @@ use Rattle.std.specs.declared.option.Option.{Option}
 use Rattle.std.proofs.lemmas.List.{length-reverse}
 use Rattle.microcode_rom.specs.declared.TheConstants.{ENTRIES, RAISE}
 use Rattle.micro_flow.specs.declared.CostParams.{CostParams}
-use Rattle.micro_flow.specs.Walk.{IsGreatest}
+use Rattle.micro_flow.specs.Walk.{IsGreatestTime}
 use Rattle.jop_core.specs.State.{State}
 use Rattle.jop_core.specs.Cycle.{at_boundary, asks_input, output_of, entry_of}
 use Rattle.jop_core.specs.Scene.{Scene, begun, left_over, next_scene, run, output_during}
@@ -13,7 +13,7 @@ use Rattle.micro_sketch.specs.Sketch.{Sketch, exec, among}
 use Rattle.micro_sketch.specs.Stands.{Env, Shaped, Reaches, PortFits, IsDone, conc, scene, stalls}
 use Rattle.micro_sketch.specs.Laws.{StartsAt}
 use Rattle.micro_sketch.specs.Ends.{ComesToBoundary}
-use Rattle.micro_sketch.specs.Step.{RanCycles, IsQuiet, Arrived}
+use Rattle.micro_sketch.specs.Step.{RanCycles, HasNoBoundary, Arrived}
 use Rattle.micro_sketch.specs.Rows.{expecting}
 use Rattle.micro_sketch.specs.RowLaws.{AlwaysSilent, ReadsNothing, WritesNothing}
 use Rattle.micro_sketch.proofs.Scenes.{run-add, run-length}
@@ -33,7 +33,7 @@ leads n x y e r done = record { positive = r.positive; same = r.same; boundary =
 
 -- that boundary comes soon where the cost is small
 pub comes_to_boundary : (p : CostParams) (address c n : ℕ) (x y : Sketch) (e : Env) (s : State) → s ≡ conc n x e → StartsAt p address x e → Reaches n x y e → IsDone y
-    → IsGreatest p address c → c + stalls y p.r < 2 ^ 62 → ComesToBoundary s x.answers
+    → IsGreatestTime p address c → c + stalls y p.r < 2 ^ 62 → ComesToBoundary s x.answers
 comes_to_boundary p address c n x y e s same starts r done greatest few =
     let most = within_greatest p address c n x y e starts r done greatest in
     let P : State → Type 0 = λ z. ComesToBoundary z x.answers in
@@ -87,7 +87,7 @@ putting_adds_one i k c below puts =
     )
 
 -- a run that a fault cut short was on its way to the boundary
-pub broke_before : (cycles m : ℕ) (old new : State) (t0 t1 : Told) (answers more : List (Option ℕ)) → RanCycles m old new t0 t1 answers → IsQuiet (suc m) old answers
+pub broke_before : (cycles m : ℕ) (old new : State) (t0 t1 : Told) (answers more : List (Option ℕ)) → RanCycles m old new t0 t1 answers → HasNoBoundary (suc m) old answers
     → ComesAfter cycles old (answers ++ more) → m < cycles
 broke_before cycles m old new t0 t1 answers more ran quiet comes =
     ⊎_elim

@@ -1,19 +1,19 @@
 -- Runs of a machine and a device together, one cycle more at a time.
-use Rattle.std.proofs.Common.{◌≡◌, ℕ, zero, suc, ◌+◌, ◌-◌, ◌<◌, ◌≤◌, ◌^◌, Bool, true, false, if◌then◌else◌, List, [], ◌∷◌, ◌++◌, ◌⊎◌, inl, inr, ⊎_elim, refl, sym, ap, ◌∙◌, subst, arith, append_assoc, append-nil, add-zero}
+use Rattle.std.proofs.Common.{◌≡◌, ℕ, zero, suc, ◌+◌, ◌-◌, ◌<◌, ◌≤◌, ◌^◌, Bool, true, false, if◌then◌else◌, List, [], ◌∷◌, ◌++◌, ◌⊎◌, inl, inr, ⊎_elim, Ok, Err, refl, sym, ap, ◌∙◌, subst, arith, append_assoc, append-nil, add-zero}
 use Rattle.std.specs.declared.option.Option.{Option}
 use Rattle.jop_core.specs.declared.halt.Halt.{Halt}
 use Rattle.jop_core.specs.declared.halt.Halt.TheVariants.{Running, Ended, Uncaught}
-use Rattle.jop_core.specs.declared.tick.Tick.TheVariants.{Went}
+use Rattle.jop_core.specs.declared.tick.Tick.{Tick}
+use Rattle.jop_core.specs.declared.tick.Tick.TheVariants.{Went, Halted as HasHalted}
 use Rattle.jop_core.specs.State.{State, seen_of}
 use Rattle.jop_core.specs.Cycle.{cycle_of, asks_input, output_of, at_boundary, is_running}
 use Rattle.jop_core.specs.Scene.{Scene, begun, given, left_over, run, output_during, seen_during, notes_during}
+use Rattle.device_traits.specs.declared.fault.DeviceFault.{DeviceFault}
+use Rattle.device_traits.specs.declared.fault.DeviceFault.TheVariants.{Input, Output, Seen}
 use Rattle.device_traits.specs.Told.{Told, GivesWhere, GivesEach}
 use Rattle.jop_core.specs.Ticked.{Ticked, notes_of}
 use Rattle.micro_sketch.specs.Ends.{AreGiven, EndsSoon}
-use Rattle.micro_sketch.specs.declared.step.Stepped.{Stepped}
-use Rattle.micro_sketch.specs.declared.step.Stepped.TheVariants.{Next, Raise, Halted, ReadFault, WriteFault, SeenFault}
-use Rattle.micro_sketch.specs.Step.{StandsAs}
-use Rattle.micro_sketch.specs.Step.{RanCycles, IsQuiet, Arrived, Went as WentOn}
+use Rattle.micro_sketch.specs.Step.{RanCycles, HasNoBoundary, Arrived, Broke}
 use Rattle.micro_sketch.specs.StepLaws.{StepsAddUp}
 use Rattle.micro_sketch.proofs.Scenes.{run-add, run-begun, scene_is, after_output, UsesUp}
 use Rattle.micro_sketch.proofs.During.{output_during-zero, seen_during-zero, notes_during-zero, output_during-one, seen_during-one, notes_during-one, output_during-add, seen_during-add, notes_during-add, output_during-after_output, seen_during-after_output, notes_during-after_output, output_during-followed, seen_during-followed, notes_during-followed, state-followed}
@@ -39,7 +39,7 @@ left_over-asked : (asks : Bool) (input : Option ℕ) (more : List (Option ℕ)) 
 left_over-asked true input more = refl
 left_over-asked false input more = refl
 
-pub Ran-one : (old new : State) (t0 t1 : Told) (tick : Ticked old new t0 t1 Went) → RanCycles 1 old new t0 t1 (asked_for (asks_input old) tick.1)
+pub Ran-one : (old new : State) (t0 t1 : Told) (tick : Ticked old new t0 t1 (Ok Went)) → RanCycles 1 old new t0 t1 (asked_for (asks_input old) tick.1)
 Ran-one old new t0 t1 tick = let answers = asked_for (asks_input old) tick.1 in record {
   state = λ more. ap (λ answer. cycle_of answer old) (given-asked (asks_input old) t0.left t1.left tick.1 more tick.3.left) ∙ sym tick.2;
   left = λ more. left_over-asked (asks_input old) tick.1 more;
@@ -119,7 +119,7 @@ pub record Underway (old new : State) (told told' : Told) : Type 0 where
   pub cycles : ℕ
   pub answers : List (Option ℕ)
   pub ran : RanCycles cycles old new told told' answers
-  pub quiet : IsQuiet (suc cycles) old answers
+  pub quiet : HasNoBoundary (suc cycles) old answers
   pub clock : new.clock ≡ old.clock + cycles
   pub running : new.halt ≡ Running
 
@@ -139,14 +139,14 @@ below_or_from zero (suc n) = inl (omega arith)
 below_or_from (suc k) (suc n) = ⊎_elim (λ below. inl (omega (arith, below))) (λ from. inr (omega (arith, from))) (below_or_from k n)
 
 -- no boundary on the way, also where further answers stand behind
-quiet_more : (n : ℕ) (old mid : State) (t0 t1 : Told) (answers more : List (Option ℕ)) → RanCycles n old mid t0 t1 answers → IsQuiet (suc n) old answers → IsQuiet (suc n) old (answers ++ more)
+quiet_more : (n : ℕ) (old mid : State) (t0 t1 : Told) (answers more : List (Option ℕ)) → RanCycles n old mid t0 t1 answers → HasNoBoundary (suc n) old answers → HasNoBoundary (suc n) old (answers ++ more)
 quiet_more n old mid t0 t1 answers more far quiet i below =
     let R : ℕ → Type 0 = λ k. RanCycles k old mid t0 t1 answers in
     let whole : n ≡ suc i + (n - suc i) = omega arith in
     ap at_boundary (Ran-state (suc i) (n - suc i) old mid t0 t1 answers (subst R whole far) more) ∙ quiet i below
 
 -- and after one more that comes to none
-quiet_on : (n : ℕ) (old new : State) (answers : List (Option ℕ)) → IsQuiet (suc n) old answers → (run (n + 1) (begun old answers)).state ≡ new → at_boundary new ≡ false → IsQuiet (suc (n + 1)) old answers
+quiet_on : (n : ℕ) (old new : State) (answers : List (Option ℕ)) → HasNoBoundary (suc n) old answers → (run (n + 1) (begun old answers)).state ≡ new → at_boundary new ≡ false → HasNoBoundary (suc (n + 1)) old answers
 quiet_on n old new answers quiet ends none i below =
     ⊎_elim
     (λ early. quiet i (omega (arith, early)))
@@ -160,7 +160,7 @@ running_off Running b none = refl
 running_off Ended b none = cc
 running_off Uncaught b none = cc
 
-pub underway_on : (old mid new : State) (t0 t1 t2 : Told) → Underway old mid t0 t1 → Ticked mid new t1 t2 Went → new.clock ≡ mid.clock + 1 → at_boundary new ≡ false → Underway old new t0 t2
+pub underway_on : (old mid new : State) (t0 t1 t2 : Told) → Underway old mid t0 t1 → Ticked mid new t1 t2 (Ok Went) → new.clock ≡ mid.clock + 1 → at_boundary new ≡ false → Underway old new t0 t2
 underway_on old mid new t0 t1 t2 far tick clock none =
     let last = asked_for (asks_input mid) tick.1 in
     let ran = Ran-add far.cycles 1 old mid new t0 t1 t2 far.answers last far.ran (Ran-one mid new t1 t2 tick) in
@@ -173,7 +173,7 @@ underway_on old mid new t0 t1 t2 far tick clock none =
       running = running_off new.halt _ none;
     }
 
-pub arrived : (old mid new : State) (t0 t1 t2 : Told) → Underway old mid t0 t1 → Ticked mid new t1 t2 Went → at_boundary new ≡ true → Arrived old new t0 t2
+pub arrived : (old mid new : State) (t0 t1 t2 : Told) → Underway old mid t0 t1 → Ticked mid new t1 t2 (Ok Went) → at_boundary new ≡ true → Arrived old new t0 t2
 arrived old mid new t0 t1 t2 far tick boundary =
     let last = asked_for (asks_input mid) tick.1 in
     let quiet = quiet_more far.cycles old mid t0 t1 far.answers last far.ran far.quiet in
@@ -208,11 +208,24 @@ clock_below old mid t0 t1 far ends start =
     let soon = (ends far.answers (given_so_far old mid t0 t1 far)).soon in
     omega (arith, still_below old mid t0 t1 far ends, soon, far.clock)
 
--- what a step answers at a boundary
-pub went_on : (old new : State) (told told' : Told) (answer : Stepped) → Arrived old new told told' → StandsAs new answer → WentOn old new told told' answer
-went_on old new told told' Next far stands = (far, stands.0, stands.1, stands.2)
-went_on old new told told' Raise far stands = (far, stands.0, stands.1)
-went_on old new told told' Halted far stands = (far, stands)
-went_on old new told told' ReadFault far stands = absurd stands
-went_on old new told told' WriteFault far stands = absurd stands
-went_on old new told told' SeenFault far stands = absurd stands
+-- A machine that runs hasn't halted: a cycle that is answered was done.
+pub was_done : (old new : State) (t0 t1 : Told) (tick : Tick) → old.halt ≡ Running → Ticked old new t0 t1 (Ok tick) → tick ≡ Went
+was_done old new t0 t1 Went running ticked = refl
+was_done old new t0 t1 HasHalted running ticked = absurd (ticked.0 running)
+
+pub done_so : (old new : State) (t0 t1 : Told) (tick : Tick) → old.halt ≡ Running → Ticked old new t0 t1 (Ok tick) → Ticked old new t0 t1 (Ok Went)
+done_so old new t0 t1 Went running ticked = ticked
+done_so old new t0 t1 HasHalted running ticked = absurd (ticked.0 running)
+
+-- a call on the device that failed on the way
+pub broke : (old mid new : State) (t0 t1 t2 : Told) (fault : DeviceFault) → Underway old mid t0 t1 → new ≡ mid → Ticked mid new t1 t2 (Err fault) → Broke old new t0 t2 fault
+broke old mid new t0 t1 t2 fault far same ticked =
+    let T : State → Type 0 = λ s. Ticked s new t1 t2 (Err fault) in
+    let R : State → Type 0 = λ s. RanCycles far.cycles old s t0 t1 far.answers in
+    record { cycles = far.cycles; answers = far.answers; before = t1; ran = subst R (sym same) far.ran; quiet = far.quiet; tried = subst T (sym same) ticked }
+
+-- it leaves the machine
+pub same_after : (old new : State) (t0 t1 : Told) (fault : DeviceFault) → Ticked old new t0 t1 (Err fault) → new ≡ old
+same_after old new t0 t1 Input ticked = ticked.1
+same_after old new t0 t1 Output ticked = ticked.1
+same_after old new t0 t1 Seen ticked = ticked.1

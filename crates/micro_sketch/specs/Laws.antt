@@ -5,7 +5,7 @@ use mathlib.Core.List.{reverse_aux}
 use Rattle.micro_isa.specs.declared.operation.Operation.TheVariants.{Ldmi, Stsp}
 use Rattle.microcode_rom.specs.declared.TheConstants.{ENTRIES, RAISE}
 use Rattle.micro_flow.specs.declared.CostParams.{CostParams}
-use Rattle.micro_flow.specs.Walk.{turns_at, IsGreatest, IsCost, IsRaiseCost}
+use Rattle.micro_flow.specs.Walk.{turns_at, IsGreatestTime, IsCost, IsRaiseCost}
 use Rattle.jop_core.specs.State.{State}
 use Rattle.jop_core.specs.Cycle.{at_boundary}
 use Rattle.jop_core.specs.Scene.{Scene, run}
@@ -126,5 +126,6 @@ pub record ComesSoon (c : Scene) : Type 0 where
 
 -- A boundary comes soon where the cost is small.
 abbrev pub BoundaryComesSoon : Type 0
-BoundaryComesSoon = (p : CostParams) (address c n : ℕ) (x y : Sketch) (e : Env) → StartsAt p address x e → Reaches n x y e → IsDone y → IsGreatest p address c
-    → c + stalls y p.r < 2 ^ 62 → ComesSoon (scene n x e)
+BoundaryComesSoon =
+    (p : CostParams) (address c n : ℕ) (x y : Sketch) (e : Env)
+    → StartsAt p address x e → Reaches n x y e → IsDone y → IsGreatestTime p address c → c + stalls y p.r < 2 ^ 62 → ComesSoon (scene n x e)

@@ -4,11 +4,11 @@ use Rattle.std.specs.declared.option.Option.{Option}
 use Rattle.microcode_rom.specs.declared.TheConstants.{RAISE}
 use Rattle.micro_flow.specs.declared.CostParams.{CostParams}
 use Rattle.jop_core.specs.declared.halt.Halt.TheVariants.{Running}
-use Rattle.jop_core.specs.declared.tick.Tick.{Tick}
-use Rattle.jop_core.specs.declared.tick.Tick.TheVariants.{ReadFault, WriteFault}
 use Rattle.jop_core.specs.State.{State}
 use Rattle.jop_core.specs.Cycle.{cycle_of, at_boundary}
 use Rattle.jop_core.specs.Scene.{begun, output_during}
+use Rattle.device_traits.specs.declared.fault.DeviceFault.{DeviceFault}
+use Rattle.device_traits.specs.declared.fault.DeviceFault.TheVariants.{Input, Output}
 use Rattle.device_traits.specs.Told.{Told}
 use Rattle.micro_sketch.specs.Sketch.{Sketch}
 use Rattle.micro_sketch.specs.Stands.{Env, Shaped, Reaches, conc, stack_of, stalls}
@@ -101,29 +101,29 @@ RowRunsOn = (n : ℕ) (p : CostParams) (op cycles : ℕ) (f : Effect) (x : Sketc
 
 abbrev pub ReadsNothing : Type 0
 ReadsNothing = (n : ℕ) (x : Sketch) (e : Env) (old new : State) (t0 t1 : Told) → old ≡ conc n x e → x.output ≡ []
-    → ((answers : List (Option ℕ)) → TakesNone n (expecting answers x) e) → Broke old new t0 t1 ReadFault → ⊥
+    → ((answers : List (Option ℕ)) → TakesNone n (expecting answers x) e) → Broke old new t0 t1 Input → ⊥
 
 abbrev pub WritesNothing : Type 0
 WritesNothing = (n : ℕ) (x : Sketch) (e : Env) (old new : State) (t0 t1 : Told) → old ≡ conc n x e → x.output ≡ []
-    → ((answers : List (Option ℕ)) → PutsNone n (expecting answers x) e) → Broke old new t0 t1 WriteFault → ⊥
+    → ((answers : List (Option ℕ)) → PutsNone n (expecting answers x) e) → Broke old new t0 t1 Output → ⊥
 
 -- no byte was taken in or put out before the call that failed
-pub record BrokeSilently (old new : State) (told told' : Told) (tick : Tick) (b : Broke old new told told' tick) : Type 0 where
+pub record BrokeSilently (old new : State) (told told' : Told) (fault : DeviceFault) (b : Broke old new told told' fault) : Type 0 where
   pub taken : b.answers ≡ []
   pub put : output_during b.cycles (begun old b.answers) ≡ []
 
 -- a call that fails does so before anything was taken in or put out
-abbrev pub FailsSilently : State → State → Told → Told → Tick → Type 0
-FailsSilently old new told told' tick = (b : Broke old new told told' tick) → BrokeSilently old new told told' tick b
+abbrev pub FailsSilently : State → State → Told → Told → DeviceFault → Type 0
+FailsSilently old new told told' fault = (b : Broke old new told told' fault) → BrokeSilently old new told told' fault b
 
 abbrev pub SilentBreak : Type 0
-SilentBreak = (n : ℕ) (x : Sketch) (e : Env) (old new : State) (t0 t1 : Told) (tick : Tick) → old ≡ conc n x e → x.output ≡ [] → AlwaysSilent n x e
-    → FailsSilently old new t0 t1 tick
+SilentBreak = (n : ℕ) (x : Sketch) (e : Env) (old new : State) (t0 t1 : Told) (fault : DeviceFault) → old ≡ conc n x e → x.output ≡ [] → AlwaysSilent n x e
+    → FailsSilently old new t0 t1 fault
 
 -- where the first cycle comes to a boundary, a call that fails leaves the machine as it was, and nothing was taken in or put out
 abbrev pub BreaksAtOnce : Type 0
-BreaksAtOnce = (old new : State) (t0 t1 : Told) (tick : Tick) → ((input : Option ℕ) → at_boundary (cycle_of input old) ≡ true)
-    → (b : Broke old new t0 t1 tick) → (new ≡ old) × BrokeSilently old new t0 t1 tick b
+BreaksAtOnce = (old new : State) (t0 t1 : Told) (fault : DeviceFault) → ((input : Option ℕ) → at_boundary (cycle_of input old) ≡ true)
+    → (b : Broke old new t0 t1 fault) → (new ≡ old) × BrokeSilently old new t0 t1 fault b
 
 -- the on-chip words are as many as the sketch says
 abbrev pub StackHasWords : Type 0

@@ -5,7 +5,7 @@ use Rattle.microcode_rom.specs.declared.TheConstants.{CONSTANTS}
 use Rattle.micro_isa.specs.declared.operation.Operation.{Operation}
 use Rattle.memory_timing.specs.Port.{Port}
 use Rattle.micro_flow.specs.declared.CostParams.{CostParams}
-use Rattle.micro_flow.specs.Walk.{Kind, Reads, Writes, kind_of, Walker, walk}
+use Rattle.micro_flow.specs.Walk.{TimeKind, Reads, Writes, kind_of, Walker, walk}
 use Rattle.jop_core.specs.declared.halt.Halt.TheVariants.{Running}
 use Rattle.jop_core.specs.State.{State}
 use Rattle.jop_core.specs.Cycle.{at_boundary}
@@ -72,7 +72,7 @@ pub record Does (n : ℕ) (x y : Sketch) (e : Env) (s : State) : Type 0 where
   pub shape : Shaped n y
   pub was : x.fine ≡ true
 
-abbrev pub env_kind : Kind → Env → Env
+abbrev pub env_kind : TimeKind → Env → Env
 env_kind Reads e = record e { port = e.read + 1 }
 env_kind Writes e = record e { port = e.write + 1 }
 env_kind _ e = e

@@ -3,13 +3,12 @@
 ghost use Rattle.std.specs.Prelude.{◌≡◌, ◌<◌, ◌^◌, true};
 ghost use Rattle.jop_core.specs.Cycle.{at_boundary};
 ghost use Rattle.micro_sketch.specs.Ends.{EndsSoon};
-ghost use Rattle.micro_sketch.specs.Step.{StandsAs};
-ghost use Rattle.micro_sketch.specs.Step.{Went};
+ghost use Rattle.micro_sketch.specs.Step.{StandsAs, Went};
 
-use jop_core::{Devices, Halt, Machine, Tick};
+use jop_core::{DeviceFault, Devices, Halt, Machine};
 use microcode_rom::RAISE;
 
-/// Where the machine stands after a step, or which call on the device failed.
+/// Where the machine stands after a step.
 #[derive(Clone, Copy, Debug, PartialEq, Eq)]
 pub enum Stepped {
     /// At the entry of an opcode.
@@ -18,16 +17,14 @@ pub enum Stepped {
     Raise,
     /// The machine has halted.
     Halted,
-    /// The device's `input` failed. The machine is about to ask for it.
-    ReadFault,
-    /// The device's `output` failed. The machine is about to put its byte.
-    WriteFault,
-    /// The device's `seen` failed. The machine stands where it was handed.
-    SeenFault,
 }
 
-/// Goes on to the next boundary: an opcode's entry, the entry of the raise routine, or a halt.
-pub fn to_boundary<const N: usize, D: Devices>(machine: &mut Machine<N>, device: &mut D) -> Stepped
+/// Goes on to the next boundary: an opcode's entry, the entry of the raise routine, or a halt. Where a call on the
+/// device fails, the machine stands before the cycle that made it.
+pub fn to_boundary<const N: usize, D: Devices>(
+    machine: &mut Machine<N>,
+    device: &mut D,
+) -> Result<Stepped, DeviceFault>
     requires running { machine.old.halt ≡ Halt.Running }
     requires clock { machine.old.clock < 2 ^ 63 }
     requires ends { EndsSoon machine.old }
@@ -35,15 +32,9 @@ pub fn to_boundary<const N: usize, D: Devices>(machine: &mut Machine<N>, device:
     ensures names { D.names device.new ≡ D.names device.old }
 {
     loop {
-        match machine.cycle(device) {
-            Tick::Went => {}
-            Tick::Halted => unreachable!(),
-            Tick::ReadFault => return Stepped::ReadFault,
-            Tick::WriteFault => return Stepped::WriteFault,
-            Tick::SeenFault => return Stepped::SeenFault,
-        }
+        machine.cycle(device)?;
         if machine.at_boundary() {
-            return boundary_of(machine);
+            return Ok(boundary_of(machine));
         }
     }
 }

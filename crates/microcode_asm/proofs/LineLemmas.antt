@@ -1,14 +1,14 @@
 -- What one line more gives.
-use Rattle.std.proofs.Common.{◌≡◌, ℕ, suc, ◌+◌, ◌<◌, ◌≤◌, Bool, true, false, ◌||◌, List, [], ◌∷◌, ◌++◌, length, append_assoc, append-nil, refl, sym, ◌∙◌, ap, ap₂, arith, Option, Some, None, cond, eqb}
+use Rattle.std.proofs.Common.{◌≡◌, ℕ, ◌+◌, ◌≤◌, Bool, true, false, ◌||◌, List, [], ◌∷◌, ◌++◌, length, append_assoc, append-nil, refl, sym, ◌∙◌, ap, arith, Option, Some, None, cond, eqb}
 use Rattle.std.specs.Prelude.{is_some}
 use Rattle.std.specs.Option.{option_or}
 use Rattle.std.specs.List.{list_any, flat_map}
 use Rattle.std.proofs.lemmas.List.{length-append}
 use Rattle.micro_isa.specs.declared.Turns.{Turns}
 use Rattle.microcode_asm.specs.Statements.{Statement, nothing, word, branch, entry, raise, constant, turns, size_of, Line}
-use Rattle.microcode_asm.specs.Programs.{Places, address, word_count, turns_behind, turns_after, is_constant, labels_in}
+use Rattle.microcode_asm.specs.Programs.{LabelPlaces, address, word_count, turns_behind, turns_after, is_constant}
 use Rattle.microcode_asm.specs.Roms.{words_of, named_from, value_or, constant_in, turns_here, turns_from}
-use Rattle.microcode_asm.proofs.LabelLemmas.{or_none, size_le}
+use Rattle.microcode_asm.proofs.LabelLemmas.{size_le}
 
 -- ---- addresses
 
@@ -68,7 +68,7 @@ pub after_more : (t : Option Turns) (xs : List Line) (line : Line) → turns_aft
 after_more t [] line = refl
 after_more t (x ∷ xs) line = after_more (turns_behind t x.statement) xs line
 
-pub turns_more : (place : Places) (n : ℕ) (t : Option Turns) (xs : List Line) (line : Line)
+pub turns_more : (place : LabelPlaces) (n : ℕ) (t : Option Turns) (xs : List Line) (line : Line)
     → turns_from place n t (xs ++ line ∷ []) ≡ turns_from place n t xs ++ turns_here place (n + word_count xs) (turns_after t xs) line.statement
 turns_more place n t [] line =
     let same : n ≡ n + 0 = omega arith in
@@ -83,7 +83,7 @@ turns_more place n t (x ∷ xs) line =
 
 -- ---- words and labels
 
-words_count : (place : Places) (s : Statement) → length (words_of place s) ≡ size_of s
+words_count : (place : LabelPlaces) (s : Statement) → length (words_of place s) ≡ size_of s
 words_count place nothing = refl
 words_count place (word bits) = refl
 words_count place (branch how label) = refl
@@ -92,7 +92,7 @@ words_count place raise = refl
 words_count place (constant n v) = refl
 words_count place (turns t) = refl
 
-pub count_words : (place : Places) (xs : List Line) → length (flat_map (λ (line : Line). words_of place line.statement) xs) ≡ word_count xs
+pub count_words : (place : LabelPlaces) (xs : List Line) → length (flat_map (λ (line : Line). words_of place line.statement) xs) ≡ word_count xs
 count_words place [] = refl
 count_words place (x ∷ xs) =
     omega (arith, length-append (words_of place x.statement) (flat_map (λ (line : Line). words_of place line.statement) xs), words_count place x.statement, count_words place xs)

@@ -1,15 +1,14 @@
 -- Lines read one by one.
-use Rattle.std.proofs.Common.{◌≡◌, ℕ, suc, ◌+◌, ◌<◌, ◌≤◌, ◌^◌, Bool, true, false, List, [], ◌∷◌, ◌++◌, length, get_or, map, replicate, append_assoc, append-nil, refl, sym, ◌∙◌, ap, ap₂, subst, arith, Option, Some, None, cond, inl, inr, ◌⊎◌, eqb}
+use Rattle.std.proofs.Common.{◌≡◌, ℕ, ◌+◌, ◌<◌, ◌≤◌, Bool, true, false, List, [], ◌∷◌, ◌++◌, length, get_or, map, replicate, append_assoc, append-nil, refl, sym, ◌∙◌, ap, ap₂, subst, arith, Option, Some, None, cond, inl, inr, ◌⊎◌}
 use Rattle.std.specs.Prelude.{◌==◌, unwrap_or, Result, Ok, Err, IfOk, IfErr, IfNone}
 use Rattle.std.specs.Option.{option_or, option_map}
-use Rattle.std.specs.List.{slice_split, flat_map, range_with_len}
+use Rattle.std.specs.List.{slice_split, range_with_len}
 use Rattle.std.specs.Map.{lookup}
 use Rattle.std.proofs.lemmas.List.{length-append, map-append, length-map, get_or-map, get_or-replicate, length-replicate}
 use Rattle.std.proofs.lemmas.List.FromFn.{fill_by_all}
 use Rattle.std.proofs.lemmas.List.Splits.{length-slice_split}
 use Rattle.std.proofs.lemmas.List.Sums.{count_by-le-length}
 use Rattle.ascii_text.specs.Line.{lines_of, without_empty_last}
-use Rattle.micro_isa.specs.declared.Turns.{Turns}
 use Rattle.microcode_asm.specs.Parts.{is}
 use Rattle.microcode_asm.specs.Statements.{Line, line_of}
 use Rattle.microcode_asm.specs.declared.AsmKind.{AsmKind}
@@ -17,10 +16,10 @@ use Rattle.microcode_asm.specs.declared.AsmKind.TheVariants.{LabelTwice}
 use Rattle.microcode_asm.specs.declared.AsmFault.{AsmFault}
 use Rattle.microcode_asm.specs.declared.AsmFault.TheVariants.{Line as AtLine, TooLong, NoMemory}
 use Rattle.microcode_asm.specs.declared.Rom.{Rom}
-use Rattle.microcode_asm.specs.Programs.{Places, places_of, read_lines, labels_at, labels_from, size_at, address, word_count, fault_of, KeepRules, is_entry, is_raise, repeats}
-use Rattle.microcode_asm.specs.Roms.{named_from, constant_in, IsProgram, IsAssembled, IsFirstRefused, HasTooManyWords, IsRefused}
+use Rattle.microcode_asm.specs.Programs.{LabelPlaces, places_of, read_lines, labels_at, labels_from, size_at, address, word_count, fault_of, KeepRules, is_entry, repeats}
+use Rattle.microcode_asm.specs.Roms.{named_from, constant_in, IsProgram, IsAssembled, IsFirstRefused, IsRefused}
 use Rattle.microcode_asm.specs.SoFar.{Kept, IsAssembledSoFar, IsRomOf, IsTooLongFor, HasRange, TextHasRange, with_text, text_fault_by, statement_fault_by}
-use Rattle.microcode_asm.proofs.LabelLemmas.{or_none, lookup_append, labels_more, words_in, words_more, words_few}
+use Rattle.microcode_asm.proofs.LabelLemmas.{lookup_append, labels_more, words_in, words_more, words_few}
 use Rattle.microcode_asm.proofs.LineLemmas.{count_words, few_words}
 use Rattle.microcode_asm.proofs.SoFarLemmas.{one_more, line_fault_same}
 
@@ -95,19 +94,19 @@ split_last (d ∷ done) x (b ∷ before) y after e =
       | inr p ↦ inr (p.0, ap₂ (λ (l : Line) ls. l ∷ ls) heads p.1)
     ]
 
-pub rules_more : (place : Places) (done : List Line) (x : Line) → KeepRules place done → fault_of place done (Some x) ≡ None → KeepRules place (done ++ x ∷ [])
+pub rules_more : (place : LabelPlaces) (done : List Line) (x : Line) → KeepRules place done → fault_of place done (Some x) ≡ None → KeepRules place (done ++ x ∷ [])
 rules_more place done x rules none before y after e = elim (split_last done x before y after e) [
   | inl p ↦ ap₂ (λ (ls : List Line) (l : Line). fault_of place ls (Some l)) p.0 p.1 ∙ none
   | inr p ↦ rules before y p.0 p.1
 ]
 
-pub no_rules : (place : Places) → KeepRules place []
+pub no_rules : (place : LabelPlaces) → KeepRules place []
 no_rules place before y after e = absurd (omega (arith, ap length e, length-append before (y ∷ after)))
 
 -- ---- the lines
 
 -- the lines that are read, so many, what was kept of them, and those that are left
-pub record IsReadSoFar (text : List ℕ) (number : ℕ) (left : List (List ℕ)) (place : Places) (k : Kept) : Type 0 where
+pub record IsReadSoFar (text : List ℕ) (number : ℕ) (left : List (List ℕ)) (place : LabelPlaces) (k : Kept) : Type 0 where
   pub before : List (List ℕ)
   pub done : List Line
   pub lines : lines_of text ≡ before ++ left
@@ -126,7 +125,7 @@ pub record IsOfNoLines (k : Kept) : Type 0 where
   pub turns_are : k.turns_are ≡ []
   pub counting : k.counting ≡ None
 
-pub read_first : (text : List ℕ) (left : List (List ℕ)) (place : Places) (k : Kept) → left ≡ lines_of text → IsOfNoLines k → IsReadSoFar text 0 left place k
+pub read_first : (text : List ℕ) (left : List (List ℕ)) (place : LabelPlaces) (k : Kept) → left ≡ lines_of text → IsOfNoLines k → IsReadSoFar text 0 left place k
 read_first text left place k e n = record {
   before = [];
   done = [];
@@ -150,14 +149,14 @@ read_first text left place k e n = record {
 count_done : (before : List (List ℕ)) (done : List Line) → map line_of before ≡ map Some done → length before ≡ length done
 count_done before done e = sym (length-map before line_of) ∙ ap length e ∙ length-map done Some
 
-pub number_fits : (text : List ℕ) (number : ℕ) (left rest : List (List ℕ)) (line : List ℕ) (place : Places) (k : Kept) → IsReadSoFar text number left place k → left ≡ line ∷ rest → number ≤ length text
+pub number_fits : (text : List ℕ) (number : ℕ) (left rest : List (List ℕ)) (line : List ℕ) (place : LabelPlaces) (k : Kept) → IsReadSoFar text number left place k → left ≡ line ∷ rest → number ≤ length text
 number_fits text number left rest line place k r e = omega (arith, r.count, count_done r.before r.done r.read, count_before text r.before left rest line r.lines e)
 
 line_range : (b : Bool) (kind : AsmKind) (o : Option AsmKind) (P : Type 0) → cond b (Some kind) o ≡ None → (b ≡ false → P) → P
 line_range true kind o P none h = absurd (cc)
 line_range false kind o P none h = h refl
 
-pub read_more : (text : List ℕ) (number : ℕ) (left rest : List (List ℕ)) (bytes : List ℕ) (said : Option Line) (place : Places) (k more : Kept) → IsReadSoFar text number left place k → left ≡ bytes ∷ rest
+pub read_more : (text : List ℕ) (number : ℕ) (left rest : List (List ℕ)) (bytes : List ℕ) (said : Option Line) (place : LabelPlaces) (k more : Kept) → IsReadSoFar text number left place k → left ≡ bytes ∷ rest
     → said ≡ line_of bytes → TextHasRange said k → None ≡ text_fault_by place said k → more ≡ with_text place said k → IsReadSoFar text (number + 1) rest place more
 read_more text number left rest bytes None place k more r e is range none next = absurd (cc)
 read_more text number left rest bytes (Some line) place k more r e is range none next =
@@ -177,7 +176,7 @@ read_more text number left rest bytes (Some line) place k more r e is range none
 
 -- ---- what is refused
 
-refused : (text : List ℕ) (number : ℕ) (left rest : List (List ℕ)) (bytes : List ℕ) (kind : AsmKind) (place : Places) (k : Kept) → place ≡ places_of text → (r : IsReadSoFar text number left place k)
+refused : (text : List ℕ) (number : ℕ) (left rest : List (List ℕ)) (bytes : List ℕ) (kind : AsmKind) (place : LabelPlaces) (k : Kept) → place ≡ places_of text → (r : IsReadSoFar text number left place k)
     → left ≡ bytes ∷ rest → fault_of place r.done (line_of bytes) ≡ Some kind → IsFirstRefused text (number + 1) kind
 refused text number left rest bytes kind place k p r e broken = record {
   before = r.done;
@@ -188,11 +187,11 @@ refused text number left rest bytes kind place k p r e broken = record {
       ∙ map-append line_of r.before (bytes ∷ rest)
       ∙ ap (λ (ls : List (Option Line)). ls ++ line_of bytes ∷ map line_of rest) r.read;
   number_is = omega (arith, r.count);
-  kept = subst (λ (q : Places). KeepRules q r.done) p r.rules;
-  broken = subst (λ (q : Places). fault_of q r.done (line_of bytes) ≡ Some kind) p broken;
+  kept = subst (λ (q : LabelPlaces). KeepRules q r.done) p r.rules;
+  broken = subst (λ (q : LabelPlaces). fault_of q r.done (line_of bytes) ≡ Some kind) p broken;
 }
 
-pub refused_text : (text : List ℕ) (number : ℕ) (left rest : List (List ℕ)) (bytes : List ℕ) (said : Option Line) (kind : AsmKind) (place : Places) (k : Kept) → place ≡ places_of text
+pub refused_text : (text : List ℕ) (number : ℕ) (left rest : List (List ℕ)) (bytes : List ℕ) (said : Option Line) (kind : AsmKind) (place : LabelPlaces) (k : Kept) → place ≡ places_of text
     → IsReadSoFar text number left place k → left ≡ bytes ∷ rest → said ≡ line_of bytes → TextHasRange said k → Some kind ≡ text_fault_by place said k → IsFirstRefused text (number + 1) kind
 refused_text text number left rest bytes None kind place k p r e is range broken =
     refused text number left rest bytes kind place k p r e (sym (ap (fault_of place r.done) is) ∙ sym broken)
@@ -202,13 +201,13 @@ refused_text text number left rest bytes (Some line) kind place k p r e is range
 
 -- ---- the end
 
-program : (text : List ℕ) (number : ℕ) (left : List (List ℕ)) (place : Places) (k : Kept) → place ≡ places_of text → (r : IsReadSoFar text number left place k) → left ≡ [] → IsProgram text r.done
+program : (text : List ℕ) (number : ℕ) (left : List (List ℕ)) (place : LabelPlaces) (k : Kept) → place ≡ places_of text → (r : IsReadSoFar text number left place k) → left ≡ [] → IsProgram text r.done
 program text number left place k p r e = record {
   read = ap (map line_of) (r.lines ∙ ap (λ (l : List (List ℕ)). r.before ++ l) e ∙ append-nil r.before) ∙ r.read;
-  kept = subst (λ (q : Places). KeepRules q r.done) p r.rules;
+  kept = subst (λ (q : LabelPlaces). KeepRules q r.done) p r.rules;
 }
 
-pub words_last : (text : List ℕ) (number : ℕ) (left : List (List ℕ)) (place : Places) (k : Kept) → IsReadSoFar text number left place k → length k.words ≤ length text + 1
+pub words_last : (text : List ℕ) (number : ℕ) (left : List (List ℕ)) (place : LabelPlaces) (k : Kept) → IsReadSoFar text number left place k → length k.words ≤ length text + 1
 words_last text number left place k r =
     omega (arith, ap length r.so_far.words, count_words place r.done, few_words r.done, count_done r.before r.done r.read, few_lines text, ap length r.lines, length-append r.before left)
 
@@ -219,9 +218,9 @@ filled xs f n len at =
     fill_by_all (λ i. unwrap_or (f i) 0) (map (λ (o : Option ℕ). unwrap_or o 0) xs) n 0 (length-map xs (λ (o : Option ℕ). unwrap_or o 0) ∙ len)
     (λ i lt. get_or-map (λ (o : Option ℕ). unwrap_or o 0) xs i None 0 (omega (arith, len, lt)) ∙ ap (λ (o : Option ℕ). unwrap_or o 0) (at i lt))
 
-pub assembled : (text : List ℕ) (number : ℕ) (left : List (List ℕ)) (place : Places) (k : Kept) (rom : Rom) → place ≡ places_of text → IsReadSoFar text number left place k → left ≡ [] → IsRomOf k rom → IsAssembled text rom
+pub assembled : (text : List ℕ) (number : ℕ) (left : List (List ℕ)) (place : LabelPlaces) (k : Kept) (rom : Rom) → place ≡ places_of text → IsReadSoFar text number left place k → left ≡ [] → IsRomOf k rom → IsAssembled text rom
 assembled text number left place k rom p r e m =
-    let s = subst (λ (q : Places). IsAssembledSoFar q r.done k) p r.so_far in
+    let s = subst (λ (q : LabelPlaces). IsAssembledSoFar q r.done k) p r.so_far in
     record {
       lines = r.done;
       program = program text number left place k p r e;
@@ -233,7 +232,7 @@ assembled text number left place k rom p r e m =
       turns_are = m.turns_are ∙ s.turns_are;
     }
 
-pub too_long : (text : List ℕ) (number : ℕ) (left : List (List ℕ)) (place : Places) (k : Kept) (fault : AsmFault) → place ≡ places_of text → IsReadSoFar text number left place k → left ≡ []
+pub too_long : (text : List ℕ) (number : ℕ) (left : List (List ℕ)) (place : LabelPlaces) (k : Kept) (fault : AsmFault) → place ≡ places_of text → IsReadSoFar text number left place k → left ≡ []
     → IsTooLongFor k fault → IsRefused text fault
 too_long text number left place k (AtLine n kind) p r e h = absurd h
 too_long text number left place k (TooLong words) p r e h =
@@ -241,17 +240,17 @@ too_long text number left place k (TooLong words) p r e h =
     record { lines = r.done; program = program text number left place k p r e; count = count; many = h.1 }
 too_long text number left place k NoMemory p r e h = tt
 
-pub finish_ok : (text : List ℕ) (number : ℕ) (left : List (List ℕ)) (place : Places) (k : Kept) (result : Result Rom AsmFault) → place ≡ places_of text → IsReadSoFar text number left place k → left ≡ []
+pub finish_ok : (text : List ℕ) (number : ℕ) (left : List (List ℕ)) (place : LabelPlaces) (k : Kept) (result : Result Rom AsmFault) → place ≡ places_of text → IsReadSoFar text number left place k → left ≡ []
     → IfOk result (IsRomOf k) → IfOk result (IsAssembled text)
 finish_ok text number left place k (Ok rom) p r e h = assembled text number left place k rom p r e h
 finish_ok text number left place k (Err fault) p r e h = tt
 
-pub finish_err : (text : List ℕ) (number : ℕ) (left : List (List ℕ)) (place : Places) (k : Kept) (result : Result Rom AsmFault) → place ≡ places_of text → IsReadSoFar text number left place k → left ≡ []
+pub finish_err : (text : List ℕ) (number : ℕ) (left : List (List ℕ)) (place : LabelPlaces) (k : Kept) (result : Result Rom AsmFault) → place ≡ places_of text → IsReadSoFar text number left place k → left ≡ []
     → IfErr result (IsTooLongFor k) → IfErr result (IsRefused text)
 finish_err text number left place k (Ok rom) p r e h = tt
 finish_err text number left place k (Err fault) p r e h = too_long text number left place k fault p r e h
 
-pub places_are : (text : List ℕ) (get : (q : List ℕ) → Option ℕ) → ((q : List ℕ) → get q ≡ lookup (is q) (labels_from 0 (read_lines text))) → ◌≡◌ {A = Places} (λ q. option_map address (get q)) (places_of text)
+pub places_are : (text : List ℕ) (get : (q : List ℕ) → Option ℕ) → ((q : List ℕ) → get q ≡ lookup (is q) (labels_from 0 (read_lines text))) → ◌≡◌ {A = LabelPlaces} (λ q. option_map address (get q)) (places_of text)
 places_are text get h = λ i q. option_map address (h q i)
 
 pub at_none : {X : Type 0} (o : Option X) (P : Type 0) → o ≡ None → IfNone o P → P

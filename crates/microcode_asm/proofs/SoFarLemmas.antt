@@ -1,26 +1,25 @@
 -- One line more of what was kept.
-use Rattle.std.proofs.Common.{◌≡◌, ◌≢◌, ℕ, ◌+◌, ◌<◌, ◌≤◌, Bool, true, false, List, [], ◌∷◌, ◌++◌, length, get_or, set, length-set, replicate, append-nil, refl, sym, ◌∙◌, ap, ap₂, subst, arith, Option, Some, None, cond, inl, inr, eqb}
-use Rattle.std.specs.Prelude.{is_some, if◌then◌else◌, slice_set, slice_index_or}
+use Rattle.std.proofs.Common.{◌≡◌, ◌≢◌, ℕ, ◌+◌, ◌<◌, Bool, true, false, List, [], ◌∷◌, ◌++◌, length, get_or, set, length-set, append-nil, refl, sym, ◌∙◌, ap, ap₂, subst, arith, Option, Some, None, cond, inl, inr, eqb}
+use Rattle.std.specs.Prelude.{is_some, slice_index_or}
 use Rattle.std.specs.Option.{option_or}
-use Rattle.std.specs.List.{list_any, flat_map}
-use Rattle.std.proofs.lemmas.Bool.{cases_Bool, eqb-true, eq-eqb, true≢false, false≢true}
-use Rattle.std.proofs.lemmas.List.{get_or-set_same, get_or-set_other, get_or-replicate}
+use Rattle.std.proofs.lemmas.Bool.{cases_Bool, eqb-true, eq-eqb, true≢false}
+use Rattle.std.proofs.lemmas.List.{get_or-set_same, get_or-set_other}
 use Rattle.micro_isa.specs.declared.Turns.{Turns}
-use Rattle.microcode_asm.specs.Statements.{Statement, nothing, word, branch, entry, raise, constant, turns, size_of, Line}
+use Rattle.microcode_asm.specs.Statements.{Statement, nothing, word, branch, entry, raise, constant, turns, Line}
 use Rattle.microcode_asm.specs.declared.AsmKind.{AsmKind}
-use Rattle.microcode_asm.specs.declared.AsmKind.TheVariants.{Form, NoLabel, LabelTwice, EntryTwice, ConstTwice, NoTurns}
-use Rattle.microcode_asm.specs.Programs.{Places, address, word_count, turns_behind, turns_after, is_entry, is_raise, is_constant, labels_in, repeats, fault_of, statement_fault, branch_fault, enters, raises, sets}
-use Rattle.microcode_asm.specs.Roms.{words_of, named_from, value_or, constant_in, turns_here, turns_from, turns_of_branch}
+use Rattle.microcode_asm.specs.declared.AsmKind.TheVariants.{LabelTwice, EntryTwice, ConstTwice}
+use Rattle.microcode_asm.specs.Programs.{LabelPlaces, address, word_count, turns_behind, turns_after, is_entry, is_raise, repeats, fault_of, statement_fault, branch_fault, enters, raises}
+use Rattle.microcode_asm.specs.Roms.{words_of, named_from, value_or, turns_here, turns_from, turns_of_branch}
 use Rattle.microcode_asm.specs.SoFar.{Kept, next, with_statement, with_names, with_line, statement_fault_by, line_fault_by, entry_fault_by, constant_fault_by, HasRange, IsAssembledSoFar}
 use Rattle.microcode_asm.proofs.LabelLemmas.{or_none}
 use Rattle.microcode_asm.proofs.LineLemmas.{named_more, named_some, constant_more, constant_some, after_more, turns_more, count_words, flat_more}
 
 -- ---- the rule that the line breaks
 
-here_is : (place : Places) (lines : List Line) (k : Kept) → IsAssembledSoFar place lines k → next k ≡ address (word_count lines)
+here_is : (place : LabelPlaces) (lines : List Line) (k : Kept) → IsAssembledSoFar place lines k → next k ≡ address (word_count lines)
 here_is place lines k r = ap address (ap length r.words ∙ count_words place lines)
 
-fault_same : (place : Places) (lines : List Line) (k : Kept) (s : Statement) → IsAssembledSoFar place lines k → HasRange s → statement_fault_by place s k ≡ statement_fault place lines s
+fault_same : (place : LabelPlaces) (lines : List Line) (k : Kept) (s : Statement) → IsAssembledSoFar place lines k → HasRange s → statement_fault_by place s k ≡ statement_fault place lines s
 fault_same place lines k nothing r h = refl
 fault_same place lines k (word bits) r h = refl
 fault_same place lines k (branch how label) r h = ap₂ (λ n t. branch_fault (place label) n t) (here_is place lines k r) r.counting
@@ -34,7 +33,7 @@ twice_first : (b : Bool) (x y z : Option AsmKind) → (b ≡ false → y ≡ z) 
 twice_first true x y z h = refl
 twice_first false x y z h = h refl
 
-pub line_fault_same : (place : Places) (lines : List Line) (k : Kept) (line : Line) → IsAssembledSoFar place lines k → (repeats k.names line.labels ≡ false → HasRange line.statement)
+pub line_fault_same : (place : LabelPlaces) (lines : List Line) (k : Kept) (line : Line) → IsAssembledSoFar place lines k → (repeats k.names line.labels ≡ false → HasRange line.statement)
     → line_fault_by place line k ≡ fault_of place lines (Some line)
 line_fault_same place lines k line r h =
     twice_first (repeats k.names line.labels) (Some LabelTwice) (statement_fault_by place line.statement k) (statement_fault place lines line.statement) (λ e. fault_same place lines k line.statement r (h e))
@@ -42,7 +41,7 @@ line_fault_same place lines k line r h =
 
 -- ---- what is kept of it, field by field
 
-names_with : (place : Places) (s : Statement) (k : Kept) → (with_statement place s k).names ≡ k.names
+names_with : (place : LabelPlaces) (s : Statement) (k : Kept) → (with_statement place s k).names ≡ k.names
 names_with place nothing k = refl
 names_with place (word bits) k = refl
 names_with place (branch how label) k = refl
@@ -51,7 +50,7 @@ names_with place raise k = refl
 names_with place (constant n v) k = refl
 names_with place (turns t) k = refl
 
-words_with : (place : Places) (s : Statement) (k : Kept) → (with_statement place s k).words ≡ k.words ++ words_of place s
+words_with : (place : LabelPlaces) (s : Statement) (k : Kept) → (with_statement place s k).words ≡ k.words ++ words_of place s
 words_with place nothing k = sym (append-nil k.words)
 words_with place (word bits) k = refl
 words_with place (branch how label) k = refl
@@ -60,7 +59,7 @@ words_with place raise k = sym (append-nil k.words)
 words_with place (constant n v) k = sym (append-nil k.words)
 words_with place (turns t) k = sym (append-nil k.words)
 
-turns_with : (place : Places) (s : Statement) (k : Kept) (n : ℕ) → next k ≡ address n → (with_statement place s k).turns_are ≡ k.turns_are ++ turns_here place n k.counting s
+turns_with : (place : LabelPlaces) (s : Statement) (k : Kept) (n : ℕ) → next k ≡ address n → (with_statement place s k).turns_are ≡ k.turns_are ++ turns_here place n k.counting s
 turns_with place nothing k n e = sym (append-nil k.turns_are)
 turns_with place (word bits) k n e = sym (append-nil k.turns_are)
 turns_with place (branch how label) k n e = ap (λ from. k.turns_are ++ turns_of_branch (place label) from k.counting) e
@@ -69,7 +68,7 @@ turns_with place raise k n e = sym (append-nil k.turns_are)
 turns_with place (constant m v) k n e = sym (append-nil k.turns_are)
 turns_with place (turns t) k n e = sym (append-nil k.turns_are)
 
-counting_with : (place : Places) (s : Statement) (k : Kept) → (with_statement place s k).counting ≡ turns_behind k.counting s
+counting_with : (place : LabelPlaces) (s : Statement) (k : Kept) → (with_statement place s k).counting ≡ turns_behind k.counting s
 counting_with place nothing k = refl
 counting_with place (word bits) k = refl
 counting_with place (branch how label) k = refl
@@ -78,7 +77,7 @@ counting_with place raise k = refl
 counting_with place (constant n v) k = refl
 counting_with place (turns t) k = refl
 
-entry_count_with : (place : Places) (s : Statement) (k : Kept) → length k.entries ≡ 256 → length (with_statement place s k).entries ≡ 256
+entry_count_with : (place : LabelPlaces) (s : Statement) (k : Kept) → length k.entries ≡ 256 → length (with_statement place s k).entries ≡ 256
 entry_count_with place nothing k h = h
 entry_count_with place (word bits) k h = h
 entry_count_with place (branch how label) k h = h
@@ -87,7 +86,7 @@ entry_count_with place raise k h = h
 entry_count_with place (constant n v) k h = h
 entry_count_with place (turns t) k h = h
 
-constant_count_with : (place : Places) (s : Statement) (k : Kept) → length k.constants ≡ 32 → length (with_statement place s k).constants ≡ 32
+constant_count_with : (place : LabelPlaces) (s : Statement) (k : Kept) → length k.constants ≡ 32 → length (with_statement place s k).constants ≡ 32
 constant_count_with place nothing k h = h
 constant_count_with place (word bits) k h = h
 constant_count_with place (branch how label) k h = h
@@ -116,7 +115,7 @@ filled_once xs i j v lt none = elim (cases_Bool (eqb i j)) [
       ∙ sym (ap (λ (b : Bool). option_or (get_or xs j None) (cond b (Some v) None)) e ∙ or_none (get_or xs j None))
 ]
 
-entries_with : (place : Places) (s : Statement) (k : Kept) (n op : ℕ) → length k.entries ≡ 256 → HasRange s → statement_fault_by place s k ≡ None → next k ≡ address n
+entries_with : (place : LabelPlaces) (s : Statement) (k : Kept) (n op : ℕ) → length k.entries ≡ 256 → HasRange s → statement_fault_by place s k ≡ None → next k ≡ address n
     → slice_index_or (with_statement place s k).entries op None ≡ option_or (slice_index_or k.entries op None) (cond (enters op s) (Some (address n)) None)
 entries_with place nothing k n op len h f e = sym (or_none (slice_index_or k.entries op None))
 entries_with place (word bits) k n op len h f e = sym (or_none (slice_index_or k.entries op None))
@@ -128,7 +127,7 @@ entries_with place raise k n op len h f e = sym (or_none (slice_index_or k.entri
 entries_with place (constant m v) k n op len h f e = sym (or_none (slice_index_or k.entries op None))
 entries_with place (turns t) k n op len h f e = sym (or_none (slice_index_or k.entries op None))
 
-raise_with : (place : Places) (s : Statement) (k : Kept) (n : ℕ) → statement_fault_by place s k ≡ None → next k ≡ address n
+raise_with : (place : LabelPlaces) (s : Statement) (k : Kept) (n : ℕ) → statement_fault_by place s k ≡ None → next k ≡ address n
     → (with_statement place s k).raise_entry ≡ option_or k.raise_entry (cond (raises s) (Some (address n)) None)
 raise_with place nothing k n f e = sym (or_none k.raise_entry)
 raise_with place (word bits) k n f e = sym (or_none k.raise_entry)
@@ -138,7 +137,7 @@ raise_with place raise k n f e = ap Some e ∙ sym (ap (λ (o : Option ℕ). opt
 raise_with place (constant m v) k n f e = sym (or_none k.raise_entry)
 raise_with place (turns t) k n f e = sym (or_none k.raise_entry)
 
-constants_with : (place : Places) (s : Statement) (k : Kept) (number : ℕ) → length k.constants ≡ 32 → HasRange s → statement_fault_by place s k ≡ None
+constants_with : (place : LabelPlaces) (s : Statement) (k : Kept) (number : ℕ) → length k.constants ≡ 32 → HasRange s → statement_fault_by place s k ≡ None
     → slice_index_or (with_statement place s k).constants number None ≡ option_or (slice_index_or k.constants number None) (value_or number None s)
 constants_with place nothing k number len h f = sym (or_none (slice_index_or k.constants number None))
 constants_with place (word bits) k number len h f = sym (or_none (slice_index_or k.constants number None))
@@ -156,7 +155,7 @@ no_fault true kind o h = absurd (cc)
 no_fault false kind o h = h
 
 -- the names do not count
-fault_named : (place : Places) (s : Statement) (k : Kept) (names : List (List ℕ)) → statement_fault_by place s (with_names names k) ≡ statement_fault_by place s k
+fault_named : (place : LabelPlaces) (s : Statement) (k : Kept) (names : List (List ℕ)) → statement_fault_by place s (with_names names k) ≡ statement_fault_by place s k
 fault_named place nothing k names = refl
 fault_named place (word bits) k names = refl
 fault_named place (branch how label) k names = refl
@@ -170,13 +169,13 @@ named_first test lines line =
     let same : 0 + word_count lines ≡ word_count lines = omega arith in
     named_more 0 test lines line ∙ ap (λ k. option_or (named_from 0 test lines) (cond (test line) (Some (address k)) None)) same
 
-turns_first : (place : Places) (lines : List Line) (line : Line)
+turns_first : (place : LabelPlaces) (lines : List Line) (line : Line)
     → turns_from place 0 None (lines ++ line ∷ []) ≡ turns_from place 0 None lines ++ turns_here place (word_count lines) (turns_after None lines) line.statement
 turns_first place lines line =
     let same : 0 + word_count lines ≡ word_count lines = omega arith in
     turns_more place 0 None lines line ∙ ap (λ k. turns_from place 0 None lines ++ turns_here place k (turns_after None lines) line.statement) same
 
-pub one_more : (place : Places) (lines : List Line) (k : Kept) (line : Line) → IsAssembledSoFar place lines k → HasRange line.statement → line_fault_by place line k ≡ None
+pub one_more : (place : LabelPlaces) (lines : List Line) (k : Kept) (line : Line) → IsAssembledSoFar place lines k → HasRange line.statement → line_fault_by place line k ≡ None
     → IsAssembledSoFar place (lines ++ line ∷ []) (with_line place line k)
 one_more place lines k line r h none =
     let s = line.statement in

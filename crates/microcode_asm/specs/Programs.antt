@@ -1,5 +1,5 @@
 -- The lines of a text together: addresses, labels, and the rules that a line may break.
-use Rattle.std.specs.Prelude.{◌≡◌, ℕ, suc, ◌+◌, ◌%◌, ◌<◌, Bool, true, false, ◌&&◌, ◌||◌, ◌==◌, nat_le, if◌then◌else◌, List, [], ◌∷◌, ◌++◌, length, map, Option}
+use Rattle.std.specs.Prelude.{◌≡◌, ℕ, ◌+◌, ◌%◌, Bool, true, false, ◌&&◌, ◌||◌, ◌==◌, nat_le, if◌then◌else◌, List, [], ◌∷◌, ◌++◌, map, Option}
 use Rattle.std.specs.Prelude.{Some, None, is_none, option_map}
 use Rattle.std.specs.List.{list_any, flat_map}
 use Rattle.std.specs.Map.{lookup}
@@ -8,7 +8,7 @@ use Rattle.micro_isa.specs.declared.Turns.{Turns}
 use Rattle.microcode_asm.specs.declared.AsmKind.{AsmKind}
 use Rattle.microcode_asm.specs.declared.AsmKind.TheVariants.{Form, NoLabel, LabelTwice, EntryTwice, ConstTwice, NoTurns}
 use Rattle.microcode_asm.specs.Parts.{is}
-use Rattle.microcode_asm.specs.Statements.{Statement, nothing, word, branch, entry, raise, constant, turns, size_of, Line, line_of}
+use Rattle.microcode_asm.specs.Statements.{Statement, word, branch, entry, raise, constant, turns, size_of, Line, line_of}
 
 -- the lines of a text; one that isn't of the grammar is None
 abbrev pub read_lines : (text : List ℕ) → List (Option Line)
@@ -41,15 +41,15 @@ labels_from n [] = []
 labels_from n (line ∷ lines) = labels_at n line ++ labels_from (n + size_at line) lines
 
 -- the addresses of labels by their names
-abbrev pub Places : Type 0
-Places = (name : List ℕ) → Option ℕ
+abbrev pub LabelPlaces : Type 0
+LabelPlaces = (name : List ℕ) → Option ℕ
 
 -- of a label that stands twice, the first place counts
-abbrev pub places_in : List (List ℕ × ℕ) → Places
+abbrev pub places_in : List (List ℕ × ℕ) → LabelPlaces
 places_in labels name = option_map address (lookup (is name) labels)
 
 -- the addresses of the labels of a text
-abbrev pub places_of : (text : List ℕ) → Places
+abbrev pub places_of : (text : List ℕ) → LabelPlaces
 places_of text = places_in (labels_from 0 (read_lines text))
 
 -- ---- turns
@@ -102,7 +102,7 @@ branch_fault None from t = Some NoLabel
 branch_fault (Some to) from t = if nat_le to from && is_none t then Some NoTurns else None
 
 -- the rule that a statement breaks behind these lines
-abbrev pub statement_fault : Places → (before : List Line) → Statement → Option AsmKind
+abbrev pub statement_fault : LabelPlaces → (before : List Line) → Statement → Option AsmKind
 statement_fault place before (entry op) = if list_any (is_entry op) before then Some EntryTwice else None
 statement_fault place before raise = if list_any is_raise before then Some EntryTwice else None
 statement_fault place before (constant number value) = if list_any (is_constant number) before then Some ConstTwice else None
@@ -110,10 +110,10 @@ statement_fault place before (branch how label) = branch_fault (place label) (ad
 statement_fault place before other = None
 
 -- the first rule that a line breaks behind these lines, if it breaks one
-abbrev pub fault_of : Places → (before : List Line) → Option Line → Option AsmKind
+abbrev pub fault_of : LabelPlaces → (before : List Line) → Option Line → Option AsmKind
 fault_of place before None = Some Form
 fault_of place before (Some line) = if repeats (labels_in before) line.labels then Some LabelTwice else statement_fault place before line.statement
 
 -- each line keeps the rules behind those before it
-abbrev pub KeepRules : Places → List Line → Type 0
+abbrev pub KeepRules : LabelPlaces → List Line → Type 0
 KeepRules place lines = (before : List Line) (line : Line) (after : List Line) → lines ≡ before ++ line ∷ after → fault_of place before (Some line) ≡ None

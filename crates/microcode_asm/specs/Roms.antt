@@ -1,9 +1,8 @@
 -- What a text is assembled to.
-use Rattle.std.specs.Prelude.{◌≡◌, ℕ, suc, ◌+◌, ◌<◌, ◌≤◌, true, false, Bool, ◌==◌, nat_le, if◌then◌else◌, List, [], ◌∷◌, ◌++◌, length, map, Option, Some, None}
+use Rattle.std.specs.Prelude.{◌≡◌, ℕ, suc, ◌+◌, ◌<◌, ◌≤◌, false, Bool, ◌==◌, nat_le, if◌then◌else◌, List, [], ◌∷◌, ◌++◌, length, map, Option, Some, None}
 use Rattle.std.specs.Prelude.{unwrap_or}
 use Rattle.std.specs.List.{flat_map, range_with_len}
-use Rattle.micro_isa.specs.declared.Body.{Body}
-use Rattle.micro_isa.specs.declared.Body.TheVariants.{Plain, Stm, Ldm, Ldi, Bz, Bnz, Jmp}
+use Rattle.micro_isa.specs.declared.Body.TheVariants.{Bz, Bnz, Jmp}
 use Rattle.micro_isa.specs.declared.Micro.{Micro}
 use Rattle.micro_isa.specs.declared.Turns.{Turns}
 use Rattle.micro_isa.specs.Words.{word_of}
@@ -13,8 +12,8 @@ use Rattle.microcode_asm.specs.declared.AsmFault.TheVariants.{Line as AtLine, To
 use Rattle.microcode_asm.specs.declared.Rom.{Rom}
 use Rattle.microcode_asm.specs.declared.statement.Branch.{Branch}
 use Rattle.microcode_asm.specs.declared.statement.Branch.TheVariants.{IfZero, IfNotZero, Always}
-use Rattle.microcode_asm.specs.Statements.{Statement, nothing, word, branch, entry, raise, constant, turns, size_of, Line}
-use Rattle.microcode_asm.specs.Programs.{read_lines, word_count, address, Places, places_of, turns_behind, is_entry, is_raise, fault_of, KeepRules}
+use Rattle.microcode_asm.specs.Statements.{Statement, word, branch, raise, constant, turns, size_of, Line}
+use Rattle.microcode_asm.specs.Programs.{read_lines, word_count, address, LabelPlaces, places_of, turns_behind, is_entry, is_raise, fault_of, KeepRules}
 
 -- ---- words
 
@@ -24,7 +23,7 @@ branch_to IfNotZero to = record { body = Bnz to; opd = false; nxt = false }
 branch_to Always to = record { body = Jmp to; opd = false; nxt = false }
 
 -- the word of a statement that makes one
-abbrev pub words_of : Places → Statement → List ℕ
+abbrev pub words_of : LabelPlaces → Statement → List ℕ
 words_of place (word bits) = bits ∷ []
 words_of place (branch how label) = word_of (branch_to how (unwrap_or (place label) 0)) ∷ []
 words_of place other = []
@@ -51,12 +50,12 @@ abbrev pub turns_of_branch : (place : Option ℕ) → (from : ℕ) → Option Tu
 turns_of_branch (Some to) from (Some t) = if nat_le to from then (from, t) ∷ [] else []
 turns_of_branch place from t = []
 
-abbrev pub turns_here : Places → (n : ℕ) → Option Turns → Statement → List (ℕ × Turns)
+abbrev pub turns_here : LabelPlaces → (n : ℕ) → Option Turns → Statement → List (ℕ × Turns)
 turns_here place n before (branch how label) = turns_of_branch (place label) (address n) before
 turns_here place n before other = []
 
 -- the branches that have turns, where n words and these turns stand before
-abbrev pub turns_from : Places → (n : ℕ) → Option Turns → List Line → List (ℕ × Turns)
+abbrev pub turns_from : LabelPlaces → (n : ℕ) → Option Turns → List Line → List (ℕ × Turns)
 turns_from place n before [] = []
 turns_from place n before (line ∷ lines) = turns_here place n before line.statement
     ++ turns_from place (n + size_of line.statement) (turns_behind before line.statement) lines

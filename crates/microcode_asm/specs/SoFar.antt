@@ -15,14 +15,14 @@ use Rattle.microcode_asm.specs.declared.AsmFault.{AsmFault}
 use Rattle.microcode_asm.specs.declared.AsmFault.TheVariants.{Line as AtLine, TooLong, NoMemory}
 use Rattle.microcode_asm.specs.declared.Rom.{Rom}
 use Rattle.microcode_asm.specs.declared.state.Assembly.{Assembly}
-use Rattle.microcode_asm.specs.Programs.{Places, address, labels_in, turns_after, repeats, branch_fault, is_entry, is_raise}
+use Rattle.microcode_asm.specs.Programs.{LabelPlaces, address, labels_in, turns_after, repeats, branch_fault, is_entry, is_raise}
 use Rattle.microcode_asm.specs.Roms.{branch_to, words_of, named_from, constant_in, turns_of_branch, turns_from}
 
 abbrev pub texts : List (Vec ℕ Global) → List (List ℕ)
 texts names = map (λ name. name.items) names
 
 -- the addresses that a table of labels gives
-abbrev pub places_by : {S : Type 0} → IndexMap (Vec ℕ Global) ℕ S → Places
+abbrev pub places_by : {S : Type 0} → IndexMap (Vec ℕ Global) ℕ S → LabelPlaces
 places_by labels name = option_map address (get_by (λ k. pointwise nat_eq name k.items) labels)
 
 -- the names of the labels, the words, and what the directives gave
@@ -74,7 +74,7 @@ with_constant number value k = record k { constants = slice_set k.constants numb
 abbrev pub with_turns : Turns → Kept → Kept
 with_turns t k = record k { counting = Some t }
 
-abbrev pub with_statement : Places → Statement → Kept → Kept
+abbrev pub with_statement : LabelPlaces → Statement → Kept → Kept
 with_statement place nothing k = k
 with_statement place (word bits) k = with_word bits k
 with_statement place (branch how label) k = with_branch how (place label) k
@@ -86,7 +86,7 @@ with_statement place (turns t) k = with_turns t k
 abbrev pub with_names : List (List ℕ) → Kept → Kept
 with_names names k = record k { names = k.names ++ names }
 
-abbrev pub with_line : Places → Line → Kept → Kept
+abbrev pub with_line : LabelPlaces → Line → Kept → Kept
 with_line place line k = with_statement place line.statement (with_names line.labels k)
 
 -- ---- the rule that it breaks
@@ -97,14 +97,14 @@ entry_fault_by there = if there then Some EntryTwice else None
 abbrev pub constant_fault_by : (there : Bool) → Option AsmKind
 constant_fault_by there = if there then Some ConstTwice else None
 
-abbrev pub statement_fault_by : Places → Statement → Kept → Option AsmKind
+abbrev pub statement_fault_by : LabelPlaces → Statement → Kept → Option AsmKind
 statement_fault_by place (entry op) k = entry_fault_by (is_some (slice_index_or k.entries op None))
 statement_fault_by place raise k = entry_fault_by (is_some k.raise_entry)
 statement_fault_by place (constant number value) k = constant_fault_by (is_some (slice_index_or k.constants number None))
 statement_fault_by place (branch how label) k = branch_fault (place label) (next k) k.counting
 statement_fault_by place other k = None
 
-abbrev pub line_fault_by : Places → Line → Kept → Option AsmKind
+abbrev pub line_fault_by : LabelPlaces → Line → Kept → Option AsmKind
 line_fault_by place line k = if repeats k.names line.labels then Some LabelTwice else statement_fault_by place line.statement k
 
 -- the numbers of opcodes and constants are in range
@@ -115,11 +115,11 @@ HasRange other = Unit {0}
 
 -- ---- a line by its text, which is None where it isn't of the grammar
 
-abbrev pub text_fault_by : Places → Option Line → Kept → Option AsmKind
+abbrev pub text_fault_by : LabelPlaces → Option Line → Kept → Option AsmKind
 text_fault_by place None k = Some Form
 text_fault_by place (Some line) k = line_fault_by place line k
 
-abbrev pub with_text : Places → Option Line → Kept → Kept
+abbrev pub with_text : LabelPlaces → Option Line → Kept → Kept
 with_text place None k = k
 with_text place (Some line) k = with_line place line k
 
@@ -131,7 +131,7 @@ TextHasRange (Some line) k = repeats k.names line.labels ≡ false → HasRange 
 -- ---- the whole
 
 -- this is what lines give
-pub record IsAssembledSoFar (place : Places) (lines : List Line) (k : Kept) : Type 0 where
+pub record IsAssembledSoFar (place : LabelPlaces) (lines : List Line) (k : Kept) : Type 0 where
   pub names : k.names ≡ labels_in lines
   pub words : k.words ≡ flat_map (λ line. words_of place line.statement) lines
   pub entry_count : length k.entries ≡ 256

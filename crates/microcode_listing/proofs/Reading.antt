@@ -6,7 +6,7 @@ use Rattle.std.proofs.lemmas.Bool.{and_parts, ltb-true, false≢true}
 use Rattle.std.proofs.lemmas.List.Splits.{slice_split-cons_no}
 use Rattle.ascii_text.specs.Line.{without_empty_last, lines_of, with_line_feeds}
 use Rattle.microcode_asm.specs.Statements.{Statement, nothing, word, branch, entry, raise, constant, turns, Line, line_of}
-use Rattle.microcode_asm.specs.Programs.{Places}
+use Rattle.microcode_asm.specs.Programs.{LabelPlaces}
 use Rattle.microcode_asm.specs.SoFar.{Kept, HasRange, TextHasRange, text_fault_by, with_text}
 use Rattle.microcode_asm.proofs.ReadLemmas.{IsReadSoFar, read_more}
 use Rattle.microcode_listing.proofs.ListingTexts.{Texts}
@@ -72,7 +72,7 @@ text_range None k h = tt
 text_range (Some line) k h = λ e. range_of line.statement h
 
 -- what is kept of the lines, if none is refused
-abbrev pub run : Places → Texts → Kept → Option Kept
+abbrev pub run : LabelPlaces → Texts → Kept → Option Kept
 run place [] k = Some k
 run place (line ∷ lines) k =
     elim (is_none (text_fault_by place (line_of line) k) && text_in_range (line_of line)) as (λ b. Option Kept) [ true ↦ run place lines (with_text place (line_of line) k) | false ↦ None ]
@@ -84,7 +84,7 @@ none_is (Some x) h = absurd (false≢true h)
 some_same : {A : Type 0} (x y : A) → Some x ≡ Some y → x ≡ y
 some_same x y h = cc
 
-pub run_reads : (text : List ℕ) (place : Places) (number : ℕ) (lines : Texts) (k last : Kept) → IsReadSoFar text number lines place k → run place lines k ≡ Some last → (n : ℕ) × IsReadSoFar text n [] place last
+pub run_reads : (text : List ℕ) (place : LabelPlaces) (number : ℕ) (lines : Texts) (k last : Kept) → IsReadSoFar text number lines place k → run place lines k ≡ Some last → (n : ℕ) × IsReadSoFar text n [] place last
 run_reads text place number [] k last r e = (number, subst (IsReadSoFar text number [] place) (some_same k last e) r)
 run_reads text place number (line ∷ lines) k last r e = by (is_none (text_fault_by place (line_of line) k) && text_in_range (line_of line)) refl e (run_reads text place (number + 1) lines (with_text place (line_of line) k) last)
   where

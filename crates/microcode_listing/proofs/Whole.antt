@@ -6,7 +6,7 @@ use Rattle.ascii_text.specs.Line.{lines_of}
 use Rattle.opcodes.specs.Row.{row_of}
 use Rattle.microcode_rom.specs.declared.TheConstants.{CONSTANTS, ENTRIES, RAISE, ROWS, TURNS, WORDS}
 use Rattle.microcode_asm.specs.Statements.{line_of, operation_names}
-use Rattle.microcode_asm.specs.Programs.{Places, labels_from, places_in, places_of}
+use Rattle.microcode_asm.specs.Programs.{LabelPlaces, labels_from, places_in, places_of}
 use Rattle.microcode_asm.specs.SoFar.{Kept, IsRomOf}
 use Rattle.microcode_asm.proofs.ReadLemmas.{IsReadSoFar, read_first, assembled}
 use Rattle.microcode_listing.specs.Names.{row_names, operation_text, row_number, row_text}
@@ -19,7 +19,7 @@ use Rattle.microcode_listing.proofs.Reading.{has_no_feed, lines_back, run, run_r
 abbrev table : List (List ℕ × ℕ)
 table = zip row_names (map (λ row. row.0) ROWS)
 
-abbrev place : Places
+abbrev place : LabelPlaces
 place = places_in table
 
 abbrev nothing_kept : Kept

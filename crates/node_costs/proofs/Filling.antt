@@ -11,11 +11,11 @@ use Rattle.opcodes.specs.Instruction.{decoded}
 use Rattle.opcodes.specs.Start.{IsStart, starts_of, AreStarts}
 use Rattle.bytecode_model.specs.Lists.{onto}
 use Rattle.bytecode_model.specs.Program.{Program, Body, body_of, instr_at, as_instr}
-use Rattle.lists.specs.Lemmas.{some_is, some_in}
+use Rattle.lists.proofs.Lemmas.{some_is, some_in}
 use Rattle.lists.specs.Members.{place_of}
 use Rattle.micro_flow.specs.declared.CostParams.{CostParams}
 use Rattle.micro_flow.specs.Costs.{CostsAreSmall}
-use Rattle.micro_flow.specs.Walk.{IsGreatest, IsCost, IsRaiseCost}
+use Rattle.micro_flow.specs.Walk.{IsGreatestTime, IsCost, IsRaiseCost}
 use Rattle.method_flow.specs.declared.timing.Timing.{Timing}
 use Rattle.method_flow.specs.Costs.{params}
 use Rattle.method_flow.specs.Flow.{Coded, IsCodedOf, StaysInCode, range_of}
@@ -94,13 +94,13 @@ is_whole code p fault stays is = let e : Err fault ≡ Ok stays.instr = is ∙ s
 
 -- ---- costs are the only ones
 
-pub greatest_same : (p : CostParams) (at m n : ℕ) → IsGreatest p at m → IsGreatest p at n → m ≡ n
+pub greatest_same : (p : CostParams) (at m n : ℕ) → IsGreatestTime p at m → IsGreatestTime p at n → m ≡ n
 greatest_same p at m n x y =
     let up : m ≤ n = subst (λ (k : ℕ). k ≤ n) x.attained.takes (y.greatest x.attained.choices x.attained.ends) in
     let down : n ≤ m = subst (λ (k : ℕ). k ≤ m) y.attained.takes (x.greatest y.attained.choices y.attained.ends) in
     omega arith
 
-pub greatest_small : (p : CostParams) (at m n : ℕ) → IsGreatest p at m → IsGreatest p at n → n < 2 ^ 61 → m < 2 ^ 61
+pub greatest_small : (p : CostParams) (at m n : ℕ) → IsGreatestTime p at m → IsGreatestTime p at n → n < 2 ^ 61 → m < 2 ^ 61
 greatest_small p at m n x y few = let same = greatest_same p at m n x y in omega arith
 
 pub opcode_small : CostsAreSmall → (t : Timing) (pairs op cost : ℕ) → t.read ≤ 63 → t.write ≤ 63 → pairs < 2 ^ 32 → IsCost op (params t pairs 0) cost → cost < 2 ^ 61

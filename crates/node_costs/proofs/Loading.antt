@@ -10,7 +10,7 @@ use Rattle.std.proofs.lemmas.Map.Views.{Contains-from_any}
 use Rattle.std.proofs.lemmas.Map.Made.{IsDistinct-from_AllPairs}
 use Rattle.bytecode_model.specs.Program.{Program, Body, body_of}
 use Rattle.std.proofs.lemmas.List.{take_all}
-use Rattle.lists.specs.Lemmas.{some_is}
+use Rattle.lists.proofs.Lemmas.{some_is}
 use Rattle.base.specs.Packed.{words_for}
 use Rattle.cache_regions.specs.Region.{AreDistinct, load_stall}
 use Rattle.method_flow.specs.Flow.{Coded, Flow, IsCodedOf, IsFlowOf, range_of}

@@ -7,7 +7,7 @@ use Rattle.loop_nest.specs.Digraph.{Digraph, Edge}
 use Rattle.loop_nest.specs.Nest.{NaturalLoop}
 use Rattle.section_check.specs.Bounded.{holds}
 use Rattle.section_check.specs.Section.{Certified, PricedLoop, start_value, with_fee, entry_fee, headed_fee, headed_by, potential}
-use Rattle.section_check.specs.Placing.{IsAt}
+use Rattle.section_check.specs.Placing.{IsEntryAt}
 use Rattle.section_check.specs.Conditions.{DescendsTo, Descends, DescendsFrom, EdgeHolds, EdgesHold, CoversCost, ExitsHold}
 use Rattle.section_check.proofs.Elements.{contains_from_holds, holds_from_contains}
 use Rattle.path_solver.specs.declared.topology.TopologicalOrder.{TopologicalOrder}
@@ -15,7 +15,7 @@ use Rattle.path_solver.specs.Reaching.{IsFlagged}
 use Rattle.path_solver.specs.Ordering.{NoLoopHas}
 use Rattle.path_solver.specs.Certifying.{certified}
 use Rattle.path_solver.specs.Distances.{IsMost}
-use Rattle.path_solver.specs.Problem.{IsSetting}
+use Rattle.path_solver.specs.Problem.{IsProblem}
 use Rattle.path_solver.proofs.Correspond.{prices, price_at, headed_none, headed_at}
 use Rattle.path_solver.proofs.Exact.{AreExact}
 use Rattle.path_solver.proofs.Headed.{headed_or_not}
@@ -32,7 +32,7 @@ pub record AreExactlyLeft (flags : List Bool) (value : ℕ) (dist : ℕ → ℕ)
 not_held : (ms : List ℕ) (u : ℕ) → (Contains ms u → ⊥) → holds ms u ≡ false
 not_held ms u out = false_from_ne_true (holds ms u) (λ has. out (contains_from_holds ms u has))
 
-module _ (g : Digraph) (loops : List NaturalLoop) (flags : List Bool) (p : TopologicalOrder) (h : IsSetting g loops flags p) (costs bounds loads iteration_costs : List ℕ) (b : length bounds ≡ length loops) (l : length loads ≡ length loops) (fees dist : ℕ → ℕ)
+module _ (g : Digraph) (loops : List NaturalLoop) (flags : List Bool) (p : TopologicalOrder) (h : IsProblem g loops flags p) (costs bounds loads iteration_costs : List ℕ) (b : length bounds ≡ length loops) (l : length loads ≡ length loops) (fees dist : ℕ → ℕ)
     (m : AreExact p loops costs bounds loads iteration_costs fees dist) (value : ℕ) (nodes : List (ℕ × ℤ)) (left : AreExactlyLeft flags value dist nodes) where
   abbrev section : Certified
   section = record { nodes = nodes; loops = certified loops iteration_costs }
@@ -43,7 +43,7 @@ module _ (g : Digraph) (loops : List NaturalLoop) (flags : List Bool) (p : Topol
   abbrev price : NaturalLoop → ℕ → PricedLoop
   price k i = price_at loops bounds loads b l iteration_costs m.long k i
 
-  headed : (i : ℕ) (k : NaturalLoop) (v : ℕ) → IsAt loops i k → k.header ≡ v → headed_by v priced_loops ≡ Some (price k i)
+  headed : (i : ℕ) (k : NaturalLoop) (v : ℕ) → IsEntryAt loops i k → k.header ≡ v → headed_by v priced_loops ≡ Some (price k i)
   headed i k v at same =
       let P : ℕ → Type 0 = λ z. headed_by z priced_loops ≡ Some (price k i) in
       subst P same (headed_at loops bounds loads b l iteration_costs m.long h.nest.rising i k at)
@@ -51,7 +51,7 @@ module _ (g : Digraph) (loops : List NaturalLoop) (flags : List Bool) (p : Topol
   headed_not : (v : ℕ) → NoLoopHas loops v → headed_by v priced_loops ≡ None
   headed_not = headed_none loops bounds loads b l iteration_costs m.long
 
-  fee_of : (i : ℕ) (k : NaturalLoop) (v : ℕ) → IsAt loops i k → k.header ≡ v → IsFlagged flags v → fees v ≡ get_or bounds i 0 * get_or iteration_costs i 0 + get_or loads i 0
+  fee_of : (i : ℕ) (k : NaturalLoop) (v : ℕ) → IsEntryAt loops i k → k.header ≡ v → IsFlagged flags v → fees v ≡ get_or bounds i 0 * get_or iteration_costs i 0 + get_or loads i 0
   fee_of i k v at same flag =
       let P : ℕ → Type 0 = λ z. IsFlagged flags z → fees z ≡ get_or bounds i 0 * get_or iteration_costs i 0 + get_or loads i 0 in
       subst P same (fee_is g loops flags p h costs bounds loads iteration_costs fees dist m i k at) flag

@@ -7,7 +7,7 @@ use Rattle.loop_nest.specs.Nest.{NaturalLoop}
 use Rattle.section_check.specs.Bounded.{holds}
 use Rattle.section_check.proofs.Elements.{contains_from_holds, holds_from_contains}
 use Rattle.path_solver.specs.Distances.{limited, AreLimited}
-use Rattle.path_solver.specs.Totals.{AreAdded, iteration_costs_around, SomeIterationsExceed}
+use Rattle.path_solver.specs.Totals.{AreIterationsAdded, iteration_costs_around, SomeIterationsExceed}
 
 -- for each of n nodes, what iterations of the loops that hold it cost at most together
 pub record AreTotals (loops : List NaturalLoop) (iteration_costs : List ℕ) (n : ℕ) (totals : List ℕ) : Type 0 where
@@ -27,7 +27,7 @@ around_push (k ∷ ks) (w ∷ ws) l iteration_cost u same = let rest = around_pu
 twice : (a b : ℕ) → limited (limited a + b) ≡ limited (a + b)
 twice a b = omega arith
 
-pub totals_push : (ls : List NaturalLoop) (ws : List ℕ) (n : ℕ) (old new : List ℕ) (l : NaturalLoop) (iteration_cost : ℕ) → length ws ≡ length ls → AreTotals ls ws n old → AreAdded l.members iteration_cost old new → AreTotals (ls ++ l ∷ []) (ws ++ iteration_cost ∷ []) n new
+pub totals_push : (ls : List NaturalLoop) (ws : List ℕ) (n : ℕ) (old new : List ℕ) (l : NaturalLoop) (iteration_cost : ℕ) → length ws ≡ length ls → AreTotals ls ws n old → AreIterationsAdded l.members iteration_cost old new → AreTotals (ls ++ l ∷ []) (ws ++ iteration_cost ∷ []) n new
 totals_push ls ws n old new l iteration_cost same h added = record {
   long = added.long ∙ h.long;
   limited_totals = added.limited;

@@ -4,11 +4,11 @@ use Rattle.std.proofs.lemmas.Bool.{cases_eq}
 use Rattle.lists.specs.Members.{has_or_not}
 use Rattle.loop_nest.specs.Digraph.{Digraph, Edge}
 use Rattle.loop_nest.specs.Nest.{NaturalLoop}
-use Rattle.section_check.specs.Placing.{IsAt}
+use Rattle.section_check.specs.Placing.{IsEntryAt}
 use Rattle.path_solver.specs.declared.topology.TopologicalOrder.{TopologicalOrder}
 use Rattle.path_solver.specs.Reaching.{IsFlagged}
 use Rattle.path_solver.specs.Ordering.{NoLoopHas}
-use Rattle.path_solver.specs.Problem.{IsSetting}
+use Rattle.path_solver.specs.Problem.{IsProblem}
 use Rattle.path_solver.proofs.Exact.{IsExactlyReached, HasExactCosts, AreExact}
 use Rattle.path_solver.proofs.Headed.{headed_or_not}
 use Rattle.path_solver.proofs.Structure as structure
@@ -30,11 +30,11 @@ alike sources costs fees d D u x h t behind =
 
 -- how the distance grows along an edge from u to v: back to the header of a loop that has u, into a loop, or to no header
 pub data Grows (loops : List NaturalLoop) (costs iteration_costs : List ℕ) (fees dist : ℕ → ℕ) (u v : ℕ) : Type 0 where
-  backward : (i : ℕ) (l : NaturalLoop) → IsAt loops i l → l.header ≡ v → Contains l.members u → get_or costs u 0 + dist u ≤ dist v + get_or iteration_costs i 0 → Grows loops costs iteration_costs fees dist u v
-  entering : (i : ℕ) (l : NaturalLoop) → IsAt loops i l → l.header ≡ v → (Contains l.members u → ⊥) → get_or costs u 0 + dist u + fees v ≤ dist v → Grows loops costs iteration_costs fees dist u v
+  backward : (i : ℕ) (l : NaturalLoop) → IsEntryAt loops i l → l.header ≡ v → Contains l.members u → get_or costs u 0 + dist u ≤ dist v + get_or iteration_costs i 0 → Grows loops costs iteration_costs fees dist u v
+  entering : (i : ℕ) (l : NaturalLoop) → IsEntryAt loops i l → l.header ≡ v → (Contains l.members u → ⊥) → get_or costs u 0 + dist u + fees v ≤ dist v → Grows loops costs iteration_costs fees dist u v
   exceeding : NoLoopHas loops v → get_or costs u 0 + dist u + fees v ≤ dist v → Grows loops costs iteration_costs fees dist u v
 
-module _ (g : Digraph) (loops : List NaturalLoop) (flags : List Bool) (p : TopologicalOrder) (h : IsSetting g loops flags p) (costs bounds loads iteration_costs : List ℕ) (fees dist : ℕ → ℕ) (m : AreExact p loops costs bounds loads iteration_costs fees dist) where
+module _ (g : Digraph) (loops : List NaturalLoop) (flags : List Bool) (p : TopologicalOrder) (h : IsProblem g loops flags p) (costs bounds loads iteration_costs : List ℕ) (fees dist : ℕ → ℕ) (m : AreExact p loops costs bounds loads iteration_costs fees dist) where
   -- along an edge that closes no loop the cost of its source is paid, and the fee of its target
   along_forward : (u v : ℕ) → Contains (structure.forward g loops flags p h v) u → get_or costs u 0 + dist u + fees v ≤ dist v
   along_forward u v has =
@@ -43,11 +43,11 @@ module _ (g : Digraph) (loops : List NaturalLoop) (flags : List Bool) (p : Topol
       let above = r.most.above u has in
       omega arith
 
-  pub turned : (i : ℕ) (l : NaturalLoop) → IsAt loops i l → IsFlagged flags l.header → HasExactCosts p l i costs bounds loads iteration_costs fees
+  pub turned : (i : ℕ) (l : NaturalLoop) → IsEntryAt loops i l → IsFlagged flags l.header → HasExactCosts p l i costs bounds loads iteration_costs fees
   turned i l at flag = m.loop_costs i l at (structure.in_order g loops flags p h l.header flag)
 
   -- a member of a loop is no farther than its header and the way from there
-  within_loop : (i : ℕ) (l : NaturalLoop) → IsAt loops i l → (t : HasExactCosts p l i costs bounds loads iteration_costs fees) → (u : ℕ) → IsFlagged flags u → Contains l.members u → dist u ≤ dist l.header + t.dist u
+  within_loop : (i : ℕ) (l : NaturalLoop) → IsEntryAt loops i l → (t : HasExactCosts p l i costs bounds loads iteration_costs fees) → (u : ℕ) → IsFlagged flags u → Contains l.members u → dist u ≤ dist l.header + t.dist u
   within_loop i l at t =
       let P : ℕ → Type 0 = λ u. Contains l.members u → dist u ≤ dist l.header + t.dist u in
       structure.onward g loops flags p h P (λ u flag before inside.
@@ -63,7 +63,7 @@ module _ (g : Digraph) (loops : List NaturalLoop) (flags : List Bool) (p : Topol
       ])
 
   -- along an edge that closes a loop the cost of its source is paid, but for an iteration of the loop
-  along_back : (i : ℕ) (l : NaturalLoop) (u : ℕ) → IsAt loops i l → IsFlagged flags l.header → Edge g u l.header → Contains l.members u → get_or costs u 0 + dist u ≤ dist l.header + get_or iteration_costs i 0
+  along_back : (i : ℕ) (l : NaturalLoop) (u : ℕ) → IsEntryAt loops i l → IsFlagged flags l.header → Edge g u l.header → Contains l.members u → get_or costs u 0 + dist u ≤ dist l.header + get_or iteration_costs i 0
   along_back i l u at flag edge inside =
       let t = turned i l at flag in
       let in_loops : Contains loops l = (i, at.0, at.1) in
@@ -72,7 +72,7 @@ module _ (g : Digraph) (loops : List NaturalLoop) (flags : List Bool) (p : Topol
       omega arith
 
   -- the fee of a header is all its iterations, and the load
-  pub fee_is : (i : ℕ) (l : NaturalLoop) → IsAt loops i l → IsFlagged flags l.header → fees l.header ≡ get_or bounds i 0 * get_or iteration_costs i 0 + get_or loads i 0
+  pub fee_is : (i : ℕ) (l : NaturalLoop) → IsEntryAt loops i l → IsFlagged flags l.header → fees l.header ≡ get_or bounds i 0 * get_or iteration_costs i 0 + get_or loads i 0
   fee_is i l at flag = (turned i l at flag).fee
 
   -- the entry is reached by its fee alone

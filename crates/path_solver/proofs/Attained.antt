@@ -10,7 +10,7 @@ use Rattle.loop_nest.specs.Nest.{NaturalLoop, IsLoopOf, headers_of}
 use Rattle.loop_nest.proofs.Elements.{from_map}
 use Rattle.path_solver.specs.declared.topology.TopologicalOrder.{TopologicalOrder}
 use Rattle.path_solver.specs.Reaching.{IsFlagged}
-use Rattle.section_check.specs.Placing.{IsAt}
+use Rattle.section_check.specs.Placing.{IsEntryAt}
 use Rattle.section_check.specs.Bounded.{BoundedLoop, cost_of, IsKept, IsIteration, cost_of_iteration}
 use Rattle.path_solver.specs.Longest.{bounded_loops}
 use Rattle.path_solver.specs.Distances.{cost_through}
@@ -48,14 +48,14 @@ module _ (g : Digraph) (loops : List NaturalLoop) (flags : List Bool) (p : Topol
   abbrev Attains : NaturalLoop → ℕ → Type 0
   Attains l i = (ns : List ℕ) × IsIteration g bounded_all (place l i) ns × (get_or iteration_costs i 0 ≤ cost_of_iteration costs bounded_all ns)
 
-  fee_of_iterations : (Fresh : ℕ → Type 0) (i : ℕ) (l : NaturalLoop) → IsAt loops i l → HasLoopCosts p l i costs bounds loads iteration_costs fees → (t : Attains l i) → All Fresh t.0 → IsFeePaid g costs bounded_all Fresh l.header (get_or fees l.header 0)
+  fee_of_iterations : (Fresh : ℕ → Type 0) (i : ℕ) (l : NaturalLoop) → IsEntryAt loops i l → HasLoopCosts p l i costs bounds loads iteration_costs fees → (t : Attains l i) → All Fresh t.0 → IsFeePaid g costs bounded_all Fresh l.header (get_or fees l.header 0)
   fee_of_iterations Fresh i l at turned t fresh =
       let a = turned.fee in
       let b = mul-le-mul_left (get_or bounds i 0) t.2 in
       by_iterations (place l i) t.0 (contained bounded_all i (place l i) (to_bounded loops bounds loads m.bounds_long m.loads_long i l at)) refl t.1 fresh (omega arith)
 
   -- a listed node's fee is paid, where the loop that it heads has an iteration
-  fee_paid : (Fresh : ℕ → Type 0) (u : ℕ) → IsFlagged flags u → ((i : ℕ) (l : NaturalLoop) → IsAt loops i l → l.header ≡ u → IsFlagged flags l.header → (t : Attains l i) × All Fresh t.0)
+  fee_paid : (Fresh : ℕ → Type 0) (u : ℕ) → IsFlagged flags u → ((i : ℕ) (l : NaturalLoop) → IsEntryAt loops i l → l.header ≡ u → IsFlagged flags l.header → (t : Attains l i) × All Fresh t.0)
       → IsFeePaid g costs bounded_all Fresh u (get_or fees u 0)
   fee_paid Fresh u flag iteration =
       let P : ℕ → Type 0 = λ z. IsFlagged flags z in
@@ -65,7 +65,7 @@ module _ (g : Digraph) (loops : List NaturalLoop) (flags : List Bool) (p : Topol
             let r = from_map header_of loops u c in
             let l = r.0 in
             let i = r.1.0 in
-            let at : IsAt loops i l = (r.1.1, r.1.2) in
+            let at : IsEntryAt loops i l = (r.1.1, r.1.2) in
             let flag' : IsFlagged flags l.header = subst P (sym r.2) flag in
             let t = iteration i l at r.2 flag' in
             subst Q r.2 (fee_of_iterations Fresh i l at (m.loop_costs.each i l at (in_order g loops flags p m.setting l.header flag')) t.0 t.1)
@@ -85,8 +85,8 @@ module _ (g : Digraph) (loops : List NaturalLoop) (flags : List Bool) (p : Topol
   nested_all = all_nested g loops flags p m.setting bounds loads m.bounds_long m.loads_long
 
   -- what is reached within a loop from its header
-  module _ (i : ℕ) (l : NaturalLoop) (at : IsAt loops i l) (flag : IsFlagged flags l.header) (turned : HasLoopCosts p l i costs bounds loads iteration_costs fees)
-      (inner : (k : NaturalLoop) → Contains loops k → Contains l.members k.header → k.header ≢ l.header → (j : ℕ) → IsAt loops j k → IsFlagged flags k.header → Attains k j) where
+  module _ (i : ℕ) (l : NaturalLoop) (at : IsEntryAt loops i l) (flag : IsFlagged flags l.header) (turned : HasLoopCosts p l i costs bounds loads iteration_costs fees)
+      (inner : (k : NaturalLoop) → Contains loops k → Contains l.members k.header → k.header ≢ l.header → (j : ℕ) → IsEntryAt loops j k → IsFlagged flags k.header → Attains k j) where
     abbrev h : ℕ
     h = l.header
 
@@ -108,7 +108,7 @@ module _ (g : Digraph) (loops : List NaturalLoop) (flags : List Bool) (p : Topol
           omega arith,
         )
 
-    inner_iteration : (u : ℕ) → IsInner u → (j : ℕ) (k : NaturalLoop) → IsAt loops j k → k.header ≡ u → IsFlagged flags k.header → (t : Attains k j) × All IsInner t.0
+    inner_iteration : (u : ℕ) → IsInner u → (j : ℕ) (k : NaturalLoop) → IsEntryAt loops j k → k.header ≡ u → IsFlagged flags k.header → (t : Attains k j) × All IsInner t.0
     inner_iteration u in' j k at' same flag' =
         let P : ℕ → Type 0 = λ z. Contains l.members z in
         let among' = contained loops j k at' in
@@ -192,10 +192,10 @@ module _ (g : Digraph) (loops : List NaturalLoop) (flags : List Bool) (p : Topol
           | inr some ↦ iteration_from some.0 some.1 some.2
         ]
 
-  pub iteration_attains : (i : ℕ) (l : NaturalLoop) → IsAt loops i l → IsFlagged flags l.header
+  pub iteration_attains : (i : ℕ) (l : NaturalLoop) → IsEntryAt loops i l → IsFlagged flags l.header
       → (ns : List ℕ) × IsIteration g bounded_all (bounded_at loops bounds loads m.bounds_long m.loads_long l i) ns × (get_or iteration_costs i 0 ≤ cost_of_iteration costs bounded_all ns)
   iteration_attains i l at flag =
-      let P : NaturalLoop → Type 0 = λ k. (j : ℕ) → IsAt loops j k → IsFlagged flags k.header → Attains k j in
+      let P : NaturalLoop → Type 0 = λ k. (j : ℕ) → IsEntryAt loops j k → IsFlagged flags k.header → Attains k j in
       inward g loops flags p m.setting P (λ k among inner j at' flag'. iteration_of j k at' flag' (m.loop_costs.each j k at' (in_order g loops flags p m.setting k.header flag')) inner) l (contained loops i l at) i at flag
 
   abbrev Anywhere : ℕ → Type 0
@@ -204,7 +204,7 @@ module _ (g : Digraph) (loops : List NaturalLoop) (flags : List Bool) (p : Topol
   abbrev ReachedFrom : ℕ → Type 0
   ReachedFrom u = Reached g costs bounded_all nested_all (λ l. false) 0 [] Anywhere u (get_or dist u 0 + get_or costs u 0)
 
-  any_iteration : (u : ℕ) (i : ℕ) (l : NaturalLoop) → IsAt loops i l → l.header ≡ u → IsFlagged flags l.header → (t : Attains l i) × All Anywhere t.0
+  any_iteration : (u : ℕ) (i : ℕ) (l : NaturalLoop) → IsEntryAt loops i l → l.header ≡ u → IsFlagged flags l.header → (t : Attains l i) × All Anywhere t.0
   any_iteration u i l at same flag = let t = iteration_attains i l at flag in (t, λ k d lt. tt)
 
   start_all : IsFlagged flags 0 → ReachedFrom 0

@@ -3,7 +3,7 @@ use Rattle.std.proofs.Common.{◌≡◌, ℕ, zero, suc, false, List, [], ◌∷
 use Rattle.std.proofs.lemmas.List.Elements.{All-cons, All-nil}
 use Rattle.loop_nest.specs.Nest.{NaturalLoop}
 use Rattle.section_check.specs.Section.{CertifiedLoop}
-use Rattle.section_check.specs.Placing.{IsAt}
+use Rattle.section_check.specs.Placing.{IsEntryAt}
 use Rattle.path_solver.specs.Certifying.{certified}
 use Rattle.path_solver.specs.Longest.{AreLoopsOf}
 use Rattle.path_solver.proofs.Certified.{made}
@@ -32,7 +32,7 @@ pub loops_of_nest : (ls : List NaturalLoop) (ws : List ℕ) → length ws ≡ le
 loops_of_nest ls ws a = record { headers = same_headers ls ws a; members = same_members ls ws a; regions = no_region ls ws }
 
 -- loop i of the section is made of loop i of the nest
-from_certified : (ls : List NaturalLoop) (ws : List ℕ) → length ws ≡ length ls → (i : ℕ) (c : CertifiedLoop) → IsAt (certified ls ws) i c → (l : NaturalLoop) × IsAt ls i l × (c ≡ made l (get_or ws i 0))
+from_certified : (ls : List NaturalLoop) (ws : List ℕ) → length ws ≡ length ls → (i : ℕ) (c : CertifiedLoop) → IsEntryAt (certified ls ws) i c → (l : NaturalLoop) × IsEntryAt ls i l × (c ≡ made l (get_or ws i 0))
 from_certified [] ws a i c at = let lt = at.0 in absurd (omega arith)
 from_certified (l ∷ ls) [] a i c at = absurd (omega arith)
 from_certified (l ∷ ls) (w ∷ ws) a zero c at = (l, (omega arith, refl), sym at.1)
@@ -45,12 +45,12 @@ from_certified (l ∷ ls) (w ∷ ws) a (suc i) c at =
 -- c is loop i of the section, and l loop i of the nest
 pub record IsSameLoop (ls : List NaturalLoop) (i : ℕ) (c : CertifiedLoop) : Type 0 where
   pub loop : NaturalLoop
-  pub at : IsAt ls i loop
+  pub at : IsEntryAt ls i loop
   pub header : c.header ≡ loop.header
   pub members : c.members ≡ loop.members
   pub region : c.region ≡ false
 
-pub same_loop : (ls : List NaturalLoop) (ws : List ℕ) → length ws ≡ length ls → (i : ℕ) (c : CertifiedLoop) → IsAt (certified ls ws) i c → IsSameLoop ls i c
+pub same_loop : (ls : List NaturalLoop) (ws : List ℕ) → length ws ≡ length ls → (i : ℕ) (c : CertifiedLoop) → IsEntryAt (certified ls ws) i c → IsSameLoop ls i c
 same_loop ls ws a i c at =
     let r = from_certified ls ws a i c at in
     record {

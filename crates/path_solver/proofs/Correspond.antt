@@ -4,7 +4,7 @@ use Rattle.std.proofs.lemmas.Bool.{cases_eq}
 use Rattle.std.specs.List.Sorted.{IsStrictlyIncreasing}
 use Rattle.lists.specs.Members.{at_head, in_tail, cons_cases, nil_contains}
 use Rattle.loop_nest.specs.Nest.{NaturalLoop, headers_of}
-use Rattle.section_check.specs.Placing.{IsAt}
+use Rattle.section_check.specs.Placing.{IsEntryAt}
 use Rattle.section_check.specs.Bounded.{BoundedLoop}
 use Rattle.section_check.specs.Section.{PricedLoop, priced, bounded, headed_by}
 use Rattle.section_check.proofs.Sums.{headed_here, headed_later}
@@ -19,8 +19,8 @@ with_bound l bound load = record { header = l.header; members = l.members; bound
 abbrev pub with_price : NaturalLoop → (bound load iteration_cost : ℕ) → PricedLoop
 with_price l bound load iteration_cost = record { certified = record { header = l.header; iteration_cost = iteration_cost; members = l.members; region = false }; bound = bound; load = Some load }
 
-to_bounded_at : (loops : List NaturalLoop) (bounds loads : List ℕ) → length bounds ≡ length loops → length loads ≡ length loops → (i : ℕ) (l : NaturalLoop) → IsAt loops i l
-    → IsAt (bounded_loops loops bounds loads) i (with_bound l (get_or bounds i 0) (get_or loads i 0))
+to_bounded_at : (loops : List NaturalLoop) (bounds loads : List ℕ) → length bounds ≡ length loops → length loads ≡ length loops → (i : ℕ) (l : NaturalLoop) → IsEntryAt loops i l
+    → IsEntryAt (bounded_loops loops bounds loads) i (with_bound l (get_or bounds i 0) (get_or loads i 0))
 to_bounded_at [] bounds loads b m i l at = let below = at.0 in absurd (omega arith)
 to_bounded_at (k ∷ ks) [] loads b m i l at = absurd (omega arith)
 to_bounded_at (k ∷ ks) (x ∷ xs) [] b m i l at = absurd (omega arith)
@@ -31,8 +31,8 @@ to_bounded_at (k ∷ ks) (x ∷ xs) (y ∷ ys) b m (suc i) l at =
     let lt = r.0 in
     (omega arith, r.1)
 
-from_bounded_at : (loops : List NaturalLoop) (bounds loads : List ℕ) (i : ℕ) (k : BoundedLoop) → IsAt (bounded_loops loops bounds loads) i k
-    → (l : NaturalLoop) × IsAt loops i l × (k ≡ with_bound l (get_or bounds i 0) (get_or loads i 0))
+from_bounded_at : (loops : List NaturalLoop) (bounds loads : List ℕ) (i : ℕ) (k : BoundedLoop) → IsEntryAt (bounded_loops loops bounds loads) i k
+    → (l : NaturalLoop) × IsEntryAt loops i l × (k ≡ with_bound l (get_or bounds i 0) (get_or loads i 0))
 from_bounded_at [] bounds loads i k at = let below = at.0 in absurd (omega arith)
 from_bounded_at (l ∷ ls) [] loads i k at = let below = at.0 in absurd (omega arith)
 from_bounded_at (l ∷ ls) (x ∷ xs) [] i k at = let below = at.0 in absurd (omega arith)
@@ -43,8 +43,8 @@ from_bounded_at (l ∷ ls) (x ∷ xs) (y ∷ ys) (suc i) k at =
     let lt = r.1.0 in
     (r.0, (omega arith, r.1.1), r.2)
 
-to_priced_at : (loops : List NaturalLoop) (bounds loads iteration_costs : List ℕ) → length bounds ≡ length loops → length loads ≡ length loops → length iteration_costs ≡ length loops → (i : ℕ) (l : NaturalLoop) → IsAt loops i l
-    → IsAt (priced (certified loops iteration_costs) bounds (map Some loads)) i (with_price l (get_or bounds i 0) (get_or loads i 0) (get_or iteration_costs i 0))
+to_priced_at : (loops : List NaturalLoop) (bounds loads iteration_costs : List ℕ) → length bounds ≡ length loops → length loads ≡ length loops → length iteration_costs ≡ length loops → (i : ℕ) (l : NaturalLoop) → IsEntryAt loops i l
+    → IsEntryAt (priced (certified loops iteration_costs) bounds (map Some loads)) i (with_price l (get_or bounds i 0) (get_or loads i 0) (get_or iteration_costs i 0))
 to_priced_at [] bounds loads iteration_costs b m w i l at = let below = at.0 in absurd (omega arith)
 to_priced_at (k ∷ ks) [] loads iteration_costs b m w i l at = absurd (omega arith)
 to_priced_at (k ∷ ks) (x ∷ xs) [] iteration_costs b m w i l at = absurd (omega arith)
@@ -56,8 +56,8 @@ to_priced_at (k ∷ ks) (x ∷ xs) (y ∷ ys) (v ∷ vs) b m w (suc i) l at =
     let lt = r.0 in
     (omega arith, r.1)
 
-pub from_priced_at : (loops : List NaturalLoop) (bounds loads iteration_costs : List ℕ) (i : ℕ) (k : PricedLoop) → IsAt (priced (certified loops iteration_costs) bounds (map Some loads)) i k
-    → (l : NaturalLoop) × IsAt loops i l × (k ≡ with_price l (get_or bounds i 0) (get_or loads i 0) (get_or iteration_costs i 0))
+pub from_priced_at : (loops : List NaturalLoop) (bounds loads iteration_costs : List ℕ) (i : ℕ) (k : PricedLoop) → IsEntryAt (priced (certified loops iteration_costs) bounds (map Some loads)) i k
+    → (l : NaturalLoop) × IsEntryAt loops i l × (k ≡ with_price l (get_or bounds i 0) (get_or loads i 0) (get_or iteration_costs i 0))
 from_priced_at [] bounds loads iteration_costs i k at = let below = at.0 in absurd (omega arith)
 from_priced_at (l ∷ ls) bounds loads [] i k at = let below = at.0 in absurd (omega arith)
 from_priced_at (l ∷ ls) [] loads (v ∷ vs) i k at = let below = at.0 in absurd (omega arith)
@@ -98,10 +98,10 @@ module _ (loops : List NaturalLoop) (bounds loads : List ℕ) (b : length bounds
   abbrev pub bounded_at : NaturalLoop → ℕ → BoundedLoop
   bounded_at l i = record { header = l.header; members = l.members; bound = get_or bounds i 0; load = get_or loads i 0 }
 
-  pub to_bounded : (i : ℕ) (l : NaturalLoop) → IsAt loops i l → IsAt (bounded_loops loops bounds loads) i (bounded_at l i)
+  pub to_bounded : (i : ℕ) (l : NaturalLoop) → IsEntryAt loops i l → IsEntryAt (bounded_loops loops bounds loads) i (bounded_at l i)
   to_bounded i l at = to_bounded_at loops bounds loads b m i l at
 
-  pub from_bounded : (k : BoundedLoop) → Contains (bounded_loops loops bounds loads) k → (i : ℕ) × (l : NaturalLoop) × IsAt loops i l × (k ≡ bounded_at l i)
+  pub from_bounded : (k : BoundedLoop) → Contains (bounded_loops loops bounds loads) k → (i : ℕ) × (l : NaturalLoop) × IsEntryAt loops i l × (k ≡ bounded_at l i)
   from_bounded k has = let r = from_bounded_at loops bounds loads has.0 k (has.1, has.2) in (has.0, r.0, r.1, r.2)
 
   module _ (iteration_costs : List ℕ) (w : length iteration_costs ≡ length loops) where
@@ -111,10 +111,10 @@ module _ (loops : List NaturalLoop) (bounds loads : List ℕ) (b : length bounds
     abbrev pub price_at : NaturalLoop → ℕ → PricedLoop
     price_at l i = record { certified = record { header = l.header; iteration_cost = get_or iteration_costs i 0; members = l.members; region = false }; bound = get_or bounds i 0; load = Some (get_or loads i 0) }
 
-    pub to_priced : (i : ℕ) (l : NaturalLoop) → IsAt loops i l → IsAt prices i (price_at l i)
+    pub to_priced : (i : ℕ) (l : NaturalLoop) → IsEntryAt loops i l → IsEntryAt prices i (price_at l i)
     to_priced i l at = to_priced_at loops bounds loads iteration_costs b m w i l at
 
-    pub from_priced : (k : PricedLoop) → Contains prices k → (i : ℕ) × (l : NaturalLoop) × IsAt loops i l × (k ≡ price_at l i)
+    pub from_priced : (k : PricedLoop) → Contains prices k → (i : ℕ) × (l : NaturalLoop) × IsEntryAt loops i l × (k ≡ price_at l i)
     from_priced k has = let r = from_priced_at loops bounds loads iteration_costs has.0 k (has.1, has.2) in (has.0, r.0, r.1, r.2)
 
     -- the loops of the section are those of the nest
@@ -128,7 +128,7 @@ module _ (loops : List NaturalLoop) (bounds loads : List ℕ) (b : length bounds
         none r.0 r.1 r.2 (ap (λ (z : PricedLoop). z.certified.header) (sym r.3) ∙ same))
 
     -- where headers rise, a loop is found by its header at its place
-    pub headed_at : IsStrictlyIncreasing (headers_of loops) → (i : ℕ) (l : NaturalLoop) → IsAt loops i l → headed_by l.header prices ≡ Some (price_at l i)
+    pub headed_at : IsStrictlyIncreasing (headers_of loops) → (i : ℕ) (l : NaturalLoop) → IsEntryAt loops i l → headed_by l.header prices ≡ Some (price_at l i)
     headed_at rise i l at =
         let mine = to_priced i l at in
         one_headed prices l.header (price_at l i) (i, mine.0, mine.1) refl (λ k has same.

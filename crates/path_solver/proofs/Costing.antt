@@ -6,10 +6,10 @@ use Rattle.std.proofs.lemmas.List.{length-set, get_or-set_same, get_or-set_other
 use Rattle.std.proofs.lemmas.List.Elements.{All-get_or, All-set, Contains-get_or}
 use Rattle.loop_nest.specs.Nest.{NaturalLoop, headers_of}
 use Rattle.path_solver.specs.declared.topology.TopologicalOrder.{TopologicalOrder}
-use Rattle.section_check.specs.Placing.{IsAt}
+use Rattle.section_check.specs.Placing.{IsEntryAt}
 use Rattle.path_solver.specs.Ordering.{AreApart, IsHeadedAt, NoLoopHas}
-use Rattle.path_solver.specs.Distances.{limit, limited, AreLimited}
-use Rattle.path_solver.specs.Iteration.{IsOrderly, AreMembers, IsIterationCost}
+use Rattle.path_solver.specs.Distances.{distance_limit, limited, AreLimited}
+use Rattle.path_solver.specs.Iteration.{IsOrderly, AreOrderedMembers, IsIterationCost}
 use Rattle.path_solver.specs.LoopCosts.{AreLed, HasLoopCosts, AreLoopCosts}
 use Rattle.path_solver.proofs.Loops.{header_of, same_place}
 use Rattle.path_solver.proofs.Order.{taken_at}
@@ -24,8 +24,8 @@ pub record AreLoopCostsFrom (p : TopologicalOrder) (loops : List NaturalLoop) (c
   pub fees_long : length fees ≡ length costs
   pub limited_iteration_costs : AreLimited iteration_costs
   pub limited_fees : AreLimited fees
-  pub each : (i : ℕ) (l : NaturalLoop) → IsAt loops i l → StandsFrom p.order.items m l.header → HasLoopCosts p l i costs bounds loads iteration_costs fees
-  pub dropped : (i : ℕ) (l : NaturalLoop) → IsAt loops i l → (StandsFrom p.order.items m l.header → ⊥) → get_or iteration_costs i 0 ≡ 0
+  pub each : (i : ℕ) (l : NaturalLoop) → IsEntryAt loops i l → StandsFrom p.order.items m l.header → HasLoopCosts p l i costs bounds loads iteration_costs fees
+  pub dropped : (i : ℕ) (l : NaturalLoop) → IsEntryAt loops i l → (StandsFrom p.order.items m l.header → ⊥) → get_or iteration_costs i 0 ≡ 0
   pub others : (u : ℕ) → NoLoopHas loops u → get_or fees u 0 ≡ 0
 
 -- the same, with distances that fit
@@ -77,7 +77,7 @@ module _ (p : TopologicalOrder) (loops : List NaturalLoop) (costs bounds loads :
     others = h.others;
   }
 
-  module _ (apart : AreApart p.order.items) (rising : IsStrictlyIncreasing (headers_of loops)) (led : AreLed p.order.items loops) (iteration_costs fees dist : List ℕ) (i : ℕ) (l : NaturalLoop) (at : IsAt loops i l) (heads : l.header ≡ here) (iteration_cost fee : ℕ) (h : AreLoopCostsFrom p loops costs bounds loads (m + 1) iteration_costs fees) (is : IsIterationCost p l.members l.header costs fees dist iteration_cost) (fee_is : fee ≡ limited (get_or bounds i 0 * iteration_cost + get_or loads i 0)) (within : here < length costs) where
+  module _ (apart : AreApart p.order.items) (rising : IsStrictlyIncreasing (headers_of loops)) (led : AreLed p.order.items loops) (iteration_costs fees dist : List ℕ) (i : ℕ) (l : NaturalLoop) (at : IsEntryAt loops i l) (heads : l.header ≡ here) (iteration_cost fee : ℕ) (h : AreLoopCostsFrom p loops costs bounds loads (m + 1) iteration_costs fees) (is : IsIterationCost p l.members l.header costs fees dist iteration_cost) (fee_is : fee ≡ limited (get_or bounds i 0 * iteration_cost + get_or loads i 0)) (within : here < length costs) where
     abbrev next_iteration_costs : List ℕ
     next_iteration_costs = set iteration_costs i iteration_cost
 
@@ -87,7 +87,7 @@ module _ (p : TopologicalOrder) (loops : List NaturalLoop) (costs bounds loads :
     other_fee : (v : ℕ) → v ≢ here → get_or next_fees v 0 ≡ get_or fees v 0
     other_fee v other = get_or-set_other fees here v fee 0 other
 
-    other_header : (k : ℕ) (z : NaturalLoop) → IsAt loops k z → k ≢ i → z.header ≢ here
+    other_header : (k : ℕ) (z : NaturalLoop) → IsEntryAt loops k z → k ≢ i → z.header ≢ here
     other_header k z at' other same = other (same_place loops rising k i z l at' at (same ∙ sym heads))
 
     now_iterated : HasLoopCosts p l i costs bounds loads next_iteration_costs next_fees
@@ -104,7 +104,7 @@ module _ (p : TopologicalOrder) (loops : List NaturalLoop) (costs bounds loads :
         }
 
     -- a loop whose header stands later doesn't have this node among its members
-    outside : (k : ℕ) (z : NaturalLoop) → IsAt loops k z → z.header ≢ here → StandsFrom p.order.items (m + 1) z.header → Contains z.members here → ⊥
+    outside : (k : ℕ) (z : NaturalLoop) → IsEntryAt loops k z → z.header ≢ here → StandsFrom p.order.items (m + 1) z.header → Contains z.members here → ⊥
     outside k z at' away s has =
         let le = s.1 in
         let order = p.order.items in
@@ -113,7 +113,7 @@ module _ (p : TopologicalOrder) (loops : List NaturalLoop) (costs bounds loads :
         let before = r.1 in
         apart r.0 s.0 (omega arith) s.2 (r.3 ∙ sym s.3)
 
-    still_iterated : (k : ℕ) (z : NaturalLoop) → IsAt loops k z → k ≢ i → StandsFrom p.order.items (m + 1) z.header → HasLoopCosts p z k costs bounds loads next_iteration_costs next_fees
+    still_iterated : (k : ℕ) (z : NaturalLoop) → IsEntryAt loops k z → k ≢ i → StandsFrom p.order.items (m + 1) z.header → HasLoopCosts p z k costs bounds loads next_iteration_costs next_fees
     still_iterated k z at' other s =
         let r = h.each k z at' s in
         let away = other_header k z at' other in
@@ -125,15 +125,15 @@ module _ (p : TopologicalOrder) (loops : List NaturalLoop) (costs bounds loads :
           fee = other_fee z.header away ∙ r.fee ∙ ap (λ (w : ℕ). limited (get_or bounds k 0 * w + get_or loads k 0)) (sym same);
         }
 
-    one_loop : (k : ℕ) (z : NaturalLoop) → IsAt loops k z → k ≡ i → z ≡ l
+    one_loop : (k : ℕ) (z : NaturalLoop) → IsEntryAt loops k z → k ≡ i → z ≡ l
     one_loop k z at' same = sym at'.1 ∙ get_or_default loops k z l at'.0 ∙ ap (λ (j : ℕ). get_or loops j l) same ∙ at.1
 
     pub iterations_more : AreLoopCostsFrom p loops costs bounds loads m next_iteration_costs next_fees
     iterations_more = record {
       long = length-set iteration_costs i iteration_cost ∙ h.long;
       fees_long = length-set fees here fee ∙ h.fees_long;
-      limited_iteration_costs = All-set (λ d. d ≤ limit) iteration_costs i iteration_cost is.small h.limited_iteration_costs;
-      limited_fees = All-set (λ d. d ≤ limit) fees here fee (omega arith) h.limited_fees;
+      limited_iteration_costs = All-set (λ d. d ≤ distance_limit) iteration_costs i iteration_cost is.small h.limited_iteration_costs;
+      limited_fees = All-set (λ d. d ≤ distance_limit) fees here fee (omega arith) h.limited_fees;
       each = λ k z at' s.
           elim (cases_eq k i) [
             | inl same ↦
@@ -164,11 +164,11 @@ module _ (p : TopologicalOrder) (loops : List NaturalLoop) (k u i : ℕ) (l : Na
   low : place < length order
   low = omega arith
 
-  pub members_listed : (members : List ℕ) → members ≡ l.members → AreLed order loops → AreMembers order members u
+  pub members_listed : (members : List ℕ) → members ≡ l.members → AreLed order loops → AreOrderedMembers order members u
   members_listed members same led =
       let P : ℕ → Type 0 = λ v. Contains order v in
-      let Q : List ℕ → Type 0 = λ us. AreMembers order us u in
-      let R : ℕ → Type 0 = λ v. AreMembers order l.members v in
+      let Q : List ℕ → Type 0 = λ us. AreOrderedMembers order us u in
+      let R : ℕ → Type 0 = λ v. AreOrderedMembers order l.members v in
       let listed : Contains order l.header = subst P (sym (heads ∙ at_u)) (Contains-get_or order place 0 low) in
       subst Q (sym same) (subst R heads (led l (i, head.at.0, sym is) listed).members)
 

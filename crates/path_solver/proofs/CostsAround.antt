@@ -3,7 +3,7 @@ use Rattle.std.proofs.Common.{◌≡◌, ℕ, zero, suc, ◌+◌, ◌≤◌, Boo
 use Rattle.std.proofs.lemmas.Bool.{cond-true, cond-false, false≢true}
 use Rattle.lists.specs.Members.{at_head, in_tail}
 use Rattle.loop_nest.specs.Nest.{NaturalLoop}
-use Rattle.section_check.specs.Placing.{IsAt}
+use Rattle.section_check.specs.Placing.{IsEntryAt}
 use Rattle.section_check.specs.Bounded.{holds}
 use Rattle.section_check.proofs.Elements.{holds_from_contains}
 use Rattle.path_solver.specs.Totals.{iteration_costs_around}
@@ -34,7 +34,7 @@ reserve_grows a b (l ∷ ls) (w ∷ ws) more =
     omega arith
 
 -- and where loop i fits that didn't, they cost at most more by an iteration of it
-pub reserve_grows_by : (a b : NaturalLoop → Bool) (loops : List NaturalLoop) (iteration_costs : List ℕ) (i : ℕ) (l : NaturalLoop) → IsAt loops i l → a l ≡ false → b l ≡ true → ((k : NaturalLoop) → Contains loops k → a k ≡ true → b k ≡ true)
+pub reserve_grows_by : (a b : NaturalLoop → Bool) (loops : List NaturalLoop) (iteration_costs : List ℕ) (i : ℕ) (l : NaturalLoop) → IsEntryAt loops i l → a l ≡ false → b l ≡ true → ((k : NaturalLoop) → Contains loops k → a k ≡ true → b k ≡ true)
     → reserve_where a loops iteration_costs + get_or iteration_costs i 0 ≤ reserve_where b loops iteration_costs
 reserve_grows_by a b [] iteration_costs i l at no' yes' more = let lt = at.0 in absurd (omega arith)
 reserve_grows_by a b (k ∷ ls) [] i l at no' yes' more = omega arith
@@ -50,7 +50,7 @@ reserve_grows_by a b (k ∷ ls) (w ∷ ws) (suc i) l at no' yes' more =
     omega arith
 
 -- an iteration of one loop around a node costs at most no more than those of all
-pub iteration_cost_of_one : (loops : List NaturalLoop) (iteration_costs : List ℕ) (i : ℕ) (l : NaturalLoop) (u : ℕ) → IsAt loops i l → Contains l.members u → get_or iteration_costs i 0 ≤ iteration_costs_around loops iteration_costs u
+pub iteration_cost_of_one : (loops : List NaturalLoop) (iteration_costs : List ℕ) (i : ℕ) (l : NaturalLoop) (u : ℕ) → IsEntryAt loops i l → Contains l.members u → get_or iteration_costs i 0 ≤ iteration_costs_around loops iteration_costs u
 iteration_cost_of_one loops iteration_costs i l u at inside =
     let grows = reserve_grows_by (λ k. false) (λ k. holds k.members u) loops iteration_costs i l at refl (holds_from_contains l.members u inside) (λ k has no'. absurd (false≢true no')) in
     let is = around_where loops iteration_costs u in

@@ -6,7 +6,7 @@ use Rattle.std.proofs.lemmas.List.{length-map, length-set, get_or-set_same, get_
 use Rattle.std.proofs.lemmas.List.Elements.{Contains-get_or}
 use Rattle.lists.specs.Members.{at_head, in_tail, cons_cases, nil_contains}
 use Rattle.loop_nest.specs.Nest.{NaturalLoop, headers_of}
-use Rattle.section_check.specs.Placing.{IsAt}
+use Rattle.section_check.specs.Placing.{IsEntryAt}
 use Rattle.path_solver.specs.declared.topology.TopologicalOrder.{TopologicalOrder}
 use Rattle.path_solver.specs.Ordering.{AreApart, NoLoopHas}
 use Rattle.path_solver.specs.Distances.{IsMost, sources_at}
@@ -35,8 +35,8 @@ pub record HasExactCosts (p : TopologicalOrder) (l : NaturalLoop) (i : ℕ) (cos
 -- each loop in the order has its iteration cost and its fee, the others cost nothing, and each node in the order has its distance
 pub record AreExact (p : TopologicalOrder) (loops : List NaturalLoop) (costs bounds loads iteration_costs : List ℕ) (fees dist : ℕ → ℕ) : Type 0 where
   pub long : length iteration_costs ≡ length loops
-  pub loop_costs : (i : ℕ) (l : NaturalLoop) → IsAt loops i l → Contains p.order.items l.header → HasExactCosts p l i costs bounds loads iteration_costs fees
-  pub dropped : (i : ℕ) (l : NaturalLoop) → IsAt loops i l → (Contains p.order.items l.header → ⊥) → get_or iteration_costs i 0 ≡ 0
+  pub loop_costs : (i : ℕ) (l : NaturalLoop) → IsEntryAt loops i l → Contains p.order.items l.header → HasExactCosts p l i costs bounds loads iteration_costs fees
+  pub dropped : (i : ℕ) (l : NaturalLoop) → IsEntryAt loops i l → (Contains p.order.items l.header → ⊥) → get_or iteration_costs i 0 ≡ 0
   pub others : (u : ℕ) → NoLoopHas loops u → fees u ≡ 0
   pub each : (u : ℕ) → Contains p.order.items u → IsExactlyReached (sources_at p.forward) costs fees dist u
 
@@ -184,8 +184,8 @@ module _ (p : TopologicalOrder) (loops : List NaturalLoop) (costs bounds loads :
   -- the loops whose headers stand at place m of the order or later have their costs
   record AreExactFrom (m : ℕ) (iteration_costs : List ℕ) (fees : ℕ → ℕ) : Type 0 where
     long : length iteration_costs ≡ length loops
-    each : (i : ℕ) (l : NaturalLoop) → IsAt loops i l → StandsFrom order m l.header → HasExactCosts p l i costs bounds loads iteration_costs fees
-    dropped : (i : ℕ) (l : NaturalLoop) → IsAt loops i l → (StandsFrom order m l.header → ⊥) → get_or iteration_costs i 0 ≡ 0
+    each : (i : ℕ) (l : NaturalLoop) → IsEntryAt loops i l → StandsFrom order m l.header → HasExactCosts p l i costs bounds loads iteration_costs fees
+    dropped : (i : ℕ) (l : NaturalLoop) → IsEntryAt loops i l → (StandsFrom order m l.header → ⊥) → get_or iteration_costs i 0 ≡ 0
     others : (u : ℕ) → NoLoopHas loops u → fees u ≡ 0
 
   module _ (m : ℕ) (lt : m < length order) where
@@ -211,7 +211,7 @@ module _ (p : TopologicalOrder) (loops : List NaturalLoop) (costs bounds loads :
       others = h.others;
     }
 
-    module _ (iteration_costs : List ℕ) (fees : ℕ → ℕ) (h : AreExactFrom (m + 1) iteration_costs fees) (i : ℕ) (l : NaturalLoop) (at : IsAt loops i l) (heads : l.header ≡ here) (dist : ℕ → ℕ) (start : dist here ≡ 0) (each : (u : ℕ) → Contains order u → u ≢ here → IsExactlyReached src costs fees dist u)
+    module _ (iteration_costs : List ℕ) (fees : ℕ → ℕ) (h : AreExactFrom (m + 1) iteration_costs fees) (i : ℕ) (l : NaturalLoop) (at : IsEntryAt loops i l) (heads : l.header ≡ here) (dist : ℕ → ℕ) (start : dist here ≡ 0) (each : (u : ℕ) → Contains order u → u ≢ here → IsExactlyReached src costs fees dist u)
         (cost : ℕ) (most : IsMost (λ q. get_or costs q 0 + dist q) (sources_at p.back here) cost) where
       abbrev fee : ℕ
       fee = get_or bounds i 0 * cost + get_or loads i 0
@@ -246,11 +246,11 @@ module _ (p : TopologicalOrder) (loops : List NaturalLoop) (costs bounds loads :
             fee = put_here here fee fees l.header heads ∙ ap (λ (w : ℕ). get_or bounds i 0 * w + get_or loads i 0) (sym is);
           }
 
-      other_header : (k : ℕ) (z : NaturalLoop) → IsAt loops k z → k ≢ i → z.header ≢ here
+      other_header : (k : ℕ) (z : NaturalLoop) → IsEntryAt loops k z → k ≢ i → z.header ≢ here
       other_header k z at' other same = other (same_place loops rising k i z l at' at (same ∙ sym heads))
 
       -- a loop whose header stands later doesn't have this node among its members
-      outside : (k : ℕ) (z : NaturalLoop) → IsAt loops k z → z.header ≢ here → StandsFrom order (m + 1) z.header → Contains z.members here → ⊥
+      outside : (k : ℕ) (z : NaturalLoop) → IsEntryAt loops k z → z.header ≢ here → StandsFrom order (m + 1) z.header → Contains z.members here → ⊥
       outside k z at' away s has =
           let le = s.1 in
           let there : Contains order z.header = (s.0, s.2, get_or_default order s.0 z.header 0 s.2 ∙ s.3) in
@@ -258,7 +258,7 @@ module _ (p : TopologicalOrder) (loops : List NaturalLoop) (costs bounds loads :
           let less = r.1 in
           orderly.apart r.0 s.0 (omega arith) s.2 (r.3 ∙ sym s.3)
 
-      still : (k : ℕ) (z : NaturalLoop) → IsAt loops k z → k ≢ i → StandsFrom order (m + 1) z.header → HasExactCosts p z k costs bounds loads next_costs next_fees
+      still : (k : ℕ) (z : NaturalLoop) → IsEntryAt loops k z → k ≢ i → StandsFrom order (m + 1) z.header → HasExactCosts p z k costs bounds loads next_costs next_fees
       still k z at' other s =
           let r = h.each k z at' s in
           let away = other_header k z at' other in

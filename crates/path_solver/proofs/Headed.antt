@@ -2,7 +2,7 @@
 use Rattle.std.proofs.Common.{◌≡◌, ℕ, zero, suc, ◌⊎◌, List, [], ◌∷◌, refl, ap, ◌∙◌, inl, inr, arith}
 use Rattle.std.proofs.lemmas.Bool.{cases_eq}
 use Rattle.loop_nest.specs.Nest.{NaturalLoop}
-use Rattle.section_check.specs.Placing.{IsAt}
+use Rattle.section_check.specs.Placing.{IsEntryAt}
 use Rattle.path_solver.specs.Ordering.{NoLoopHas}
 
 none_of : (l : NaturalLoop) (ls : List NaturalLoop) (v : ℕ) → (l.header ≡ v → ⊥) → NoLoopHas ls v → NoLoopHas (l ∷ ls) v
@@ -10,7 +10,7 @@ none_of l ls v other none zero k at same = other (ap (λ (z : NaturalLoop). z.he
 none_of l ls v other none (suc i) k at same = let lt = at.0 in none i k (omega arith, at.1) same
 
 -- some loop has this header, or none
-pub headed_or_not : (loops : List NaturalLoop) (v : ℕ) → ((i : ℕ) × (l : NaturalLoop) × IsAt loops i l × (l.header ≡ v)) ⊎ NoLoopHas loops v
+pub headed_or_not : (loops : List NaturalLoop) (v : ℕ) → ((i : ℕ) × (l : NaturalLoop) × IsEntryAt loops i l × (l.header ≡ v)) ⊎ NoLoopHas loops v
 headed_or_not [] v = inr (λ k l at same. let lt = at.0 in omega arith)
 headed_or_not (l ∷ ls) v =
     elim (cases_eq l.header v) [

@@ -9,14 +9,14 @@ use Rattle.loop_nest.specs.Walks.Walk.{stay, along}
 use Rattle.loop_nest.specs.Nest.{NaturalLoop}
 use Rattle.section_check.specs.Bounded.{BoundedLoop, IsIteration, cost_of_iteration}
 use Rattle.section_check.specs.Section.{Certified, potential, listed}
-use Rattle.section_check.specs.Placing.{IsAt, IsMisplaced}
+use Rattle.section_check.specs.Placing.{IsEntryAt, IsMisplaced}
 use Rattle.section_check.specs.Placing.IsMisplaced.{lists_no_node, holds_no_node, heads_faulty, enters_aside, holds_entry, exceeds_limit}
 use Rattle.section_check.specs.Conditions.{IsAccepted}
 use Rattle.path_solver.specs.declared.topology.TopologicalOrder.{TopologicalOrder}
 use Rattle.path_solver.specs.Reaching.{IsFlagged}
 use Rattle.path_solver.specs.Certifying.{certified}
 use Rattle.path_solver.specs.Longest.{bounded_loops}
-use Rattle.path_solver.specs.Problem.{IsSetting}
+use Rattle.path_solver.specs.Problem.{IsProblem}
 use Rattle.path_solver.proofs.Accepting.{AreExactlyLeft, edges_hold, starts_with}
 use Rattle.path_solver.proofs.Correspond.{bounded_at, price_at, to_priced, same_loops}
 use Rattle.path_solver.proofs.Exact.{AreExact}
@@ -65,7 +65,7 @@ misplaced_with g c bounds loads u (enters_aside v e f) = enters_aside v e f
 misplaced_with g c bounds loads u (holds_entry at f) = holds_entry at f
 misplaced_with g c bounds loads u (exceeds_limit at f) = exceeds_limit at f
 
-module _ (g : Digraph) (loops : List NaturalLoop) (flags : List Bool) (p : TopologicalOrder) (h : IsSetting g loops flags p) (costs bounds loads iteration_costs : List ℕ) (b : length bounds ≡ length loops) (l : length loads ≡ length loops) (fees dist : ℕ → ℕ)
+module _ (g : Digraph) (loops : List NaturalLoop) (flags : List Bool) (p : TopologicalOrder) (h : IsProblem g loops flags p) (costs bounds loads iteration_costs : List ℕ) (b : length bounds ≡ length loops) (l : length loads ≡ length loops) (fees dist : ℕ → ℕ)
     (m : AreExact p loops costs bounds loads iteration_costs fees dist) where
   -- the listed nodes with what exact distances leave of a value
   abbrev pub nodes_of : ℕ → List (ℕ × ℤ)
@@ -95,7 +95,7 @@ module _ (g : Digraph) (loops : List NaturalLoop) (flags : List Bool) (p : Topol
       exits = λ u has. absurd (nil_contains u has);
     }
 
-    pub iteration_bounded : (i : ℕ) (k : NaturalLoop) → IsAt loops i k → IsFlagged flags k.header → (ns : List ℕ) → IsIteration g (bounded_loops loops bounds loads) (bounded_at loops bounds loads b l k i) ns
+    pub iteration_bounded : (i : ℕ) (k : NaturalLoop) → IsEntryAt loops i k → IsFlagged flags k.header → (ns : List ℕ) → IsIteration g (bounded_loops loops bounds loads) (bounded_at loops bounds loads b l k i) ns
         → cost_of_iteration costs (bounded_loops loops bounds loads) ns ≤ get_or iteration_costs i 0
     iteration_bounded i k at flag ns iteration =
         let has : Contains loops k = (i, at.0, at.1) in

@@ -4,7 +4,7 @@ use Rattle.std.proofs.lemmas.Bool.{cases_eq, cases_lt}
 use Rattle.lists.specs.Members.{has_or_not, nil_contains}
 use Rattle.loop_nest.specs.Digraph.{Digraph}
 use Rattle.loop_nest.specs.Nest.{NaturalLoop}
-use Rattle.section_check.specs.Placing.{IsAt}
+use Rattle.section_check.specs.Placing.{IsEntryAt}
 use Rattle.path_solver.specs.declared.topology.TopologicalOrder.{TopologicalOrder}
 use Rattle.path_solver.specs.Reaching.{IsFlagged}
 use Rattle.path_solver.specs.Distances.{limited, IsMost, cost_through, sources_at, IsReachedBy}
@@ -80,7 +80,7 @@ module _ (g : Digraph) (loops : List NaturalLoop) (flags : List Bool) (p : Topol
 
   -- the iteration cost and the fee of loop i, which is l
   abbrev AreStood : NaturalLoop → Type 0
-  AreStood l = (i : ℕ) → IsAt loops i l → IsFlagged flags l.header → (get_or iteration_costs i 0 ≡ limited (get_or exact_costs i 0)) × (get_or fees l.header 0 ≡ limited (exact_fees l.header))
+  AreStood l = (i : ℕ) → IsEntryAt loops i l → IsFlagged flags l.header → (get_or iteration_costs i 0 ≡ limited (get_or exact_costs i 0)) × (get_or fees l.header 0 ≡ limited (exact_fees l.header))
 
   -- a node's fee, where that of the loop is known that it heads
   fee_of : (u : ℕ) → IsFlagged flags u → ((l : NaturalLoop) → Contains loops l → l.header ≡ u → AreStood l) → get_or fees u 0 ≡ limited (exact_fees u)
@@ -92,7 +92,7 @@ module _ (g : Digraph) (loops : List NaturalLoop) (flags : List Bool) (p : Topol
         | inr none ↦ let a = m.loop_costs.others u none in let b = x.others u none in omega arith
       ]
 
-  module _ (l : NaturalLoop) (among : Contains loops l) (inner : (k : NaturalLoop) → Contains loops k → Contains l.members k.header → k.header ≢ l.header → AreStood k) (i : ℕ) (at : IsAt loops i l) (flag : IsFlagged flags l.header)
+  module _ (l : NaturalLoop) (among : Contains loops l) (inner : (k : NaturalLoop) → Contains loops k → Contains l.members k.header → k.header ≢ l.header → AreStood k) (i : ℕ) (at : IsEntryAt loops i l) (flag : IsFlagged flags l.header)
       (turned : HasLoopCosts p l i costs bounds loads iteration_costs fees) (exactly : HasExactCosts p l i costs bounds loads exact_costs exact_fees) where
     abbrev IsInside : ℕ → Type 0
     IsInside u = Contains l.members u → get_or turned.dist u 0 ≡ limited (exactly.dist u)
@@ -137,7 +137,7 @@ module _ (g : Digraph) (loops : List NaturalLoop) (flags : List Bool) (p : Topol
   fee_all : (u : ℕ) → IsFlagged flags u → get_or fees u 0 ≡ limited (exact_fees u)
   fee_all u flag = fee_of u flag (λ l among same. all_stood l among)
 
-  pub costs_limited : (i : ℕ) (l : NaturalLoop) → IsAt loops i l → get_or iteration_costs i 0 ≡ limited (get_or exact_costs i 0)
+  pub costs_limited : (i : ℕ) (l : NaturalLoop) → IsEntryAt loops i l → get_or iteration_costs i 0 ≡ limited (get_or exact_costs i 0)
   costs_limited i l at =
       elim (has_or_not p.order.items l.header) [
         | inl listed ↦ (all_stood l (i, at.0, at.1) i at (structure.from_order g loops flags p m.setting l.header listed)).0

@@ -6,7 +6,7 @@ use Rattle.std.proofs.lemmas.List.Elements.{All-cons, All-head, All-tail}
 use Rattle.loop_nest.specs.Digraph.{Digraph}
 use Rattle.loop_nest.specs.Nest.{NaturalLoop}
 use Rattle.section_check.specs.Section.{Certified, CertifiedLoop, IsInForm, HeadersRise, MembersRise}
-use Rattle.section_check.specs.Placing.{IsAt}
+use Rattle.section_check.specs.Placing.{IsEntryAt}
 use Rattle.section_check.specs.Conditions.{Answers}
 use Rattle.section_check.specs.Regions.{marked, with_regions, AreRegions, MarkedStaysAccepted}
 use Rattle.section_check.proofs.Marking.{marked-long}
@@ -84,7 +84,7 @@ marked_loops nest ls rs h long =
     record { headers = marked_headers ls rs ∙ h.headers; members = marked_members ls rs ∙ h.members; marks = marked_marks ls rs (long ∙ sym (as_many nest ls h)) }
 
 -- loop i of the section has the members of loop i of the nest
-members_of : (nest : List NaturalLoop) (ls : List CertifiedLoop) → AreLoopsOf nest ls → (i : ℕ) (l : CertifiedLoop) → IsAt ls i l → (d : NaturalLoop) → (i < length nest) × (l.members ≡ (get_or nest i d).members)
+members_of : (nest : List NaturalLoop) (ls : List CertifiedLoop) → AreLoopsOf nest ls → (i : ℕ) (l : CertifiedLoop) → IsEntryAt ls i l → (d : NaturalLoop) → (i < length nest) × (l.members ≡ (get_or nest i d).members)
 members_of nest ls h i l at d =
     let many = as_many nest ls h in
     let lt = at.0 in

@@ -3,19 +3,19 @@ use Rattle.std.proofs.Common.{◌≡◌, ℕ, Bool, List, length, Contains, sym,
 use Rattle.loop_nest.specs.Digraph.{Digraph}
 use Rattle.loop_nest.specs.Nest.{NaturalLoop}
 use Rattle.path_solver.specs.declared.topology.TopologicalOrder.{TopologicalOrder}
-use Rattle.section_check.specs.Placing.{IsAt}
+use Rattle.section_check.specs.Placing.{IsEntryAt}
 use Rattle.section_check.specs.Bounded.{BoundedLoop}
 use Rattle.path_solver.specs.Longest.{bounded_loops}
 use Rattle.path_solver.proofs.Loops.{same_place}
-use Rattle.path_solver.specs.Problem.{IsSetting}
+use Rattle.path_solver.specs.Problem.{IsProblem}
 use Rattle.path_solver.proofs.Structure.{own_header, mutual_same, header_decides}
 use Rattle.path_solver.proofs.Correspond.{bounded_at, from_bounded}
 use Rattle.path_solver.proofs.Prolonging.{AreNested}
 
-pub contained : {X : Type 0} (xs : List X) (i : ℕ) (x : X) → IsAt xs i x → Contains xs x
+pub contained : {X : Type 0} (xs : List X) (i : ℕ) (x : X) → IsEntryAt xs i x → Contains xs x
 contained xs i x at = (i, at.0, at.1)
 
-module _ (g : Digraph) (loops : List NaturalLoop) (flags : List Bool) (p : TopologicalOrder) (h : IsSetting g loops flags p) (bounds loads : List ℕ) (b : length bounds ≡ length loops) (m : length loads ≡ length loops) where
+module _ (g : Digraph) (loops : List NaturalLoop) (flags : List Bool) (p : TopologicalOrder) (h : IsProblem g loops flags p) (bounds loads : List ℕ) (b : length bounds ≡ length loops) (m : length loads ≡ length loops) where
   abbrev all : List BoundedLoop
   all = bounded_loops loops bounds loads
 
@@ -23,7 +23,7 @@ module _ (g : Digraph) (loops : List NaturalLoop) (flags : List Bool) (p : Topol
   pub record IsLoopAt (k : BoundedLoop) : Type 0 where
     pub place : ℕ
     pub loop : NaturalLoop
-    pub at : IsAt loops place loop
+    pub at : IsEntryAt loops place loop
     pub among : Contains loops loop
     pub header : k.header ≡ loop.header
     pub members : k.members ≡ loop.members

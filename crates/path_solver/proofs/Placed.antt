@@ -10,16 +10,16 @@ use Rattle.loop_nest.specs.Digraph.{Digraph}
 use Rattle.loop_nest.specs.Nest.{NaturalLoop, IsLoopOf}
 use Rattle.path_solver.specs.declared.topology.TopologicalOrder.{TopologicalOrder}
 use Rattle.section_check.specs.Section.{Certified, CertifiedLoop, HeadersRise, MembersRise, start_value, listed, priced}
-use Rattle.section_check.specs.Placing.{IsAt, LiesIn, AreCrossed, IsFaulty, AreWellPlaced}
+use Rattle.section_check.specs.Placing.{IsEntryAt, LiesIn, AreCrossed, IsFaulty, AreWellPlaced}
 use Rattle.section_check.specs.Placing.IsFaulty.{shares_header, leaves_header_out, crosses_another, does_not_fit, lies_in_region}
 use Rattle.section_check.specs.Placing.IsMisplaced.{lists_no_node, holds_no_node, heads_faulty, enters_aside, holds_entry, exceeds_limit}
 use Rattle.path_solver.specs.Certifying.{certified}
-use Rattle.path_solver.specs.Problem.{IsSetting}
+use Rattle.path_solver.specs.Problem.{IsProblem}
 use Rattle.path_solver.proofs.Loops.{header_at, same_place}
 use Rattle.path_solver.proofs.Certificates.{IsSameLoop, same_loop, certified_long}
 use Rattle.path_solver.proofs.Structure.{own_header, entered_at_header, entry_heads, members_below, holds_all, nested}
 
-module _ (g : Digraph) (loops : List NaturalLoop) (flags : List Bool) (p : TopologicalOrder) (h : IsSetting g loops flags p) (bounds loads iteration_costs : List ℕ) (b : length bounds ≡ length loops) (m : length loads ≡ length loops) (w : length iteration_costs ≡ length loops) where
+module _ (g : Digraph) (loops : List NaturalLoop) (flags : List Bool) (p : TopologicalOrder) (h : IsProblem g loops flags p) (bounds loads iteration_costs : List ℕ) (b : length bounds ≡ length loops) (m : length loads ≡ length loops) (w : length iteration_costs ≡ length loops) where
   abbrev section : List (ℕ × ℤ) → Certified
   section nodes = record { nodes = nodes; loops = certified loops iteration_costs }
 
@@ -33,7 +33,7 @@ module _ (g : Digraph) (loops : List NaturalLoop) (flags : List Bool) (p : Topol
   found : (c : CertifiedLoop) → Contains made_loops c → (i : ℕ) × IsSameLoop loops i c
   found c has = (has.0, same_loop loops iteration_costs w has.0 c (has.1, has.2))
 
-  among : (i : ℕ) (l : NaturalLoop) → IsAt loops i l → Contains loops l
+  among : (i : ℕ) (l : NaturalLoop) → IsEntryAt loops i l → Contains loops l
   among i l at = (i, at.0, at.1)
 
   pub as_many : length (certified loops iteration_costs) ≡ length loops
@@ -97,7 +97,7 @@ module _ (g : Digraph) (loops : List NaturalLoop) (flags : List Bool) (p : Topol
           | inr outer ↦ x.not_around (lies_in j i d c t s (subst R (sym t.header) (from_nest i c s t.loop.header outer)))
         ]
 
-  not_faulty : (i : ℕ) (c : CertifiedLoop) → IsAt made_loops i c → IsFaulty made_loops (map Some loads) i c → ⊥
+  not_faulty : (i : ℕ) (c : CertifiedLoop) → IsEntryAt made_loops i c → IsFaulty made_loops (map Some loads) i c → ⊥
   not_faulty i c at (shares_header f) =
       f.apart (one_place i f.place c f.other (same_loop loops iteration_costs w i c at) (same_loop loops iteration_costs w f.place f.other f.at) f.same)
   not_faulty i c at (leaves_header_out f) = f (has_header i c (same_loop loops iteration_costs w i c at))

@@ -14,14 +14,14 @@ use Rattle.path_solver.specs.Reaching.{IsFlagged}
 use Rattle.path_solver.specs.Distances.{IsMost}
 use Rattle.path_solver.specs.Totals.{iteration_costs_around}
 use Rattle.path_solver.proofs.CostsAround.{reserve_where, around_where, reserve_grows, reserve_grows_by}
-use Rattle.path_solver.specs.Problem.{IsSetting}
+use Rattle.path_solver.specs.Problem.{IsProblem}
 use Rattle.path_solver.proofs.Exact.{AreExact}
 use Rattle.path_solver.proofs.Limiting.{exactly_through}
 use Rattle.path_solver.proofs.AlongEdges.{grows}
 use Rattle.path_solver.proofs.AlongEdges.Grows.{backward, entering, exceeding}
 use Rattle.path_solver.proofs.Structure as structure
 
-module _ (g : Digraph) (loops : List NaturalLoop) (flags : List Bool) (p : TopologicalOrder) (h : IsSetting g loops flags p) (costs bounds loads iteration_costs : List ℕ) (fees dist : ℕ → ℕ) (m : AreExact p loops costs bounds loads iteration_costs fees dist) (value : ℕ) (most : IsMost (exactly_through costs dist) g.exits value) where
+module _ (g : Digraph) (loops : List NaturalLoop) (flags : List Bool) (p : TopologicalOrder) (h : IsProblem g loops flags p) (costs bounds loads iteration_costs : List ℕ) (fees dist : ℕ → ℕ) (m : AreExact p loops costs bounds loads iteration_costs fees dist) (value : ℕ) (most : IsMost (exactly_through costs dist) g.exits value) where
   -- the loop has u, and its header is one of the nodes to come
   abbrev is_ahead : ℕ → List ℕ → NaturalLoop → Bool
   is_ahead u rest l = holds l.members u && holds rest l.header

@@ -17,7 +17,7 @@ use Rattle.loop_nest.specs.Nest.{NaturalLoop}
 use Rattle.loop_nest.proofs.Ends.{ends_within}
 use Rattle.section_check.specs.Bounded.{BoundedLoop, holds, cost_of, IsBoundedWalk, IsGreatest}
 use Rattle.section_check.specs.Section.{Certified, CertifiedLoop, priced, IsInForm, IsPotential, ArePotentials, start_value, potential, listed}
-use Rattle.section_check.specs.Placing.{IsAt}
+use Rattle.section_check.specs.Placing.{IsEntryAt}
 use Rattle.section_check.specs.Conditions.{IsAccepted, Answers, natural_of, value_of}
 use Rattle.section_check.proofs.Rising.{listed_at, listed_long, potential_at}
 use Rattle.path_solver.specs.declared.pass.Pass.{Pass}
@@ -25,11 +25,11 @@ use Rattle.path_solver.specs.declared.topology.TopologicalOrder.{TopologicalOrde
 use Rattle.path_solver.specs.Certifying.{certified}
 use Rattle.path_solver.specs.Distances.{limited, IsMost, cost_through}
 use Rattle.path_solver.specs.Iteration.{IsOrderly}
-use Rattle.path_solver.specs.Longest.{bounded_loops, AreLoopsOf, WalkExceeds, IterationsExceed, IsTooLarge}
-use Rattle.path_solver.specs.Longest.IsTooLarge.{walk, iterations}
+use Rattle.path_solver.specs.Longest.{bounded_loops, AreLoopsOf, WalkExceeds, IterationsExceed, WalksAreTooLarge}
+use Rattle.path_solver.specs.Longest.WalksAreTooLarge.{walk, iterations}
 use Rattle.path_solver.specs.Pass.{IsPass}
 use Rattle.path_solver.specs.Potentials.{AreLeft}
-use Rattle.path_solver.specs.Problem.{IsSetting, IsMeasured}
+use Rattle.path_solver.specs.Problem.{IsProblem, IsMeasured}
 use Rattle.path_solver.specs.Reaching.{ReachesExit, IsFlagged}
 use Rattle.path_solver.specs.Totals.{iteration_costs_around, SomeIterationsExceed}
 use Rattle.path_solver.proofs.Accepting.{AreExactlyLeft, edges_hold, exits_hold, starts_with}
@@ -86,7 +86,7 @@ one_around : (b : Bool) (w x some all : ℕ) → w ≡ limited x → limited all
 one_around true w x some all is less = omega arith
 one_around false w x some all is less = omega arith
 
-around_limited : (ls : List NaturalLoop) (ws xs : List ℕ) (u : ℕ) → length ws ≡ length ls → length xs ≡ length ls → ((i : ℕ) (l : NaturalLoop) → IsAt ls i l → get_or ws i 0 ≡ limited (get_or xs i 0))
+around_limited : (ls : List NaturalLoop) (ws xs : List ℕ) (u : ℕ) → length ws ≡ length ls → length xs ≡ length ls → ((i : ℕ) (l : NaturalLoop) → IsEntryAt ls i l → get_or ws i 0 ≡ limited (get_or xs i 0))
     → limited (iteration_costs_around ls xs u) ≤ iteration_costs_around ls ws u
 around_limited [] ws xs u a b each = omega arith
 around_limited (l ∷ ls) [] xs u a b each = absurd (omega arith)
@@ -104,7 +104,7 @@ record AreBehind (g : Digraph) (loops : List NaturalLoop) (costs bounds loads : 
   exact_value : ℕ
   most : IsMost (exactly_through costs exact_dist) g.exits exact_value
   value_is : value ≡ limited exact_value
-  costs_are : (i : ℕ) (l : NaturalLoop) → IsAt loops i l → get_or iteration_costs i 0 ≡ limited (get_or exact_costs i 0)
+  costs_are : (i : ℕ) (l : NaturalLoop) → IsEntryAt loops i l → get_or iteration_costs i 0 ≡ limited (get_or exact_costs i 0)
   dist_are : (u : ℕ) → IsFlagged flags u → get_or dist u 0 ≡ limited (exact_dist u)
 
 behind : (g : Digraph) (loops : List NaturalLoop) (flags : List Bool) (p : TopologicalOrder) (costs bounds loads iteration_costs fees dist : List ℕ) (value : ℕ) → IsMeasured g loops flags p costs bounds loads iteration_costs fees dist → IsMost (cost_through costs dist) g.exits value
@@ -135,7 +135,7 @@ pub record IsFound (g : Digraph) (loops : List NaturalLoop) (costs bounds loads 
   pub own_loops : AreLoopsOf loops section.loops
   pub form : IsInForm section bounds (map Some loads)
   pub shown : Answers g costs section bounds (map Some loads) (Ok (Some value))
-  pub fits : IsTooLarge g costs (bounded_loops loops bounds loads) → ⊥
+  pub fits : WalksAreTooLarge g costs (bounded_loops loops bounds loads) → ⊥
 
 module _ (g : Digraph) (loops : List NaturalLoop) (costs bounds loads : List ℕ) (flags : List Bool) (iteration_costs dist : List ℕ) (value : ℕ) (exceed : Bool) (s : IsPass g loops costs bounds loads flags iteration_costs dist value exceed) where
   abbrev bounded_all : List BoundedLoop
@@ -147,7 +147,7 @@ module _ (g : Digraph) (loops : List NaturalLoop) (costs bounds loads : List ℕ
   abbrev m : IsMeasured g loops flags p costs bounds loads iteration_costs s.measures.fees dist
   m = s.measures.measured
 
-  abbrev h : IsSetting g loops flags p
+  abbrev h : IsProblem g loops flags p
   h = m.setting
 
   x : AreBehind g loops costs bounds loads flags p iteration_costs dist value
@@ -243,10 +243,10 @@ module _ (g : Digraph) (loops : List NaturalLoop) (costs bounds loads : List ℕ
   pub exceed_tells : IsTrue exceed ↔ IterationsExceed g costs bounded_all
   exceed_tells = (λ yes'. iterations_show (s.turns.0 yes'), λ t. s.turns.1 (iterations_shown t))
 
-  pub value_too_large : 2 ^ 64 ≤ value → IsTooLarge g costs bounded_all
+  pub value_too_large : 2 ^ 64 ≤ value → WalksAreTooLarge g costs bounded_all
   value_too_large over = walk (walk_exceeds over)
 
-  pub iterations_too_large : IsTrue exceed → IsTooLarge g costs bounded_all
+  pub iterations_too_large : IsTrue exceed → WalksAreTooLarge g costs bounded_all
   iterations_too_large over = iterations (exceed_tells.0 over)
 
   -- ---- the section of a value, where nothing exceeds 64 bits
@@ -262,7 +262,7 @@ module _ (g : Digraph) (loops : List NaturalLoop) (costs bounds loads : List ℕ
           | inr more ↦ absurd (none_exceed (record { node = u; below = lt; exceeds = more }))
         ]
 
-    iteration_cost_fits : (i : ℕ) (l : NaturalLoop) → IsAt loops i l → get_or iteration_costs i 0 < 2 ^ 64
+    iteration_cost_fits : (i : ℕ) (l : NaturalLoop) → IsEntryAt loops i l → get_or iteration_costs i 0 < 2 ^ 64
     iteration_cost_fits i l at =
         let among : Contains loops l = (i, at.0, at.1) in
         let own = own_header g loops flags p h l among in
@@ -270,7 +270,7 @@ module _ (g : Digraph) (loops : List NaturalLoop) (costs bounds loads : List ℕ
         let around = iterations_fit l.header (members_below g loops flags p h l l.header among own) in
         omega arith
 
-    loop_at : (i : ℕ) → i < length loops → (l : NaturalLoop) × IsAt loops i l
+    loop_at : (i : ℕ) → i < length loops → (l : NaturalLoop) × IsEntryAt loops i l
     loop_at i lt =
         let none : NaturalLoop = record { header = 0; members = []; outer = None } in
         let l = get_or loops i none in
@@ -361,7 +361,7 @@ module _ (g : Digraph) (loops : List NaturalLoop) (costs bounds loads : List ℕ
           loaded = length-map loads Some ∙ m.loads_long ∙ sym many;
         }
 
-    none_too_large : IsTooLarge g costs bounded_all → ⊥
+    none_too_large : WalksAreTooLarge g costs bounded_all → ⊥
     none_too_large (walk w) = let over = w.exceeds in let most = no_walk_greater small w.walk w.bounded in omega arith
     none_too_large (iterations t) = none_exceed within (iterations_shown t)
 
@@ -385,13 +385,13 @@ source_below {g} wf (stay {u}) exit = All-contains (λ x. x < g.nodes) g.exits u
 source_below {g} wf (along {u} {v} {w} {ns} e t) exit = (ends_within wf u v e).0
 
 -- where no exit is reached from the entry, none is reached at all
-pub nothing_too_large : (g : Digraph) (costs : List ℕ) (loops : List BoundedLoop) → ReducibleIsReached → IsDigraph g → IsReducible g → (ReachesExit g 0 → ⊥) → IsTooLarge g costs loops → ⊥
+pub nothing_too_large : (g : Digraph) (costs : List ℕ) (loops : List BoundedLoop) → ReducibleIsReached → IsDigraph g → IsReducible g → (ReachesExit g 0 → ⊥) → WalksAreTooLarge g costs loops → ⊥
 nothing_too_large g costs loops law wf red out (walk w) = out (record { exit = w.bounded.last; among = w.bounded.exit; nodes = w.walk; walk = w.bounded.walk })
 nothing_too_large g costs loops law wf red out (iterations t) =
     let r = law g wf red t.node (source_below wf t.reaches.walk t.reaches.among) in
     out (exit_along r.1 t.reaches)
 
-pub all_within : (g : Digraph) (loops : List NaturalLoop) (flags : List Bool) (p : TopologicalOrder) → IsSetting g loops flags p → All (λ l. All (λ u. u < g.nodes) l.members) loops
+pub all_within : (g : Digraph) (loops : List NaturalLoop) (flags : List Bool) (p : TopologicalOrder) → IsProblem g loops flags p → All (λ l. All (λ u. u < g.nodes) l.members) loops
 all_within g loops flags p h i d lt j e lt' =
     let l = get_or loops i d in
     members_below g loops flags p h l (get_or l.members j e) (i, lt, get_or_default loops i l d lt) (j, lt', get_or_default l.members j (get_or l.members j e) e lt')

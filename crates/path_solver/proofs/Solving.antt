@@ -8,13 +8,13 @@ use Rattle.loop_nest.specs.Nest.{NaturalLoop}
 use Rattle.loop_nest.proofs.Elements.{filter_contains, from_filter}
 use Rattle.path_solver.specs.declared.topology.TopologicalOrder.{TopologicalOrder}
 use Rattle.path_solver.specs.Reaching.{ReachesExit, IsFlagged}
-use Rattle.section_check.specs.Placing.{IsAt}
+use Rattle.section_check.specs.Placing.{IsEntryAt}
 use Rattle.section_check.specs.Bounded.{BoundedLoop, holds, IsIteration, cost_of_iteration}
 use Rattle.section_check.proofs.Elements.{contains_from_holds, holds_from_contains}
 use Rattle.section_check.proofs.Sums.{sum_by-zero}
 use Rattle.path_solver.specs.Totals.{iteration_costs_around}
 use Rattle.path_solver.specs.Longest.{bounded_loops, around, IterationsExceed}
-use Rattle.path_solver.specs.Problem.{IsSetting}
+use Rattle.path_solver.specs.Problem.{IsProblem}
 use Rattle.path_solver.proofs.Structure.{listed_member, listed_header, from_order}
 use Rattle.path_solver.proofs.Loops.{same_place, same_at}
 use Rattle.path_solver.proofs.Correspond.{with_bound, bounded_at, to_bounded, from_bounded}
@@ -31,12 +31,12 @@ gated : (b : Bool) (x y : ℕ) → (b ≡ true → x ≤ y) → cond b x 0 ≤ c
 gated true x y le = le refl
 gated false x y le = omega arith
 
-later : {X : Type 0} (x y : X) (xs : List X) (i : ℕ) → IsAt xs i y → IsAt (x ∷ xs) (suc i) y
+later : {X : Type 0} (x y : X) (xs : List X) (i : ℕ) → IsEntryAt xs i y → IsEntryAt (x ∷ xs) (suc i) y
 later x y xs i at = let below = at.0 in (omega arith, at.1)
 
 -- what the loops that hold u give together is at most what they cost at most, where this holds of each
 around_most : (f : BoundedLoop → ℕ) (u : ℕ) (loops : List NaturalLoop) (bounds loads iteration_costs : List ℕ) → length iteration_costs ≡ length loops
-    → ((i : ℕ) (l : NaturalLoop) → IsAt loops i l → Contains l.members u → f (with_bound l (get_or bounds i 0) (get_or loads i 0)) ≤ get_or iteration_costs i 0)
+    → ((i : ℕ) (l : NaturalLoop) → IsEntryAt loops i l → Contains l.members u → f (with_bound l (get_or bounds i 0) (get_or loads i 0)) ≤ get_or iteration_costs i 0)
     → sum_by f (around (bounded_loops loops bounds loads) u) ≤ iteration_costs_around loops iteration_costs u
 around_most f u [] bounds loads iteration_costs w each = omega arith
 around_most f u (k ∷ ks) [] loads iteration_costs w each = omega arith
@@ -50,7 +50,7 @@ around_most f u (k ∷ ks) (x ∷ xs) (y ∷ ys) (v ∷ vs) w each =
 
 -- and at least that
 around_least : (f : BoundedLoop → ℕ) (u : ℕ) (loops : List NaturalLoop) (bounds loads iteration_costs : List ℕ) → length bounds ≡ length loops → length loads ≡ length loops
-    → ((i : ℕ) (l : NaturalLoop) → IsAt loops i l → Contains l.members u → get_or iteration_costs i 0 ≤ f (with_bound l (get_or bounds i 0) (get_or loads i 0)))
+    → ((i : ℕ) (l : NaturalLoop) → IsEntryAt loops i l → Contains l.members u → get_or iteration_costs i 0 ≤ f (with_bound l (get_or bounds i 0) (get_or loads i 0)))
     → iteration_costs_around loops iteration_costs u ≤ sum_by f (around (bounded_loops loops bounds loads) u)
 around_least f u [] bounds loads iteration_costs b m each = omega arith
 around_least f u (k ∷ ks) [] loads iteration_costs b m each = absurd (omega arith)
@@ -85,20 +85,20 @@ choose {X} {Y} number P d (x ∷ xs) one each =
     in
     (f, fits)
 
-module _ (g : Digraph) (loops : List NaturalLoop) (flags : List Bool) (p : TopologicalOrder) (h : IsSetting g loops flags p) (costs bounds loads iteration_costs : List ℕ) (b : length bounds ≡ length loops) (m : length loads ≡ length loops) (w : length iteration_costs ≡ length loops) where
+module _ (g : Digraph) (loops : List NaturalLoop) (flags : List Bool) (p : TopologicalOrder) (h : IsProblem g loops flags p) (costs bounds loads iteration_costs : List ℕ) (b : length bounds ≡ length loops) (m : length loads ≡ length loops) (w : length iteration_costs ≡ length loops) where
   abbrev bs : List BoundedLoop
   bs = bounded_loops loops bounds loads
 
   abbrev at_place : NaturalLoop → ℕ → BoundedLoop
   at_place l i = bounded_at loops bounds loads b m l i
 
-  in_around : (i : ℕ) (l : NaturalLoop) (u : ℕ) → IsAt loops i l → Contains l.members u → Contains (around bs u) (at_place l i)
+  in_around : (i : ℕ) (l : NaturalLoop) (u : ℕ) → IsEntryAt loops i l → Contains l.members u → Contains (around bs u) (at_place l i)
   in_around i l u at inside =
       let there = to_bounded loops bounds loads b m i l at in
       filter_contains (λ (k : BoundedLoop). holds k.members u) bs (at_place l i) (holds_from_contains l.members u inside) (i, there.0, there.1)
 
   -- where no iteration of a loop costs more than these numbers say, iterations of the loops that hold a node don't together
-  pub iterations_at_most : ((i : ℕ) (l : NaturalLoop) → IsAt loops i l → IsFlagged flags l.header → (ns : List ℕ) → IsIteration g bs (at_place l i) ns → cost_of_iteration costs bs ns ≤ get_or iteration_costs i 0)
+  pub iterations_at_most : ((i : ℕ) (l : NaturalLoop) → IsEntryAt loops i l → IsFlagged flags l.header → (ns : List ℕ) → IsIteration g bs (at_place l i) ns → cost_of_iteration costs bs ns ≤ get_or iteration_costs i 0)
       → (u : ℕ) (iteration : BoundedLoop → List ℕ) → ReachesExit g u → ((l : BoundedLoop) → Contains (around bs u) l → IsIteration g bs l (iteration l))
       → sum_by (λ l. cost_of_iteration costs bs (iteration l)) (around bs u) ≤ iteration_costs_around loops iteration_costs u
   iterations_at_most each u iteration reaches iterations =
@@ -118,9 +118,9 @@ module _ (g : Digraph) (loops : List NaturalLoop) (flags : List Bool) (p : Topol
   -- an iteration of l that costs at least what l costs at most
   record CostsItsBound (l : BoundedLoop) (ns : List ℕ) : Type 0 where
     is_iteration : IsIteration g bs l ns
-    enough : (i : ℕ) (k : NaturalLoop) → IsAt loops i k → l ≡ at_place k i → get_or iteration_costs i 0 ≤ cost_of_iteration costs bs ns
+    enough : (i : ℕ) (k : NaturalLoop) → IsEntryAt loops i k → l ≡ at_place k i → get_or iteration_costs i 0 ≤ cost_of_iteration costs bs ns
 
-  module _ (attains : (i : ℕ) (l : NaturalLoop) → IsAt loops i l → IsFlagged flags l.header → (ns : List ℕ) × IsIteration g bs (at_place l i) ns × (get_or iteration_costs i 0 ≤ cost_of_iteration costs bs ns)) where
+  module _ (attains : (i : ℕ) (l : NaturalLoop) → IsEntryAt loops i l → IsFlagged flags l.header → (ns : List ℕ) × IsIteration g bs (at_place l i) ns × (get_or iteration_costs i 0 ≤ cost_of_iteration costs bs ns)) where
     costly_iteration : (u : ℕ) → IsFlagged flags u → (x : BoundedLoop) → Contains (around bs u) x → (ns : List ℕ) × CostsItsBound x ns
     costly_iteration u flag x has =
         let r = from_filter (λ (k : BoundedLoop). holds k.members u) bs x has in
@@ -139,7 +139,7 @@ module _ (g : Digraph) (loops : List NaturalLoop) (flags : List Bool) (p : Topol
         )
 
     -- where iterations cost what they cost at most, and loops that aren't in the order cost at most nothing, iteration costs that exceed 64 bits together show iterations that do
-    pub iterations_together : ((i : ℕ) (l : NaturalLoop) → IsAt loops i l → (Contains p.order.items l.header → ⊥) → get_or iteration_costs i 0 ≡ 0) → (u : ℕ) → 2 ^ 64 ≤ iteration_costs_around loops iteration_costs u → IterationsExceed g costs bs
+    pub iterations_together : ((i : ℕ) (l : NaturalLoop) → IsEntryAt loops i l → (Contains p.order.items l.header → ⊥) → get_or iteration_costs i 0 ≡ 0) → (u : ℕ) → 2 ^ 64 ≤ iteration_costs_around loops iteration_costs u → IterationsExceed g costs bs
     iterations_together dropped u exceeds =
         elim (cases_Bool (get_or flags u false)) [
           | inl flag ↦
@@ -150,7 +150,7 @@ module _ (g : Digraph) (loops : List NaturalLoop) (flags : List Bool) (p : Topol
               in
               record { node = u; reaches = (h.reaching.each u).0 flag; iteration = iteration; are = λ l has. (chosen.1 l has).is_iteration; exceeds = omega arith }
           | inr unlisted ↦
-              let none : (i : ℕ) (l : NaturalLoop) → IsAt loops i l → Contains l.members u → get_or iteration_costs i 0 ≤ 0 = λ i l at inside.
+              let none : (i : ℕ) (l : NaturalLoop) → IsEntryAt loops i l → Contains l.members u → get_or iteration_costs i 0 ≤ 0 = λ i l at inside.
               let zero_cost =
               dropped i l at (λ has. both_ways (get_or flags u false) unlisted (listed_member g loops flags p h l u (i, at.0, at.1) (from_order g loops flags p h l.header has) inside))
               in

@@ -4,7 +4,7 @@ use Rattle.std.proofs.lemmas.List.{length-set, get_or-set_same, get_or-set_other
 use Rattle.std.proofs.lemmas.List.Elements.{All-set, Contains-append_left, Contains-push, Contains-push_cases}
 use Rattle.lists.specs.Members.{nil_contains}
 use Rattle.path_solver.specs.Ordering.{AreApart}
-use Rattle.path_solver.specs.Distances.{limit, limited, AreLimited, IsMost, cost_through, IsReachedBy, AreSpread, LeadForward}
+use Rattle.path_solver.specs.Distances.{distance_limit, limited, AreLimited, IsMost, cost_through, IsReachedBy, AreSpread, LeadForward}
 use Rattle.path_solver.proofs.Order.{take_grows, taken_at}
 use Rattle.path_solver.proofs.Most.{most_same}
 
@@ -32,7 +32,7 @@ module _ (src : ℕ → List ℕ) (costs fees nodes old now : List ℕ) (i : ℕ
       let r = forward p j (let e : j < length nodes = omega arith in e) edge (subst P (sym same) (i, lt, get_or_default nodes i here 0 lt)) in
       fresh (subst Q same (take_grows nodes j i p le r))
 
-  module _ (x arriving : ℕ) (inside : here < length now) (small : x ≤ limit) (most : IsMost (cost_through costs now) (src here) arriving) (is : x ≡ limited (arriving + get_or fees here 0)) where
+  module _ (x arriving : ℕ) (inside : here < length now) (small : x ≤ distance_limit) (most : IsMost (cost_through costs now) (src here) arriving) (is : x ≡ limited (arriving + get_or fees here 0)) where
     abbrev next : List ℕ
     next = set now here x
 
@@ -67,7 +67,7 @@ module _ (src : ℕ → List ℕ) (costs fees nodes old now : List ℕ) (i : ℕ
     pub spread_more : AreSpread src costs fees (take i nodes ++ here ∷ []) old next
     spread_more = record {
       long = length-set now here x ∙ h.long;
-      limited = All-set (λ d. d ≤ limit) now here x small h.limited;
+      limited = All-set (λ d. d ≤ distance_limit) now here x small h.limited;
       each = λ u has.
           elim (Contains-push_cases (take i nodes) here u has) [
             | inl done ↦ before u done

@@ -14,7 +14,7 @@ use Rattle.path_solver.specs.declared.topology.TopologicalOrder.{TopologicalOrde
 use Rattle.path_solver.specs.Reaching.{IsFlagged}
 use Rattle.path_solver.specs.Distances.{sources_at}
 use Rattle.path_solver.specs.LoopCosts.{IsLed, AreLed}
-use Rattle.path_solver.specs.Problem.{IsSetting}
+use Rattle.path_solver.specs.Problem.{IsProblem}
 use Rattle.path_solver.proofs.Onward.{back_edge_closes}
 use Rattle.path_solver.proofs.Orderly.{source_edge, listed_sources}
 use Rattle.path_solver.proofs.Order.{take_grows, taken_at}
@@ -23,7 +23,7 @@ use Rattle.path_solver.proofs.Fewer.{fewer_within}
 use Rattle.path_solver.proofs.Headers.{start_within, numbers_apart, before_at}
 use Rattle.path_solver.proofs.Loops.{same_place}
 
-module _ (g : Digraph) (loops : List NaturalLoop) (flags : List Bool) (p : TopologicalOrder) (h : IsSetting g loops flags p) where
+module _ (g : Digraph) (loops : List NaturalLoop) (flags : List Bool) (p : TopologicalOrder) (h : IsProblem g loops flags p) where
   loop_of : (l : NaturalLoop) → Contains loops l → IsLoopOf g l
   loop_of l has = All-contains (IsLoopOf g) loops l h.nest.loops has
 

@@ -1,16 +1,16 @@
--- What the walks that close no loop cost at most. Numbers are counted up to a limit beyond all that a section may hold.
+-- What the walks that close no loop cost at most. Numbers are counted up to a distance_limit beyond all that a section may hold.
 use Rattle.std.specs.Prelude.{◌≡◌, ℕ, ◌+◌, ◌^◌, ◌<◌, ◌≤◌, ◌⊎◌, ◌↔◌, ◌==◌, not, min, List, [], length, take, map, filter, All, Contains, slice_index}
 use Rattle.std.specs.Prelude.{slice_index_or}
 use Rattle.std.specs.List.Sorted.{IsStrictlyIncreasing}
 
-abbrev pub limit : ℕ
-limit = 2 ^ 66
+abbrev pub distance_limit : ℕ
+distance_limit = 2 ^ 66
 
 abbrev pub limited : ℕ → ℕ
-limited n = min n limit
+limited n = min n distance_limit
 
 abbrev pub AreLimited : List ℕ → Type 0
-AreLimited ds = All (λ d. d ≤ limit) ds
+AreLimited ds = All (λ d. d ≤ distance_limit) ds
 
 -- the greatest of the numbers that f gives to these nodes, or 0 where there is none
 pub record IsMost (f : ℕ → ℕ) (us : List ℕ) (most : ℕ) : Type 0 where

@@ -3,7 +3,7 @@ use Rattle.std.specs.Prelude.{◌≡◌, ◌≢◌, ℕ, ◌<◌, ◌≤◌, Lis
 use Rattle.std.specs.List.Sorted.{IsStrictlyIncreasing}
 use Rattle.path_solver.specs.declared.topology.TopologicalOrder.{TopologicalOrder}
 use Rattle.path_solver.specs.Ordering.{AreApart}
-use Rattle.path_solver.specs.Distances.{limit, AreLimited, IsMost, cost_through, sources_at, IsReachedBy, ArePlaces}
+use Rattle.path_solver.specs.Distances.{distance_limit, AreLimited, IsMost, cost_through, sources_at, IsReachedBy, ArePlaces}
 
 -- n nodes, each behind the sources of the edges to it that close no loop
 pub record IsOrderly (n : ℕ) (p : TopologicalOrder) : Type 0 where
@@ -17,7 +17,7 @@ pub record IsOrderly (n : ℕ) (p : TopologicalOrder) : Type 0 where
   pub before : (q j : ℕ) → j < length p.order.items → Contains (sources_at p.forward (slice_index p.order.items j)) q → Contains (take j p.order.items) q
 
 -- the members of a loop stand in the order, its header among them
-pub record AreMembers (order members : List ℕ) (header : ℕ) : Type 0 where
+pub record AreOrderedMembers (order members : List ℕ) (header : ℕ) : Type 0 where
   pub rising : IsStrictlyIncreasing members
   pub heads : Contains members header
   pub listed : (u : ℕ) → Contains members u → Contains order u
@@ -29,4 +29,4 @@ pub record IsIterationCost (p : TopologicalOrder) (members : List ℕ) (header :
   pub start : slice_index dist header ≡ 0
   pub each : (u : ℕ) → Contains members u → u ≢ header → IsReachedBy (sources_at p.forward) costs fees dist u
   pub most : IsMost (cost_through costs dist) (sources_at p.back header) iteration_cost
-  pub small : iteration_cost ≤ limit
+  pub small : iteration_cost ≤ distance_limit

@@ -40,11 +40,11 @@ pub record IterationsExceed (g : Digraph) (costs : List ℕ) (loops : List Bound
   pub are : (l : BoundedLoop) → Contains (around loops node) l → IsIteration g loops l (iteration l)
   pub exceeds : 2 ^ 64 ≤ sum_by (λ l. cost_of_iteration costs loops (iteration l)) (around loops node)
 
-pub data IsTooLarge (g : Digraph) (costs : List ℕ) (loops : List BoundedLoop) : Type 0 where
-  walk : WalkExceeds g costs loops → IsTooLarge g costs loops
-  iterations : IterationsExceed g costs loops → IsTooLarge g costs loops
+pub data WalksAreTooLarge (g : Digraph) (costs : List ℕ) (loops : List BoundedLoop) : Type 0 where
+  walk : WalkExceeds g costs loops → WalksAreTooLarge g costs loops
+  iterations : IterationsExceed g costs loops → WalksAreTooLarge g costs loops
 
 -- a number is too large; of want of memory nothing is said
 abbrev pub HasCause : Digraph → List ℕ → List BoundedLoop → SolveFault → Type 0
-HasCause g costs loops TooLarge = IsTooLarge g costs loops
+HasCause g costs loops TooLarge = WalksAreTooLarge g costs loops
 HasCause g costs loops NoMemory = Unit {0}

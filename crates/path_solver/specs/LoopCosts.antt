@@ -2,14 +2,14 @@
 use Rattle.std.specs.Prelude.{◌≡◌, ◌≢◌, ℕ, ◌+◌, ◌*◌, ◌<◌, List, length, take, Contains, slice_index}
 use Rattle.loop_nest.specs.Nest.{NaturalLoop}
 use Rattle.path_solver.specs.declared.topology.TopologicalOrder.{TopologicalOrder}
-use Rattle.section_check.specs.Placing.{IsAt}
+use Rattle.section_check.specs.Placing.{IsEntryAt}
 use Rattle.path_solver.specs.Ordering.{NoLoopHas}
 use Rattle.path_solver.specs.Distances.{limited as at_most, AreLimited}
-use Rattle.path_solver.specs.Iteration.{AreMembers, IsIterationCost}
+use Rattle.path_solver.specs.Iteration.{AreOrderedMembers, IsIterationCost}
 
 -- the members of a loop stand in the order, the header before the others
 pub record IsLed (order : List ℕ) (l : NaturalLoop) : Type 0 where
-  pub members : AreMembers order l.members l.header
+  pub members : AreOrderedMembers order l.members l.header
   pub first : (j : ℕ) → j < length order → Contains l.members (slice_index order j) → slice_index order j ≢ l.header → Contains (take j order) l.header
 
 -- each loop of which the header stands in the order is led by it
@@ -28,6 +28,6 @@ pub record AreLoopCosts (p : TopologicalOrder) (loops : List NaturalLoop) (costs
   pub fees_long : length fees ≡ length costs
   pub limited_iteration_costs : AreLimited iteration_costs
   pub limited_fees : AreLimited fees
-  pub each : (i : ℕ) (l : NaturalLoop) → IsAt loops i l → Contains p.order.items l.header → HasLoopCosts p l i costs bounds loads iteration_costs fees
-  pub dropped : (i : ℕ) (l : NaturalLoop) → IsAt loops i l → ¬ Contains p.order.items l.header → slice_index iteration_costs i ≡ 0
+  pub each : (i : ℕ) (l : NaturalLoop) → IsEntryAt loops i l → Contains p.order.items l.header → HasLoopCosts p l i costs bounds loads iteration_costs fees
+  pub dropped : (i : ℕ) (l : NaturalLoop) → IsEntryAt loops i l → ¬ Contains p.order.items l.header → slice_index iteration_costs i ≡ 0
   pub others : (u : ℕ) → NoLoopHas loops u → slice_index fees u ≡ 0

@@ -3,7 +3,7 @@ use Rattle.std.specs.Prelude.{◌≡◌, ◌≢◌, ℕ, ◌+◌, ◌<◌, ◌�
 use Rattle.std.specs.List.Sorted.{IsStrictlyIncreasing}
 use Rattle.loop_nest.specs.Digraph.{Digraph}
 use Rattle.loop_nest.specs.Nest.{NaturalLoop, headers_of}
-use Rattle.section_check.specs.Placing.{IsAt}
+use Rattle.section_check.specs.Placing.{IsEntryAt}
 use Rattle.path_solver.specs.Reaching.{IsFlagged}
 
 -- headers rise, and so do the members of each loop
@@ -14,12 +14,12 @@ pub record AreLoops (loops : List NaturalLoop) : Type 0 where
 -- loop i has this header
 pub record IsHeadedAt (loops : List NaturalLoop) (u i : ℕ) : Type 0 where
   pub headed : NaturalLoop
-  pub at : IsAt loops i headed
+  pub at : IsEntryAt loops i headed
   pub header : headed.header ≡ u
 
 -- no loop has this header
 abbrev pub NoLoopHas : List NaturalLoop → ℕ → Type 0
-NoLoopHas loops u = (k : ℕ) (l : NaturalLoop) → IsAt loops k l → l.header ≢ u
+NoLoopHas loops u = (k : ℕ) (l : NaturalLoop) → IsEntryAt loops k l → l.header ≢ u
 
 -- v heads a loop that has u
 pub record ClosesLoop (loops : List NaturalLoop) (u v : ℕ) : Type 0 where

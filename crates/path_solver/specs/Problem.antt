@@ -27,7 +27,7 @@ pub record AreNestLaws : Type 0 where
   pub iterations : AcceptedBoundIterations
 
 -- a reducible graph with its nest, the nodes from which an exit is reached, and the topological order of them
-pub record IsSetting (g : Digraph) (loops : List NaturalLoop) (flags : List Bool) (p : TopologicalOrder) : Type 0 where
+pub record IsProblem (g : Digraph) (loops : List NaturalLoop) (flags : List Bool) (p : TopologicalOrder) : Type 0 where
   pub laws : AreNestLaws
   pub digraph : IsDigraph g
   pub reducible : IsReducible g
@@ -38,7 +38,7 @@ pub record IsSetting (g : Digraph) (loops : List NaturalLoop) (flags : List Bool
 -- the same with what iterations cost at most, fees, and the distance of each listed node
 pub record IsMeasured (g : Digraph) (loops : List NaturalLoop) (flags : List Bool) (p : TopologicalOrder)
     (costs bounds loads iteration_costs fees dist : List ℕ) : Type 0 where
-  pub setting : IsSetting g loops flags p
+  pub setting : IsProblem g loops flags p
   pub costs_long : length costs ≡ g.nodes
   pub bounds_long : length bounds ≡ length loops
   pub loads_long : length loads ≡ length loops

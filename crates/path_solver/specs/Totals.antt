@@ -5,7 +5,7 @@ use Rattle.section_check.specs.Bounded.{holds}
 use Rattle.path_solver.specs.Distances.{limited as at_most, AreLimited}
 
 -- an iteration cost was added at each of the members, and nowhere else
-pub record AreAdded (members : List ℕ) (iteration_cost : ℕ) (old new : List ℕ) : Type 0 where
+pub record AreIterationsAdded (members : List ℕ) (iteration_cost : ℕ) (old new : List ℕ) : Type 0 where
   pub long : length new ≡ length old
   pub limited : AreLimited new
   pub inside : (u : ℕ) → Contains members u → slice_index new u ≡ at_most (slice_index old u + iteration_cost)

@@ -3,7 +3,8 @@
 ghost use Rattle.std.specs.Prelude.{◌≡◌, ◌+◌, ◌*◌, ◌<◌, ◌≤◌, ℕ, List, length, map, All, Contains, slice_index, IfOk};
 ghost use Rattle.std.specs.List.Sorted.{IsPermutation, IsNonDecreasing, IsStrictlyIncreasing};
 ghost use Rattle.path_solver.specs.Ordering.{AreApart};
-ghost use Rattle.path_solver.specs.Distances.{limit, limited, AreLimited, IsMost, cost_through, sources_at, AreSpread, LeadForward, ArePlaces, others_of};
+ghost use Rattle.path_solver.specs.Distances.{distance_limit, limited, AreLimited, IsMost, cost_through, sources_at, AreSpread};
+ghost use Rattle.path_solver.specs.Distances.{LeadForward, ArePlaces, others_of};
 ghost use Rattle.path_solver.specs.Distances.{ArePicked};
 
 use loop_nest::digraph::Sources;
@@ -12,10 +13,10 @@ use std::alloc::{AllocError, Global};
 /// Numbers are counted up to this one, beyond all that a section may hold.
 const LIMIT: u128 = 0x4_0000_0000_0000_0000;
 
-/// The sum, counted up to the limit.
+/// The sum, counted up to the distance_limit.
 pub fn limited_sum(a: u128, b: u128) -> u128
-    requires first { a ≤ limit }
-    requires second { b ≤ limit }
+    requires first { a ≤ distance_limit }
+    requires second { b ≤ distance_limit }
     ensures { result ≡ limited (a + b) }
 {
     (a + b).min(LIMIT)
@@ -28,7 +29,7 @@ pub fn greatest_end(ends: &[u32], costs: &[u64], dist: &[u128]) -> u128
     requires same { length dist.now ≡ length costs.now }
     requires limited { AreLimited dist.now }
     ensures most { IsMost (cost_through costs.now dist.now) ends.now result }
-    ensures limited { result ≤ limit }
+    ensures limited { result ≤ distance_limit }
 {
     let mut greatest = 0;
     for u in ends {
@@ -113,9 +114,9 @@ pub fn in_order(
     Ok(nodes)
 }
 
-/// What an entry of a loop costs, up to the limit.
+/// What an entry of a loop costs, up to the distance_limit.
 pub fn limited_fee(iteration_cost: u128, bound: u32, load: u64) -> u128
-    requires { iteration_cost ≤ limit }
+    requires { iteration_cost ≤ distance_limit }
     ensures { result ≡ limited (bound * iteration_cost + load) }
 {
     (u128::from(bound) * iteration_cost + u128::from(load)).min(LIMIT)

@@ -6,7 +6,7 @@ ghost use Rattle.loop_nest.specs.Reduction.{IsReducible};
 ghost use Rattle.loop_nest.specs.Nest.{IsNest};
 ghost use Rattle.section_check.specs.Bounded.{IsBoundedWalk, IsGreatest};
 ghost use Rattle.path_solver.specs.Reaching.{ReachesExit};
-ghost use Rattle.path_solver.specs.Longest.{bounded_loops, AreLoopsOf, WalkExceeds, IterationsExceed, IsTooLarge, HasCause};
+ghost use Rattle.path_solver.specs.Longest.{bounded_loops, AreLoopsOf, WalkExceeds, IterationsExceed, WalksAreTooLarge, HasCause};
 ghost use Rattle.path_solver.specs.Distances.{AreLimited};
 ghost use Rattle.path_solver.specs.Certifying.{certified};
 ghost use Rattle.path_solver.specs.Potentials.{AreLeft};
@@ -90,7 +90,7 @@ pub fn longest(
     ensures shown { let fitting : List (Option ℕ) = map Some loads.now in
         IfOk result (λ o. IfSome o (λ s. Answers g.now costs.now s.section bounds.now fitting (Ok (Some s.value)))) }
     ensures cause { IfErr result (HasCause g.now costs.now (bounded_loops nest.now bounds.now loads.now)) }
-    ensures fits { IfOk result (λ _. ¬ IsTooLarge g.now costs.now (bounded_loops nest.now bounds.now loads.now)) }
+    ensures fits { IfOk result (λ _. ¬ WalksAreTooLarge g.now costs.now (bounded_loops nest.now bounds.now loads.now)) }
 {
     let Some(found) = one_pass(alloc, g, nest, costs, bounds, loads)? else {
         return Ok(None);

@@ -2,7 +2,7 @@
 ghost use Rattle.std.specs.Prelude.{◌≡◌, length, IfOk};
 ghost use Rattle.path_solver.specs.Ordering.{AreLoops};
 ghost use Rattle.path_solver.specs.Distances.{AreLimited};
-ghost use Rattle.path_solver.specs.Iteration.{IsOrderly, AreMembers, IsIterationCost};
+ghost use Rattle.path_solver.specs.Iteration.{IsOrderly, AreOrderedMembers, IsIterationCost};
 ghost use Rattle.path_solver.specs.LoopCosts.{AreLed, AreLoopCosts};
 
 use super::distances::{greatest_end, in_order, limited_fee, spread};
@@ -31,7 +31,7 @@ pub fn greatest_iteration(
     dist: &mut [u128],
 ) -> Result<u128, AllocError>
     requires topology { IsOrderly (length costs.now) topology.now }
-    requires members { AreMembers topology.now.order.items members.now header }
+    requires members { AreOrderedMembers topology.now.order.items members.now header }
     requires fees { length fees.now ≡ length costs.now }
     requires same { length dist.old ≡ length costs.now }
     requires limited_fees { AreLimited fees.now }

@@ -4,7 +4,7 @@ ghost use Rattle.loop_nest.specs.Digraph.{IsDigraph};
 ghost use Rattle.loop_nest.specs.Reduction.{IsReducible};
 ghost use Rattle.loop_nest.specs.Nest.{IsNest};
 ghost use Rattle.path_solver.specs.Reaching.{ReachesExit};
-ghost use Rattle.path_solver.specs.Longest.{bounded_loops, IsTooLarge};
+ghost use Rattle.path_solver.specs.Longest.{bounded_loops, WalksAreTooLarge};
 ghost use Rattle.path_solver.specs.Pass.{IsPass};
 ghost use Rattle.path_solver.specs.Problem.{IsMeasured};
 
@@ -50,7 +50,7 @@ pub fn one_pass(
     ensures few { g.now.nodes < 2 ^ 32 }
     ensures valid { IsDigraph g.now }
     ensures unreached { IfOk result (λ o. IfNone o (¬ ReachesExit g.now 0)) }
-    ensures fits { IfOk result (λ o. IfNone o (¬ IsTooLarge g.now costs.now (bounded_loops nest.now bounds.now loads.now))) }
+    ensures fits { IfOk result (λ o. IfNone o (¬ WalksAreTooLarge g.now costs.now (bounded_loops nest.now bounds.now loads.now))) }
     ensures pass { IfOk result (λ o. IfSome o (λ s. IsPass g.now nest.now costs.now bounds.now loads.now s.listed.items s.iteration_costs.items s.dist.items
         s.value s.turns_exceed)) }
     ensures measured { IfOk result (λ o. IfSome o (λ s. IsMeasured g.now nest.now s.listed.items s.topology costs.now bounds.now loads.now

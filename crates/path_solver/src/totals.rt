@@ -1,8 +1,8 @@
 //! What exceeds 64 bits.
 ghost use Rattle.std.specs.Prelude.{◌≡◌, ◌+◌, ◌^◌, ◌<◌, ◌≤◌, ◌↔◌, length, All, IfOk, IsTrue, MatchOption};
 ghost use Rattle.std.specs.List.Sorted.{IsStrictlyIncreasing};
-ghost use Rattle.path_solver.specs.Distances.{limit, AreLimited};
-ghost use Rattle.path_solver.specs.Totals.{AreAdded, SomeIterationsExceed};
+ghost use Rattle.path_solver.specs.Distances.{distance_limit, AreLimited};
+ghost use Rattle.path_solver.specs.Totals.{AreIterationsAdded, SomeIterationsExceed};
 
 use super::distances::limited_sum;
 use loop_nest::loops::Loop;
@@ -27,8 +27,8 @@ fn add_iteration_cost(members: &[u32], iteration_cost: u128, totals: &mut [u128]
     requires within { All (λ u. u < length totals.old) members.now }
     requires rising { IsStrictlyIncreasing members.now }
     requires limited { AreLimited totals.old }
-    requires small { iteration_cost ≤ limit }
-    ensures { AreAdded members.now iteration_cost totals.old totals.new }
+    requires small { iteration_cost ≤ distance_limit }
+    ensures { AreIterationsAdded members.now iteration_cost totals.old totals.new }
 {
     for u in members {
         totals[*u as usize] = limited_sum(totals[*u as usize], iteration_cost);

@@ -3,7 +3,7 @@ use Rattle.std.proofs.Common.{◌≡◌, ℕ, zero, suc, ◌+◌, ◌-◌, ◌<�
 use Rattle.std.specs.Prelude.{slice_get}
 use Rattle.std.proofs.lemmas.Bool.{cases_lt}
 use Rattle.std.proofs.lemmas.Option.{slice_get_within}
-use Rattle.lists.specs.Lemmas.{none≢some, some_same}
+use Rattle.lists.proofs.Lemmas.{none≢some, some_same}
 use Rattle.persistent_lists.specs.Answers.{difference, AreAnswered, Passing, ArePassed}
 use Rattle.persistent_lists.specs.Trees.{items, pair_at}
 use Rattle.persistent_lists.specs.declared.trees.Difference.{Difference}

@@ -6,7 +6,7 @@ use Rattle.std.proofs.lemmas.Bool.{cases_lt, cond-true, cond-false, lt-ltb}
 use Rattle.std.proofs.lemmas.Option.{slice_get_past, slice_get_within, get_or_from_slice_get, slice_get-map}
 use Rattle.std.proofs.lemmas.List.{map-append, length-map, length-take}
 use Rattle.std.proofs.lemmas.List.Elements.{All-append}
-use Rattle.lists.specs.Lemmas.{none≢some, some_same}
+use Rattle.lists.proofs.Lemmas.{none≢some, some_same}
 use Rattle.persistent_lists.specs.Tables.{ListTable, with_list, filled, changed_list, list_at, IsDifference}
 use Rattle.persistent_lists.specs.Trees.{items, IsTree, IsFilled, IsTreeOf, Extends, lists_of, below}
 use Rattle.persistent_lists.specs.Known.{all_items, AreTrees}

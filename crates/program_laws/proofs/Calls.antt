@@ -20,7 +20,7 @@ use Rattle.bytecode_model.specs.Program.{Method, object_class}
 use Rattle.bytecode_typing.specs.Tests.{Holds}
 use Rattle.bytecode_typing.specs.Checks.{is_own_class}
 use Rattle.bytecode_typing.specs.Lawful.{IsThere, IsStaticCall, IsSpecialCall, IsVirtualCall, IsInterfaceCall}
-use Rattle.lists.specs.Lemmas.{none≢some, some_same, onto_some}
+use Rattle.lists.proofs.Lemmas.{none≢some, some_same, onto_some}
 use Rattle.class_lookup.specs.Lists.{first_some}
 use Rattle.class_lookup.specs.Parts.{Signature, signature_of, has_code, is_static, is_private, is_abstract, is_super_class, is_init, is_clinit}
 use Rattle.class_lookup.specs.Hierarchy.{superclass, is_interface, is_subclass, extends}
@@ -32,7 +32,8 @@ use Rattle.program_tables.specs.declared.refusal.Why.TheVariants.{NoClass, NoMet
 use Rattle.program_tables.specs.Kinds.{class_in_entry, classes_in_method_descriptor, result_declared, declared_of}
 use Rattle.program_tables.specs.Operands.{class_named, method_named}
 use Rattle.program_tables.specs.Resolved.{method_in, resolved_methods, resolved}
-use Rattle.program_tables.specs.Unresolved.{unless, are_there, same_bool, may_use_method, is_named_rightly, is_free, calls_no_private, is_special, is_callable_name, is_right_method, why_method_found, why_method_named, why_method}
+use Rattle.program_tables.specs.Unresolved.{unless, are_there, may_use_method, is_named_rightly, is_free, calls_no_private, is_special, is_callable_name, is_right_method, why_method_found, why_method_named, why_method}
+use Rattle.bytecode_model.specs.Effects.{same_bool}
 use Rattle.program_tables.specs.Resolving.{IsResolved}
 use Rattle.program_laws.proofs.ClassLaws.{OrderLaws, MethodLaws, ClassLaws, is_method}
 use Rattle.program_laws.proofs.Places.{has, has_head, has_tail}

@@ -7,7 +7,7 @@ use Rattle.std.proofs.lemmas.Bool.{false≢true, both_ways, or_right, eqb-true, 
 use Rattle.std.proofs.lemmas.Option.{slice_get-map, slice_get_within}
 use Rattle.class_pool.specs.declared.entry.Entry.{Entry}
 use Rattle.class_pool.specs.declared.entry.Entry.TheVariants as entries
-use Rattle.class_pool.specs.Grammar.{class_name_of}
+use Rattle.class_pool.specs.Grammar.{class_name_of, text_at}
 use Rattle.class_pool.specs.Spelling.{IsInRange}
 use Rattle.class_pool.specs.declared.class.Member.{Member}
 use Rattle.class_pool.specs.declared.class.ClassFile.{ClassFile}
@@ -22,8 +22,8 @@ use Rattle.bytecode_model.specs.Types.{Kind, OfClass, OfReferences, same_kind}
 use Rattle.bytecode_model.specs.State.{Object}
 use Rattle.bytecode_model.specs.Program.{Program, Method, Operand, NoOperand, AString, AStatic, AField, AMethod, AType, kind_of, type_number, object_class, string_class}
 use Rattle.bytecode_typing.specs.Lawful.{IsThere, IsConstant, IsStaticCall, IsSpecialCall, IsVirtualCall, IsInterfaceCall}
-use Rattle.lists.specs.Lemmas.{some_same, onto_some, map_some, index_found, index_there}
-use Rattle.class_lookup.specs.Parts.{Signature, same_text, name_of, text_at, class_text, is_static}
+use Rattle.lists.proofs.Lemmas.{some_same, onto_some, map_some, index_found, index_there}
+use Rattle.class_lookup.specs.Parts.{Signature, same_text, name_of, class_text, is_static}
 use Rattle.class_lookup.specs.Hierarchy.{is_interface, is_concrete, extends}
 use Rattle.class_lookup.specs.Lookup.{Place, same_place, field_at, find_field, find_method}
 use Rattle.class_lookup.specs.Selection.{special}

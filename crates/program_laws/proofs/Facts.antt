@@ -8,9 +8,9 @@ use Rattle.class_pool.specs.declared.class.Member.{Member}
 use Rattle.class_pool.specs.declared.class.ClassFile.{ClassFile}
 use Rattle.class_pool.specs.declared.entry.Entry.{Entry}
 use Rattle.class_rules.specs.Flags.{IsSet}
-use Rattle.class_rules.specs.Rules.{AreSame, AreDistinct}
+use Rattle.class_rules.specs.Rules.{AreSame, AreNamedOnce}
 use Rattle.class_rules.specs.Grammar.{IsClass}
-use Rattle.lists.specs.Lemmas.{none≢some, some_same}
+use Rattle.lists.proofs.Lemmas.{none≢some, some_same}
 use Rattle.class_lookup.specs.Parts.{has, is_interface_class, is_abstract_class}
 use Rattle.class_lookup.specs.Hierarchy.{is_interface, is_concrete, is_on_a_cycle}
 use Rattle.class_lookup.specs.Laws as lookups
@@ -42,7 +42,7 @@ has_of flags mask s = ap not (false_from_ne_true (eqb (bit_and flags mask) 0) (�
 same_back : (pool : List Entry) (m n : Member) → AreSame pool m n → AreSame pool n m
 same_back pool m n s = (sym s.0, sym s.1)
 
-distinct_at : (pool : List Entry) (ms : List Member) (i j : ℕ) (x y : Member) → AreDistinct pool ms → slice_get ms i ≡ Some x → slice_get ms j ≡ Some y → AreSame pool x y → i ≡ j
+distinct_at : (pool : List Entry) (ms : List Member) (i j : ℕ) (x y : Member) → AreNamedOnce pool ms → slice_get ms i ≡ Some x → slice_get ms j ≡ Some y → AreSame pool x y → i ≡ j
 distinct_at pool [] i j x y d h e s = absurd (none≢some x h)
 distinct_at pool (m ∷ ms) zero zero x y d h e s = refl
 distinct_at pool (m ∷ ms) zero (suc j) x y d h e s =
@@ -51,7 +51,7 @@ distinct_at pool (m ∷ ms) (suc i) zero x y d h e s =
     absurd (subst (λ z. AreSame pool z x → ⊥) (some_same m y e) (all_at (λ n. AreSame pool m n → ⊥) ms i x d.0 h) (same_back pool x y s))
 distinct_at pool (m ∷ ms) (suc i) (suc j) x y d h e s = ap suc (distinct_at pool ms i j x y d.1 h e s)
 
-pub distinct : (cs : List ClassFile) → IsResolved cs → lookups.AreDistinct cs
+pub distinct : (cs : List ClassFile) → IsResolved cs → lookups.DeclareMethodsOnce cs
 distinct cs r c i j k x y hk hx hy s =
     let rules = (all_at IsClass cs c k r.grammar hk).rules in
     distinct_at k.pool k.methods i j x y rules.distinct_methods hx hy (ap (λ z. z.name) s, ap (λ z. z.descriptor) s)

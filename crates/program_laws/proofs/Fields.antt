@@ -12,7 +12,7 @@ use Rattle.class_rules.specs.Rules.{IsRightField}
 use Rattle.class_rules.specs.Grammar.{IsClass}
 use Rattle.bytecode_model.specs.Types.{Declared}
 use Rattle.bytecode_model.specs.Program.{object_class}
-use Rattle.lists.specs.Lemmas.{none≢some, some_same, onto_some}
+use Rattle.lists.proofs.Lemmas.{none≢some, some_same, onto_some}
 use Rattle.class_lookup.specs.Parts.{is_interface_class, is_static}
 use Rattle.class_lookup.specs.Hierarchy.{superclass, superclasses, is_among, is_interface, IsAcyclic}
 use Rattle.class_lookup.specs.Lookup.{Place, field_at}

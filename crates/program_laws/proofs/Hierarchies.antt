@@ -6,7 +6,7 @@ use Rattle.std.specs.List.{list_any, filter_map}
 use Rattle.std.proofs.lemmas.Bool.{false≢true, both_ways, eqb-true, eq-eqb, not_from_false, or_cases, or_left, or_right, and_from, cases_Bool}
 use Rattle.class_pool.specs.declared.class.ClassFile.{ClassFile}
 use Rattle.bytecode_model.specs.Program.{object_class}
-use Rattle.lists.specs.Lemmas.{none≢some, onto_some}
+use Rattle.lists.proofs.Lemmas.{none≢some, onto_some}
 use Rattle.class_lookup.specs.Parts.{is_interface_class, is_final_class, superinterface_names}
 use Rattle.class_lookup.specs.Hierarchy.{find_class, superclass, superclasses, superinterfaces, is_among, is_interface, extends}
 use Rattle.class_lookup.specs.Laws.{IsDirectlyAbove, IsUpwardOf}

@@ -12,7 +12,7 @@ use Rattle.class_pool.specs.declared.class.Member.{Member}
 use Rattle.class_pool.specs.declared.class.ClassFile.{ClassFile}
 use Rattle.bytecode_model.specs.Lists.{onto}
 use Rattle.bytecode_model.specs.Program.{Method}
-use Rattle.lists.specs.Lemmas.{none≢some, some_same, onto_some, map_some, index_found, index_there}
+use Rattle.lists.proofs.Lemmas.{none≢some, some_same, onto_some, map_some, index_found, index_there}
 use Rattle.class_lookup.specs.Lookup.{Place, method_at, same_place}
 use Rattle.program_tables.specs.Numbers.{places_of, is_coded, methods_by_number, method_number}
 use Rattle.program_tables.specs.Resolved.{method_in, resolved_method, resolved_methods}

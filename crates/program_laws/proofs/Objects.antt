@@ -9,7 +9,7 @@ use Rattle.std.proofs.lemmas.Bool.{and_parts}
 use Rattle.std.proofs.lemmas.Option.{slice_get-map, slice_get_within}
 use Rattle.class_pool.specs.declared.entry.Entry.{Entry}
 use Rattle.class_pool.specs.declared.entry.Entry.TheVariants as entries
-use Rattle.class_pool.specs.Grammar.{IsPool, entry_at, utf8_of}
+use Rattle.class_pool.specs.Grammar.{IsPool, entry_at, utf8_of, text_at}
 use Rattle.class_pool.specs.Spelling.{IsInRange}
 use Rattle.class_pool.specs.Utf8.{utf8_bytes, unit_bytes, is_single, two_bytes, three_bytes, AreUnits}
 use Rattle.class_pool.specs.declared.class.ClassFile.{ClassFile}
@@ -23,8 +23,8 @@ use Rattle.bytecode_model.specs.Effects.{Fault, fault_object}
 use Rattle.bytecode_model.specs.Effects as effects
 use Rattle.bytecode_typing.specs.Tests.{Holds, AllTwo}
 use Rattle.bytecode_typing.specs.Fits.{kind_in, HasDeclared, HasEach, PartsFit, ObjectFits, numbers_of}
-use Rattle.lists.specs.Lemmas.{none≢some}
-use Rattle.class_lookup.specs.Parts.{same_text, text_at}
+use Rattle.lists.proofs.Lemmas.{none≢some}
+use Rattle.class_lookup.specs.Parts.{same_text}
 use Rattle.class_lookup.specs.Hierarchy.{is_concrete, extends}
 use Rattle.program_tables.specs.Lists.{distinct}
 use Rattle.program_tables.specs.Core.{raised_classes}

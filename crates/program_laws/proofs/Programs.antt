@@ -14,7 +14,7 @@ use Rattle.bytecode_model.specs.Lists.{onto}
 use Rattle.bytecode_model.specs.Program.{Method, object_class}
 use Rattle.bytecode_typing.specs.Tests.{Holds}
 use Rattle.bytecode_typing.specs.Lawful.{IsThere, IsSelected}
-use Rattle.lists.specs.Lemmas.{none≢some, some_same}
+use Rattle.lists.proofs.Lemmas.{none≢some, some_same}
 use Rattle.class_lookup.specs.Parts.{Signature, signature_of, has_code, is_static, is_init}
 use Rattle.class_lookup.specs.Hierarchy.{is_concrete, extends}
 use Rattle.class_lookup.specs.Lookup.{Place, method_at}

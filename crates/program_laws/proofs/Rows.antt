@@ -24,7 +24,7 @@ use Rattle.bytecode_model.specs.Program.{Method, Body, NoOperand, body_of, as_in
 use Rattle.bytecode_model.specs.Table.{row_of}
 use Rattle.bytecode_model.specs.Steps.{row_in}
 use Rattle.bytecode_typing.specs.Lawful.{IsThere, IsResolvedRow}
-use Rattle.lists.specs.Lemmas.{none≢some, some_same, map_some}
+use Rattle.lists.proofs.Lemmas.{none≢some, some_same, map_some}
 use Rattle.class_lookup.specs.Parts.{signature_of}
 use Rattle.class_lookup.specs.Lookup.{Place, method_at}
 use Rattle.program_tables.specs.Lists.{distinct}

@@ -14,7 +14,7 @@ use Rattle.class_rules.specs.Found.{MethodsHaveCode}
 use Rattle.class_rules.specs.Grammar.{IsClass}
 use Rattle.bytecode_model.specs.Lists.{onto}
 use Rattle.bytecode_model.specs.Program.{object_class}
-use Rattle.lists.specs.Lemmas.{none≢some, some_same, onto_some, index_found}
+use Rattle.lists.proofs.Lemmas.{none≢some, some_same, onto_some, index_found}
 use Rattle.class_lookup.specs.Parts.{Signature, signature_of, has_code, is_abstract, is_native, is_private, is_static, is_public, is_interface_class, is_clinit, same_text, name_of, superclass_name}
 use Rattle.class_lookup.specs.Hierarchy.{find_class, superclass, supertypes, is_among, is_interface, is_concrete, extends, IsAcyclic}
 use Rattle.class_lookup.specs.Lookup.{Place, method_at, same_place}

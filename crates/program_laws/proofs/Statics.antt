@@ -8,7 +8,7 @@ use Rattle.std.proofs.Math.Facts.{sfits_to_z}
 use Rattle.std.proofs.lemmas.Bool.{or_right}
 use Rattle.class_pool.specs.declared.entry.Entry.{Entry}
 use Rattle.class_pool.specs.declared.entry.Entry.TheVariants as entries
-use Rattle.class_pool.specs.Grammar.{entry_at}
+use Rattle.class_pool.specs.Grammar.{entry_at, text_at}
 use Rattle.class_pool.specs.Spelling.{IsInRange}
 use Rattle.class_pool.specs.Found.{constant_value_of}
 use Rattle.class_pool.specs.declared.class.Member.{Member}
@@ -28,8 +28,8 @@ use Rattle.bytecode_model.specs.Types.{OfClass, Declared, Numeric, IntType, Long
 use Rattle.bytecode_model.specs.Program.{string_class}
 use Rattle.bytecode_typing.specs.Tests.{Holds, AllTwo}
 use Rattle.bytecode_typing.specs.Fits.{kind_in, may_be, HasDeclared, numbers_of}
-use Rattle.lists.specs.Lemmas.{none≢some, some_same, onto_some, map_some, index_found}
-use Rattle.class_lookup.specs.Parts.{same_text, name_of, text_at, is_static}
+use Rattle.lists.proofs.Lemmas.{none≢some, some_same, onto_some, map_some, index_found}
+use Rattle.class_lookup.specs.Parts.{same_text, name_of, is_static}
 use Rattle.class_lookup.specs.Hierarchy.{find_class, is_interface, extends}
 use Rattle.class_lookup.specs.Lookup.{Place, field_at}
 use Rattle.program_tables.specs.Core.{core_names}

@@ -5,7 +5,7 @@ use Rattle.std.specs.List.{flat_map, enumerate_from, AllByRecursion}
 use Rattle.std.proofs.lemmas.Option.{slice_get_within, get_or_from_slice_get}
 use Rattle.class_pool.specs.declared.class.ClassFile.{ClassFile}
 use Rattle.lists.specs.Lists.{first}
-use Rattle.lists.specs.FirstLemmas.{found_number, none_number, none_numbered, first-map}
+use Rattle.lists.proofs.FirstLemmas.{found_number, none_number, none_numbered, first-map}
 use Rattle.program_resolution.specs.Linked.{files_in}
 
 get_dropped : {X : Type 0} (n : ℕ) (xs : List X) (i : ℕ) → slice_get (drop n xs) i ≡ slice_get xs (n + i)

@@ -21,7 +21,8 @@ use Rattle.core_classes.specs.Core.{core, boot}
 use Rattle.core_classes.specs.Laws.{CoreIsNamed}
 use Rattle.program_resolution.specs.declared.refusal.ProgramRefusal.{ProgramRefusal}
 use Rattle.program_resolution.specs.declared.refusal.ProgramRefusal.TheVariants as answers
-use Rattle.program_resolution.specs.Linked.{most_files, main_class, main_name, declares_main, main_signature, initialized, first_on_cycle, calls_of, linked_classes, files_in}
+use Rattle.program_resolution.specs.Linked.{most_files, main_class, main_name, declares_main, initialized, first_on_cycle, calls_of, linked_classes, files_in}
+use Rattle.core_classes.specs.Linkage.{main_signature}
 use Rattle.program_resolution.specs.Refusals.{Names, Support, Supertypes, Places, Mentions, passes, causes_in, too_many, without_main, refusals}
 use Rattle.program_resolution.specs.Resolving.{AreClassesOf, IsFirstRefusal, IsProgramOf}
 use Rattle.program_resolution.specs.Linking.{early_refusals, refusals_of, IsFirstOr, AreToLink, AreAccepted, IsLinked}

@@ -7,18 +7,18 @@ use Rattle.std.specs.Cmp.Lexicographic as texts
 use Rattle.std.proofs.lemmas.Bool.{ltb-false, eq-eqb}
 use Rattle.lists.specs.Tests.{and_left, and_right}
 use Rattle.lists.specs.Lists.{onto, index_of}
-use Rattle.lists.specs.Lemmas.{index_found, index_there}
+use Rattle.lists.proofs.Lemmas.{index_found, index_there}
 use Rattle.class_pool.specs.declared.entry.Entry.{Entry}
 use Rattle.class_pool.specs.declared.entry.Entry.TheVariants as entries
 use Rattle.class_pool.specs.declared.class.Member.{Member}
 use Rattle.class_pool.specs.declared.class.ClassFile.{ClassFile}
 use Rattle.class_pool.specs.Spelling.{IsInRange}
-use Rattle.class_pool.specs.Grammar.{entry_at, utf8_of, class_name_of}
+use Rattle.class_pool.specs.Grammar.{entry_at, utf8_of, class_name_of, text_at}
 use Rattle.class_rules.specs.Grammar.{IsClass}
-use Rattle.class_rules.specs.Rules.{IsClassName, AreSame, AreDistinct}
+use Rattle.class_rules.specs.Rules.{IsClassName, AreSame, AreNamedOnce}
 use Rattle.class_making.specs.Right.{IsPoolText}
 use Rattle.core_classes.specs.Laws.{IsCalled}
-use Rattle.class_lookup.specs.Parts.{Signature, text_at, same_text, name_of, signature_of, same_signature, is_public, is_static}
+use Rattle.class_lookup.specs.Parts.{Signature, same_text, name_of, signature_of, same_signature, is_public, is_static}
 use Rattle.class_lookup.specs.Hierarchy.{find_class}
 use Rattle.class_lookup.specs.Lookup.{Place, declared_in}
 use Rattle.program_tables.specs.Core.{is_boot}
@@ -111,7 +111,7 @@ any_found : {X : Type 0} (t : X → Bool) (xs : List X) → list_any t xs ≡ tr
 any_found t [] h = absurd (let f : false ≡ true = h in cc)
 any_found t (x ∷ xs) h = found_case t x xs (t x) refl h (any_found t xs)
 
-distinct_same : (pool : List Entry) (ms : List Member) (i j : ℕ) (a b : Member) → AreDistinct pool ms → slice_get ms i ≡ Some a → slice_get ms j ≡ Some b → AreSame pool a b → a ≡ b
+distinct_same : (pool : List Entry) (ms : List Member) (i j : ℕ) (a b : Member) → AreNamedOnce pool ms → slice_get ms i ≡ Some a → slice_get ms j ≡ Some b → AreSame pool a b → a ≡ b
 distinct_same pool [] i j a b d at bt same = absurd (let f : None ≡ Some a = at in cc)
 distinct_same pool (m ∷ ms) zero zero a b d at bt same = let e : m ≡ a = cc in let f : m ≡ b = cc in sym e ∙ f
 distinct_same pool (m ∷ ms) zero (suc j) a b d at bt same =

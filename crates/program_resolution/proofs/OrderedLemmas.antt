@@ -9,7 +9,7 @@ use Rattle.std.proofs.lemmas.Option.{slice_get_within}
 use Rattle.core_classes.proofs.Lists.{all_along, all_join, all_parts}
 use Rattle.lists.specs.Lists.{onto}
 use Rattle.lists.specs.Numbers.{reached}
-use Rattle.lists.specs.Lemmas.{index_found}
+use Rattle.lists.proofs.Lemmas.{index_found}
 use Rattle.class_pool.specs.declared.class.ClassFile.{ClassFile}
 use Rattle.class_lookup.specs.Parts.{same_text, name_of, superclass_name}
 use Rattle.class_lookup.specs.Hierarchy.{find_class, superclass, superclasses}

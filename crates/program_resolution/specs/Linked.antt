@@ -1,6 +1,6 @@
 -- The classes of a program: the core classes, those of the files in order, and jop/Boot, the one that is run, which initializes the classes and calls main:
 -- JVM Specification SE 8, 5.2 and 5.5.
-use Rattle.std.specs.Prelude.{ℕ, ◌+◌, Bool, not, ◌&&◌, nat_eq, nat_le, if◌then◌else◌, List, [], ◌∷◌, ◌++◌, length, reverse, take, drop, codes, Option, Some}
+use Rattle.std.specs.Prelude.{ℕ, ◌+◌, Bool, not, ◌&&◌, nat_eq, nat_le, if◌then◌else◌, List, [], ◌∷◌, ◌++◌, length, reverse, take, drop, Option, Some}
 use Rattle.std.specs.Prelude.{None, find, is_some, slice_get}
 use Rattle.std.specs.Option.{option_map_or}
 use Rattle.std.specs.List.{filter_map, flat_map, list_any, range_with_len}
@@ -8,10 +8,11 @@ use Rattle.program_tables.specs.Core.{core_count}
 use Rattle.class_pool.specs.Utf8.{utf8_bytes}
 use Rattle.class_pool.specs.declared.class.ClassFile.{ClassFile}
 use Rattle.lists.specs.Lists.{onto}
-use Rattle.class_lookup.specs.Parts.{same_text, name_of, Signature, signature_of, same_signature, is_public, is_static}
+use Rattle.class_lookup.specs.Parts.{same_text, name_of, signature_of, same_signature, is_public, is_static}
 use Rattle.class_lookup.specs.Hierarchy.{superclasses, is_on_a_cycle}
 use Rattle.program_tables.specs.Lists.{distinct}
 use Rattle.core_classes.specs.Core.{core, boot}
+use Rattle.core_classes.specs.Linkage.{main_signature, initializer}
 
 -- the most files of a program
 abbrev pub most_files : ℕ
@@ -26,17 +27,11 @@ main_class ks main = find (λ k. same_text (utf8_bytes (name_of k)) main) ks
 abbrev pub main_name : List ClassFile → (main : List ℕ) → List ℕ
 main_name ks main = option_map_or name_of (main_class ks main) []
 
-abbrev pub main_signature : Signature
-main_signature = record { name = codes "main"; descriptor = codes "([Ljava/lang/String;)V" }
-
 -- public static void main(String[])
 abbrev pub declares_main : ClassFile → Bool
 declares_main k = list_any (λ m. is_public m && is_static m && same_signature (signature_of k m) main_signature) k.methods
 
 -- ---- initialization (5.5)
-
-abbrev pub initializer : Signature
-initializer = record { name = codes "<clinit>"; descriptor = codes "()V" }
 
 -- the class has an initialization method (2.9)
 abbrev pub is_initialized : ClassFile → Bool

@@ -9,7 +9,7 @@ use Rattle.std.proofs.lemmas.Option.{slice_get_within}
 use Rattle.lists.specs.Tests.{and_left, and_right}
 use Rattle.class_pool.specs.declared.class.Member.{Member}
 use Rattle.class_pool.specs.declared.class.ClassFile.{ClassFile}
-use Rattle.lists.specs.Lemmas.{none≢some, some_same}
+use Rattle.lists.proofs.Lemmas.{none≢some, some_same}
 use Rattle.bytecode_model.specs.Lists.{onto}
 use Rattle.bytecode_model.specs.Program.{Method}
 use Rattle.class_lookup.specs.Lookup.{Place}

@@ -13,11 +13,11 @@ use Rattle.class_pool.specs.declared.class.Member.{Member}
 use Rattle.descriptors.specs.declared.descriptor.FieldType.{FieldType}
 use Rattle.bytecode_model.specs.Lists.{onto}
 use Rattle.bytecode_model.specs.Types as model
-use Rattle.lists.specs.Lemmas.{some_same}
+use Rattle.lists.proofs.Lemmas.{some_same}
 use Rattle.program_tables.specs.declared.operand.Declared.{Declared}
 use Rattle.program_tables.specs.declared.operand.MethodShape.{MethodShape}
 use Rattle.class_lookup.specs.Lookup.{Place, method_at}
-use Rattle.class_lookup.specs.Parts.{text_at}
+use Rattle.class_pool.specs.Grammar.{text_at}
 use Rattle.program_tables.specs.Kinds.{declared_of, field_declared}
 use Rattle.program_tables.specs.Laws.{MethodsStandByNumber}
 use Rattle.program_tables.specs.Numbers.{methods_by_number}

@@ -10,7 +10,7 @@ use Rattle.std.proofs.lemmas.Option.{slice_get-map, slice_get-get_or, slice_get_
 use Rattle.class_pool.specs.declared.entry.Entry.{Entry}
 use Rattle.class_pool.specs.declared.class.ClassFile.{ClassFile}
 use Rattle.class_pool.specs.Grammar.{entry_at}
-use Rattle.lists.specs.Lemmas.{none≢some, some_same}
+use Rattle.lists.proofs.Lemmas.{none≢some, some_same}
 use Rattle.program_tables.specs.Tables.{HasBounds}
 use Rattle.program_tables.specs.declared.meanings.Meaning.{Meaning as Made}
 use Rattle.program_tables.specs.Entries.{Meaning, meaning_of, meaning_at, meanings_in, meanings_by, all_meanings, meaning_seen, meanings_seen}

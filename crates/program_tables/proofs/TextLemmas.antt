@@ -9,7 +9,7 @@ use lib.Pointwise.{bytes_decides}
 use Rattle.class_pool.specs.declared.class.ClassFile.{ClassFile}
 use Rattle.bytecode_model.specs.Lists.{onto, index_of}
 use Rattle.class_lookup.specs.Parts.{same_text}
-use Rattle.lists.specs.Lemmas.{index_found, none≢some, some_same}
+use Rattle.lists.proofs.Lemmas.{index_found, none≢some, some_same}
 use Rattle.program_tables.specs.declared.text_type.TextType.{TextType}
 use Rattle.class_lookup.specs.Symbols.{texts, symbol}
 use Rattle.program_tables.specs.Tables.{numbers_among}

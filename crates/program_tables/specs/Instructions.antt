@@ -4,10 +4,9 @@ use Rattle.std.specs.Option.{option_map, option_map_or}
 use Rattle.std.specs.List.{filter_map}
 use Rattle.class_pool.specs.declared.entry.Entry.{Entry}
 use Rattle.class_pool.specs.declared.entry.Entry.TheVariants as entries
-use Rattle.class_pool.specs.Grammar.{entry_at, name_and_type_of}
+use Rattle.class_pool.specs.Grammar.{entry_at, name_and_type_of, text_at}
 use Rattle.class_pool.specs.declared.class.Member.{Member}
 use Rattle.class_pool.specs.declared.class.ClassFile.{ClassFile}
-use Rattle.class_lookup.specs.Parts.{text_at}
 use Rattle.opcodes.specs.declared.instruction.Instr.{Instr}
 use Rattle.opcodes.specs.Instruction.{decoded}
 use Rattle.opcodes.specs.Start.{starts_of}

@@ -14,7 +14,7 @@ use Rattle.program_tables.specs.declared.operand.Handler.{Handler}
 use Rattle.program_tables.specs.declared.operand.Declared.{Declared}
 use Rattle.program_tables.specs.declared.operand.Declared.TheVariants as types
 use Rattle.program_tables.specs.declared.operand.MethodShape.{MethodShape}
-use Rattle.class_lookup.specs.Parts.{text_at}
+use Rattle.class_pool.specs.Grammar.{text_at}
 use Rattle.program_tables.specs.Kinds.{field_declared}
 use Rattle.program_tables.specs.Numbers.{methods_by_number}
 use Rattle.program_tables.specs.Resolved.{resolved_methods}

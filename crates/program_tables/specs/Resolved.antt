@@ -10,7 +10,7 @@ use Rattle.class_pool.specs.declared.entry.Entry.TheVariants as entries
 use Rattle.class_pool.specs.declared.class.Code.{Code}
 use Rattle.class_pool.specs.declared.class.Member.{Member}
 use Rattle.class_pool.specs.declared.class.ClassFile.{ClassFile}
-use Rattle.class_lookup.specs.Parts.{text_at}
+use Rattle.class_pool.specs.Grammar.{text_at}
 use Rattle.bytecode_model.specs.declared.Value.{Value}
 use Rattle.bytecode_model.specs.declared.Value.TheVariants.{Int, Long, Ref}
 use Rattle.bytecode_model.specs.Lists.{onto}

@@ -1,12 +1,12 @@
 -- What pool entries name and can't be resolved: JVM Specification SE 8, 5.4.3, 5.4.4, and the linking exceptions of 6.5.
-use Rattle.std.specs.Prelude.{ℕ, Bool, true, false, not, ◌&&◌, ◌||◌, ◌==◌, if◌then◌else◌, List, [], ◌∷◌, ◌++◌, length, map, Option, Some, None, is_some}
+use Rattle.std.specs.Prelude.{ℕ, Bool, false, not, ◌&&◌, ◌||◌, ◌==◌, if◌then◌else◌, List, [], ◌∷◌, ◌++◌, length, map, Option, Some, None, is_some}
 use Rattle.std.specs.Prelude.{slice_get}
 use Rattle.std.specs.Option.{option_map_or}
 use Rattle.std.specs.List.{filter, find, flat_map, list_all, range_with_len}
 use Rattle.class_pool.specs.declared.class.Code.{Code}
 use Rattle.class_pool.specs.declared.class.Member.{Member}
 use Rattle.class_pool.specs.declared.class.ClassFile.{ClassFile}
-use Rattle.class_lookup.specs.Parts.{text_at}
+use Rattle.class_pool.specs.Grammar.{text_at}
 use Rattle.class_lookup.specs.Lists.{first_some}
 use Rattle.class_pool.specs.Found.{code_of}
 use Rattle.class_lookup.specs.Parts.{Signature, signature_of, has_code, is_static, is_private, is_abstract, is_init, is_clinit}
@@ -21,6 +21,7 @@ use Rattle.program_tables.specs.Instructions.{Placed, instructions_of, index_of_
 use Rattle.program_tables.specs.Kinds.{class_in_entry, classes_in_field_descriptor, classes_in_method_descriptor}
 use Rattle.program_tables.specs.FrameClasses.{classes_in_frames}
 use Rattle.program_tables.specs.Operands.{class_named, field_named, method_named}
+use Rattle.bytecode_model.specs.Effects.{same_bool}
 
 -- the reason, unless this holds
 abbrev pub unless : Bool → Why → Option Why
@@ -69,10 +70,6 @@ needs_static_field op = op == 178 || op == 179
 
 abbrev pub writes_field : (op : ℕ) → Bool
 writes_field op = op == 179 || op == 181
-
-abbrev pub same_bool : Bool → Bool → Bool
-same_bool true b = b
-same_bool false b = not b
 
 -- a field found, by an instruction of the caller's method
 abbrev pub may_use_field : List ClassFile → (caller : ℕ) → ClassFile → (method : Signature) → (op index : ℕ) → Place → Member → Bool

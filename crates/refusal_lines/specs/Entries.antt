@@ -4,11 +4,11 @@ use Rattle.std.specs.Prelude.{ℕ, not, Bool, ◌||◌, List, [], ◌∷◌, ◌
 use Rattle.std.specs.Option.{option_map_or}
 use Rattle.std.specs.List.{list_any}
 use Rattle.class_pool.specs.Utf8.{utf8_bytes}
-use Rattle.class_pool.specs.Grammar.{entry_at, name_and_type_of}
+use Rattle.class_pool.specs.Grammar.{entry_at, name_and_type_of, text_at}
 use Rattle.class_pool.specs.declared.entry.Entry.{Entry}
 use Rattle.class_pool.specs.declared.entry.Entry.TheVariants.{Utf8, Class, Field, Method, InterfaceMethod}
 use Rattle.class_pool.specs.declared.class.ClassFile.{ClassFile}
-use Rattle.class_lookup.specs.Parts.{text_at, class_text, same_text, name_of}
+use Rattle.class_lookup.specs.Parts.{class_text, same_text, name_of}
 use Rattle.program_tables.specs.Core.{boot_name}
 use Rattle.program_tables.specs.Kinds.{type_named, class_in_type, classes_in_field_descriptor, classes_in_method_descriptor}
 use Rattle.program_tables.specs.declared.refusal.Why.{Why}

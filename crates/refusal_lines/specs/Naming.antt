@@ -25,7 +25,7 @@ pub record IsNamedIn (files : List (List ℕ)) (refusal : ProgramRefusal) (name 
   pub is : name ≡ named_bytes classes refusal
 
 -- only the lines of these two refusals name something, of files that are class files
-abbrev pub IsNamed : (files : List (List ℕ)) → ProgramRefusal → (name : List ℕ) → Type 0
-IsNamed files (Duplicate file earlier) name = IsNamedIn files (Duplicate file earlier) name
-IsNamed files (Unresolved file entry why) name = IsNamedIn files (Unresolved file entry why) name
-IsNamed files refusal name = name ≡ []
+abbrev pub IsNamedByRefusal : (files : List (List ℕ)) → ProgramRefusal → (name : List ℕ) → Type 0
+IsNamedByRefusal files (Duplicate file earlier) name = IsNamedIn files (Duplicate file earlier) name
+IsNamedByRefusal files (Unresolved file entry why) name = IsNamedIn files (Unresolved file entry why) name
+IsNamedByRefusal files refusal name = name ≡ []

@@ -8,7 +8,7 @@ ghost use Rattle.class_lookup.specs.Parts.{name_of as name_in_pool};
 ghost use Rattle.core_classes.specs.Core.{core};
 ghost use Rattle.program_resolution.specs.Resolving.{AreClassesOf};
 ghost use Rattle.refusal_lines.specs.Entries.{unresolved_bytes as bytes_told};
-ghost use Rattle.refusal_lines.specs.Naming.{named_bytes, IsNamed};
+ghost use Rattle.refusal_lines.specs.Naming.{named_bytes, IsNamedByRefusal};
 
 use crate::entries::{entry_at, unresolved_bytes};
 use crate::missing::Known;
@@ -111,7 +111,7 @@ pub fn name_in(
     files: &[Vec<u8>],
     refusal: ProgramRefusal,
 ) -> Result<Vec<u8>, NoMemory>
-    ensures { IfOk result (λ name. IsNamed (map (λ f. f.items) files.now) refusal name.items) }
+    ensures { IfOk result (λ name. IsNamedByRefusal (map (λ f. f.items) files.now) refusal name.items) }
 {
     match refusal {
         ProgramRefusal::Duplicate(file, _) => {

@@ -5,8 +5,8 @@ use Rattle.std.specs.Option.{option_map_or}
 use Rattle.std.proofs.lemmas.List.Elements.{Contains-get_or}
 use Rattle.std.proofs.lemmas.List.Sums.{sum_by_push, sum_by-cons, sum_by-take-le}
 use Rattle.lists.specs.Lists.{onto}
-use Rattle.lists.specs.FirstLemmas.{flat_map-more}
-use Rattle.lists.specs.Lemmas.{none≢some, some_same}
+use Rattle.lists.proofs.FirstLemmas.{flat_map-more}
+use Rattle.lists.proofs.Lemmas.{none≢some, some_same}
 use Rattle.lists.specs.Members.{at_head, in_tail}
 use Rattle.class_pool.specs.declared.class.ClassFile.{ClassFile}
 use Rattle.method_names.specs.Names.{name_of}

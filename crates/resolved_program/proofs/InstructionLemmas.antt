@@ -19,10 +19,10 @@ use Rattle.opcodes.specs.Instruction.{decoded}
 use Rattle.opcodes.specs.Target.{WholeIsWithin}
 use Rattle.bytecode_model.specs.Lists.{onto}
 use Rattle.bytecode_model.specs.Program.{as_instr, instr_at}
-use Rattle.lists.specs.Lemmas.{onto_some}
+use Rattle.lists.proofs.Lemmas.{onto_some}
 use Rattle.class_lookup.specs.Lookup.{Place, method_at}
 use Rattle.class_pool.specs.declared.entry.Entry.{Entry}
-use Rattle.class_lookup.specs.Parts.{text_at}
+use Rattle.class_pool.specs.Grammar.{text_at}
 use Rattle.bytecode_model.specs.Program.{Handler, NoOperand, AnInt, ALong, AString, AStatic, AField, AMethod, AType}
 use Rattle.bytecode_model.specs.Types.{Kind}
 use Rattle.program_tables.specs.Entries.{kind_in}

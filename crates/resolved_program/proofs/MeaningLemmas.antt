@@ -5,7 +5,7 @@ use Rattle.class_pool.specs.declared.class.ClassFile.{ClassFile}
 use Rattle.class_pool.specs.declared.entry.Entry.TheVariants as entries
 use Rattle.bytecode_model.specs.Lists.{onto}
 use Rattle.bytecode_model.specs.Program.{Operand}
-use Rattle.lists.specs.Lemmas.{some_same, onto_some}
+use Rattle.lists.proofs.Lemmas.{some_same, onto_some}
 use Rattle.class_lookup.specs.Hierarchy.{IsAcyclic}
 use Rattle.class_lookup.specs.Laws.{FoundMethods}
 use Rattle.class_lookup.specs.Lookup.{Place, field_at, method_at, find_method}

@@ -8,7 +8,8 @@ use Rattle.class_pool.specs.declared.class.ClassFile.{ClassFile}
 use Rattle.bytecode_model.specs.Lists.{onto, index_of}
 use Rattle.bytecode_model.specs.Program.{Operand, NoOperand, AString, AStatic, AField, AMethod, AType}
 use Rattle.class_lookup.specs.Lookup.{Place, same_place, find_field, find_method}
-use Rattle.class_lookup.specs.Parts.{Signature, text_at}
+use Rattle.class_lookup.specs.Parts.{Signature}
+use Rattle.class_pool.specs.Grammar.{text_at}
 use Rattle.program_tables.specs.Entries.{meaning_of}
 use Rattle.program_tables.specs.Instructions.{Field, Method, signature_in}
 use Rattle.program_tables.specs.Kinds.{kind_of_entry}

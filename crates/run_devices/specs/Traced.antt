@@ -3,6 +3,8 @@ use Rattle.std.specs.Prelude.{◌≡◌, ℕ, Bool, List, [], None, Ok, Err}
 use Rattle.std.specs.declared.option.Option.{Option}
 use Rattle.std.specs.declared.result.Result.{Result}
 use Rattle.outside.specs.Outside.{Grew, Rose}
+use Rattle.device_traits.specs.declared.fault.DeviceFault.{DeviceFault}
+use Rattle.device_traits.specs.declared.fault.DeviceFault.TheVariants.{Output}
 use Rattle.device_traits.specs.Told.{Told, GrewInPart, OnlyWrites}
 use Rattle.run_devices.specs.Lines.{note_line}
 
@@ -39,6 +41,7 @@ pub record LineFails (old new : Told) (line : List ℕ) : Type 0 where
   pub noted : GrewInPart old.noted new.noted [] line
   pub rose : Rose old.write_faults new.write_faults
 
-abbrev pub PutsLine : {T E : Type 0} → Told → Told → (line : List ℕ) → Result T E → Type 0
+abbrev pub PutsLine : {T : Type 0} → Told → Told → (line : List ℕ) → Result T DeviceFault → Type 0
 PutsLine old new line (Ok x) = LineIsPut old new line
-PutsLine old new line (Err e) = LineFails old new line
+PutsLine old new line (Err Output) = LineFails old new line
+PutsLine old new line (Err fault) = ⊥

@@ -53,7 +53,7 @@ impl<'i, 'o, S: Source, O: Sink> TraceDevice<'i, 'o, S, O> {
             Ok(()) => Ok(()),
             Err(_) => {
                 self.write_faults = self.out.faults();
-                Err(DeviceFault)
+                Err(DeviceFault::Output)
             }
         }
     }
@@ -77,7 +77,7 @@ impl<'i, 'o, S: Source, O: Sink> Devices for TraceDevice<'i, 'o, S, O> {
         match self.input.take(&mut piece) {
             Ok(0) => Ok(None),
             Ok(_) => Ok(given(piece[0])),
-            Err(_) => Err(DeviceFault),
+            Err(_) => Err(DeviceFault::Input),
         }
     }
 
@@ -86,7 +86,7 @@ impl<'i, 'o, S: Source, O: Sink> Devices for TraceDevice<'i, 'o, S, O> {
             Ok(()) => Ok(()),
             Err(_) => {
                 self.write_faults = self.out.faults();
-                Err(DeviceFault)
+                Err(DeviceFault::Output)
             }
         }
     }
@@ -99,7 +99,7 @@ impl<'i, 'o, S: Source, O: Sink> Devices for TraceDevice<'i, 'o, S, O> {
             Ok(()) => Ok(()),
             Err(_) => {
                 self.seen_faults = self.out.faults();
-                Err(DeviceFault)
+                Err(DeviceFault::Seen)
             }
         }
     }

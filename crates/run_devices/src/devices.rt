@@ -31,14 +31,14 @@ impl<'i, 'o, 'w, S: Source, O: Sink, V: Watch> Devices for RunDevice<'i, 'o, 'w,
         match self.input.take(&mut piece) {
             Ok(0) => Ok(None),
             Ok(_) => Ok(given(piece[0])),
-            Err(_) => Err(DeviceFault),
+            Err(_) => Err(DeviceFault::Input),
         }
     }
 
     fn output(&mut self, byte: u8) -> Result<(), DeviceFault> {
         match put_all(self.out, &[byte]) {
             Ok(()) => Ok(()),
-            Err(_) => Err(DeviceFault),
+            Err(_) => Err(DeviceFault::Output),
         }
     }
 

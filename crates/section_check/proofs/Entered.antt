@@ -1,16 +1,16 @@
 -- In a well placed section no node is in two regions, and loops are entered at their headers.
-use Rattle.std.proofs.Common.{◌≡◌, ◌≢◌, ℕ, true, List, Contains, Option, refl, inl, inr}
+use Rattle.std.proofs.Common.{◌≡◌, ◌≢◌, ℕ, true, List, Option, refl, inl, inr}
 use Rattle.std.proofs.lemmas.Bool.{cases_eq}
 use Rattle.loop_nest.specs.Digraph.{Digraph}
 use Rattle.section_check.specs.Section.{CertifiedLoop, Certified}
-use Rattle.section_check.specs.Placing.{IsAt, LiesIn, AreWellPlaced}
+use Rattle.section_check.specs.Placing.{IsEntryAt, LiesIn, AreWellPlaced}
 use Rattle.section_check.specs.Placing.IsFaulty.{crosses_another, lies_in_region}
 use Rattle.section_check.specs.Placing.IsMisplaced.{heads_faulty, enters_aside}
 use Rattle.section_check.specs.Entering.{RegionsAreApart, LoopsAreEnteredAtHeaders}
 
 -- a region lies in no other
 not_within : (g : Digraph) (c : Certified) (bounds : List ℕ) (loads : List (Option ℕ)) → AreWellPlaced g c bounds loads
-    → (i k : ℕ) (l m : CertifiedLoop) → IsAt c.loops i l → IsAt c.loops k m → k ≢ i → l.region ≡ true → m.region ≡ true → LiesIn l m → ⊥
+    → (i k : ℕ) (l m : CertifiedLoop) → IsEntryAt c.loops i l → IsEntryAt c.loops k m → k ≢ i → l.region ≡ true → m.region ≡ true → LiesIn l m → ⊥
 not_within g c bounds loads placed i k l m at_l at_m other region_l region_m lies =
     placed l.header (heads_faulty (record {
       place = i;

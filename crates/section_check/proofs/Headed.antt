@@ -3,7 +3,7 @@ use Rattle.std.proofs.Common.{◌≡◌, ℕ, zero, suc, ◌<◌, eqb, List, [],
 use Rattle.std.proofs.lemmas.Bool.{eq-eqb, ne_eqb, cond-true, cond-false}
 use Rattle.std.proofs.lemmas.List.{get_or_default}
 use Rattle.section_check.specs.Section.{CertifiedLoop, PricedLoop, priced, headed_by}
-use Rattle.section_check.specs.Placing.{IsAt}
+use Rattle.section_check.specs.Placing.{IsEntryAt}
 use Rattle.section_check.specs.Heading.{NoneHeads, IsFirstHeaded}
 
 abbrev pub price : CertifiedLoop → List ℕ → List (Option ℕ) → ℕ → PricedLoop
@@ -28,7 +28,7 @@ headed_no (l ∷ ls) (b ∷ bs) (x ∷ xs) u never =
     cond-false (eqb l.header u) (Some (price l (b ∷ bs) (x ∷ xs) 0)) (headed_by u (priced ls bs xs)) (ne_eqb l.header u (never 0 l (omega arith)))
     ∙ headed_no ls bs xs u (λ k d lt. never (suc k) d (omega arith))
 
-pub itself_at : {X : Type 0} (xs : List X) (k : ℕ) (d : X) → k < length xs → IsAt xs k (get_or xs k d)
+pub itself_at : {X : Type 0} (xs : List X) (k : ℕ) (d : X) → k < length xs → IsEntryAt xs k (get_or xs k d)
 itself_at xs k d lt = (lt, get_or_default xs k (get_or xs k d) d lt)
 
 pub headed_loop : (ls : List CertifiedLoop) (bounds : List ℕ) (loads : List (Option ℕ)) (u i : ℕ) (l : CertifiedLoop) → length bounds ≡ length ls → length loads ≡ length ls → IsFirstHeaded ls u i → l ≡ get_or ls i l

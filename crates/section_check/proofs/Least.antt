@@ -3,9 +3,9 @@ use Rattle.std.proofs.Common.{◌≡◌, ℕ, ◌+◌, ◌<◌, ◌≤◌, ◌�
 use Rattle.std.proofs.lemmas.Bool.{cases_lt}
 use Rattle.loop_nest.specs.Digraph.{Digraph}
 use Rattle.section_check.specs.Section.{Certified, CertifiedLoop, listed}
-use Rattle.section_check.specs.Placing.{IsAt, HeadsFaulty, IsMisplaced}
+use Rattle.section_check.specs.Placing.{IsEntryAt, HeadsFaulty, IsMisplaced}
 use Rattle.section_check.specs.Placing.IsMisplaced.{lists_no_node, holds_no_node, heads_faulty, enters_aside, holds_entry, exceeds_limit}
-use Rattle.section_check.specs.LeastLemmas.{same_at, least_same, least_either}
+use Rattle.section_check.proofs.LeastLemmas.{same_at, least_same, least_either}
 use Rattle.section_check.specs.Least.{IsLeast, lesser_of, IsBeyond, IsMemberBeyond, LeadsAside, IsWrongEntry}
 
 -- u is a member of one of the first i loops, and not below n
@@ -13,7 +13,7 @@ pub record IsHeldBelow (n : ℕ) (ls : List CertifiedLoop) (i u : ℕ) : Type 0 
   pub place : ℕ
   pub holder : CertifiedLoop
   pub early : place < i
-  pub at : IsAt ls place holder
+  pub at : IsEntryAt ls place holder
   pub inside : Contains holder.members u
   pub high : n ≤ u
 
@@ -30,7 +30,7 @@ held_more n ls i l ms below is members a b ha hb =
       | inr ge ↦
           let early = h.early in
           let same : h.place ≡ i = omega arith in
-          let Q : ℕ → Type 0 = λ k. IsAt ls k h.holder in
+          let Q : ℕ → Type 0 = λ k. IsEntryAt ls k h.holder in
           let e = same_at ls i h.holder l (subst Q same h.at) is in
           let R : List ℕ → Type 0 = λ ks. Contains ks u in
           inr (subst R (sym (members ∙ ap (λ (k : CertifiedLoop). k.members) e)) h.inside, h.high)

@@ -1,3 +1,4 @@
+pub mod LeastLemmas
 pub mod Elements
 pub mod Sums
 mod Sound

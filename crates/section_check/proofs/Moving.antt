@@ -1,24 +1,24 @@
 -- Other numbers of nodes change no fee, no potential and no place.
-use Rattle.std.proofs.Common.{◌≡◌, ◌≢◌, ℕ, zero, suc, ◌+◌, ◌<◌, ◌≤◌, ◌||◌, ℤ, Bool, true, false, cond, eqb, List, [], ◌∷◌, length, map, get_or, Contains, Option, Some, None, refl, sym, ap, ap₂, ◌∙◌, subst, inl, inr, arith}
+use Rattle.std.proofs.Common.{◌≡◌, ℕ, zero, suc, ◌+◌, ◌<◌, ◌≤◌, ◌||◌, ℤ, Bool, true, false, cond, eqb, List, [], ◌∷◌, length, map, get_or, Contains, Option, Some, None, refl, sym, ap, ap₂, ◌∙◌, subst, inl, inr, arith}
 use Rattle.std.specs.Prelude.{IfSome}
 use Rattle.std.specs.Option.{option_map}
 use Rattle.std.specs.List.Sorted.{IsStrictlyIncreasing}
 use Rattle.std.proofs.lemmas.Bool.{cases_eq, cases_lt, cases_order, eq-eqb, ne_eqb}
-use Rattle.std.proofs.lemmas.List.{get_or-map, length-map, get_or_default}
+use Rattle.std.proofs.lemmas.List.{get_or-map, length-map}
 use Rattle.std.proofs.lemmas.List.Elements.{All-map, Contains-get_or}
 use Rattle.lists.specs.Members.{at_head, in_tail, has_or_not, map_contains}
 use Rattle.loop_nest.specs.Digraph.{Digraph, Edge}
 use Rattle.loop_nest.proofs.Elements.{from_map}
 use Rattle.section_check.specs.Bounded.{holds}
-use Rattle.section_check.specs.Section.{CertifiedLoop, Certified, PricedLoop, priced, fee, headed_by, headed_fee, entry_fee, potential, with_fee, start_value, listed, IsPotential, IsInForm}
-use Rattle.section_check.specs.Placing.{IsAt, LiesIn, CrossesAnother, IsFaulty, IsMisplaced, AreWellPlaced}
+use Rattle.section_check.specs.Section.{CertifiedLoop, Certified, PricedLoop, priced, headed_by, headed_fee, entry_fee, potential, with_fee, start_value, listed, IsPotential, IsInForm}
+use Rattle.section_check.specs.Placing.{IsEntryAt, LiesIn, CrossesAnother, IsFaulty, IsMisplaced}
 use Rattle.section_check.specs.Placing.IsFaulty.{shares_header, leaves_header_out, crosses_another, does_not_fit, lies_in_region}
 use Rattle.section_check.specs.Placing.IsMisplaced.{lists_no_node, holds_no_node, heads_faulty, enters_aside, holds_entry, exceeds_limit}
 use Rattle.section_check.specs.Conditions.{DescendsTo, DescendsFrom, EdgeHolds, ExitHolds, CoversCost, IsAccepted, natural_of, value_of}
 use Rattle.section_check.specs.Renumbering.{IsRenumbered, AreMovedCosts, moved_loop, moved, RenumberedStaysAccepted, RenumberedStaysInForm}
 
 -- entry i of a mapped list
-at_map : {X Y : Type 0} (f : X → Y) (xs : List X) (i : ℕ) (y : Y) → IsAt (map f xs) i y → (x : X) × IsAt xs i x × (y ≡ f x)
+at_map : {X Y : Type 0} (f : X → Y) (xs : List X) (i : ℕ) (y : Y) → IsEntryAt (map f xs) i y → (x : X) × IsEntryAt xs i x × (y ≡ f x)
 at_map f [] i y at = let below = at.0 in absurd (omega arith)
 at_map f (x ∷ xs) zero y at = (x, (omega arith, refl), sym at.1)
 at_map f (x ∷ xs) (suc i) y at =
@@ -183,10 +183,10 @@ module _ (d g : Digraph) (node : ℕ → ℕ) (r : IsRenumbered d g node) where
     -- loop i before it was moved
     record Was (i : ℕ) (m : CertifiedLoop) : Type 0 where
       was : CertifiedLoop
-      at : IsAt ls i was
+      at : IsEntryAt ls i was
       is : m ≡ moved_loop node was
 
-    was_at : (i : ℕ) (m : CertifiedLoop) → IsAt (map (moved_loop node) ls) i m → Was i m
+    was_at : (i : ℕ) (m : CertifiedLoop) → IsEntryAt (map (moved_loop node) ls) i m → Was i m
     was_at i m at = let b = at_map (moved_loop node) ls i m at in record { was = b.0; at = b.1; is = b.2 }
 
     was_among : (m : CertifiedLoop) (has : Contains (map (moved_loop node) ls) m) → Was has.0 m

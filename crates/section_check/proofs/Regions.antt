@@ -2,7 +2,7 @@
 use Rattle.std.proofs.Common.{◌≡◌, ℕ, zero, suc, ℤ, Bool, true, false, cond, eqb, List, [], ◌∷◌, length, get_or, Contains, Option, Some, None, refl, sym, ap, ◌∙◌, subst, arith}
 use Rattle.loop_nest.specs.Digraph.{Digraph}
 use Rattle.section_check.specs.Section.{Certified, CertifiedLoop, PricedLoop, priced, headed_by, headed_fee, entry_fee, with_fee, potential}
-use Rattle.section_check.specs.Placing.{IsAt, LiesIn, CrossesAnother, IsFaulty, IsMisplaced}
+use Rattle.section_check.specs.Placing.{IsEntryAt, LiesIn, CrossesAnother, IsFaulty, IsMisplaced}
 use Rattle.section_check.specs.Placing.IsFaulty.{shares_header, leaves_header_out, crosses_another, does_not_fit, lies_in_region}
 use Rattle.section_check.specs.Placing.IsMisplaced.{lists_no_node, holds_no_node, heads_faulty, enters_aside, holds_entry, exceeds_limit}
 use Rattle.section_check.specs.Conditions.{DescendsTo, DescendsFrom, natural_of}
@@ -11,12 +11,12 @@ use Rattle.section_check.specs.Regions.{marked, with_regions, AreRegions, Marked
 -- loop i as it was before it was marked
 record Was (ls : List CertifiedLoop) (rs : List Bool) (i : ℕ) (m : CertifiedLoop) : Type 0 where
   was : CertifiedLoop
-  at : IsAt ls i was
+  at : IsEntryAt ls i was
   header : m.header ≡ was.header
   members : m.members ≡ was.members
   region : get_or rs i false ≡ m.region
 
-was_at : (ls : List CertifiedLoop) (rs : List Bool) → length rs ≡ length ls → (i : ℕ) (m : CertifiedLoop) → IsAt (marked ls rs) i m → Was ls rs i m
+was_at : (ls : List CertifiedLoop) (rs : List Bool) → length rs ≡ length ls → (i : ℕ) (m : CertifiedLoop) → IsEntryAt (marked ls rs) i m → Was ls rs i m
 was_at [] rs long i m at = let below = at.0 in absurd (omega arith)
 was_at (l ∷ ls) [] long i m at = absurd (omega arith)
 was_at (l ∷ ls) (r ∷ rs) long zero m at = record {
@@ -85,7 +85,7 @@ module _ (c : Certified) (bounds : List ℕ) (loads : List (Option ℕ)) (rs : L
   abbrev ls : List CertifiedLoop
   ls = c.loops
 
-  before : (i : ℕ) (m : CertifiedLoop) → IsAt (marked ls rs) i m → Was ls rs i m
+  before : (i : ℕ) (m : CertifiedLoop) → IsEntryAt (marked ls rs) i m → Was ls rs i m
   before = was_at ls rs regions.long
 
   among : (m : CertifiedLoop) (has : Contains (marked ls rs) m) → Was ls rs has.0 m
@@ -113,7 +113,7 @@ module _ (c : Certified) (bounds : List ℕ) (loads : List (Option ℕ)) (rs : L
         };
       }
 
-  faulty : (i : ℕ) (l : CertifiedLoop) → IsAt (marked ls rs) i l → (a : Was ls rs i l) → IsFaulty (marked ls rs) loads i l → IsFaulty ls loads i a.was
+  faulty : (i : ℕ) (l : CertifiedLoop) → IsEntryAt (marked ls rs) i l → (a : Was ls rs i l) → IsFaulty (marked ls rs) loads i l → IsFaulty ls loads i a.was
   faulty i l at a (shares_header s) =
       let b = before s.place s.other s.at in
       shares_header (record { place = s.place; other = b.was; at = b.at; apart = s.apart; same = sym b.header ∙ s.same ∙ a.header })

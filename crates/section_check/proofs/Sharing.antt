@@ -4,7 +4,7 @@ use Rattle.std.proofs.lemmas.Bool.{cases_order}
 use Rattle.std.proofs.lemmas.List.{get_or_default}
 use Rattle.std.proofs.lemmas.List.Sorted.{IsNonDecreasingBy-from_all_adjacent}
 use Rattle.section_check.specs.Section.{CertifiedLoop, HeadersRise}
-use Rattle.section_check.specs.Placing.{IsAt, AreCrossed, SharesHeader}
+use Rattle.section_check.specs.Placing.{IsEntryAt, AreCrossed, SharesHeader}
 use Rattle.section_check.proofs.Headed.{itself_at}
 
 module _ (ls : List CertifiedLoop) (i : ℕ) (l : CertifiedLoop) where
@@ -12,7 +12,7 @@ module _ (ls : List CertifiedLoop) (i : ℕ) (l : CertifiedLoop) where
   shares_with k lt apart same = record { place = k; other = get_or ls k l; at = itself_at ls k l lt; apart = apart; same = same }
 
   -- where headers don't fall, the loop before or the one after shares the header
-  pub neighbour_shares : HeadersRise ls → IsAt ls i l → SharesHeader ls i l → ((0 < i) × ((get_or ls (i - 1) l).header ≡ l.header)) ⊎ ((i + 1 < length ls) × ((get_or ls (i + 1) l).header ≡ l.header))
+  pub neighbour_shares : HeadersRise ls → IsEntryAt ls i l → SharesHeader ls i l → ((0 < i) × ((get_or ls (i - 1) l).header ≡ l.header)) ⊎ ((i + 1 < length ls) × ((get_or ls (i + 1) l).header ≡ l.header))
   neighbour_shares rise at h =
       let order = IsNonDecreasingBy-from_all_adjacent (λ (x : CertifiedLoop). x.header) ls rise in
       let k = h.place in

@@ -4,7 +4,7 @@ use Rattle.std.proofs.lemmas.Bool.{cases_eq}
 use Rattle.lists.specs.Members.{has_or_not}
 use Rattle.loop_nest.specs.Digraph.{Digraph, Edge}
 use Rattle.section_check.specs.Section.{Certified, CertifiedLoop, PricedLoop, priced}
-use Rattle.section_check.specs.Placing.{IsAt, AreWellPlaced}
+use Rattle.section_check.specs.Placing.{IsEntryAt, AreWellPlaced}
 use Rattle.section_check.specs.Placing.IsFaulty.{shares_header, leaves_header_out}
 use Rattle.section_check.specs.Placing.IsMisplaced.{heads_faulty, enters_aside, holds_entry}
 use Rattle.section_check.proofs.Sums.{HaveOwnHeaders}
@@ -17,7 +17,7 @@ pub record AreSound (g : Digraph) (ls : List PricedLoop) : Type 0 where
 
 -- loop i with its price is loop i
 pub certified_at : (ls : List CertifiedLoop) (bounds : List ℕ) (loads : List (Option ℕ)) (i : ℕ) (d : PricedLoop) → i < length (priced ls bounds loads)
-    → IsAt ls i (get_or (priced ls bounds loads) i d).certified
+    → IsEntryAt ls i (get_or (priced ls bounds loads) i d).certified
 certified_at [] bounds loads i d below = absurd (omega arith)
 certified_at (l ∷ ls) [] loads i d below = absurd (omega arith)
 certified_at (l ∷ ls) (b ∷ bs) [] i d below = absurd (omega arith)
@@ -25,9 +25,9 @@ certified_at (l ∷ ls) (b ∷ bs) (x ∷ xs) zero d below = (omega arith, refl)
 certified_at (l ∷ ls) (b ∷ bs) (x ∷ xs) (suc i) d below = let r = certified_at ls bs xs i d (omega arith) in let lt = r.0 in (omega arith, r.1)
 
 module _ (g : Digraph) (c : Certified) (bounds : List ℕ) (loads : List (Option ℕ)) (placed : AreWellPlaced g c bounds loads) where
-  place_of : (l : PricedLoop) → Contains (priced c.loops bounds loads) l → (i : ℕ) × IsAt c.loops i l.certified
+  place_of : (l : PricedLoop) → Contains (priced c.loops bounds loads) l → (i : ℕ) × IsEntryAt c.loops i l.certified
   place_of l has =
-      let P : PricedLoop → Type 0 = λ k. IsAt c.loops has.0 k.certified in
+      let P : PricedLoop → Type 0 = λ k. IsEntryAt c.loops has.0 k.certified in
       (has.0, subst P has.2 (certified_at c.loops bounds loads has.0 l has.1))
 
   among_of : (l : PricedLoop) → Contains (priced c.loops bounds loads) l → Contains c.loops l.certified

@@ -2,7 +2,7 @@
 use Rattle.std.specs.Prelude.{◌≡◌, ℕ, ◌<◌, ◌≤◌, ◌⊎◌, min, List, Contains, Option, Some, None}
 use Rattle.loop_nest.specs.Digraph.{Digraph, Edge}
 use Rattle.section_check.specs.Section.{Certified, CertifiedLoop}
-use Rattle.section_check.specs.Placing.{IsHeld, EntersAside, HoldsEntry, ExceedsLimit}
+use Rattle.section_check.specs.Placing.{IsInLoop, EntersAside, HoldsEntry, ExceedsLimit}
 
 -- the least number with a property, or none where no number has it
 abbrev pub IsLeast : (ℕ → Type 0) → Option ℕ → Type 0
@@ -21,7 +21,7 @@ IsBeyond n us u = Contains us u × (n ≤ u)
 
 -- u is a member of a loop and not below n
 abbrev pub IsMemberBeyond : ℕ → List CertifiedLoop → ℕ → Type 0
-IsMemberBeyond n ls u = IsHeld ls u × (n ≤ u)
+IsMemberBeyond n ls u = IsInLoop ls u × (n ≤ u)
 
 -- an edge leads from u into a loop from outside, and not to the header
 abbrev pub LeadsAside : Digraph → List CertifiedLoop → ℕ → Type 0

@@ -3,7 +3,6 @@ pub mod Section
 pub mod Placing
 pub mod Heading
 pub mod Least
-pub mod LeastLemmas
 pub mod Conditions
 pub mod Answering
 pub mod Regions

@@ -4,8 +4,8 @@ use Rattle.loop_nest.specs.Digraph.{Digraph, Edge}
 use Rattle.section_check.specs.Section.{Certified, CertifiedLoop, priced, start_value, listed}
 
 -- entry i of a list is x
-abbrev pub IsAt : {X : Type 0} → List X → ℕ → X → Type 0
-IsAt xs i x = (i < length xs) × (slice_index_or xs i x ≡ x)
+abbrev pub IsEntryAt : {X : Type 0} → List X → ℕ → X → Type 0
+IsEntryAt xs i x = (i < length xs) × (slice_index_or xs i x ≡ x)
 
 -- each member of the first loop is one of the second
 abbrev pub LiesIn : CertifiedLoop → CertifiedLoop → Type 0
@@ -23,7 +23,7 @@ pub record AreCrossed (l k : CertifiedLoop) : Type 0 where
 pub record SharesHeader (ls : List CertifiedLoop) (i : ℕ) (l : CertifiedLoop) : Type 0 where
   pub place : ℕ
   pub other : CertifiedLoop
-  pub at : IsAt ls place other
+  pub at : IsEntryAt ls place other
   pub apart : place ≢ i
   pub same : other.header ≡ l.header
 
@@ -37,7 +37,7 @@ pub record CrossesAnother (ls : List CertifiedLoop) (l : CertifiedLoop) : Type 0
 pub record LiesInRegion (ls : List CertifiedLoop) (i : ℕ) (l : CertifiedLoop) : Type 0 where
   pub place : ℕ
   pub other : CertifiedLoop
-  pub at : IsAt ls place other
+  pub at : IsEntryAt ls place other
   pub apart : place ≢ i
   pub region : other.region ≡ true
   pub within : LiesIn l other
@@ -47,14 +47,14 @@ pub data IsFaulty (ls : List CertifiedLoop) (loads : List (Option ℕ)) (i : ℕ
   shares_header : SharesHeader ls i l → IsFaulty ls loads i l
   leaves_header_out : ¬ Contains l.members l.header → IsFaulty ls loads i l
   crosses_another : CrossesAnother ls l → IsFaulty ls loads i l
-  does_not_fit : l.region ≡ true → IsAt loads i None → IsFaulty ls loads i l
+  does_not_fit : l.region ≡ true → IsEntryAt loads i None → IsFaulty ls loads i l
   lies_in_region : l.region ≡ true → LiesInRegion ls i l → IsFaulty ls loads i l
 
 -- u heads a faulty loop
 pub record HeadsFaulty (ls : List CertifiedLoop) (loads : List (Option ℕ)) (u : ℕ) : Type 0 where
   pub place : ℕ
   pub headed : CertifiedLoop
-  pub at : IsAt ls place headed
+  pub at : IsEntryAt ls place headed
   pub header : headed.header ≡ u
   pub faulty : IsFaulty ls loads place headed
 
@@ -74,7 +74,7 @@ pub record HoldsEntry (ls : List CertifiedLoop) : Type 0 where
   pub inside : Contains holder.members 0
 
 -- u is a member of a loop
-pub record IsHeld (ls : List CertifiedLoop) (u : ℕ) : Type 0 where
+pub record IsInLoop (ls : List CertifiedLoop) (u : ℕ) : Type 0 where
   pub holder : CertifiedLoop
   pub among : Contains ls holder
   pub inside : Contains holder.members u
@@ -89,7 +89,7 @@ pub record ExceedsLimit (c : Certified) (bounds : List ℕ) (loads : List (Optio
 pub data IsMisplaced (g : Digraph) (c : Certified) (bounds : List ℕ) (loads : List (Option ℕ)) (u : ℕ) : Type 0 where
   -- it is listed, or a member, and no node
   lists_no_node : Contains (listed c.nodes) u → g.nodes ≤ u → IsMisplaced g c bounds loads u
-  holds_no_node : IsHeld c.loops u → g.nodes ≤ u → IsMisplaced g c bounds loads u
+  holds_no_node : IsInLoop c.loops u → g.nodes ≤ u → IsMisplaced g c bounds loads u
   -- it heads two loops, a loop of which it is no member, a loop that crosses another, a region that doesn't fit, or a region that lies in another
   heads_faulty : HeadsFaulty c.loops loads u → IsMisplaced g c bounds loads u
   -- an edge leads from it into a loop from outside, and not to the header

@@ -2,7 +2,7 @@
 use Rattle.std.specs.Prelude.{◌≡◌, ◌≢◌, ℕ, Bool, true, false, List, [], ◌∷◌, length, slice_index_or, Option, None}
 use Rattle.loop_nest.specs.Digraph.{Digraph}
 use Rattle.section_check.specs.Section.{CertifiedLoop, Certified, priced}
-use Rattle.section_check.specs.Placing.{IsAt, LiesIn}
+use Rattle.section_check.specs.Placing.{IsEntryAt, LiesIn}
 use Rattle.section_check.specs.Conditions.{IsAccepted, value_of}
 
 -- each loop is marked as these say, and the loops of which they don't speak are as they were
@@ -21,8 +21,8 @@ IsRegion regions i = slice_index_or regions i false ≡ true
 -- it is said of each loop whether it is a region, each region has a load, and none lies in another
 pub record AreRegions (ls : List CertifiedLoop) (loads : List (Option ℕ)) (regions : List Bool) : Type 0 where
   pub long : length regions ≡ length ls
-  pub loaded : (i : ℕ) → IsRegion regions i → ¬ IsAt loads i None
-  pub apart : (i k : ℕ) (l m : CertifiedLoop) → IsAt ls i l → IsAt ls k m → k ≢ i → IsRegion regions i → IsRegion regions k → ¬ LiesIn l m
+  pub loaded : (i : ℕ) → IsRegion regions i → ¬ IsEntryAt loads i None
+  pub apart : (i k : ℕ) (l m : CertifiedLoop) → IsEntryAt ls i l → IsEntryAt ls k m → k ≢ i → IsRegion regions i → IsRegion regions k → ¬ LiesIn l m
 
 -- an accepted section stays accepted, with its value, where its loops are marked as regions
 abbrev pub MarkedStaysAccepted : Type 0

@@ -2,7 +2,7 @@
 ghost use Rattle.std.specs.Prelude.{◌≡◌, ◌≢◌, ℕ, ◌<◌, ◌↔◌, length, true, IsTrue};
 ghost use Rattle.std.specs.List.Sorted.{IsStrictlyIncreasing};
 ghost use Rattle.section_check.specs.Section.{CertifiedLoop, HeadersRise, MembersRise};
-ghost use Rattle.section_check.specs.Placing.{IsAt, LiesIn, AreCrossed, SharesHeader, CrossesAnother, LiesInRegion, IsFaulty, HeadsFaulty};
+ghost use Rattle.section_check.specs.Placing.{IsEntryAt, LiesIn, AreCrossed, SharesHeader, CrossesAnother, LiesInRegion, IsFaulty, HeadsFaulty};
 ghost use Rattle.section_check.specs.Least.{IsLeast, Meet, IsWithin};
 
 use super::lookups::has;
@@ -71,7 +71,7 @@ fn crosses(a: &CertLoop, b: &CertLoop) -> bool
 pub fn shares_header(loops: &[CertLoop], i: usize) -> bool
     requires headers { HeadersRise loops.now }
     requires within { i < length loops.now }
-    ensures { (l : CertifiedLoop) → IsAt loops.now i l → IsTrue result ↔ SharesHeader loops.now i l }
+    ensures { (l : CertifiedLoop) → IsEntryAt loops.now i l → IsTrue result ↔ SharesHeader loops.now i l }
 {
     let header = loops[i].header();
     if i > 0 && loops[i - 1].header() == header {
@@ -84,8 +84,8 @@ pub fn shares_header(loops: &[CertLoop], i: usize) -> bool
 fn crosses_another(loops: &[CertLoop], i: usize) -> bool
     requires members { MembersRise loops.now }
     requires within { i < length loops.now }
-    requires earlier { (j : ℕ) (m : CertifiedLoop) → j < i → IsAt loops.now j m → ¬ CrossesAnother loops.now m }
-    ensures { (l : CertifiedLoop) → IsAt loops.now i l → IsTrue result ↔ CrossesAnother loops.now l }
+    requires earlier { (j : ℕ) (m : CertifiedLoop) → j < i → IsEntryAt loops.now j m → ¬ CrossesAnother loops.now m }
+    ensures { (l : CertifiedLoop) → IsEntryAt loops.now i l → IsTrue result ↔ CrossesAnother loops.now l }
 {
     for k in i + 1..loops.len() {
         if crosses(&loops[i], &loops[k]) {
@@ -100,7 +100,7 @@ pub fn is_region_around(loops: &[CertLoop], k: usize, i: usize) -> bool
     requires members { MembersRise loops.now }
     requires outer { k < length loops.now }
     requires inner { i < length loops.now }
-    ensures { (l m : CertifiedLoop) → IsAt loops.now i l → IsAt loops.now k m → IsTrue result ↔ (k ≢ i) × (m.region ≡ true) × LiesIn l m }
+    ensures { (l m : CertifiedLoop) → IsEntryAt loops.now i l → IsEntryAt loops.now k m → IsTrue result ↔ (k ≢ i) × (m.region ≡ true) × LiesIn l m }
 {
     if k == i {
         return false;
@@ -115,7 +115,7 @@ pub fn is_region_around(loops: &[CertLoop], k: usize, i: usize) -> bool
 fn lies_in_region(loops: &[CertLoop], i: usize) -> bool
     requires members { MembersRise loops.now }
     requires within { i < length loops.now }
-    ensures { (l : CertifiedLoop) → IsAt loops.now i l → IsTrue result ↔ LiesInRegion loops.now i l }
+    ensures { (l : CertifiedLoop) → IsEntryAt loops.now i l → IsTrue result ↔ LiesInRegion loops.now i l }
 {
     for k in 0..loops.len() {
         if is_region_around(loops, k, i) {
@@ -132,8 +132,8 @@ fn is_faulty(loops: &[CertLoop], loads: &[Option<u64>], i: usize) -> bool
     requires members { MembersRise loops.now }
     requires loads { length loads.now ≡ length loops.now }
     requires within { i < length loops.now }
-    requires earlier { (j : ℕ) (m : CertifiedLoop) → j < i → IsAt loops.now j m → ¬ IsFaulty loops.now loads.now j m }
-    ensures { (l : CertifiedLoop) → IsAt loops.now i l → IsTrue result ↔ IsFaulty loops.now loads.now i l }
+    requires earlier { (j : ℕ) (m : CertifiedLoop) → j < i → IsEntryAt loops.now j m → ¬ IsFaulty loops.now loads.now j m }
+    ensures { (l : CertifiedLoop) → IsEntryAt loops.now i l → IsTrue result ↔ IsFaulty loops.now loads.now i l }
 {
     let l = &loops[i];
     if shares_header(loops, i) {

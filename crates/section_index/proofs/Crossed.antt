@@ -5,7 +5,7 @@ use Rattle.section_index.specs.Family.{set_at}
 use Rattle.section_index.specs.Crossing as sets
 use Rattle.loop_nest.proofs.Rising.{same_place}
 use Rattle.section_check.specs.Section.{CertifiedLoop}
-use Rattle.section_check.specs.Placing.{IsAt, LiesIn, AreCrossed}
+use Rattle.section_check.specs.Placing.{IsEntryAt, LiesIn, AreCrossed}
 use Rattle.section_check.specs.Least.{IsLeast}
 use Rattle.section_check.proofs.Headed.{itself_at}
 use Rattle.section_index.specs.Numbering.{AreNumbers, ArePlaces, ArePlaced, Crosses}
@@ -44,13 +44,13 @@ below_all ns ms ps h p has =
     omega arith
 
 module _ (ls : List CertifiedLoop) (ns : List ℕ) (ss : List (List ℕ)) (numbers : AreNumbers ls ns) (h : ArePlaced ns ls ss) where
-  within_sets : (i k : ℕ) (l m : CertifiedLoop) → IsAt ls i l → IsAt ls k m → LiesIn l m → sets.IsWithin (set_at ss i) (set_at ss k)
+  within_sets : (i k : ℕ) (l m : CertifiedLoop) → IsEntryAt ls i l → IsEntryAt ls k m → LiesIn l m → sets.IsWithin (set_at ss i) (set_at ss k)
   within_sets i k l m at_i at_k lies p has =
       let a = h.each i l at_i in
       let b = h.each k m at_k in
       place_back ls ns m.members (set_at ss k) numbers b p (below_all ns l.members (set_at ss i) a p has) (lies (get_or ns p 0) (member_at ns l.members (set_at ss i) a p has))
 
-  within_loops : (i k : ℕ) (l m : CertifiedLoop) → IsAt ls i l → IsAt ls k m → sets.IsWithin (set_at ss i) (set_at ss k) → LiesIn l m
+  within_loops : (i k : ℕ) (l m : CertifiedLoop) → IsEntryAt ls i l → IsEntryAt ls k m → sets.IsWithin (set_at ss i) (set_at ss k) → LiesIn l m
   within_loops i k l m at_i at_k within x has =
       let a = h.each i l at_i in
       let b = h.each k m at_k in
@@ -58,7 +58,7 @@ module _ (ls : List CertifiedLoop) (ns : List ℕ) (ss : List (List ℕ)) (numbe
       let P : ℕ → Type 0 = λ z. Contains m.members z in
       subst P r.3 (member_at ns m.members (set_at ss k) b r.0 (within r.0 r.1))
 
-  crossed_sets : (i k : ℕ) (l m : CertifiedLoop) → IsAt ls i l → IsAt ls k m → AreCrossed l m → sets.AreCrossed (set_at ss i) (set_at ss k)
+  crossed_sets : (i k : ℕ) (l m : CertifiedLoop) → IsEntryAt ls i l → IsEntryAt ls k m → AreCrossed l m → sets.AreCrossed (set_at ss i) (set_at ss k)
   crossed_sets i k l m at_i at_k c =
       let a = h.each i l at_i in
       let b = h.each k m at_k in
@@ -72,7 +72,7 @@ module _ (ls : List CertifiedLoop) (ns : List ℕ) (ss : List (List ℕ)) (numbe
         not_around = λ w. c.not_around (within_loops k i m l at_k at_i w);
       }
 
-  crossed_loops : (i k : ℕ) (l m : CertifiedLoop) → IsAt ls i l → IsAt ls k m → sets.AreCrossed (set_at ss i) (set_at ss k) → AreCrossed l m
+  crossed_loops : (i k : ℕ) (l m : CertifiedLoop) → IsEntryAt ls i l → IsEntryAt ls k m → sets.AreCrossed (set_at ss i) (set_at ss k) → AreCrossed l m
   crossed_loops i k l m at_i at_k c =
       let a = h.each i l at_i in
       let b = h.each k m at_k in
@@ -87,7 +87,7 @@ module _ (ls : List CertifiedLoop) (ns : List ℕ) (ss : List (List ℕ)) (numbe
   to_sets : (i : ℕ) → Crosses ls i → sets.CrossesAnother ss i
   to_sets i c =
       let other = c.2.among in
-      let at_k : IsAt ls other.0 c.2.other = (other.1, other.2) in
+      let at_k : IsEntryAt ls other.0 c.2.other = (other.1, other.2) in
       let below = c.1.0 in
       let within = other.1 in
       let long = h.long in

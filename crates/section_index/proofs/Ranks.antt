@@ -13,9 +13,9 @@ use Rattle.std.proofs.lemmas.Map.Keys.{IsStrictlyIncreasing-dedup}
 use Rattle.lists.specs.Members.{contains_at}
 use Rattle.section_index.specs.Family.{AreSets, set_at}
 use Rattle.section_check.specs.Section.{CertifiedLoop, MembersRise}
-use Rattle.section_check.specs.Placing.{IsAt}
+use Rattle.section_check.specs.Placing.{IsEntryAt}
 use Rattle.section_check.specs.Least.{IsLeast, IsMemberBeyond}
-use Rattle.section_check.specs.LeastLemmas.{same_at}
+use Rattle.section_check.proofs.LeastLemmas.{same_at}
 use Rattle.section_check.proofs.Headed.{itself_at}
 use Rattle.section_index.specs.Numbering.{AreNodes, AreNumbers, ArePlaces, ArePlaced}
 use Rattle.section_index.proofs.Elements.{lower_place}
@@ -57,20 +57,20 @@ nodes_are_numbers ls n ns h none = record {
 }
 
 -- the members of the first i loops are among these
-pub among_more : (ls : List CertifiedLoop) (i : ℕ) (r : CertifiedLoop) (ms us : List ℕ) → r ≡ get_or ls i r → us ≡ r.members → ((j : ℕ) (l : CertifiedLoop) (x : ℕ) → j < i → IsAt ls j l → Contains l.members x → Contains ms x)
-    → (j : ℕ) (l : CertifiedLoop) (x : ℕ) → j < i + 1 → IsAt ls j l → Contains l.members x → Contains (ms ++ us) x
+pub among_more : (ls : List CertifiedLoop) (i : ℕ) (r : CertifiedLoop) (ms us : List ℕ) → r ≡ get_or ls i r → us ≡ r.members → ((j : ℕ) (l : CertifiedLoop) (x : ℕ) → j < i → IsEntryAt ls j l → Contains l.members x → Contains ms x)
+    → (j : ℕ) (l : CertifiedLoop) (x : ℕ) → j < i + 1 → IsEntryAt ls j l → Contains l.members x → Contains (ms ++ us) x
 among_more ls i r ms us is members h j l x lt at has =
     elim (cases_lt j i) [
       | inl less ↦ Contains-append_left ms us x (h j l x less at has)
       | inr ge ↦
           let e : j ≡ i = omega arith in
-          let P : ℕ → Type 0 = λ k. IsAt ls k l in
+          let P : ℕ → Type 0 = λ k. IsEntryAt ls k l in
           let same : r ≡ l = same_at ls i l r (subst P e at) is in
           let Q : List ℕ → Type 0 = λ zs. Contains zs x in
           Contains-append_right ms us x (subst Q (sym (members ∙ ap (λ (k : CertifiedLoop). k.members) same)) has)
     ]
 
-pub members_are_numbers : (ls : List CertifiedLoop) (i : ℕ) (ms sorted ns : List ℕ) → length ls ≤ i → ((j : ℕ) (l : CertifiedLoop) (x : ℕ) → j < i → IsAt ls j l → Contains l.members x → Contains ms x) → IsPermutation ms sorted → IsSorted nat_cmp sorted → ns ≡ dedup eqb sorted → AreNumbers ls ns
+pub members_are_numbers : (ls : List CertifiedLoop) (i : ℕ) (ms sorted ns : List ℕ) → length ls ≤ i → ((j : ℕ) (l : CertifiedLoop) (x : ℕ) → j < i → IsEntryAt ls j l → Contains l.members x → Contains ms x) → IsPermutation ms sorted → IsSorted nat_cmp sorted → ns ≡ dedup eqb sorted → AreNumbers ls ns
 members_are_numbers ls i ms sorted ns all h moved rise is =
     let P : List ℕ → Type 0 = λ zs. AreNumbers ls zs in
     subst P (sym is) (record {
@@ -133,7 +133,7 @@ none_is_least P (Some n) is h = let bad : ⊥ = cc in absurd bad
 
 -- the places of one loop's members more
 pub placed_more : (ns : List ℕ) (ls : List CertifiedLoop) (xs : List (List ℕ)) (ps us : List ℕ) (i : ℕ) (r : CertifiedLoop) → length xs ≡ i → r ≡ get_or ls i r → us ≡ r.members → ArePlaces ns us ps
-    → ((j : ℕ) (m : CertifiedLoop) → j < i → IsAt ls j m → ArePlaces ns m.members (set_at xs j)) → (j : ℕ) (m : CertifiedLoop) → j < i + 1 → IsAt ls j m → ArePlaces ns m.members (set_at (xs ++ ps ∷ []) j)
+    → ((j : ℕ) (m : CertifiedLoop) → j < i → IsEntryAt ls j m → ArePlaces ns m.members (set_at xs j)) → (j : ℕ) (m : CertifiedLoop) → j < i + 1 → IsEntryAt ls j m → ArePlaces ns m.members (set_at (xs ++ ps ∷ []) j)
 placed_more ns ls xs ps us i r long is members here before j m lt at =
     elim (cases_lt j i) [
       | inl less ↦
@@ -143,7 +143,7 @@ placed_more ns ls xs ps us i r long is members here before j m lt at =
       | inr ge ↦
           let same : j ≡ i = omega arith in
           let e : get_or (xs ++ ps ∷ []) j [] ≡ ps = get_or_push xs ps [] j (omega arith) in
-          let A : ℕ → Type 0 = λ k. IsAt ls k m in
+          let A : ℕ → Type 0 = λ k. IsEntryAt ls k m in
           let f : us ≡ m.members = members ∙ ap (λ (l : CertifiedLoop). l.members) (same_at ls i m r (subst A same at) is) in
           let P : List ℕ → Type 0 = λ zs. ArePlaces ns m.members zs in
           let Q : List ℕ → Type 0 = λ zs. ArePlaces ns zs ps in

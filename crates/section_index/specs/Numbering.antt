@@ -3,12 +3,12 @@ use Rattle.std.specs.Prelude.{◌≡◌, ℕ, ◌<◌, List, [], length, slice_i
 use Rattle.std.specs.List.Sorted.{IsStrictlyIncreasing}
 use Rattle.section_index.specs.Family.{set_at}
 use Rattle.section_check.specs.Section.{CertifiedLoop}
-use Rattle.section_check.specs.Placing.{IsAt, CrossesAnother}
+use Rattle.section_check.specs.Placing.{IsEntryAt, CrossesAnother}
 
 -- numbers that rise, among them each member of a loop
 pub record AreNumbers (ls : List CertifiedLoop) (ns : List ℕ) : Type 0 where
   pub rising : IsStrictlyIncreasing ns
-  pub all : (i : ℕ) (l : CertifiedLoop) (x : ℕ) → IsAt ls i l → Contains l.members x → Contains ns x
+  pub all : (i : ℕ) (l : CertifiedLoop) (x : ℕ) → IsEntryAt ls i l → Contains l.members x → Contains ns x
 
 -- the numbers below n, rising
 pub record AreNodes (n : ℕ) (ns : List ℕ) : Type 0 where
@@ -28,7 +28,7 @@ pub record ArePlaces (ns ms ps : List ℕ) : Type 0 where
 -- for each loop the places of its members
 pub record ArePlaced (ns : List ℕ) (ls : List CertifiedLoop) (ss : List (List ℕ)) : Type 0 where
   pub long : length ss ≡ length ls
-  pub each : (i : ℕ) (l : CertifiedLoop) → IsAt ls i l → ArePlaces ns l.members (set_at ss i)
+  pub each : (i : ℕ) (l : CertifiedLoop) → IsEntryAt ls i l → ArePlaces ns l.members (set_at ss i)
 
 -- pairs of a set and one of its numbers
 pub record ArePairs (ss : List (List ℕ)) (es : List (ℕ × ℕ)) : Type 0 where
@@ -39,9 +39,9 @@ pub record ArePairs (ss : List (List ℕ)) (es : List (ℕ × ℕ)) : Type 0 whe
 pub record AreHolders (ns : List ℕ) (ls : List CertifiedLoop) (hs : List (List ℕ)) : Type 0 where
   pub long : length hs ≡ length ns
   pub within : (p i : ℕ) → p < length ns → Contains (slice_index_or hs p []) i → i < length ls
-  pub holds : (p i : ℕ) (l : CertifiedLoop) → p < length ns → IsAt ls i l → Contains (slice_index_or hs p []) i → Contains l.members (slice_index ns p)
-  pub held : (p i : ℕ) (l : CertifiedLoop) → p < length ns → IsAt ls i l → Contains l.members (slice_index ns p) → Contains (slice_index_or hs p []) i
+  pub holds : (p i : ℕ) (l : CertifiedLoop) → p < length ns → IsEntryAt ls i l → Contains (slice_index_or hs p []) i → Contains l.members (slice_index ns p)
+  pub held : (p i : ℕ) (l : CertifiedLoop) → p < length ns → IsEntryAt ls i l → Contains l.members (slice_index ns p) → Contains (slice_index_or hs p []) i
 
 -- loop i crosses another
 abbrev pub Crosses : List CertifiedLoop → ℕ → Type 0
-Crosses ls i = (l : CertifiedLoop) × IsAt ls i l × CrossesAnother ls l
+Crosses ls i = (l : CertifiedLoop) × IsEntryAt ls i l × CrossesAnother ls l

@@ -1,7 +1,7 @@
 //! What is wrong with the loops of a section among themselves.
 ghost use Rattle.std.specs.Prelude.{◌≡◌, ℕ, ◌<◌, ◌↔◌, length, Contains, IsTrue};
 ghost use Rattle.section_check.specs.Section.{CertifiedLoop, HeadersRise, MembersRise};
-ghost use Rattle.section_check.specs.Placing.{IsAt, LiesInRegion, IsFaulty, HeadsFaulty};
+ghost use Rattle.section_check.specs.Placing.{IsEntryAt, LiesInRegion, IsFaulty, HeadsFaulty};
 ghost use Rattle.section_check.specs.Least.{IsLeast};
 ghost use Rattle.section_index.specs.Numbering.{AreNumbers, AreHolders, Crosses};
 
@@ -17,7 +17,7 @@ fn lies_in_region(loops: &[CertLoop], numbers: &[u32], holders: &Sources, i: usi
     requires numbers { AreNumbers loops.now numbers.now }
     requires holders { AreHolders numbers.now loops.now holders.now }
     requires within { i < length loops.now }
-    ensures { (l : CertifiedLoop) → IsAt loops.now i l → Contains l.members l.header → IsTrue result ↔ LiesInRegion loops.now i l }
+    ensures { (l : CertifiedLoop) → IsEntryAt loops.now i l → Contains l.members l.header → IsTrue result ↔ LiesInRegion loops.now i l }
 {
     let Some(p) = place(numbers, loops[i].header()) else {
         return false;
@@ -58,8 +58,8 @@ fn is_faulty(
     requires holders { AreHolders numbers.now loops.now holders.now }
     requires crossing { IsLeast (Crosses loops.now) crossing }
     requires within { i < length loops.now }
-    requires earlier { (j : ℕ) (m : CertifiedLoop) → j < i → IsAt loops.now j m → ¬ IsFaulty loops.now loads.now j m }
-    ensures { (l : CertifiedLoop) → IsAt loops.now i l → IsTrue result ↔ IsFaulty loops.now loads.now i l }
+    requires earlier { (j : ℕ) (m : CertifiedLoop) → j < i → IsEntryAt loops.now j m → ¬ IsFaulty loops.now loads.now j m }
+    ensures { (l : CertifiedLoop) → IsEntryAt loops.now i l → IsTrue result ↔ IsFaulty loops.now loads.now i l }
 {
     let l = &loops[i];
     if shares_header(loops, i) {

@@ -8,7 +8,7 @@ use Rattle.slot_table.specs.declared.slot.Slot.{Slot}
 use Rattle.slot_table.specs.declared.table.TableFault.{TableFault}
 use Rattle.slot_table.specs.declared.table.TableFault.TheVariants as faults
 use Rattle.slot_table.specs.Slots.{name_text}
-use Rattle.slot_table.specs.Grammar.{IsSilent, slot_line, IsSlotLine, Says, IsMalformed, Give, IsCounted, IsRead, IsRefused}
+use Rattle.slot_table.specs.Grammar.{IsSilentLine, slot_line, IsSlotLine, SaysSlot, IsNoSlotLine, GiveSlots, IsSlotCount, IsTableRead, IsTableRefused}
 use Rattle.slot_table.specs.Parts.{IsNameOf}
 use Rattle.slot_table.specs.Laws.{GivesOne, ReadIsNotRefused, OneCause, ReadIsATable}
 use Rattle.slot_table.proofs.Cuts.{one_cut}
@@ -40,21 +40,21 @@ one_slot line s t x y =
     let names = one_name (name_text s) s.class s.method t.class t.method (slot_name line s x) (subst (λ (n : List ℕ). IsNameOf n t.class t.method) (sym parts.0) (slot_name line t y)) in
     same_slot s t names.0 names.1 parts.1
 
-not_silent : (line : List ℕ) (s : Slot) → IsSlotLine line s → IsSilent line → ⊥
+not_silent : (line : List ℕ) (s : Slot) → IsSlotLine line s → IsSilentLine line → ⊥
 not_silent line s x silent =
-    let first : IsSilent (slot_line s) = subst IsSilent x.line_is silent in
+    let first : IsSilentLine (slot_line s) = subst IsSilentLine x.line_is silent in
     differ 115 refl first
   where
     differ : (letter : ℕ) → letter ≡ 115 → letter ≡ 35 → ⊥
     differ letter e f = omega arith
 
-says_one : (line : List ℕ) (a b : Option Slot) → Says line a → Says line b → a ≡ b
+says_one : (line : List ℕ) (a b : Option Slot) → SaysSlot line a → SaysSlot line b → a ≡ b
 says_one line None None x y = refl
 says_one line None (Some t) x y = absurd (not_silent line t y x)
 says_one line (Some s) None x y = absurd (not_silent line s x y)
 says_one line (Some s) (Some t) x y = ap Some (one_slot line s t x y)
 
-give_one : (lines : List (List ℕ)) (xs ys : List Slot) → Give lines xs → Give lines ys → xs ≡ ys
+give_one : (lines : List (List ℕ)) (xs ys : List Slot) → GiveSlots lines xs → GiveSlots lines ys → xs ≡ ys
 give_one [] xs ys x y = x ∙ sym y
 give_one (line ∷ lines) xs ys (said, rest, is, says, give) (said', rest', is', says', give') =
     is ∙ (ap₂ (λ (o : Option Slot) (r : List Slot). option_to_list o ++ r) (says_one line said said' says says') (give_one lines rest rest' give give') ∙ sym is')
@@ -65,22 +65,22 @@ gives_one text a b x y = give_one (lines_of text) a b x.given y.given
 -- ---- it is not refused
 
 -- what one of the lines says
-said_at : (before : List (List ℕ)) (line : List ℕ) (after : List (List ℕ)) (slots : List Slot) → Give (before ++ line ∷ after) slots → (said : Option Slot) × Says line said
+said_at : (before : List (List ℕ)) (line : List ℕ) (after : List (List ℕ)) (slots : List Slot) → GiveSlots (before ++ line ∷ after) slots → (said : Option Slot) × SaysSlot line said
 said_at [] line after slots (said, rest, is, says, give) = (said, says)
 said_at (b ∷ before) line after slots (said, rest, is, says, give) = said_at before line after rest give
 
-well_formed : (line : List ℕ) (said : Option Slot) → Says line said → IsMalformed line → ⊥
+well_formed : (line : List ℕ) (said : Option Slot) → SaysSlot line said → IsNoSlotLine line → ⊥
 well_formed line None s bad = bad.0 s
 well_formed line (Some x) s bad = bad.1 x s
 
-not_refused : (text : List ℕ) (slots : List Slot) (fault : TableFault) → IsRead text slots → IsRefused text fault → fault ≡ faults.NoMemory
+not_refused : (text : List ℕ) (slots : List Slot) (fault : TableFault) → IsTableRead text slots → IsTableRefused text fault → fault ≡ faults.NoMemory
 not_refused text slots (faults.Line n) read (r, bad) =
-    let said = said_at r.before r.line r.after slots (subst (λ (ls : List (List ℕ)). Give ls slots) r.lines read.given) in
+    let said = said_at r.before r.line r.after slots (subst (λ (ls : List (List ℕ)). GiveSlots ls slots) r.lines read.given) in
     absurd (well_formed r.line said.0 said.1 bad)
 not_refused text slots (faults.Count n) read m =
     let same : slots ≡ m.slots = give_one (lines_of text) slots m.slots read.given m.given in
     let count : length slots ≡ n = ap length same ∙ sym m.count_is in
-    absurd (m.other (subst IsCounted count read.count))
+    absurd (m.other (subst IsSlotCount count read.count))
 not_refused text slots faults.NoMemory read u = refl
 
 pub read_not_refused : ReadIsNotRefused
@@ -92,23 +92,23 @@ read_table text slots read = record { some = read.count.some; few = read.count.f
 -- ---- it is refused for one cause
 
 -- the first line that is none of the grammar
-same_place : (before before' : List (List ℕ)) (line line' : List ℕ) (after after' : List (List ℕ)) (slots slots' : List Slot) → before ++ line ∷ after ≡ before' ++ line' ∷ after' → Give before slots → Give before' slots'
-    → IsMalformed line → IsMalformed line' → length before ≡ length before'
+same_place : (before before' : List (List ℕ)) (line line' : List ℕ) (after after' : List (List ℕ)) (slots slots' : List Slot) → before ++ line ∷ after ≡ before' ++ line' ∷ after' → GiveSlots before slots → GiveSlots before' slots'
+    → IsNoSlotLine line → IsNoSlotLine line' → length before ≡ length before'
 same_place [] [] line line' after after' slots slots' e g g' bad bad' = refl
 same_place [] (b ∷ bs) line line' after after' slots slots' e g g' bad bad' =
-    absurd (well_formed b g'.0 g'.3 (subst IsMalformed (heads line b after (bs ++ line' ∷ after') e) bad))
+    absurd (well_formed b g'.0 g'.3 (subst IsNoSlotLine (heads line b after (bs ++ line' ∷ after') e) bad))
 same_place (b ∷ bs) [] line line' after after' slots slots' e g g' bad bad' =
-    absurd (well_formed b g.0 g.3 (subst IsMalformed (sym (heads b line' (bs ++ line ∷ after) after' e)) bad'))
+    absurd (well_formed b g.0 g.3 (subst IsNoSlotLine (sym (heads b line' (bs ++ line ∷ after) after' e)) bad'))
 same_place (b ∷ bs) (c ∷ cs) line line' after after' slots slots' e g g' bad bad' =
     ap suc (same_place bs cs line line' after after' g.1 g'.1 (tails b c (bs ++ line ∷ after) (cs ++ line' ∷ after') e) g.4 g'.4 bad bad')
 
-one_line : (text : List ℕ) (m n : ℕ) → IsRefused text (faults.Line m) → IsRefused text (faults.Line n) → m ≡ n
+one_line : (text : List ℕ) (m n : ℕ) → IsTableRefused text (faults.Line m) → IsTableRefused text (faults.Line n) → m ≡ n
 one_line text m n (r, bad) (s, bad') =
     r.number_is ∙ ap suc (same_place r.before s.before r.line s.line r.after s.after r.slots s.slots (sym r.lines ∙ s.lines) r.given s.given bad bad') ∙ sym s.number_is
 
-line_or_count : (text : List ℕ) (m n : ℕ) → IsRefused text (faults.Line m) → IsRefused text (faults.Count n) → ⊥
+line_or_count : (text : List ℕ) (m n : ℕ) → IsTableRefused text (faults.Line m) → IsTableRefused text (faults.Count n) → ⊥
 line_or_count text m n (r, bad) c =
-    let said = said_at r.before r.line r.after c.slots (subst (λ (ls : List (List ℕ)). Give ls c.slots) r.lines c.given) in
+    let said = said_at r.before r.line r.after c.slots (subst (λ (ls : List (List ℕ)). GiveSlots ls c.slots) r.lines c.given) in
     well_formed r.line said.0 said.1 bad
 
 pub one_cause : OneCause

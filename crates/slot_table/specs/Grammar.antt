@@ -12,9 +12,9 @@ use Rattle.slot_table.specs.Slots.{name_text, IsRightSlot}
 -- ---- a line
 
 -- empty, or a remark, which begins with #
-abbrev pub IsSilent : (line : List ℕ) → Type 0
-IsSilent [] = Unit {0}
-IsSilent (byte ∷ bytes) = byte ≡ 35
+abbrev pub IsSilentLine : (line : List ℕ) → Type 0
+IsSilentLine [] = Unit {0}
+IsSilentLine (byte ∷ bytes) = byte ≡ 35
 
 -- `slot NAME LENGTH`
 abbrev pub slot_line : Slot → List ℕ
@@ -27,52 +27,52 @@ pub record IsSlotLine (line : List ℕ) (s : Slot) : Type 0 where
   pub right : IsRightSlot s
 
 -- what a line says: nothing, or a slot
-abbrev pub Says : (line : List ℕ) → Option Slot → Type 0
-Says line None = IsSilent line
-Says line (Some s) = IsSlotLine line s
+abbrev pub SaysSlot : (line : List ℕ) → Option Slot → Type 0
+SaysSlot line None = IsSilentLine line
+SaysSlot line (Some s) = IsSlotLine line s
 
 -- of no line of the grammar
-abbrev pub IsMalformed : (line : List ℕ) → Type 0
-IsMalformed line = (¬ IsSilent line) × ((s : Slot) → ¬ IsSlotLine line s)
+abbrev pub IsNoSlotLine : (line : List ℕ) → Type 0
+IsNoSlotLine line = (¬ IsSilentLine line) × ((s : Slot) → ¬ IsSlotLine line s)
 
 -- ---- the text
 
 -- the slots that lines give, in their order
-abbrev pub Give : (lines : List (List ℕ)) → List Slot → Type 0
-Give [] slots = slots ≡ []
-Give (line ∷ lines) slots = (said : Option Slot) × (rest : List Slot) × (slots ≡ option_to_list said ++ rest) × Says line said × Give lines rest
+abbrev pub GiveSlots : (lines : List (List ℕ)) → List Slot → Type 0
+GiveSlots [] slots = slots ≡ []
+GiveSlots (line ∷ lines) slots = (said : Option Slot) × (rest : List Slot) × (slots ≡ option_to_list said ++ rest) × SaysSlot line said × GiveSlots lines rest
 
-pub record IsCounted (slots : ℕ) : Type 0 where
+pub record IsSlotCount (slots : ℕ) : Type 0 where
   pub some : 1 ≤ slots
   pub few : slots ≤ 64
 
 -- the slots that a text gives, of which there are 1 to 64
-pub record IsRead (text : List ℕ) (slots : List Slot) : Type 0 where
-  pub given : Give (lines_of text) slots
-  pub count : IsCounted (length slots)
+pub record IsTableRead (text : List ℕ) (slots : List Slot) : Type 0 where
+  pub given : GiveSlots (lines_of text) slots
+  pub count : IsSlotCount (length slots)
 
 -- The lines before this one, whose number counts from 1, are of the grammar.
-pub record IsReadTo (text : List ℕ) (number : ℕ) : Type 0 where
+pub record IsTableReadTo (text : List ℕ) (number : ℕ) : Type 0 where
   pub before : List (List ℕ)
   pub line : List ℕ
   pub after : List (List ℕ)
   pub lines : lines_of text ≡ before ++ line ∷ after
   pub number_is : number ≡ suc (length before)
   pub slots : List Slot
-  pub given : Give before slots
+  pub given : GiveSlots before slots
 
 -- All lines are of the grammar, and give so many slots, which aren't 1 to 64.
 pub record IsMiscounted (text : List ℕ) (count : ℕ) : Type 0 where
   pub slots : List Slot
-  pub given : Give (lines_of text) slots
+  pub given : GiveSlots (lines_of text) slots
   pub count_is : count ≡ length slots
-  pub other : ¬ IsCounted count
+  pub other : ¬ IsSlotCount count
 
 -- the cause of a fault: the first line that is none of the grammar, or else the number of slots
-abbrev pub IsRefused : (text : List ℕ) → TableFault → Type 0
-IsRefused text (Line n) = (r : IsReadTo text n) × IsMalformed r.line
-IsRefused text (Count n) = IsMiscounted text n
-IsRefused text NoMemory = Unit {0}
+abbrev pub IsTableRefused : (text : List ℕ) → TableFault → Type 0
+IsTableRefused text (Line n) = (r : IsTableReadTo text n) × IsNoSlotLine r.line
+IsTableRefused text (Count n) = IsMiscounted text n
+IsTableRefused text NoMemory = Unit {0}
 
 -- ---- in parts
 
@@ -84,15 +84,15 @@ OnBad formats.NoMemory P = Unit {0}
 -- a line's slot, if it says one, behind these
 pub record Adds (line : List ℕ) (old new : List Slot) : Type 0 where
   pub said : Option Slot
-  pub says : Says line said
+  pub says : SaysSlot line said
   pub new_is : new ≡ old ++ option_to_list said
 
 abbrev pub LineFails : (line : List ℕ) → (number : ℕ) → TableFault → Type 0
-LineFails line number (Line n) = (n ≡ number) × IsMalformed line
+LineFails line number (Line n) = (n ≡ number) × IsNoSlotLine line
 LineFails line number (Count n) = ⊥
 LineFails line number NoMemory = Unit {0}
 
 abbrev pub CountFails : (count : ℕ) → TableFault → Type 0
 CountFails count (Line n) = ⊥
-CountFails count (Count n) = (n ≡ count) × (¬ IsCounted count)
+CountFails count (Count n) = (n ≡ count) × (¬ IsSlotCount count)
 CountFails count NoMemory = ⊥

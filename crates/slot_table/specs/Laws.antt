@@ -13,26 +13,26 @@ use Rattle.slot_table.specs.declared.slot.Slot.{Slot}
 use Rattle.slot_table.specs.declared.table.TableFault.{TableFault}
 use Rattle.slot_table.specs.declared.table.TableFault.TheVariants.{NoMemory}
 use Rattle.slot_table.specs.Slots.{IsTable}
-use Rattle.slot_table.specs.Grammar.{IsRead, IsRefused}
+use Rattle.slot_table.specs.Grammar.{IsTableRead, IsTableRefused}
 use Rattle.slot_table.specs.Executive.{call_place, front_bytes, back_bytes, method_of, executive_plan, executive_of}
 
 -- ---- texts
 
 -- A text gives one table.
 abbrev pub GivesOne : Type 0
-GivesOne = (text : List ℕ) (a b : List Slot) → IsRead text a → IsRead text b → a ≡ b
+GivesOne = (text : List ℕ) (a b : List Slot) → IsTableRead text a → IsTableRead text b → a ≡ b
 
 -- A text that gives a table is not refused.
 abbrev pub ReadIsNotRefused : Type 0
-ReadIsNotRefused = (text : List ℕ) (slots : List Slot) (fault : TableFault) → IsRead text slots → IsRefused text fault → fault ≡ NoMemory
+ReadIsNotRefused = (text : List ℕ) (slots : List Slot) (fault : TableFault) → IsTableRead text slots → IsTableRefused text fault → fault ≡ NoMemory
 
 -- A text is refused for one cause.
 abbrev pub OneCause : Type 0
-OneCause = (text : List ℕ) (a b : TableFault) → IsRefused text a → IsRefused text b → (a ≡ NoMemory) ⊎ (b ≡ NoMemory) ⊎ (a ≡ b)
+OneCause = (text : List ℕ) (a b : TableFault) → IsTableRefused text a → IsTableRefused text b → (a ≡ NoMemory) ⊎ (b ≡ NoMemory) ⊎ (a ≡ b)
 
 -- What a text gives is a table.
 abbrev pub ReadIsATable : Type 0
-ReadIsATable = (text : List ℕ) (slots : List Slot) → IsRead text slots → IsTable slots
+ReadIsATable = (text : List ℕ) (slots : List Slot) → IsTableRead text slots → IsTable slots
 
 -- ---- the executive
 

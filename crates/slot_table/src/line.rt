@@ -1,7 +1,7 @@
 //! A line of the text.
 ghost use Rattle.std.specs.Prelude.{◌≡◌, ◌≢◌, ◌==◌, ◌↔◌, ℕ, List, position, All, IsTrue, MatchOption, IfOk, IfErr};
 ghost use Rattle.slot_table.specs.declared.slot.Slot.{Slot};
-ghost use Rattle.slot_table.specs.Grammar.{Says, IsSilent, IsSlotLine, IsMalformed, OnBad};
+ghost use Rattle.slot_table.specs.Grammar.{SaysSlot, IsSilentLine, IsSlotLine, IsNoSlotLine, OnBad};
 ghost use Rattle.slot_table.specs.Parts.{IsCut, ArePartsOf};
 
 use crate::name::read_name;
@@ -12,8 +12,8 @@ use std::alloc::Global;
 
 /// The slot of a line, where it has one.
 pub(crate) fn read_line(alloc: Global, line: &[u8]) -> Result<Option<Slot>, FormatFault>
-    ensures said { IfOk result (Says line.now) }
-    ensures bad { IfErr result (λ fault. OnBad fault (IsMalformed line.now)) }
+    ensures said { IfOk result (SaysSlot line.now) }
+    ensures bad { IfErr result (λ fault. OnBad fault (IsNoSlotLine line.now)) }
 {
     if is_silent(line) {
         return Ok(None);
@@ -24,7 +24,7 @@ pub(crate) fn read_line(alloc: Global, line: &[u8]) -> Result<Option<Slot>, Form
 
 /// Whether a line is empty or a remark.
 fn is_silent(line: &[u8]) -> bool
-    ensures { IsTrue result ↔ IsSilent line.now }
+    ensures { IsTrue result ↔ IsSilentLine line.now }
 {
     matches!(line, [] | [b'#', ..])
 }

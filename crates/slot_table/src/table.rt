@@ -1,7 +1,7 @@
 //! The table.
 ghost use Rattle.std.specs.Prelude.{◌≡◌, ◌≤◌, ◌<◌, ◌^◌, length, map, IfOk, IfErr, OnOk};
 ghost use Rattle.slot_table.specs.Slots.{length_of, IsTable, AreRightSlots};
-ghost use Rattle.slot_table.specs.Grammar.{IsRead, IsRefused, Adds, LineFails, IsCounted, CountFails};
+ghost use Rattle.slot_table.specs.Grammar.{IsTableRead, IsTableRefused, Adds, LineFails, IsSlotCount, CountFails};
 
 use crate::line::read_line;
 use crate::slot::Slot;
@@ -73,8 +73,8 @@ impl SlotTable {
 /// The table that a text gives. A line is refused where it is none of the grammar; where no line is, the number of slots counts.
 pub fn read_table(alloc: Global, text: &[u8]) -> Result<SlotTable, TableFault>
     requires { length text.now ≤ 33554432 }
-    ensures read { IfOk result (IsRead text.now) }
-    ensures refused { IfErr result (IsRefused text.now) }
+    ensures read { IfOk result (IsTableRead text.now) }
+    ensures refused { IfErr result (IsTableRefused text.now) }
 {
     let mut slots = Vec::new(alloc);
     let mut number = 0u32;
@@ -108,7 +108,7 @@ fn counted(slots: Vec<Slot>) -> Result<SlotTable, TableFault>
     requires right { AreRightSlots slots.items }
     requires few { length slots.items < 2 ^ 32 }
     ensures table { IfOk result (λ table. table ≡ slots.items) }
-    ensures count { OnOk result (IsCounted (length slots.items)) }
+    ensures count { OnOk result (IsSlotCount (length slots.items)) }
     ensures other { IfErr result (CountFails (length slots.items)) }
 {
     let count = slots.len();

@@ -4,22 +4,22 @@ use Rattle.std.specs.Prelude.{◌==◌, codes, IfNone}
 use Rattle.std.specs.List.{slice_split}
 use Rattle.loop_bounds.specs.Grammar.{IsNumber}
 use Rattle.source_bounds.specs.Notes.{Subject, AtLine, AtPlace, Note}
-use Rattle.source_bounds.specs.Grammar.{IsSource, IsBound, Bounds, IsNote}
+use Rattle.source_bounds.specs.Grammar.{IsSource, IsLoopWord, IsNoteLine, IsNote}
 use Rattle.source_bounds.specs.Meaning.{IsOfSource, IsSourceNote, IsOfPlace, IsPlaceNote}
 
 pub if_none : {A P Q : Type 0} (o : Option A) → (P → Q) → IfNone o P → IfNone o Q
 if_none None f p = f p
 if_none (Some x) f p = tt
 
-of_two : (line a b : List ℕ) (s : Subject) (n : ℕ) → slice_split (λ byte. byte == 32) line ≡ a ∷ b ∷ [] → Bounds line s n → IsOfSource a s × IsBound b n
+of_two : (line a b : List ℕ) (s : Subject) (n : ℕ) → slice_split (λ byte. byte == 32) line ≡ a ∷ b ∷ [] → IsNoteLine line s n → IsOfSource a s × IsLoopWord b n
 of_two line a b (AtLine file k) n split l =
     let parts : l.source ∷ l.last ∷ [] ≡ a ∷ b ∷ [] = sym l.parts ∙ split in
     let source : l.source ≡ a = cc parts in
     let last : l.last ≡ b = cc parts in
-    (subst (λ (t : List ℕ). IsSource t file k) source l.source_is, subst (λ (t : List ℕ). IsBound t n) last l.bound_is)
+    (subst (λ (t : List ℕ). IsSource t file k) source l.source_is, subst (λ (t : List ℕ). IsLoopWord t n) last l.bound_is)
 of_two line a b (AtPlace method pc) n split l = absurd (let e = ap length (sym l.parts ∙ split) in omega (arith, e))
 
-of_three : (line a b c : List ℕ) (s : Subject) (n : ℕ) → slice_split (λ byte. byte == 32) line ≡ a ∷ b ∷ c ∷ [] → Bounds line s n → IsOfPlace a b s × IsBound c n
+of_three : (line a b c : List ℕ) (s : Subject) (n : ℕ) → slice_split (λ byte. byte == 32) line ≡ a ∷ b ∷ c ∷ [] → IsNoteLine line s n → IsOfPlace a b s × IsLoopWord c n
 of_three line a b c (AtPlace method pc) n split l =
     let parts : method ∷ l.pc_text ∷ (codes "loop<=" ++ l.bound_text) ∷ [] ≡ a ∷ b ∷ c ∷ [] = sym l.parts ∙ split in
     let name : method ≡ a = cc parts in

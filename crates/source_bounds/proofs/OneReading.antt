@@ -9,7 +9,7 @@ use Rattle.loop_bounds.specs.Grammar.{IsNumber, Says as SaysByPlace, Give as Giv
 use Rattle.source_bounds.specs.declared.SourceFault.{SourceFault}
 use Rattle.source_bounds.specs.declared.SourceFault.TheVariants as faults
 use Rattle.source_bounds.specs.Notes.{Subject, AtLine, AtPlace, same_subject, Note, bound_in, AreOfDifferentSubjects}
-use Rattle.source_bounds.specs.Grammar.{IsSource, IsBound, Bounds, IsNote, Says, IsMalformed, Give, IsRead, IsReadTo, IsTwice, IsRefused}
+use Rattle.source_bounds.specs.Grammar.{IsSource, IsLoopWord, IsNoteLine, IsNote, SaysNotes, IsNoNoteLine, GiveNotes, AreNotesRead, AreNotesReadTo, IsNotedTwice, AreNotesRefused}
 use Rattle.source_bounds.specs.Laws.{GivesOne, ReadIsNotRefused, at_place, BoundsAreRead}
 use Rattle.source_bounds.proofs.ReadLemmas.{same_is, same_self}
 use Rattle.source_bounds.proofs.SourceLemmas.{IsLast, source_last, source_file, source_digits}
@@ -19,7 +19,7 @@ use Rattle.source_bounds.proofs.SourceLemmas.{IsLast, source_last, source_file, 
 one_number : (text : List ℕ) (n m : ℕ) → IsNumber text n → IsNumber text m → n ≡ m
 one_number text n m a b = sym a.1 ∙ b.1
 
-one_bound : (text : List ℕ) (n m : ℕ) → IsBound text n → IsBound text m → n ≡ m
+one_bound : (text : List ℕ) (n m : ℕ) → IsLoopWord text n → IsLoopWord text m → n ≡ m
 one_bound text n m a b =
     let digits : a.digits ≡ b.digits = append_cancel_left (codes "loop<=") a.digits b.digits (sym a.text_is ∙ b.text_is) in
     one_number b.digits n m (subst (λ (d : List ℕ). IsNumber d n) digits a.number_is) b.number_is
@@ -31,12 +31,12 @@ one_source text f g n m a b =
     let digits : a.digits ≡ b.digits = source_digits text f n (length f) a last ∙ sym (source_digits text g m (length f) b last) in
     (file, one_number b.digits n m (subst (λ (d : List ℕ). IsNumber d n) digits a.line_is) b.line_is)
 
-one_subject : (line : List ℕ) (s t : Subject) (n m : ℕ) → Bounds line s n → Bounds line t m → (s ≡ t) × (n ≡ m)
+one_subject : (line : List ℕ) (s t : Subject) (n m : ℕ) → IsNoteLine line s n → IsNoteLine line t m → (s ≡ t) × (n ≡ m)
 one_subject line (AtLine f k) (AtLine g l) n m a b =
     let source : a.source ≡ b.source = cc (a.parts, b.parts) in
     let last : a.last ≡ b.last = cc (a.parts, b.parts) in
     let same = one_source b.source f g k l (subst (λ (t : List ℕ). IsSource t f k) source a.source_is) b.source_is in
-    (ap₂ AtLine same.0 same.1, one_bound b.last n m (subst (λ (t : List ℕ). IsBound t n) last a.bound_is) b.bound_is)
+    (ap₂ AtLine same.0 same.1, one_bound b.last n m (subst (λ (t : List ℕ). IsLoopWord t n) last a.bound_is) b.bound_is)
 one_subject line (AtPlace f k) (AtPlace g l) n m a b =
     let parts : f ∷ a.pc_text ∷ (codes "loop<=" ++ a.bound_text) ∷ [] ≡ g ∷ b.pc_text ∷ (codes "loop<=" ++ b.bound_text) ∷ [] = sym a.parts ∙ b.parts in
     let name : f ≡ g = cc parts in
@@ -54,7 +54,7 @@ same_note line a b x y =
     let same = one_subject line a.subject b.subject a.bound b.bound x y in
     ap₂ (λ (s : Subject) (n : ℕ). record { subject = s; bound = n }) same.0 same.1
 
-says_one : (line : List ℕ) (xs ys : List Note) → Says line xs → Says line ys → xs ≡ ys
+says_one : (line : List ℕ) (xs ys : List Note) → SaysNotes line xs → SaysNotes line ys → xs ≡ ys
 says_one line [] [] x y = refl
 says_one line [] (b ∷ []) x y = absurd (y.0 x)
 says_one line [] (b ∷ c ∷ cs) x y = absurd y
@@ -63,7 +63,7 @@ says_one line (a ∷ []) (b ∷ []) x y = ap (λ (z : Note). z ∷ []) (same_not
 says_one line (a ∷ []) (b ∷ c ∷ cs) x y = absurd y
 says_one line (a ∷ d ∷ ds) ys x y = absurd x
 
-give_one : (lines : List (List ℕ)) (xs ys : List Note) → Give lines xs → Give lines ys → xs ≡ ys
+give_one : (lines : List (List ℕ)) (xs ys : List Note) → GiveNotes lines xs → GiveNotes lines ys → xs ≡ ys
 give_one [] xs ys x y = x ∙ sym y
 give_one (line ∷ lines) xs ys (first, rest, is, says, give) (first', rest', is', says', give') =
     is ∙ (ap₂ (λ (f r : List Note). f ++ r) (says_one line first first' says says') (give_one lines rest rest' give give') ∙ sym is')
@@ -79,10 +79,10 @@ record IsSplit (before : List (List ℕ)) (line : List ℕ) (bs : List Note) : T
   pub said : List Note
   pub rest : List Note
   pub is : bs ≡ front ++ (said ++ rest)
-  pub given : Give before front
-  pub says : Says line said
+  pub given : GiveNotes before front
+  pub says : SaysNotes line said
 
-split : (before : List (List ℕ)) (line : List ℕ) (after : List (List ℕ)) (bs : List Note) → Give (before ++ line ∷ after) bs → IsSplit before line bs
+split : (before : List (List ℕ)) (line : List ℕ) (after : List (List ℕ)) (bs : List Note) → GiveNotes (before ++ line ∷ after) bs → IsSplit before line bs
 split [] line after bs (first, rest, is, says, give) = record { front = []; said = first; rest = rest; is = is; given = refl; says = says }
 split (b ∷ before) line after bs (first, rest, is, says, give) =
     let s : IsSplit before line rest = split before line after rest give in
@@ -95,7 +95,7 @@ split (b ∷ before) line after bs (first, rest, is, says, give) =
       says = s.says;
     }
 
-well_formed : (line : List ℕ) (said : List Note) → Says line said → IsMalformed line → ⊥
+well_formed : (line : List ℕ) (said : List Note) → SaysNotes line said → IsNoNoteLine line → ⊥
 well_formed line [] says bad = bad.0 says
 well_formed line (b ∷ []) says bad = bad.1 b says.1
 well_formed line (b ∷ c ∷ cs) says bad = says
@@ -116,14 +116,14 @@ clash a (b ∷ front) rest different some = elim (cases_Bool (same_subject a.sub
   | inr e ↦ clash a front rest different.1 (subst (λ (t : Bool). IsSome (cond t (Some b.bound) (bound_in a.subject front))) e some)
 ]
 
-module _ (text : List ℕ) (bs : List Note) (read : IsRead text bs) where
-  split_at : (n : ℕ) (r : IsReadTo text n) → IsSplit r.before r.line bs
-  split_at n r = split r.before r.line r.after bs (subst (λ (ls : List (List ℕ)). Give ls bs) r.lines read.given)
+module _ (text : List ℕ) (bs : List Note) (read : AreNotesRead text bs) where
+  split_at : (n : ℕ) (r : AreNotesReadTo text n) → IsSplit r.before r.line bs
+  split_at n r = split r.before r.line r.after bs (subst (λ (ls : List (List ℕ)). GiveNotes ls bs) r.lines read.given)
 
-  not_malformed : (n : ℕ) (r : IsReadTo text n) → IsMalformed r.line → ⊥
+  not_malformed : (n : ℕ) (r : AreNotesReadTo text n) → IsNoNoteLine r.line → ⊥
   not_malformed n r bad = let s = split_at n r in well_formed r.line s.said s.says bad
 
-  not_twice : (n : ℕ) → IsTwice text n → ⊥
+  not_twice : (n : ℕ) → IsNotedTwice text n → ⊥
   not_twice n t =
       let r = t.reached in
       let s = split_at n r in
@@ -132,7 +132,7 @@ module _ (text : List ℕ) (bs : List Note) (read : IsRead text bs) where
       let is : bs ≡ s.front ++ t.again ∷ s.rest = s.is ∙ ap (λ (x : List Note). s.front ++ (x ++ s.rest)) said in
       clash t.again s.front s.rest (subst AreOfDifferentSubjects is read.different) (subst (λ (x : List Note). IsSome (bound_in t.again.subject x)) front t.there)
 
-  not_refused : (fault : SourceFault) → IsRefused text fault → fault ≡ faults.NoMemory
+  not_refused : (fault : SourceFault) → AreNotesRefused text fault → fault ≡ faults.NoMemory
   not_refused (faults.Line n) (r, bad) = absurd (not_malformed n r bad)
   not_refused (faults.Twice n) t = absurd (not_twice n t)
   not_refused faults.NoMemory u = refl
@@ -142,7 +142,7 @@ read_is_not_refused text bs fault read refused = not_refused text bs read fault 
 
 -- ---- bounds by places
 
-says_too : (line : List ℕ) (bs : List LoopBound) → SaysByPlace line bs → Says line (map at_place bs)
+says_too : (line : List ℕ) (bs : List LoopBound) → SaysByPlace line bs → SaysNotes line (map at_place bs)
 says_too line [] s = s
 says_too line (b ∷ []) s = s
 says_too line (b ∷ c ∷ cs) s = absurd s
@@ -151,7 +151,7 @@ map_parts : (xs ys : List LoopBound) → map at_place (xs ++ ys) ≡ map at_plac
 map_parts [] ys = refl
 map_parts (x ∷ xs) ys = ap (λ (ns : List Note). at_place x ∷ ns) (map_parts xs ys)
 
-give_too : (lines : List (List ℕ)) (bs : List LoopBound) → GiveByPlace lines bs → Give lines (map at_place bs)
+give_too : (lines : List (List ℕ)) (bs : List LoopBound) → GiveByPlace lines bs → GiveNotes lines (map at_place bs)
 give_too [] bs g = ap (map at_place) g
 give_too (line ∷ lines) bs (first, rest, is, says, give) =
     (map at_place first, map at_place rest, ap (map at_place) is ∙ map_parts first rest, says_too line first says, give_too lines rest give)

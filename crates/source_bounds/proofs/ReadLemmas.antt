@@ -9,7 +9,7 @@ use Rattle.std.proofs.lemmas.List.Sums.{count_by-le-length}
 use Rattle.ascii_text.specs.Line.{lines_of, without_empty_last}
 use lib.Pointwise.{pointwise, bytes_decides}
 use Rattle.source_bounds.specs.Notes.{Subject, AtLine, AtPlace, same_subject, Note, bound_in, AreOfDifferentSubjects}
-use Rattle.source_bounds.specs.Grammar.{Give, Says, IsRead, IsReadTo, IsTwice, IsMalformed}
+use Rattle.source_bounds.specs.Grammar.{GiveNotes, SaysNotes, AreNotesRead, AreNotesReadTo, IsNotedTwice, IsNoNoteLine}
 
 -- ---- one bound more
 
@@ -55,7 +55,7 @@ still_different (x ∷ bs) b n d =
 
 -- ---- one line more
 
-give_more : (done : List (List ℕ)) (line : List ℕ) (bs first : List Note) → Give done bs → Says line first → Give (done ++ line ∷ []) (bs ++ first)
+give_more : (done : List (List ℕ)) (line : List ℕ) (bs first : List Note) → GiveNotes done bs → SaysNotes line first → GiveNotes (done ++ line ∷ []) (bs ++ first)
 give_more [] line bs first g s = (first, [], ap (λ b. b ++ first) g ∙ sym (append-nil first), s, refl)
 give_more (x ∷ done) line bs first g s =
     (g.0, g.1 ++ first, ap (λ b. b ++ first) g.2 ∙ append_assoc g.0 g.1 first, g.3, give_more done line g.1 first g.4 s)
@@ -65,17 +65,17 @@ pub record IsReadSoFar (text : List ℕ) (number : ℕ) (left : List (List ℕ))
   pub done : List (List ℕ)
   pub lines : lines_of text ≡ done ++ left
   pub count : number ≡ length done
-  pub given : Give done bounds
+  pub given : GiveNotes done bounds
   pub different : AreOfDifferentSubjects bounds
 
 pub at_first : (text : List ℕ) (left : List (List ℕ)) → left ≡ lines_of text → IsReadSoFar text 0 left []
 at_first text left e = record { done = []; lines = sym e; count = refl; given = refl; different = tt }
 
-pub at_last : (text : List ℕ) (number : ℕ) (left : List (List ℕ)) (bounds : List Note) → IsReadSoFar text number left bounds → left ≡ [] → IsRead text bounds
+pub at_last : (text : List ℕ) (number : ℕ) (left : List (List ℕ)) (bounds : List Note) → IsReadSoFar text number left bounds → left ≡ [] → AreNotesRead text bounds
 at_last text number left bounds r e =
-    record { given = subst (λ ls. Give ls bounds) (sym (r.lines ∙ ap (λ l. r.done ++ l) e ∙ append-nil r.done)) r.given; different = r.different }
+    record { given = subst (λ ls. GiveNotes ls bounds) (sym (r.lines ∙ ap (λ l. r.done ++ l) e ∙ append-nil r.done)) r.given; different = r.different }
 
-pub reached : (text : List ℕ) (number : ℕ) (left rest : List (List ℕ)) (line : List ℕ) (bounds : List Note) → IsReadSoFar text number left bounds → left ≡ line ∷ rest → IsReadTo text (number + 1)
+pub reached : (text : List ℕ) (number : ℕ) (left rest : List (List ℕ)) (line : List ℕ) (bounds : List Note) → IsReadSoFar text number left bounds → left ≡ line ∷ rest → AreNotesReadTo text (number + 1)
 reached text number left rest line bounds r e = record {
   before = r.done;
   line = line;
@@ -88,7 +88,7 @@ reached text number left rest line bounds r e = record {
 }
 
 pub next_line : (text : List ℕ) (number : ℕ) (left rest : List (List ℕ)) (line : List ℕ) (bounds first : List Note) → IsReadSoFar text number left bounds → left ≡ line ∷ rest
-    → Says line first → AreOfDifferentSubjects (bounds ++ first) → IsReadSoFar text (number + 1) rest (bounds ++ first)
+    → SaysNotes line first → AreOfDifferentSubjects (bounds ++ first) → IsReadSoFar text (number + 1) rest (bounds ++ first)
 next_line text number left rest line bounds first r e s d = record {
   done = r.done ++ line ∷ [];
   lines = r.lines ∙ ap (λ l. r.done ++ l) e ∙ sym (append_assoc r.done (line ∷ []) rest);
@@ -112,7 +112,7 @@ count_fits text number left rest line bounds r e =
 -- ---- what is refused
 
 pub malformed : (text : List ℕ) (number : ℕ) (left rest : List (List ℕ)) (line : List ℕ) (bounds : List Note) → IsReadSoFar text number left bounds → left ≡ line ∷ rest
-    → IsMalformed line → (r : IsReadTo text (number + 1)) × IsMalformed r.line
+    → IsNoNoteLine line → (r : AreNotesReadTo text (number + 1)) × IsNoNoteLine r.line
 unfolding reached
 malformed text number left rest line bounds r e m = (reached text number left rest line bounds r e, m)
 
@@ -121,13 +121,13 @@ some_by_test None h = absurd (false≢true h)
 some_by_test (Some x) h = refl
 
 pub twice : (text : List ℕ) (number : ℕ) (left rest : List (List ℕ)) (line : List ℕ) (bounds : List Note) (again : Note) → IsReadSoFar text number left bounds → left ≡ line ∷ rest
-    → Says line (again ∷ []) → is_some (bound_in again.subject bounds) ≡ true → IsTwice text (number + 1)
+    → SaysNotes line (again ∷ []) → is_some (bound_in again.subject bounds) ≡ true → IsNotedTwice text (number + 1)
 unfolding reached
 twice text number left rest line bounds again r e s there =
     record { reached = reached text number left rest line bounds r e; again = again; says = s; there = some_by_test (bound_in again.subject bounds) there }
 
 pub silent_line : (text : List ℕ) (number : ℕ) (left rest : List (List ℕ)) (line : List ℕ) (bounds : List Note) → IsReadSoFar text number left bounds → left ≡ line ∷ rest
-    → Says line [] → IsReadSoFar text (number + 1) rest bounds
+    → SaysNotes line [] → IsReadSoFar text (number + 1) rest bounds
 silent_line text number left rest line bounds r e s =
     subst (IsReadSoFar text (number + 1) rest) (append-nil bounds)
     (next_line text number left rest line bounds [] r e s (subst AreOfDifferentSubjects (sym (append-nil bounds)) r.different))
@@ -137,7 +137,7 @@ none_by_test None h = refl
 none_by_test (Some x) h = absurd (true≢false h)
 
 pub loop_line : (text : List ℕ) (number : ℕ) (left rest : List (List ℕ)) (line : List ℕ) (bounds : List Note) (first : Note) → IsReadSoFar text number left bounds → left ≡ line ∷ rest
-    → Says line (first ∷ []) → is_some (bound_in first.subject bounds) ≡ false → (more : List Note) → more ≡ bounds ++ first ∷ [] → IsReadSoFar text (number + 1) rest more
+    → SaysNotes line (first ∷ []) → is_some (bound_in first.subject bounds) ≡ false → (more : List Note) → more ≡ bounds ++ first ∷ [] → IsReadSoFar text (number + 1) rest more
 loop_line text number left rest line bounds first r e s absent more is =
     subst (IsReadSoFar text (number + 1) rest) (sym is)
     (next_line text number left rest line bounds (first ∷ []) r e s

@@ -11,7 +11,7 @@ use Rattle.source_bounds.specs.declared.subject.Note.{Note as NoteRef}
 use Rattle.source_bounds.specs.declared.line.Said.{Said}
 use Rattle.source_bounds.specs.declared.line.Said.TheVariants.{Nothing, Note as Noted, Malformed}
 use Rattle.source_bounds.specs.Notes.{Subject, AtLine, AtPlace, Note}
-use Rattle.source_bounds.specs.Grammar.{IsSource, IsBound, Says, IsMalformed}
+use Rattle.source_bounds.specs.Grammar.{IsSource, IsLoopWord, SaysNotes, IsNoNoteLine}
 
 -- ---- what is kept
 
@@ -58,7 +58,7 @@ IsOfSource source (AtLine file line) = IsSource source file line
 IsOfSource source (AtPlace method pc) = ⊥
 
 abbrev pub IsSourceNote : (source last : List ℕ) → Note → Type 0
-IsSourceNote source last n = IsOfSource source n.subject × IsBound last n.bound
+IsSourceNote source last n = IsOfSource source n.subject × IsLoopWord last n.bound
 
 -- of three parts
 abbrev pub IsOfPlace : (name pc : List ℕ) → Subject → Type 0
@@ -66,10 +66,10 @@ IsOfPlace name pc (AtLine file line) = ⊥
 IsOfPlace name pc (AtPlace method place) = (method ≡ name) × (0 < length method) × IsNumber pc place
 
 abbrev pub IsPlaceNote : (name pc last : List ℕ) → Note → Type 0
-IsPlaceNote name pc last n = IsOfPlace name pc n.subject × IsBound last n.bound
+IsPlaceNote name pc last n = IsOfPlace name pc n.subject × IsLoopWord last n.bound
 
 -- what a line was found to say
 abbrev pub Finds : (line : List ℕ) → Said → Type 0
-Finds line Nothing = Says line []
-Finds line (Noted n) = Says line (note_at n ∷ [])
-Finds line Malformed = IsMalformed line
+Finds line Nothing = SaysNotes line []
+Finds line (Noted n) = SaysNotes line (note_at n ∷ [])
+Finds line Malformed = IsNoNoteLine line

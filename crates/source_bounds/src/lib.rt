@@ -15,7 +15,7 @@ mod unbroken;
 
 ghost use Rattle.std.specs.Prelude.{◌≡◌, ◌++◌, [], ◌∷◌, None, OnOk, IfOk, IfErr, ◌≤◌, length, slice_get, option_map};
 ghost use Rattle.source_bounds.specs.Notes.{AtLine, AtPlace, bound_in};
-ghost use Rattle.source_bounds.specs.Grammar.{IsRead, IsRefused};
+ghost use Rattle.source_bounds.specs.Grammar.{AreNotesRead, AreNotesRefused};
 ghost use Rattle.source_bounds.specs.Meaning.{note_at, subject_seen};
 
 use ascii_text::lines;
@@ -68,8 +68,8 @@ impl Model for SourceBounds {
 /// The bounds that a text gives. A line is refused where it is none of the grammar, or bounds something a second time.
 pub fn read_source_bounds(alloc: Global, text: &[u8]) -> Result<SourceBounds, SourceFault>
     requires { length text.now ≤ 33554432 }
-    ensures read { IfOk result (IsRead text.now) }
-    ensures refused { IfErr result (IsRefused text.now) }
+    ensures read { IfOk result (AreNotesRead text.now) }
+    ensures refused { IfErr result (AreNotesRefused text.now) }
 {
     let mut bounds = SourceBounds::new(alloc);
     let mut number = 0u32;

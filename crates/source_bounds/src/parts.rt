@@ -2,7 +2,7 @@
 ghost use Rattle.std.specs.Prelude.{◌≡◌, ◌≢◌, ◌==◌, ◌<◌, ◌∷◌, [], ℕ, List, length, position, slice_index, MatchOption, IfSome, IfNone};
 ghost use Rattle.std.specs.List.{slice_split};
 ghost use Rattle.loop_bounds.specs.Grammar.{IsNumber};
-ghost use Rattle.source_bounds.specs.Grammar.{IsSource, IsBound};
+ghost use Rattle.source_bounds.specs.Grammar.{IsSource, IsLoopWord};
 ghost use Rattle.source_bounds.specs.Meaning.{AreParts};
 
 use ascii_text::read_u64;
@@ -87,8 +87,8 @@ fn last_colon(text: &[u8]) -> Option<usize>
 
 /// The number behind `loop<=`.
 pub(crate) fn read_bound(text: &[u8]) -> Option<u32>
-    ensures read { IfSome result (IsBound text.now) }
-    ensures none { IfNone result ((n : ℕ) → ¬ IsBound text.now n) }
+    ensures read { IfSome result (IsLoopWord text.now) }
+    ensures none { IfNone result ((n : ℕ) → ¬ IsLoopWord text.now n) }
 {
     read_u32(text.strip_prefix(b"loop<=")?)
 }

@@ -4,7 +4,7 @@ use Rattle.std.specs.Prelude.{slice_get, Result, Ok, Err, OnOk}
 use Rattle.std.specs.List.{filter_map}
 use Rattle.std.specs.Option.{option_map}
 use Rattle.std.proofs.lemmas.Option.{slice_get-get_or, slice_get_within}
-use Rattle.lists.specs.Lemmas.{some_same, map_some}
+use Rattle.lists.proofs.Lemmas.{some_same, map_some}
 use Rattle.lists.specs.Members.{nil_contains}
 use Rattle.class_pool.specs.declared.class.ClassFile.{ClassFile}
 use Rattle.method_sources.specs.declared.sources.MethodSource.{MethodSource}

@@ -5,7 +5,7 @@ use Rattle.std.specs.List.{concat, filter_map, cons_option}
 use Rattle.std.proofs.lemmas.Bool.{cases_lt}
 use Rattle.std.proofs.lemmas.List.{length-append}
 use Rattle.std.proofs.lemmas.List.Folds.{concat-append}
-use Rattle.lists.specs.Lemmas.{none≢some, some_same}
+use Rattle.lists.proofs.Lemmas.{none≢some, some_same}
 use Rattle.lists.specs.Members.{at_head, in_tail, cons_cases, nil_contains}
 use Rattle.class_pool.specs.declared.class.ClassFile.{ClassFile}
 use Rattle.bytecode_model.specs.Program.{body_of}
@@ -22,7 +22,7 @@ use Rattle.source_headers.specs.declared.methods.MethodLoops.{MethodLoops}
 use Rattle.source_headers.specs.declared.gathering.Gathered.{Gathered}
 use Rattle.method_sources.specs.Sources.{source_at, IsFileOf}
 use Rattle.source_headers.specs.Headers.{found_at, header_at, header_lines, named_lines, unnamed_lines, method_lines, IsMethodText}
-use Rattle.source_headers.specs.Straying.{IsBounded, IsHeaderAt, IsStray}
+use Rattle.source_headers.specs.Straying.{MayBeBounded, IsHeaderAt, IsStray}
 use Rattle.source_headers.specs.Files.{name_of, AreMethodTexts}
 use Rattle.source_headers.specs.Known.{KnownSites, IsWith}
 use Rattle.method_sources.specs.Told.{source_by}
@@ -130,7 +130,7 @@ lines_same cs notes left found m name x told same =
 
 -- ---- where a method heads loops
 
-places_are : (cs : List ClassFile) (m : ℕ) (x : MethodLoops) → IsToldOf cs m x → IsBounded (resolved cs) m → (p : ℕ) → Contains (headed_places x.shape) p → IsHeaderAt (resolved cs) m p
+places_are : (cs : List ClassFile) (m : ℕ) (x : MethodLoops) → IsToldOf cs m x → MayBeBounded (resolved cs) m → (p : ℕ) → Contains (headed_places x.shape) p → IsHeaderAt (resolved cs) m p
 places_are cs m x told bounded p c = by x.shape told.shape c
   where
     by : (s : Shape) → IsShape (resolved cs) m s → Contains (headed_places s) p → IsHeaderAt (resolved cs) m p
@@ -171,7 +171,7 @@ module _ (cs : List ClassFile) (notes : List Note) (found : List FoundLoop) wher
   }
 
   module _ (n : ℕ) (old new : Gathered) (left : List FoundLoop) (name : List ℕ) (x : MethodLoops) (h : AreGathered cs notes found n old) (adds : AddsMethod old new notes left n name x)
-      (told : IsToldOf cs n x) (named : name ≡ name_of cs n) (bounded : IsBounded (resolved cs) n) (same : (p : ℕ) → found_at left n p ≡ found_at found n p) where
+      (told : IsToldOf cs n x) (named : name ≡ name_of cs n) (bounded : MayBeBounded (resolved cs) n) (same : (p : ℕ) → found_at left n p ≡ found_at found n p) where
     t : List ℕ
     t = method_lines cs notes found n (name_of cs n) x.shape
 

@@ -3,7 +3,7 @@ use Rattle.std.proofs.Common.{◌≡◌, ℕ, ◌+◌, ◌<◌, ◌≤◌, List,
 use Rattle.std.specs.Prelude.{flat_map}
 use Rattle.std.specs.List.Sorted.{IsStrictlyIncreasing}
 use Rattle.std.proofs.lemmas.Grind.{take_at_read}
-use Rattle.lists.specs.FirstLemmas.{flat_map-more}
+use Rattle.lists.proofs.FirstLemmas.{flat_map-more}
 use Rattle.lists.specs.Members.{rising_pair}
 use Rattle.loop_nest.specs.Digraph.{IsBefore}
 use Rattle.loop_rules.specs.declared.found.FoundLoop.{FoundLoop}

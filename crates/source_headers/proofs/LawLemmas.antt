@@ -3,7 +3,7 @@ use Rattle.std.proofs.Common.{◌≡◌, ◌⊎◌, ℕ, ◌*◌, ◌≤◌, Boo
 use Rattle.std.specs.Prelude.{min, IsSome, if◌then◌else◌}
 use Rattle.std.proofs.lemmas.Bool.{cases_lt}
 use Rattle.std.proofs.lemmas.Option.{slice_get-get_or}
-use Rattle.lists.specs.Lemmas.{none≢some, some_same}
+use Rattle.lists.proofs.Lemmas.{none≢some, some_same}
 use Rattle.class_pool.specs.declared.class.ClassFile.{ClassFile}
 use Rattle.program_tables.specs.Resolved.{resolved}
 use Rattle.loop_nest.specs.Digraph.{Digraph}
@@ -22,7 +22,7 @@ use Rattle.bound_causes.specs.declared.shapes.Shape.TheVariants.{Irreducible, Re
 use Rattle.answer_lines.specs.LoopLine.{is_nameable}
 use Rattle.source_headers.specs.Headers.{lesser, found_at, header_at, said, said_of_line, written}
 use Rattle.method_sources.specs.Sources.{source_at}
-use Rattle.source_headers.specs.Straying.{IsBounded}
+use Rattle.source_headers.specs.Straying.{MayBeBounded}
 use Rattle.source_headers.specs.Files.{name_of, AreMethodTexts}
 use Rattle.source_headers.specs.Laws.{written_of, HasNumbers, HeaderFilesHaveLines, KeptNotesAreKept, WrittenKeepsNotes}
 use Rattle.source_headers.proofs.ToldLemmas.{not_both}
@@ -115,7 +115,7 @@ module _ (moves : GraphsAreMoved) (sound : PartsAreSound) (ends : EndsAreOne) (o
       some_or_none (written_of cs notes found m p) (λ none. lines m p (record { within = within; graph = heads.graph; is_graph = heads.is_graph; header = heads.header; none = none }))
 
   -- the shape of a method that a text has
-  pub shape_there : (cs : List ClassFile) (notes : List Note) (found : List FoundLoop) (texts : List (List ℕ)) → AreMethodTexts cs notes found texts → (m : ℕ) → IsBounded (resolved cs) m
+  pub shape_there : (cs : List ClassFile) (notes : List Note) (found : List FoundLoop) (texts : List (List ℕ)) → AreMethodTexts cs notes found texts → (m : ℕ) → MayBeBounded (resolved cs) m
       → (shape : Shape) × IsShape (resolved cs) m shape
   shape_there cs notes found texts are m bounded =
       let lt = (are.coded m).0 bounded.0 in

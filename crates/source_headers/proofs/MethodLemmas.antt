@@ -4,7 +4,7 @@ use Rattle.std.specs.Prelude.{IsSome, flat_map, option_map, if◌then◌else◌}
 use Rattle.std.specs.List.{filter_map, cons_option}
 use Rattle.std.specs.List.Sorted.{IsStrictlyIncreasing}
 use Rattle.std.proofs.lemmas.List.{append_assoc}
-use Rattle.lists.specs.Lemmas.{none≢some, map_some}
+use Rattle.lists.proofs.Lemmas.{none≢some, map_some}
 use Rattle.lists.specs.Members.{at_head, in_tail, nil_contains, place_of, rising_pair}
 use Rattle.class_pool.specs.declared.class.ClassFile.{ClassFile}
 use Rattle.class_rules.specs.Found.{MethodsHaveCode}
@@ -18,7 +18,7 @@ use Rattle.loop_bounds.specs.Bounds.{LoopBound, AreOfDifferentLoops}
 use Rattle.loop_bounds.specs.Grammar.{Give}
 use Rattle.loop_rules.specs.declared.found.FoundLoop.{FoundLoop}
 use Rattle.source_bounds.specs.Notes.{Note}
-use Rattle.source_bounds.specs.Grammar.{IsRead}
+use Rattle.source_bounds.specs.Grammar.{AreNotesRead}
 use Rattle.bound_rules.specs.Laws.{GraphsAreOne}
 use Rattle.bound_causes.specs.Shapes.{IsShape}
 use Rattle.bound_causes.specs.declared.shapes.Shape.{Shape}
@@ -26,7 +26,7 @@ use Rattle.bound_causes.specs.declared.shapes.Shape.TheVariants.{Irreducible, Re
 use Rattle.answer_lines.specs.LoopLine.{is_nameable}
 use Rattle.source_headers.specs.Headers.{header_at, header_lines, written, named_lines, unnamed_line, unnamed_lines, IsMethodText}
 use Rattle.source_headers.specs.Reading.{bound_written}
-use Rattle.source_headers.specs.Straying.{IsBounded, IsHeaderAt}
+use Rattle.source_headers.specs.Straying.{MayBeBounded, IsHeaderAt}
 use Rattle.source_headers.specs.Files.{name_of}
 use Rattle.source_headers.specs.Laws.{written_of}
 use Rattle.source_headers.specs.Whole.{IsWritten}
@@ -132,8 +132,8 @@ module _ (cs : List ClassFile) (notes : List Note) (found : List FoundLoop) (m :
 -- ---- by its shape
 
 module _ (moves : GraphsAreMoved) (sound : PartsAreSound) (ends : EndsAreOne) (one : GraphsAreOne) (have : MethodsHaveCode) (by_number : MethodsStandByNumber) (cs : List ClassFile) (r : IsResolved cs)
-    (lines : List ℕ) (notes : List Note) (found : List FoundLoop) (read : IsRead lines notes) (small : AreFoundSmall found) (m : ℕ) where
-  named_case : (shape : Shape) → IsShape (resolved cs) m shape → IsBounded (resolved cs) m → is_nameable (name_of cs m) ≡ true → MethodGives cs notes found m (named_lines cs notes found m (name_of cs m) shape)
+    (lines : List ℕ) (notes : List Note) (found : List FoundLoop) (read : AreNotesRead lines notes) (small : AreFoundSmall found) (m : ℕ) where
+  named_case : (shape : Shape) → IsShape (resolved cs) m shape → MayBeBounded (resolved cs) m → is_nameable (name_of cs m) ≡ true → MethodGives cs notes found m (named_lines cs notes found m (name_of cs m) shape)
   named_case (Irreducible nodes) is bounded nameable =
       silent cs notes found m _ (λ rest bs more. irreducible_given (name_of cs m) nodes.items rest bs nameable more)
       (λ b w. not_both moves sound ends one (resolved cs) m nodes.items is.0 is.1 w.header.single)
@@ -144,7 +144,7 @@ module _ (moves : GraphsAreMoved) (sound : PartsAreSound) (ends : EndsAreOne) (o
         all_headed moves sound ends one (resolved cs) m (Reducible places) is p,
       )) is.1.rising (readable have by_number cs r lines notes found read small m (Reducible places) is (name_of cs m))
 
-  by_name : (shape : Shape) → IsShape (resolved cs) m shape → IsBounded (resolved cs) m → (t : Bool) → is_nameable (name_of cs m) ≡ t
+  by_name : (shape : Shape) → IsShape (resolved cs) m shape → MayBeBounded (resolved cs) m → (t : Bool) → is_nameable (name_of cs m) ≡ t
       → MethodGives cs notes found m (if t then named_lines cs notes found m (name_of cs m) shape else unnamed_lines m shape)
   by_name shape is bounded true e = named_case shape is bounded e
   by_name shape is bounded false e = unnamed_case cs notes found m shape e

@@ -4,7 +4,7 @@ use Rattle.std.specs.Prelude.{◌==◌, slice_get, if◌then◌else◌}
 use Rattle.std.specs.Option.{option_map, option_map_or}
 use Rattle.std.proofs.lemmas.Bool.{eqb-true}
 use Rattle.lists.specs.Lists.{onto}
-use Rattle.lists.specs.Lemmas.{none≢some, some_same, onto_some, map_some}
+use Rattle.lists.proofs.Lemmas.{none≢some, some_same, onto_some, map_some}
 use Rattle.lists.specs.Members.{at_head, in_tail, cons_cases, nil_contains}
 use Rattle.lists.specs.Tests.{and_left, and_right}
 use Rattle.class_pool.specs.declared.class.ClassFile.{ClassFile}
@@ -21,7 +21,7 @@ use Rattle.ascii_text.specs.Line.{lines_of}
 use Rattle.line_tables.specs.Source.{source_file_of}
 use Rattle.loop_rules.specs.declared.found.FoundLoop.{FoundLoop}
 use Rattle.source_bounds.specs.Notes.{Subject, AtLine, AtPlace, Note, bound_in, same_subject}
-use Rattle.source_bounds.specs.Grammar.{Says, IsNote, Give, IsRead}
+use Rattle.source_bounds.specs.Grammar.{SaysNotes, IsNote, GiveNotes, AreNotesRead}
 use Rattle.source_bounds.specs.Unbroken.{is_unbroken}
 use Rattle.bound_causes.specs.Shapes.{IsShape}
 use Rattle.bound_causes.specs.declared.shapes.Shape.{Shape}
@@ -72,7 +72,7 @@ bound_small line (AtPlace method pc) n h = h.bound.2
 AreSmall : List Note → Type 0
 AreSmall ns = (n : Note) → Contains ns n → n.bound < 2 ^ 32
 
-line_small : (line : List ℕ) (first rest : List Note) → Says line first → AreSmall rest → AreSmall (first ++ rest)
+line_small : (line : List ℕ) (first rest : List Note) → SaysNotes line first → AreSmall rest → AreSmall (first ++ rest)
 unfolding AreSmall
 line_small line [] rest h small = small
 line_small line (n ∷ []) rest h small = λ x c.
@@ -82,7 +82,7 @@ line_small line (n ∷ []) rest h small = λ x c.
     ]
 line_small line (n ∷ k ∷ ns) rest h small = absurd h
 
-lines_small : (lines : List (List ℕ)) (ns : List Note) → Give lines ns → AreSmall ns
+lines_small : (lines : List (List ℕ)) (ns : List Note) → GiveNotes lines ns → AreSmall ns
 unfolding AreSmall
 lines_small [] ns h = λ n c. absurd (nil_contains n (subst (λ (xs : List Note). Contains xs n) h c))
 lines_small (line ∷ lines) ns (first, rest, is, says, more) = subst AreSmall (sym is) (line_small line first rest says (lines_small lines rest more))
@@ -139,7 +139,7 @@ found_small : (found : List FoundLoop) → AreFoundSmall found → (m p n : ℕ)
 unfolding AreFoundSmall
 found_small found small m p n h = let f = found_there found m p n h in subst (λ (x : ℕ). x < 2 ^ 32) f.number (small f.loop f.among)
 
-pub number_small : (cs : List ClassFile) (lines : List ℕ) (notes : List Note) (found : List FoundLoop) → IsRead lines notes → AreFoundSmall found → (m p : ℕ) (name : List ℕ) (n : ℕ)
+pub number_small : (cs : List ClassFile) (lines : List ℕ) (notes : List Note) (found : List FoundLoop) → AreNotesRead lines notes → AreFoundSmall found → (m p : ℕ) (name : List ℕ) (n : ℕ)
     → written notes name (header_at cs found m p) ≡ Some n → n < 2 ^ 32
 number_small cs lines notes found read small m p name n h =
     let notes_small = lines_small (lines_of lines) notes read.given in
@@ -154,7 +154,7 @@ number_small cs lines notes found read small m p name n h =
     ]
 
 -- the headers of a method can be read
-pub readable : MethodsHaveCode → MethodsStandByNumber → (cs : List ClassFile) → IsResolved cs → (lines : List ℕ) (notes : List Note) (found : List FoundLoop) → IsRead lines notes → AreFoundSmall found
+pub readable : MethodsHaveCode → MethodsStandByNumber → (cs : List ClassFile) → IsResolved cs → (lines : List ℕ) (notes : List Note) (found : List FoundLoop) → AreNotesRead lines notes → AreFoundSmall found
     → (m : ℕ) (shape : Shape) → IsShape (resolved cs) m shape → (name : List ℕ) (p : ℕ) → Contains (headed_places shape) p → IsReadable notes name (header_at cs found m p)
 readable have by_number cs r lines notes found read small m shape is name p c = record {
   place = place_small have by_number cs r m shape is p c;

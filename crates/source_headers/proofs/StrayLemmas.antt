@@ -1,7 +1,7 @@
 -- The first bound that strays, and the text where none does.
 use Rattle.std.proofs.Common.{◌≡◌, ℕ, zero, suc, ◌<◌, List, [], ◌∷◌, ◌++◌, length, Contains, ◌∙◌, ap, arith, Some, inl, inr, Vec, Global, ℤ, Option}
 use Rattle.std.specs.Prelude.{slice_get, Result, Ok, Err, IfOk, IfErr}
-use Rattle.lists.specs.Lemmas.{none≢some, some_same}
+use Rattle.lists.proofs.Lemmas.{none≢some, some_same}
 use Rattle.lists.specs.Members.{cons_cases, nil_contains}
 use Rattle.class_pool.specs.declared.class.ClassFile.{ClassFile}
 use Rattle.program_tables.specs.Resolved.{resolved}
@@ -11,7 +11,7 @@ use Rattle.loop_rules.specs.Finding.{AreCountedLoops}
 use Rattle.loop_rules.specs.Sites.{int_at}
 use Rattle.int_sites.specs.Constants.{AreConstants}
 use Rattle.source_bounds.specs.Notes.{Note}
-use Rattle.source_bounds.specs.Grammar.{IsRead}
+use Rattle.source_bounds.specs.Grammar.{AreNotesRead}
 use Rattle.source_headers.specs.declared.fault.HeaderFault.{HeaderFault}
 use Rattle.source_headers.specs.declared.fault.HeaderFault.TheVariants.{BadLine, TwiceLine, Stray, NoMemory}
 use Rattle.source_headers.specs.declared.gathering.Gathered.{Gathered}
@@ -102,30 +102,30 @@ module _ (cs : List ClassFile) (notes : List Note) (found : List FoundLoop) (f :
 -- ---- by what is found
 
 pub noted_is : (cs : List ClassFile) (notes : List Note) (constants : List (Option ℤ)) (found : List FoundLoop) → AreConstants cs constants → AreCountedLoops (resolved cs) (int_at constants) found
-    → (r : Result (Vec ℕ Global) HeaderFault) → IfOk r (λ text. IsFileBy cs notes found text.items) → IfOk r (λ text. (lines : List ℕ) → IsRead lines notes → IsHeaderFile cs lines text.items)
+    → (r : Result (Vec ℕ Global) HeaderFault) → IfOk r (λ text. IsFileBy cs notes found text.items) → IfOk r (λ text. (lines : List ℕ) → AreNotesRead lines notes → IsHeaderFile cs lines text.items)
 noted_is cs notes constants found are counted (Ok text) h = λ lines read.
     record { notes = notes; read = read; used = h.used; constants = constants; are = are; found = found; counted = counted; texts = h.texts; methods = h.methods; text_is = h.text_is }
 noted_is cs notes constants found are counted (Err fault) h = tt
 
-stray_case : (cs : List ClassFile) (notes : List Note) (fault : HeaderFault) → IsStrayFault cs notes fault → (lines : List ℕ) → IsRead lines notes → IsHeaderFault cs lines fault
+stray_case : (cs : List ClassFile) (notes : List Note) (fault : HeaderFault) → IsStrayFault cs notes fault → (lines : List ℕ) → AreNotesRead lines notes → IsHeaderFault cs lines fault
 stray_case cs notes (Stray text) h lines read = (notes, read, h)
 stray_case cs notes NoMemory h lines read = tt
 stray_case cs notes (BadLine n) h lines read = absurd h
 stray_case cs notes (TwiceLine n) h lines read = absurd h
 
 pub noted_fault : (cs : List ClassFile) (notes : List Note) (r : Result (Vec ℕ Global) HeaderFault) → IfErr r (IsStrayFault cs notes)
-    → IfErr r (λ fault. (lines : List ℕ) → IsRead lines notes → IsHeaderFault cs lines fault)
+    → IfErr r (λ fault. (lines : List ℕ) → AreNotesRead lines notes → IsHeaderFault cs lines fault)
 noted_fault cs notes (Ok text) h = tt
 noted_fault cs notes (Err fault) h = stray_case cs notes fault h
 
 -- ---- by the lines
 
-pub file_of_lines : (cs : List ClassFile) (lines : List ℕ) (notes : List Note) → IsRead lines notes → (r : Result (Vec ℕ Global) HeaderFault)
-    → IfOk r (λ text. (lines : List ℕ) → IsRead lines notes → IsHeaderFile cs lines text.items) → IfOk r (λ text. IsHeaderFile cs lines text.items)
+pub file_of_lines : (cs : List ClassFile) (lines : List ℕ) (notes : List Note) → AreNotesRead lines notes → (r : Result (Vec ℕ Global) HeaderFault)
+    → IfOk r (λ text. (lines : List ℕ) → AreNotesRead lines notes → IsHeaderFile cs lines text.items) → IfOk r (λ text. IsHeaderFile cs lines text.items)
 file_of_lines cs lines notes read (Ok text) h = h lines read
 file_of_lines cs lines notes read (Err fault) h = tt
 
-pub fault_of_lines : (cs : List ClassFile) (lines : List ℕ) (notes : List Note) → IsRead lines notes → (r : Result (Vec ℕ Global) HeaderFault)
-    → IfErr r (λ fault. (lines : List ℕ) → IsRead lines notes → IsHeaderFault cs lines fault) → IfErr r (IsHeaderFault cs lines)
+pub fault_of_lines : (cs : List ClassFile) (lines : List ℕ) (notes : List Note) → AreNotesRead lines notes → (r : Result (Vec ℕ Global) HeaderFault)
+    → IfErr r (λ fault. (lines : List ℕ) → AreNotesRead lines notes → IsHeaderFault cs lines fault) → IfErr r (IsHeaderFault cs lines)
 fault_of_lines cs lines notes read (Ok text) h = tt
 fault_of_lines cs lines notes read (Err fault) h = h lines read

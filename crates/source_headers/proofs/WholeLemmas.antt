@@ -5,7 +5,7 @@ use Rattle.std.specs.List.{concat}
 use Rattle.std.proofs.lemmas.Bool.{cases_lt}
 use Rattle.std.proofs.lemmas.List.Elements.{Contains-append_left, Contains-append_right, Contains-append_cases}
 use Rattle.std.proofs.lemmas.Option.{slice_get_within}
-use Rattle.lists.specs.Lemmas.{onto_some}
+use Rattle.lists.proofs.Lemmas.{onto_some}
 use Rattle.lists.specs.Lists.{onto}
 use Rattle.lists.specs.Members.{nil_contains}
 use Rattle.class_pool.specs.declared.class.ClassFile.{ClassFile}
@@ -37,7 +37,7 @@ use Rattle.method_flow.specs.Regions.{IsWithin}
 use Rattle.answer_lines.specs.LoopLine.{is_nameable}
 use Rattle.method_sources.specs.Sources.{source_at}
 use Rattle.source_headers.specs.Headers.{found_at, header_at, said, said_of_line, written}
-use Rattle.source_headers.specs.Straying.{IsBounded, IsHeaderAt}
+use Rattle.source_headers.specs.Straying.{MayBeBounded, IsHeaderAt}
 use Rattle.source_headers.specs.Files.{name_of, AreMethodTexts, IsHeaderFile}
 use Rattle.source_headers.specs.Laws.{written_of}
 use Rattle.source_headers.specs.Whole.{IsWritten, GivesWritten, HeaderFilesAreRead, bounds_by, BoundsWritten, FilesBoundHeaders, FileBoundsAreFoundOrSaid, RootsHaveLines, KeptNotesKeepTheFile}
@@ -232,7 +232,7 @@ module _ (files : HeaderFilesAreRead) (names : NamesAreOne) (gives : GivesOne) w
   -- ---- roots
 
   module _ (moves : GraphsAreMoved) (sound : PartsAreSound) (ends : EndsAreOne) (one : GraphsAreOne) where
-    header_of : (cs : List ClassFile) (m p : ℕ) → IsBounded (resolved cs) m → IsLeftWith (resolved cs) m [] → (shape : Shape) → IsShape (resolved cs) m shape → (graph : Digraph) → IsGraphOf (resolved cs) m graph
+    header_of : (cs : List ClassFile) (m p : ℕ) → MayBeBounded (resolved cs) m → IsLeftWith (resolved cs) m [] → (shape : Shape) → IsShape (resolved cs) m shape → (graph : Digraph) → IsGraphOf (resolved cs) m graph
         → IsHeader graph (2 * p) → IsHeaderAt (resolved cs) m p
     header_of cs m p bounded single (Irreducible nodes) is graph is_graph header = absurd (not_both moves sound ends one (resolved cs) m nodes.items is.0 is.1 single)
     header_of cs m p bounded single (Reducible places) is graph is_graph header = record {
@@ -244,7 +244,7 @@ module _ (files : HeaderFilesAreRead) (names : NamesAreOne) (gives : GivesOne) w
     }
 
     module _ (cs : List ClassFile) (notes : List Note) (found : List FoundLoop) (texts : List (List ℕ)) (are : AreMethodTexts cs notes found texts) (root : ℕ)
-        (bounded : (m : ℕ) → IsWithin (resolved cs) root m → IsBounded (resolved cs) m) (reducible : AreReducible (resolved cs) root) (A B : BoundOf)
+        (bounded : (m : ℕ) → IsWithin (resolved cs) root m → MayBeBounded (resolved cs) m) (reducible : AreReducible (resolved cs) root) (A B : BoundOf)
         (same : (m p : ℕ) → IsHeaderAt (resolved cs) m p → A m p ≡ B m p) where
       -- the lines of one family of bounds are those of another that is the same of headers
       lines_too : HaveLines (resolved cs) A root → HaveLines (resolved cs) B root

@@ -10,7 +10,7 @@ use Rattle.loop_rules.specs.Finding.{AreCountedLoops}
 use Rattle.loop_rules.specs.Sites.{int_at}
 use Rattle.int_sites.specs.Constants.{AreConstants}
 use Rattle.source_bounds.specs.Notes.{Note}
-use Rattle.source_bounds.specs.Grammar.{IsRead, IsRefused}
+use Rattle.source_bounds.specs.Grammar.{AreNotesRead, AreNotesRefused}
 use Rattle.source_bounds.specs.declared.SourceFault.TheVariants as faults
 use Rattle.source_headers.specs.declared.fault.HeaderFault.{HeaderFault}
 use Rattle.source_headers.specs.declared.fault.HeaderFault.TheVariants.{BadLine, TwiceLine, Stray, NoMemory}
@@ -29,7 +29,7 @@ pub record AreMethodTexts (cs : List ClassFile) (notes : List Note) (found : Lis
 -- The text is that of the program's headers, methods and places rising, with numbers by the loops that count and by the lines, of which none strays.
 pub record IsHeaderFile (cs : List ClassFile) (lines text : List ℕ) : Type 0 where
   pub notes : List Note
-  pub read : IsRead lines notes
+  pub read : AreNotesRead lines notes
   pub used : (n : Note) → Contains notes n → ¬ IsStray cs (name_of cs) n.subject
   pub constants : List (Option ℤ)
   pub are : AreConstants cs constants
@@ -41,14 +41,14 @@ pub record IsHeaderFile (cs : List ClassFile) (lines text : List ℕ) : Type 0 w
 
 -- what refuses the lines
 abbrev pub IsLinesFault : (lines : List ℕ) → HeaderFault → Type 0
-IsLinesFault lines (BadLine n) = IsRefused lines (faults.Line n)
-IsLinesFault lines (TwiceLine n) = IsRefused lines (faults.Twice n)
+IsLinesFault lines (BadLine n) = AreNotesRefused lines (faults.Line n)
+IsLinesFault lines (TwiceLine n) = AreNotesRefused lines (faults.Twice n)
 IsLinesFault lines (Stray subject) = ⊥
 IsLinesFault lines NoMemory = Unit {0}
 
 -- Why there is no such text: what refuses the lines first, or else the first that strays.
 abbrev pub IsHeaderFault : List ClassFile → (lines : List ℕ) → HeaderFault → Type 0
-IsHeaderFault cs lines (BadLine n) = IsRefused lines (faults.Line n)
-IsHeaderFault cs lines (TwiceLine n) = IsRefused lines (faults.Twice n)
-IsHeaderFault cs lines (Stray subject) = (notes : List Note) × IsRead lines notes × IsFirstStray cs (name_of cs) notes subject.items
+IsHeaderFault cs lines (BadLine n) = AreNotesRefused lines (faults.Line n)
+IsHeaderFault cs lines (TwiceLine n) = AreNotesRefused lines (faults.Twice n)
+IsHeaderFault cs lines (Stray subject) = (notes : List Note) × AreNotesRead lines notes × IsFirstStray cs (name_of cs) notes subject.items
 IsHeaderFault cs lines NoMemory = Unit {0}

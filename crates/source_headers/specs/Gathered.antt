@@ -10,7 +10,7 @@ use Rattle.source_headers.specs.declared.methods.MethodLoops.{MethodLoops}
 use Rattle.source_headers.specs.declared.gathering.Gathered.{Gathered}
 use Rattle.method_sources.specs.Sources.{file_of, source_at, IsFileOf}
 use Rattle.source_headers.specs.Headers.{IsMethodText}
-use Rattle.source_headers.specs.Straying.{IsBounded, IsHeaderAt}
+use Rattle.source_headers.specs.Straying.{MayBeBounded, IsHeaderAt}
 use Rattle.source_headers.specs.Files.{name_of}
 use Rattle.source_headers.specs.Known.{KnownSites, IsWith, LacksSite}
 use Rattle.method_sources.specs.Told.{source_by}
@@ -20,7 +20,7 @@ use Rattle.source_headers.specs.Told.{headed_places, lines_by}
 
 -- it may have bounds, and the name
 abbrev pub IsNameOf : List ClassFile → (method : ℕ) → (name : List ℕ) → Type 0
-IsNameOf cs m name = IsBounded (resolved cs) m × (name_of cs m ≡ name)
+IsNameOf cs m name = MayBeBounded (resolved cs) m × (name_of cs m ≡ name)
 
 -- its name, and a place where it heads a loop
 abbrev pub IsPlaceOf : List ClassFile → (method : ℕ) → (site : List ℕ × ℕ) → Type 0

@@ -13,7 +13,7 @@ use Rattle.bound_causes.specs.declared.shapes.Shape.TheVariants.{Irreducible, Re
 use Rattle.answer_lines.specs.LoopLine.{is_nameable}
 use Rattle.method_sources.specs.Sources.{source_at}
 use Rattle.source_headers.specs.Headers.{found_at, header_at, said_of_line, written}
-use Rattle.source_headers.specs.Straying.{IsBounded}
+use Rattle.source_headers.specs.Straying.{MayBeBounded}
 use Rattle.source_headers.specs.Files.{name_of, AreMethodTexts}
 
 -- the number that is written for the loop with the header at a place of a method that isn't the one that is run first
@@ -32,7 +32,7 @@ HasNumbers cs notes found m (Reducible places) = (p : ℕ) → Contains places.i
 abbrev pub HeaderFilesHaveLines : Type 0
 HeaderFilesHaveLines =
     (cs : List ClassFile) (notes : List Note) (found : List FoundLoop) (texts : List (List ℕ)) → AreMethodTexts cs notes found texts → (root : ℕ)
-    → ((m : ℕ) → IsWithin (resolved cs) root m → IsBounded (resolved cs) m)
+    → ((m : ℕ) → IsWithin (resolved cs) root m → MayBeBounded (resolved cs) m)
     → (AreReducible (resolved cs) root × HaveLines (resolved cs) (written_of cs notes found) root)
     ↔ ((m : ℕ) → IsWithin (resolved cs) root m → (shape : Shape) → IsShape (resolved cs) m shape → HasNumbers cs notes found m shape)
 

@@ -9,12 +9,12 @@ use Rattle.source_bounds.specs.Notes.{Subject, AtLine, AtPlace, Note}
 use Rattle.method_sources.specs.Sources.{IsFileOf, source_at}
 
 -- the method has code, and isn't the one that is run first
-abbrev pub IsBounded : Program → (method : ℕ) → Type 0
-IsBounded P m = IsSome (body_of P m) × (m ≢ P.boot)
+abbrev pub MayBeBounded : Program → (method : ℕ) → Type 0
+MayBeBounded P m = IsSome (body_of P m) × (m ≢ P.boot)
 
 -- the instruction at the place heads a loop of such a method, whose loops have one entry each
 pub record IsHeaderAt (P : Program) (m place : ℕ) : Type 0 where
-  pub bounded : IsBounded P m
+  pub bounded : MayBeBounded P m
   pub places : List ℕ
   pub single : IsLeftWith P m []
   pub are : AreHeaderPlaces P m places
@@ -24,7 +24,7 @@ pub record IsHeaderAt (P : Program) (m place : ℕ) : Type 0 where
 abbrev pub IsStray : List ClassFile → (name : ℕ → List ℕ) → Subject → Type 0
 IsStray cs name (AtLine file line) = IsFileOf cs file × ((m p : ℕ) → IsHeaderAt (resolved cs) m p → source_at cs m p ≢ Some (file, line))
 IsStray cs name (AtPlace method pc) =
-    ((m : ℕ) × IsBounded (resolved cs) m × (name m ≡ method)) × ((m : ℕ) → IsHeaderAt (resolved cs) m pc → name m ≢ method)
+    ((m : ℕ) × MayBeBounded (resolved cs) m × (name m ≡ method)) × ((m : ℕ) → IsHeaderAt (resolved cs) m pc → name m ≢ method)
 
 -- as a refusal names it
 abbrev pub subject_text : Subject → List ℕ

@@ -16,7 +16,7 @@ use Rattle.source_bounds.specs.Notes.{Note}
 use Rattle.bound_rules.specs.Bounding.{AreReducible, HaveLines}
 use Rattle.bound_causes.specs.Shapes.{IsShape}
 use Rattle.bound_causes.specs.declared.shapes.Shape.{Shape}
-use Rattle.source_headers.specs.Straying.{IsBounded, IsHeaderAt}
+use Rattle.source_headers.specs.Straying.{MayBeBounded, IsHeaderAt}
 use Rattle.source_headers.specs.Files.{name_of, IsHeaderFile}
 use Rattle.source_headers.specs.Laws.{written_of, HasNumbers, line_bound, place_bound, KeepsAll}
 
@@ -71,7 +71,7 @@ FileBoundsAreFoundOrSaid =
 abbrev pub RootsHaveLines : Type 0
 RootsHaveLines =
     (cs : List ClassFile) (lines text : List ℕ) → IsResolved cs → (h : IsHeaderFile cs lines text) → (bounds : List LoopBound) → IsRead text bounds → (root : ℕ)
-    → ((m : ℕ) → IsWithin (resolved cs) root m → IsBounded (resolved cs) m)
+    → ((m : ℕ) → IsWithin (resolved cs) root m → MayBeBounded (resolved cs) m)
     → (AreReducible (resolved cs) root × HaveLines (resolved cs) (bounds_by cs bounds) root)
     ↔ ((m : ℕ) → IsWithin (resolved cs) root m → (shape : Shape) → IsShape (resolved cs) m shape → HasNumbers cs h.notes h.found m shape)
 

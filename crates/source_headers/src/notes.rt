@@ -1,7 +1,7 @@
 //! The bounds that lines give.
 ghost use Rattle.std.specs.Prelude.{◌≤◌, length, IfOk, IfErr};
 ghost use Rattle.base.specs.Sizes.{longest_file};
-ghost use Rattle.source_bounds.specs.Grammar.{IsRead};
+ghost use Rattle.source_bounds.specs.Grammar.{AreNotesRead};
 ghost use Rattle.source_headers.specs.Files.{IsLinesFault};
 
 use crate::fault::HeaderFault;
@@ -15,7 +15,7 @@ use std::alloc::Global;
 /// The first line that is none of the grammar, or bounds something a second time.
 pub fn notes_in(alloc: Global, lines: &[u8]) -> Result<SourceBounds, HeaderFault>
     requires { length lines.now ≤ longest_file }
-    ensures read { IfOk result (IsRead lines.now) }
+    ensures read { IfOk result (AreNotesRead lines.now) }
     ensures fault { IfErr result (IsLinesFault lines.now) }
 {
     Ok(read_source_bounds(alloc, lines)?)

@@ -3,7 +3,7 @@ ghost use Rattle.std.specs.Prelude.{◌≡◌, ◌≤◌, ℕ, List, length, Som
 ghost use Rattle.base.specs.Sizes.{longest_file};
 ghost use Rattle.method_flow.specs.Flow.{Coded, IsFlowOf};
 ghost use Rattle.program_tables.specs.Resolved.{resolved};
-ghost use Rattle.source_bounds.specs.Grammar.{IsRead};
+ghost use Rattle.source_bounds.specs.Grammar.{AreNotesRead};
 ghost use Rattle.loop_finder.specs.Headers.{AreMethodHeaders};
 ghost use Rattle.source_headers.specs.Files.{name_of, IsHeaderFile, IsHeaderFault};
 ghost use Rattle.source_headers.specs.Found.{AreRising};
@@ -58,8 +58,8 @@ fn noted_file(
 ) -> Result<Vec<u8>, HeaderFault>
     requires flow { IsFlowOf (resolved program.now) flow.now }
     requires names { (m : ℕ) (k : Coded) → slice_get flow.now.methods m ≡ Some k → k.name ≡ name_of program.now m }
-    ensures file { IfOk result (λ text. (lines : List ℕ) → IsRead lines notes.now → IsHeaderFile program.now lines text.items) }
-    ensures fault { IfErr result (λ fault. (lines : List ℕ) → IsRead lines notes.now → IsHeaderFault program.now lines fault) }
+    ensures file { IfOk result (λ text. (lines : List ℕ) → AreNotesRead lines notes.now → IsHeaderFile program.now lines text.items) }
+    ensures fault { IfErr result (λ fault. (lines : List ℕ) → AreNotesRead lines notes.now → IsHeaderFault program.now lines fault) }
 {
     let sites = int_sites(alloc, program)?;
     let loops = find_all(alloc, flow, &sites)?;

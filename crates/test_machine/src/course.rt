@@ -50,9 +50,12 @@ fn at_reset(alloc: Global, image: &[u32], memory: u32) -> Result<Machine<1024>, 
 /// Runs a machine to its next boundary.
 fn go_on(machine: &mut Machine<1024>, device: &mut Keeper) {
     for _ in 0..CYCLES {
-        if machine.clock() == u64::MAX || machine.cycle(device) != Tick::Went {
+        if machine.clock() == u64::MAX {
             return;
         }
+        let Ok(Tick::Went) = machine.cycle(device) else {
+            return;
+        };
         if machine.at_boundary() {
             return;
         }

@@ -62,7 +62,7 @@ impl Devices for Keeper {
             Ok(())
         } else {
             self.failed = self.failed.saturating_add(1);
-            Err(DeviceFault)
+            Err(DeviceFault::Output)
         }
     }
 

@@ -3,7 +3,8 @@
 use crate::device::Keeper;
 use crate::words::{bytes, parted};
 use jop_core::{
-    BareFault, Config, Halt, Machine, Tick, can_start, can_start_bare, places, read_bare,
+    BareFault, Config, DeviceFault, Halt, Machine, Tick, can_start, can_start_bare, places,
+    read_bare,
 };
 use microcode_rom::entry;
 use std::alloc::Global;
@@ -142,27 +143,30 @@ fn show_device(rt: &HostRuntime, device: &Keeper) -> io::Result<()> {
 }
 
 /// Goes on to a clock, or as far as the machine goes. The answer is that of the last cycle.
-fn run_to(machine: &mut Machine<1024>, device: &mut Keeper, clock: u64) -> Tick {
+fn run_to(
+    machine: &mut Machine<1024>,
+    device: &mut Keeper,
+    clock: u64,
+) -> Result<Tick, DeviceFault> {
     for _ in 0..clock {
         if machine.clock() >= clock || machine.clock() == u64::MAX {
-            return Tick::Went;
+            return Ok(Tick::Went);
         }
-        let tick = machine.cycle(device);
-        if tick != Tick::Went {
-            return tick;
+        if machine.cycle(device)? == Tick::Halted {
+            return Ok(Tick::Halted);
         }
     }
-    Tick::Went
+    Ok(Tick::Went)
 }
 
 /// The words for the answer of a cycle.
-fn answer_text(last: Tick) -> &'static str {
+fn answer_text(last: Result<Tick, DeviceFault>) -> &'static str {
     match last {
-        Tick::Went => "went",
-        Tick::Halted => "halted",
-        Tick::ReadFault => "read fault",
-        Tick::WriteFault => "write fault",
-        Tick::SeenFault => "seen fault",
+        Ok(Tick::Went) => "went",
+        Ok(Tick::Halted) => "halted",
+        Err(DeviceFault::Input) => "read fault",
+        Err(DeviceFault::Output) => "write fault",
+        Err(DeviceFault::Seen) => "seen fault",
     }
 }
 
@@ -175,7 +179,11 @@ fn halt_text(halt: Halt) -> &'static str {
     }
 }
 
-fn show_registers(rt: &HostRuntime, machine: &Machine<1024>, last: Tick) -> io::Result<()> {
+fn show_registers(
+    rt: &HostRuntime,
+    machine: &Machine<1024>,
+    last: Result<Tick, DeviceFault>,
+) -> io::Result<()> {
     print!(*rt;
         "{}: {}, {}, a {} b {} sp {} vp {} jpc {}",
         machine.clock(),

@@ -4,7 +4,7 @@ use Rattle.std.specs.Prelude.{if◌then◌else◌}
 use Rattle.std.specs.Option.{option_map, option_map_or}
 use Rattle.std.specs.List.{filter, flat_map}
 use Rattle.lists.specs.Lists.{first}
-use Rattle.lists.specs.FirstLemmas.{flat_map-append, first-before, first-behind}
+use Rattle.lists.proofs.FirstLemmas.{flat_map-append, first-before, first-behind}
 use Rattle.class_pool.specs.declared.class.Code.{Code}
 use Rattle.class_pool.specs.declared.class.Member.{Member}
 use Rattle.class_pool.specs.declared.class.ClassFile.{ClassFile}
@@ -19,7 +19,8 @@ use Rattle.program_tables.specs.FrameClasses.{classes_in_frames}
 use Rattle.program_tables.specs.declared.refusal.Why.{Why}
 use Rattle.program_tables.specs.declared.refusal.Why.TheVariants as reasons
 use Rattle.program_tables.specs.Kinds.{classes_in_method_descriptor}
-use Rattle.class_lookup.specs.Parts.{text_at, signature_of}
+use Rattle.class_lookup.specs.Parts.{signature_of}
+use Rattle.class_pool.specs.Grammar.{text_at}
 use Rattle.program_tables.specs.Unresolved.{ThisClass, FieldDescriptor, MethodDescriptor, AtInstruction, AtHandler, InFrame, unless, are_there, implements_all, mentions_in_code, mentions_in_method, why_named}
 use Rattle.unresolved_names.specs.Causes.{refused_entry, refused_class, refused_catch, refused_frame_class, refused_instruction, refused_mention, unresolved_mentions}
 

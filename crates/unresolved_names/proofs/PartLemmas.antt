@@ -1,7 +1,7 @@
 -- Classes that are found are there.
 use Rattle.std.proofs.Common.{◌≡◌, ℕ, zero, suc, ◌<◌, List, [], ◌∷◌, length, Option, Some, None, refl, arith}
 use Rattle.std.specs.Prelude.{slice_get, IfSome}
-use Rattle.lists.specs.Lemmas.{index_found}
+use Rattle.lists.proofs.Lemmas.{index_found}
 use Rattle.class_pool.specs.declared.class.ClassFile.{ClassFile}
 use Rattle.class_lookup.specs.Parts.{same_text, name_of}
 use Rattle.class_lookup.specs.Hierarchy.{find_class}

@@ -21,7 +21,8 @@ use Rattle.program_tables.specs.Instructions.{signature_in}
 use Rattle.program_tables.specs.Kinds.{class_in_entry, classes_in_field_descriptor, classes_in_method_descriptor}
 use Rattle.program_tables.specs.Operands.{class_named}
 use Rattle.program_tables.specs.Tables.{seen_in}
-use Rattle.program_tables.specs.Unresolved.{unless, are_there, is_there, is_free, may_name_entry, writes_field, needs_static_field, same_bool, calls_no_private, is_callable_name, why_field_named, why_field_found, why_method_named, why_method_found}
+use Rattle.program_tables.specs.Unresolved.{unless, are_there, is_there, is_free, may_name_entry, writes_field, needs_static_field, calls_no_private, is_callable_name, why_field_named, why_field_found, why_method_named, why_method_found}
+use Rattle.bytecode_model.specs.Effects.{same_bool}
 use Rattle.unresolved_names.specs.Causes.{signature_at}
 use Rattle.unresolved_names.specs.Words.{accessible_member, nameable_entry, usable_field, found_field_reason, field_reason, usable_method, rightly_named, rightly_special, right_method, found_method_reason, method_reason, class_use_reason, named_reason}
 

@@ -5,7 +5,8 @@ use Rattle.std.specs.List.{flat_map}
 use Rattle.class_pool.specs.declared.entry.Entry.{Entry}
 use Rattle.class_pool.specs.declared.class.ClassFile.{ClassFile}
 use Rattle.class_pool.specs.declared.class.Member.{Member}
-use Rattle.class_lookup.specs.Parts.{Signature, signature_of, text_at}
+use Rattle.class_lookup.specs.Parts.{Signature, signature_of}
+use Rattle.class_pool.specs.Grammar.{text_at}
 use Rattle.program_tables.specs.declared.refusal.Why.{Why}
 use Rattle.program_tables.specs.Placed.{supertype_entries}
 use Rattle.program_tables.specs.Instructions.{Placed, index_of_entry, named_in}

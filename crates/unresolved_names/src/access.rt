@@ -4,7 +4,8 @@ ghost use Rattle.class_lookup.specs.Parts.{Signature};
 ghost use Rattle.class_lookup.specs.Hierarchy.{is_concrete};
 ghost use Rattle.class_lookup.specs.Access.{are_in_one_package, is_accessible_class, is_related, is_writable_field};
 ghost use Rattle.program_tables.specs.Core.{is_boot};
-ghost use Rattle.program_tables.specs.Unresolved.{is_free, same_bool};
+ghost use Rattle.program_tables.specs.Unresolved.{is_free};
+ghost use Rattle.bytecode_model.specs.Effects.{same_bool};
 ghost use Rattle.unresolved_names.specs.Words.{accessible_member};
 
 use base::is_text;

@@ -1,21 +1,21 @@
 //! Fields that instructions name (JVM Specification SE 8, 5.4.3.2, 5.4.4, 6.5.getfield and the like).
-ghost use Rattle.std.specs.Prelude.{◌≡◌, ◌<◌, length, Some, slice_get};
+ghost use Rattle.std.specs.Prelude.{◌≡◌};
 ghost use Rattle.class_lookup.specs.Parts.{signature_of};
 ghost use Rattle.class_lookup.specs.Lookup.{field_at};
-ghost use Rattle.program_tables.specs.Operands.{class_named};
 ghost use Rattle.program_tables.specs.Unresolved.{needs_static_field, writes_field};
 ghost use Rattle.unresolved_names.specs.Causes.{signature_at};
-ghost use Rattle.unresolved_names.specs.Words.{field_reason, found_field_reason, nameable_entry, usable_field};
+ghost use Rattle.unresolved_names.specs.Words.{field_reason, found_field_reason, usable_field};
 
 use crate::access::{is_accessible_member, is_as_needed, is_free, is_writable_field};
+use crate::caller::{Caller, Through};
 use crate::names::{is_entry_there, is_field_there, may_name_entry};
-use crate::parts::{Through, class_named, field_at, field_found};
-use class_hierarchy::{Hierarchy, Place};
+use crate::parts::{class_named, field_at, field_found};
+use class_hierarchy::Place;
 use class_lookup::parts::{has_flags, text_at};
-use class_pool::{ClassFile, Member};
+use class_pool::Member;
 use class_rules::flags::ACC_STATIC;
 use opcodes::mnemonics::{GETSTATIC, PUTFIELD, PUTSTATIC};
-use program_tables::{TextTypes, Why};
+use program_tables::Why;
 
 fn needs_static_field(op: u8) -> bool
     ensures { result ≡ needs_static_field op }
@@ -32,67 +32,44 @@ fn writes_field(op: u8) -> bool
 /// Whether an instruction of the caller's method may use a field, which is named through a class.
 #[tactic(auto, using(crate::proofs::ReasonLemmas::field_used))]
 fn may_use_field(
-    classes: &Hierarchy,
-    caller: u32,
-    class: &ClassFile,
+    through: &Through<'_>,
     method: &Member,
     op: u8,
-    index: u16,
-    through: Through,
     place: Place,
     field: &Member,
 ) -> bool
-    requires caller { caller < length classes.now }
-    requires through { through.class < length classes.now }
-    requires named { class_named classes.now class.now index ≡ Some through.class }
-    requires may { through.may_be_named ≡ nameable_entry classes.now caller class.now index }
-    ensures { result ≡ usable_field classes.now caller class.now (signature_of class.now method.now) op index place field.now }
+    ensures { result ≡ usable_field through.now.caller.now.classes.now through.now.caller.now.namer.number through.now.caller.now.namer.class.now
+        (signature_of through.now.caller.now.namer.class.now method.now) op through.now.index place field.now }
 {
-    let _ = index;
-    if is_free(classes.classes(), caller) {
+    let caller = through.caller;
+    let classes = caller.classes;
+    let number = caller.namer.number;
+    if is_free(classes.classes(), number) {
         return true;
     }
     if !through.may_be_named {
         return false;
     }
-    if !is_accessible_member(classes, caller, through.class, place.class, field) {
+    if !is_accessible_member(classes, number, through.class, place.class, field) {
         return false;
     }
     if !writes_field(op) {
         return true;
     }
-    is_writable_field(
-        caller,
-        place.class,
-        text_at(&class.pool, method.name),
-        field,
-    )
+    let name = text_at(&caller.namer.class.pool, method.name);
+    is_writable_field(number, place.class, name, field)
 }
 
 /// Why a field that is found isn't resolved.
 #[tactic(auto, using(crate::proofs::ReasonLemmas::field_judged))]
-fn why_field_found(
-    classes: &Hierarchy,
-    caller: u32,
-    class: &ClassFile,
-    method: &Member,
-    op: u8,
-    index: u16,
-    through: Through,
-    place: Place,
-) -> Option<Why>
-    requires caller { caller < length classes.now }
-    requires through { through.class < length classes.now }
-    requires named { class_named classes.now class.now index ≡ Some through.class }
-    requires may { through.may_be_named ≡ nameable_entry classes.now caller class.now index }
-    ensures { result ≡ found_field_reason classes.now caller class.now (signature_of class.now method.now) op index place (field_at classes.now place) }
+fn why_field_found(through: &Through<'_>, method: &Member, op: u8, place: Place) -> Option<Why>
+    ensures { result ≡ found_field_reason through.now.caller.now.classes.now through.now.caller.now.namer.number through.now.caller.now.namer.class.now
+        (signature_of through.now.caller.now.namer.class.now method.now) op through.now.index place (field_at through.now.caller.now.classes.now place) }
 {
-    let Some(field) = field_at(classes.classes(), place) else {
+    let Some(field) = field_at(through.caller.classes.classes(), place) else {
         return Some(Why::NoField);
     };
-    if !may_use_field(
-        classes, caller, class, method, op, index, through, place, field,
-    ) {
+    if !may_use_field(through, method, op, place, field) {
         Some(Why::NotAccessible)
     } else if !is_as_needed(needs_static_field(op), has_flags(field.flags, ACC_STATIC)) {
         Some(Why::WrongKind)
@@ -105,35 +82,31 @@ fn why_field_found(
 /// name and descriptor.
 #[tactic(auto, unfolding(crate::specs::Words::field_reason))]
 pub(crate) fn why_field(
-    classes: &Hierarchy,
-    texts: &TextTypes<'_>,
-    caller: u32,
-    class: &ClassFile,
+    caller: &Caller<'_>,
     method: &Member,
     op: u8,
     index: u16,
     name: u16,
     descriptor: u16,
 ) -> Option<Why>
-    requires caller { caller < length classes.now }
-    requires own { slice_get classes.now caller ≡ Some class.now }
-    requires texts { texts.now ≡ classes.now }
-    ensures { result ≡ field_reason classes.now caller class.now (signature_of class.now method.now) op index (signature_at class.now.pool name descriptor) }
+    ensures { result ≡ field_reason caller.now.classes.now caller.now.namer.number caller.now.namer.class.now
+        (signature_of caller.now.namer.class.now method.now) op index (signature_at caller.now.namer.class.now.pool name descriptor) }
 {
-    if !is_entry_there(texts, caller, class, index)
-        || !is_field_there(texts, caller, class, descriptor)
-    {
+    let namer = &caller.namer;
+    if !is_entry_there(namer, index) || !is_field_there(namer, descriptor) {
         return Some(Why::NoClass);
     }
-    let Some(number) = class_named(classes.classes(), caller, class, index) else {
+    let Some(class) = class_named(namer, index) else {
         return Some(Why::NoField);
     };
-    let Some(place) = field_found(classes, caller, class, number, name, descriptor) else {
+    let Some(place) = field_found(caller, class, name, descriptor) else {
         return Some(Why::NoField);
     };
     let through = Through {
-        class: number,
-        may_be_named: may_name_entry(texts, caller, class, index),
+        caller,
+        index,
+        class,
+        may_be_named: may_name_entry(namer, index),
     };
-    why_field_found(classes, caller, class, method, op, index, through, place)
+    why_field_found(&through, method, op, place)
 }

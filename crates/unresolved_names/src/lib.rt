@@ -3,6 +3,7 @@
 #![tactic(auto)]
 
 mod access;
+mod caller;
 mod fields;
 mod frames;
 mod mentions;

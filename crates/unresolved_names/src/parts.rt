@@ -1,69 +1,57 @@
 //! The classes and members that references mean.
-ghost use Rattle.std.specs.Prelude.{◌≡◌, ◌<◌, length, IfSome, Some, slice_get};
+ghost use Rattle.std.specs.Prelude.{◌≡◌, ◌<◌, length, IfSome};
 ghost use Rattle.std.specs.Option.{option_copied};
 ghost use Rattle.class_lookup.specs.Lookup.{field_at, find_field, find_method};
 ghost use Rattle.program_tables.specs.Operands.{class_named};
 ghost use Rattle.unresolved_names.specs.Causes.{signature_at};
 
-use class_hierarchy::Hierarchy;
+use crate::caller::{Caller, Namer};
 use class_lookup::{Classes, Place};
-use class_pool::{ClassFile, Member};
+use class_pool::Member;
 
-/// The class that a Class entry of the caller names.
+/// The class that a Class entry names.
 #[tactic(auto, using(crate::proofs::PartLemmas::found_below))]
-pub(crate) fn class_named(
-    classes: &Classes,
-    caller: u32,
-    class: &ClassFile,
-    index: u16,
-) -> Option<u32>
-    requires caller { caller < length classes.now }
-    requires own { slice_get classes.now caller ≡ Some class.now }
-    ensures named { result ≡ class_named classes.now class.now index }
-    ensures below { IfSome result (λ n. n < length classes.now) }
+pub(crate) fn class_named(namer: &Namer<'_>, index: u16) -> Option<u32>
+    ensures named { result ≡ class_named namer.now.texts.now namer.now.class.now index }
+    ensures below { IfSome result (λ n. n < length namer.now.texts.now) }
 {
-    let _ = class;
-    classes.class_named(caller, index)
+    namer.texts.classes().class_named(namer.number, index)
 }
 
 /// The field of the name and descriptor at these indexes of the caller's pool, looked up from a class.
 pub(crate) fn field_found(
-    classes: &Hierarchy,
-    caller: u32,
-    class: &ClassFile,
-    number: u32,
+    caller: &Caller<'_>,
+    class: u32,
     name: u16,
     descriptor: u16,
 ) -> Option<Place>
-    requires caller { caller < length classes.now }
-    requires own { slice_get classes.now caller ≡ Some class.now }
-    requires below { number < length classes.now }
-    ensures { result ≡ find_field classes.now number (signature_at class.now.pool name descriptor) }
+    requires { class < length caller.now.classes.now }
+    ensures { result ≡ find_field caller.now.classes.now class (signature_at caller.now.namer.class.now.pool name descriptor) }
 {
-    let _ = class;
-    let texts = classes.classes();
-    let name = texts.symbol(caller, name);
-    classes.find_field_by(number, name, texts.symbol(caller, descriptor))
+    let number = caller.namer.number;
+    let texts = caller.classes.classes();
+    let name = texts.symbol(number, name);
+    caller
+        .classes
+        .find_field_by(class, name, texts.symbol(number, descriptor))
 }
 
 /// The method of the name and descriptor at these indexes of the caller's pool, looked up from a class.
 pub(crate) fn method_found(
-    classes: &Hierarchy,
-    caller: u32,
-    class: &ClassFile,
-    number: u32,
+    caller: &Caller<'_>,
+    class: u32,
     name: u16,
     descriptor: u16,
 ) -> Option<Place>
-    requires caller { caller < length classes.now }
-    requires own { slice_get classes.now caller ≡ Some class.now }
-    requires below { number < length classes.now }
-    ensures { result ≡ find_method classes.now number (signature_at class.now.pool name descriptor) }
+    requires { class < length caller.now.classes.now }
+    ensures { result ≡ find_method caller.now.classes.now class (signature_at caller.now.namer.class.now.pool name descriptor) }
 {
-    let _ = class;
-    let texts = classes.classes();
-    let name = texts.symbol(caller, name);
-    classes.find_method_by(number, name, texts.symbol(caller, descriptor))
+    let number = caller.namer.number;
+    let texts = caller.classes.classes();
+    let name = texts.symbol(number, name);
+    caller
+        .classes
+        .find_method_by(class, name, texts.symbol(number, descriptor))
 }
 
 /// The field of this place.
@@ -79,11 +67,4 @@ pub(crate) fn field_at(classes: &Classes, place: Place) -> Option<&Member>
     } else {
         None
     }
-}
-
-/// The class through which a member is named, and whether the caller may name it.
-#[derive(Clone, Copy)]
-pub(crate) struct Through {
-    pub(crate) class: u32,
-    pub(crate) may_be_named: bool,
 }

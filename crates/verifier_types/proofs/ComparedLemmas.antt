@@ -3,7 +3,7 @@ use Rattle.std.proofs.Common.{◌≡◌, ℕ, zero, suc, ◌<◌, ◌≤◌, Boo
 use Rattle.std.specs.Prelude.{slice_get, IfSome}
 use Rattle.std.specs.Option.{option_map}
 use Rattle.std.proofs.lemmas.Bool.{cases_lt}
-use Rattle.lists.specs.Lemmas.{none≢some, some_same}
+use Rattle.lists.proofs.Lemmas.{none≢some, some_same}
 use Rattle.persistent_lists.specs.Tables as tables
 use Rattle.persistent_lists.specs.Tables.{ListTable}
 use Rattle.persistent_lists.specs.Answers.{difference, ArePassed}

@@ -6,7 +6,7 @@ use Rattle.std.specs.List.{position, position_or_len, IsDistinct}
 use Rattle.std.specs.Bool.{Decides}
 use Rattle.std.proofs.lemmas.Bool.{false≢true, lt-ltb, ltb-false}
 use Rattle.std.proofs.lemmas.Map.Keys.{apart_from_distinct}
-use Rattle.lists.specs.Lemmas.{none≢some, some_same}
+use Rattle.lists.proofs.Lemmas.{none≢some, some_same}
 use Rattle.persistent_lists.specs.Tables as tables
 use Rattle.persistent_lists.specs.Tables.{ListTable}
 use Rattle.verifier_types.specs.declared.types.VarType.{VarType}

@@ -4,7 +4,7 @@ use Rattle.std.specs.Prelude.{slice_get, if◌then◌else◌}
 use Rattle.std.specs.Option.{option_map}
 use Rattle.std.proofs.lemmas.Bool.{cases_eq, cases_lt, eqb-true}
 use Rattle.std.proofs.lemmas.Option.{slice_get-map}
-use Rattle.lists.specs.Lemmas.{none≢some}
+use Rattle.lists.proofs.Lemmas.{none≢some}
 use Rattle.bytecode_typing.specs.Types.{VarType, Uninitialized, UninitializedThis, is_initialized, substituted}
 use Rattle.verifier_types.specs.Written.{IsSubstitutedAt}
 use Rattle.verifier_types.specs.Numbered.{HoldsUpTo}

@@ -32,7 +32,7 @@ pub fn check_branch(
     taken: &[NumberType],
     target: Option<&TypeFrame>,
 ) -> Checked
-    ensures checks { let ls = lists_seen lists.old in (s : Site) (test : rows.Takes (map number_seen taken.now) Bool) (offset : ℤ)
+    ensures checks { let ls = lists_seen lists.old in (s : Site) (test : rows.FunctionOf (map number_seen taken.now) Bool) (offset : ℤ)
         → s.program ≡ resolved lists.old.classes → target_at s (frame_seen ls frame.old) offset ≡ frame_at_seen ls target.entry → ChecksIn ls s (rows.Branch
         (map number_seen taken.now) test offset) frame.old result frame.new }
     ensures kept { lists.new ≡ lists.old }

@@ -29,7 +29,7 @@ pub fn check_compute(
     taken: &[NumberType],
     given: NumberType,
 ) -> Result<Checked, NoMemory>
-    ensures { IfOk result (λ c. (s : Site) (compute : rows.Takes (map number_seen taken.now) (Option ℤ))
+    ensures { IfOk result (λ c. (s : Site) (compute : rows.FunctionOf (map number_seen taken.now) (Option ℤ))
         → Checks s (rows.Compute (map number_seen taken.now) (number_seen given) compute) frame.old c frame.new) }
 {
     if !frame.operands.pop_numbers(taken) {

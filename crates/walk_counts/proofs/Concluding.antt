@@ -7,7 +7,7 @@ use Rattle.std.proofs.lemmas.List.Sums.{sum_by-cons}
 use Rattle.lists.specs.Members.{at_head, in_tail, cons_cases, nil_contains, has_or_not}
 use Rattle.loop_nest.specs.Digraph.{Digraph}
 use Rattle.section_check.specs.Bounded.{BoundedLoop, holds, entries, IsKept}
-use Rattle.section_check.specs.Placing.{IsAt}
+use Rattle.section_check.specs.Placing.{IsEntryAt}
 use Rattle.section_check.proofs.Elements.{contains_from_holds, holds_from_contains}
 use Rattle.path_solver.proofs.Keeping.{all_from_contains}
 use Rattle.walk_counts.specs.Counts.{AreCounts}
@@ -89,12 +89,12 @@ module _ (g : Digraph) (loops : List BoundedLoop) (natural : AreNatural g loops)
     pub exit : Contains g.exits last
     pub goes : GoesRound g loops natural done last nodes
     pub visits_are : (u : ℕ) → get_or visits u 0 ≡ times u nodes
-    pub entered_are : (i : ℕ) (l : BoundedLoop) → IsAt loops i l → Contains done l.header → get_or entered i 0 ≡ entries l.members nodes
-    pub entered_none : (i : ℕ) (l : BoundedLoop) → IsAt loops i l → ¬ Contains done l.header → get_or entered i 0 ≡ 0
+    pub entered_are : (i : ℕ) (l : BoundedLoop) → IsEntryAt loops i l → Contains done l.header → get_or entered i 0 ≡ entries l.members nodes
+    pub entered_none : (i : ℕ) (l : BoundedLoop) → IsEntryAt loops i l → ¬ Contains done l.header → get_or entered i 0 ≡ 0
     pub spent : total loops cost_at fees done nodes ≡ value
 
   module _ (done visits entered : List ℕ) (c : IsCounted done visits entered) (all : (u : ℕ) → Contains c.nodes u → Contains done u) where
-    keeps : (i : ℕ) (l : BoundedLoop) → IsAt loops i l → IsKept c.nodes l
+    keeps : (i : ℕ) (l : BoundedLoop) → IsEntryAt loops i l → IsKept c.nodes l
     keeps i l at = elim (has_or_not done l.header) [
       | inl there ↦ kept l.members l.header l.bound l.load c.nodes (c.goes.went i l at there)
       | inr not ↦
@@ -102,7 +102,7 @@ module _ (g : Digraph) (loops : List BoundedLoop) (natural : AreNatural g loops)
           (keeps_fresh l.members l.header (holds_from_contains l.members l.header (natural.own i l at)) l.bound c.nodes (c.goes.fresh i l at not))
     ]
 
-    none_entered : (i : ℕ) (l : BoundedLoop) → IsAt loops i l → ¬ Contains done l.header → entries l.members c.nodes ≡ 0
+    none_entered : (i : ℕ) (l : BoundedLoop) → IsEntryAt loops i l → ¬ Contains done l.header → entries l.members c.nodes ≡ 0
     none_entered i l at not = entries_once g loops natural i l at c.goes.walk (c.goes.fresh i l at not) ∙ times_none l.header c.nodes (λ there. not (all l.header there))
 
     nodes_cost : sum_by (λ u. cost_at u + left_fee fees done u) c.nodes ≡ sum_by cost_at c.nodes
@@ -144,8 +144,8 @@ module _ (g : Digraph) (loops : List BoundedLoop) (natural : AreNatural g loops)
 
   module _ (done visits entered : List ℕ) (c : IsCounted done visits entered) where
     -- one that heads no loop
-    module _ (u : ℕ) (plain : (i : ℕ) (l : BoundedLoop) → IsAt loops i l → l.header ≢ u) (free : fees u ≡ 0) where
-      still : (i : ℕ) (l : BoundedLoop) → IsAt loops i l → Contains (done ++ u ∷ []) l.header → Contains done l.header
+    module _ (u : ℕ) (plain : (i : ℕ) (l : BoundedLoop) → IsEntryAt loops i l → l.header ≢ u) (free : fees u ≡ 0) where
+      still : (i : ℕ) (l : BoundedLoop) → IsEntryAt loops i l → Contains (done ++ u ∷ []) l.header → Contains done l.header
       still i l at there = elim (Contains-append_cases done (u ∷ []) l.header there) [
         | inl before ↦ before
         | inr here ↦ elim (cons_cases u l.header [] here) [ inl same ↦ absurd (plain i l at (sym same)) | inr never ↦ absurd (nil_contains l.header never) ]
@@ -162,7 +162,7 @@ module _ (g : Digraph) (loops : List BoundedLoop) (natural : AreNatural g loops)
         | inr other ↦ ap (λ (t : Bool). cond t 0 (fees x)) (holds_behind done u x other)
       ]
 
-      same_paid : (i : ℕ) (l : BoundedLoop) → IsAt loops i l → paid (done ++ u ∷ []) c.nodes l ≡ paid done c.nodes l
+      same_paid : (i : ℕ) (l : BoundedLoop) → IsEntryAt loops i l → paid (done ++ u ∷ []) c.nodes l ≡ paid done c.nodes l
       same_paid i l at = ap (λ (t : Bool). cond t (l.load * entries l.members c.nodes) 0) (holds_behind done u l.header (plain i l at))
 
       pub plain_node : IsCounted (done ++ u ∷ []) visits entered
@@ -186,8 +186,8 @@ module _ (g : Digraph) (loops : List BoundedLoop) (natural : AreNatural g loops)
       }
 
     -- one that heads loop i, whose entries are noted, where the loops around it were before
-    module _ (i : ℕ) (l : BoundedLoop) (at : IsAt loops i l) (not_done : ¬ Contains done l.header)
-        (outer : (j : ℕ) (m : BoundedLoop) → IsAt loops j m → Contains done m.header → ¬ Contains l.members m.header) (noted : List ℕ) (here : get_or noted i 0 ≡ get_or visits l.header 0)
+    module _ (i : ℕ) (l : BoundedLoop) (at : IsEntryAt loops i l) (not_done : ¬ Contains done l.header)
+        (outer : (j : ℕ) (m : BoundedLoop) → IsEntryAt loops j m → Contains done m.header → ¬ Contains l.members m.header) (noted : List ℕ) (here : get_or noted i 0 ≡ get_or visits l.header 0)
         (others : (j : ℕ) → j ≢ i → get_or noted j 0 ≡ get_or entered j 0) where
       abbrev more : List ℕ
       more = done ++ l.header ∷ []
@@ -195,7 +195,7 @@ module _ (g : Digraph) (loops : List BoundedLoop) (natural : AreNatural g loops)
       abbrev k : ℕ
       k = times l.header c.nodes
 
-      own_apart : (j : ℕ) (m : BoundedLoop) → IsAt loops j m → j ≢ i → m.header ≢ l.header
+      own_apart : (j : ℕ) (m : BoundedLoop) → IsEntryAt loops j m → j ≢ i → m.header ≢ l.header
       own_apart j m at' other same = other (natural.apart j i m l at' at same)
 
       entered_once : entries l.members c.nodes ≡ k
@@ -205,7 +205,7 @@ module _ (g : Digraph) (loops : List BoundedLoop) (natural : AreNatural g loops)
       in_more = Contains-append_right done (l.header ∷ []) l.header (at_head l.header [])
 
       -- the entries of the walk so far are noted
-      noted_are : (j : ℕ) (m : BoundedLoop) → IsAt loops j m → Contains more m.header → get_or noted j 0 ≡ entries m.members c.nodes
+      noted_are : (j : ℕ) (m : BoundedLoop) → IsEntryAt loops j m → Contains more m.header → get_or noted j 0 ≡ entries m.members c.nodes
       noted_are j m at' there = elim (cases_eq j i) [
         | inl same ↦
             let is : m ≡ l = one_at loops j i m l at' at same in
@@ -219,7 +219,7 @@ module _ (g : Digraph) (loops : List BoundedLoop) (natural : AreNatural g loops)
             ])
       ]
 
-      noted_none : (j : ℕ) (m : BoundedLoop) → IsAt loops j m → ¬ Contains more m.header → get_or noted j 0 ≡ 0
+      noted_none : (j : ℕ) (m : BoundedLoop) → IsEntryAt loops j m → ¬ Contains more m.header → get_or noted j 0 ≡ 0
       noted_none j m at' not =
           others j (λ same. not (subst (λ (x : BoundedLoop). Contains more x.header) (sym (one_at loops j i m l at' at same)) in_more))
           ∙ c.entered_none j m at' (λ there. not (Contains-append_left done (l.header ∷ []) m.header there))

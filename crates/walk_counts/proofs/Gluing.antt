@@ -8,10 +8,10 @@ use Rattle.loop_nest.specs.Digraph.{Digraph}
 use Rattle.loop_nest.specs.Nest.{NaturalLoop}
 use Rattle.loop_nest.specs.Walks.{Walk, stay, along}
 use Rattle.section_check.specs.Bounded.{BoundedLoop}
-use Rattle.section_check.specs.Placing.{IsAt}
-use Rattle.path_solver.specs.Distances.{limit, sources_at}
+use Rattle.section_check.specs.Placing.{IsEntryAt}
+use Rattle.path_solver.specs.Distances.{distance_limit, sources_at}
 use Rattle.path_solver.specs.Longest.{bounded_loops}
-use Rattle.path_solver.specs.Problem.{IsMeasured, IsSetting}
+use Rattle.path_solver.specs.Problem.{IsMeasured, IsProblem}
 use Rattle.path_solver.specs.Reaching.{IsFlagged}
 use Rattle.path_solver.proofs.Order.{taken_at, take_grows}
 use Rattle.path_solver.proofs.Structure as structure
@@ -36,7 +36,7 @@ module _ (q : Problem) (posed : IsPosed q) where
   abbrev pub m : IsMeasured g nest flags q.found.now.topology q.costs.now q.bounds.now q.loads.now q.found.now.iteration_costs.items q.found.now.fees.items q.found.now.dist.items
   m = posed.measured
 
-  abbrev pub s : IsSetting g nest flags q.found.now.topology
+  abbrev pub s : IsProblem g nest flags q.found.now.topology
   s = m.setting
 
   abbrev pub all : List BoundedLoop
@@ -48,7 +48,7 @@ module _ (q : Problem) (posed : IsPosed q) where
   abbrev order : List ℕ
   order = q.found.now.topology.order.items
 
-  abbrev pub of : (i : ℕ) (k : BoundedLoop) → IsAt all i k → IsOf g nest flags q.found.now.topology s q.bounds.now q.loads.now m.bounds_long m.loads_long i k
+  abbrev pub of : (i : ℕ) (k : BoundedLoop) → IsEntryAt all i k → IsOf g nest flags q.found.now.topology s q.bounds.now q.loads.now m.bounds_long m.loads_long i k
   of i k at = loop_of g nest flags q.found.now.topology s q.bounds.now q.loads.now m.bounds_long m.loads_long i k at
 
   goes_on : (u v : ℕ) → Contains (sources q v) u → rounds.GoesOn g all lie u v
@@ -67,7 +67,7 @@ module _ (q : Problem) (posed : IsPosed q) where
 
   -- ---- within a loop
 
-  module _ (i : ℕ) (k : BoundedLoop) (at : IsAt all i k) where
+  module _ (i : ℕ) (k : BoundedLoop) (at : IsEntryAt all i k) where
     -- a path that ends at a member and doesn't come to the header stays inside
     all_inside : {u w : ℕ} {xs : List ℕ} → Path q u w xs → ((x : ℕ) → Contains xs x → x ≢ k.header) → Contains k.members w → (x : ℕ) → Contains xs x → Contains k.members x
     all_inside (rests {u}) others inside x c = elim (cons_cases u x [] c) [
@@ -118,7 +118,7 @@ module _ (q : Problem) (posed : IsPosed q) where
   before j = take j order
 
   -- a loop's header stands before its other members
-  header_first : (i : ℕ) (k : BoundedLoop) → IsAt all i k → (j : ℕ) → IsFlagged flags k.header → (x : ℕ) → Contains (before j) x → Contains k.members x → x ≢ k.header → Contains (before j) k.header
+  header_first : (i : ℕ) (k : BoundedLoop) → IsEntryAt all i k → (j : ℕ) → IsFlagged flags k.header → (x : ℕ) → Contains (before j) x → Contains k.members x → x ≢ k.header → Contains (before j) k.header
   header_first i k at j flag x c inside other =
       let r = of i k at in
       let P : List ℕ → Type 0 = λ ms. Contains ms x in
@@ -132,13 +132,13 @@ module _ (q : Problem) (posed : IsPosed q) where
       subst S (sym r.header) (take_grows order place.0 j r.loop.header (omega arith) first)
 
   -- what comes before a node in the order, of the loops of which another's header is a member
-  pub outer_done : (j i : ℕ) (k : BoundedLoop) → IsAt all i k → IsFlagged flags k.header → ¬ Contains (before j) k.header → (i' : ℕ) (k' : BoundedLoop) → IsAt all i' k' → Contains (before j) k'.header → ¬ Contains k.members k'.header
+  pub outer_done : (j i : ℕ) (k : BoundedLoop) → IsEntryAt all i k → IsFlagged flags k.header → ¬ Contains (before j) k.header → (i' : ℕ) (k' : BoundedLoop) → IsEntryAt all i' k' → Contains (before j) k'.header → ¬ Contains k.members k'.header
   outer_done j i k at flag not_done i' k' at' there inside =
       not_done
       (header_first i k at j flag k'.header there inside
       (λ same. not_done (let P : ℕ → Type 0 = λ z. Contains (before j) z in subst P same there)))
 
-  pub inner_later : (j i : ℕ) (k : BoundedLoop) → IsAt all i k → IsFlagged flags k.header → ¬ Contains (before j) k.header → (x : ℕ) → Contains k.members x → x ≢ k.header → ¬ Contains (before j) x
+  pub inner_later : (j i : ℕ) (k : BoundedLoop) → IsEntryAt all i k → IsFlagged flags k.header → ¬ Contains (before j) k.header → (x : ℕ) → Contains k.members x → x ≢ k.header → ¬ Contains (before j) x
   inner_later j i k at flag not_done x inside other there = not_done (header_first i k at j flag x there inside other)
 
   -- ---- at first, and at last
@@ -152,7 +152,7 @@ module _ (q : Problem) (posed : IsPosed q) where
       let entry = s.digraph.entry in
       let a = m.loop_costs.fees_long in
       let b = m.costs_long in
-      let small : fee_of q 0 ≤ limit = All-get_or (λ d. d ≤ limit) q.found.now.fees.items 0 0 (omega arith) m.loop_costs.limited_fees in
+      let small : fee_of q 0 ≤ distance_limit = All-get_or (λ d. d ≤ distance_limit) q.found.now.fees.items 0 0 (omega arith) m.loop_costs.limited_fees in
       let is = by.is in
       elim by.most.attained [
         | inl none ↦ let zero' = none.1 in omega arith

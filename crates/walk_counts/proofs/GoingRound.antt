@@ -8,7 +8,7 @@ use Rattle.lists.specs.Members.{at_head, cons_cases, nil_contains, has_or_not}
 use Rattle.loop_nest.specs.Digraph.{Digraph, Edge}
 use Rattle.loop_nest.specs.Walks.{Walk, stay, along}
 use Rattle.section_check.specs.Bounded.{BoundedLoop, holds, entries}
-use Rattle.section_check.specs.Placing.{IsAt}
+use Rattle.section_check.specs.Placing.{IsEntryAt}
 use Rattle.section_check.proofs.Elements.{contains_from_holds, holds_from_contains}
 use Rattle.walk_counts.proofs.Expanding.{expand, times, sum_expand, expanded}
 use Rattle.walk_counts.proofs.Keeping.{Keeps, Fresh, EntersAt, entries_expand, entries_fresh, keeps_expand, keeps_own, keeps_fresh, fresh_expand}
@@ -16,14 +16,14 @@ use Rattle.walk_counts.proofs.Sums.{sum_apart, sum_one}
 
 -- the loops of a graph, as far as they are asked for here
 pub record AreNatural (g : Digraph) (loops : List BoundedLoop) : Type 0 where
-  pub own : (i : ℕ) (l : BoundedLoop) → IsAt loops i l → Contains l.members l.header
-  pub entered : (i : ℕ) (l : BoundedLoop) → IsAt loops i l → (u v : ℕ) → Edge g u v → Contains l.members v → ¬ Contains l.members u → v ≡ l.header
-  pub entry : (i : ℕ) (l : BoundedLoop) → IsAt loops i l → Contains l.members 0 → l.header ≡ 0
-  pub apart : (i j : ℕ) (l m : BoundedLoop) → IsAt loops i l → IsAt loops j m → l.header ≡ m.header → i ≡ j
-  pub within : (i j : ℕ) (l m : BoundedLoop) → IsAt loops i l → IsAt loops j m → Contains m.members l.header → (x : ℕ) → Contains l.members x → Contains m.members x
-  pub nested : (i j : ℕ) (l m : BoundedLoop) (x : ℕ) → IsAt loops i l → IsAt loops j m → Contains l.members x → Contains m.members x → Contains m.members l.header ⊎ Contains l.members m.header
+  pub own : (i : ℕ) (l : BoundedLoop) → IsEntryAt loops i l → Contains l.members l.header
+  pub entered : (i : ℕ) (l : BoundedLoop) → IsEntryAt loops i l → (u v : ℕ) → Edge g u v → Contains l.members v → ¬ Contains l.members u → v ≡ l.header
+  pub entry : (i : ℕ) (l : BoundedLoop) → IsEntryAt loops i l → Contains l.members 0 → l.header ≡ 0
+  pub apart : (i j : ℕ) (l m : BoundedLoop) → IsEntryAt loops i l → IsEntryAt loops j m → l.header ≡ m.header → i ≡ j
+  pub within : (i j : ℕ) (l m : BoundedLoop) → IsEntryAt loops i l → IsEntryAt loops j m → Contains m.members l.header → (x : ℕ) → Contains l.members x → Contains m.members x
+  pub nested : (i j : ℕ) (l m : BoundedLoop) (x : ℕ) → IsEntryAt loops i l → IsEntryAt loops j m → Contains l.members x → Contains m.members x → Contains m.members l.header ⊎ Contains l.members m.header
 
-pub one_at : (loops : List BoundedLoop) (j i : ℕ) (m l : BoundedLoop) → IsAt loops j m → IsAt loops i l → j ≡ i → m ≡ l
+pub one_at : (loops : List BoundedLoop) (j i : ℕ) (m l : BoundedLoop) → IsEntryAt loops j m → IsEntryAt loops i l → j ≡ i → m ≡ l
 one_at loops j i m l a b same = sym a.1 ∙ (get_or_default loops j m l a.0 ∙ (ap (λ (k : ℕ). get_or loops k l) same ∙ b.1))
 
 -- the test by which members are told apart
@@ -38,7 +38,7 @@ same_holds ms x y to from = elim (has_or_not ms x) [
 module _ (g : Digraph) (loops : List BoundedLoop) (natural : AreNatural g loops) where
   -- the loop that the edge goes to is not the edge's own: it closes none
   abbrev pub GoesOn : ℕ → ℕ → Type 0
-  GoesOn u v = (i : ℕ) (l : BoundedLoop) → IsAt loops i l → l.header ≡ v → ¬ Contains l.members u
+  GoesOn u v = (i : ℕ) (l : BoundedLoop) → IsEntryAt loops i l → l.header ≡ v → ¬ Contains l.members u
 
   -- a walk along edges that close no loop
   pub data Onward : ℕ → ℕ → List ℕ → Type 0 where
@@ -49,7 +49,7 @@ module _ (g : Digraph) (loops : List BoundedLoop) (natural : AreNatural g loops)
   onward_walk rests = stay
   onward_walk (steps e on t) = along e (onward_walk t)
 
-  module _ (i : ℕ) (l : BoundedLoop) (at : IsAt loops i l) where
+  module _ (i : ℕ) (l : BoundedLoop) (at : IsEntryAt loops i l) where
     onward_fresh : {u w : ℕ} {ns : List ℕ} → Onward u w ns → (inside : Bool) → (inside ≡ true → u ≢ l.header) → Fresh l.members l.header inside ns
     onward_fresh rests inside first = (first, tt)
     onward_fresh (steps {u} {v} e on t) inside first =
@@ -74,8 +74,8 @@ module _ (g : Digraph) (loops : List BoundedLoop) (natural : AreNatural g loops)
   -- the loops with these headers are gone round as often as they may be, the others not
   pub record GoesRound (done : List ℕ) (last : ℕ) (ns : List ℕ) : Type 0 where
     pub walk : Walk g 0 last ns
-    pub went : (i : ℕ) (l : BoundedLoop) → IsAt loops i l → Contains done l.header → Keeps l.members l.header l.bound None ns
-    pub fresh : (i : ℕ) (l : BoundedLoop) → IsAt loops i l → ¬ Contains done l.header → Fresh l.members l.header false ns
+    pub went : (i : ℕ) (l : BoundedLoop) → IsEntryAt loops i l → Contains done l.header → Keeps l.members l.header l.bound None ns
+    pub fresh : (i : ℕ) (l : BoundedLoop) → IsEntryAt loops i l → ¬ Contains done l.header → Fresh l.members l.header false ns
 
   pub goes_at_first : (last : ℕ) (ns : List ℕ) → Onward 0 last ns → GoesRound [] last ns
   goes_at_first last ns t = record {
@@ -94,8 +94,8 @@ module _ (g : Digraph) (loops : List BoundedLoop) (natural : AreNatural g loops)
     pub others : (x : ℕ) → Contains rest x → x ≢ l.header
 
   -- loop i, whose header isn't done, while the headers of all loops around it are, and none inside it
-  module _ (done : List ℕ) (i : ℕ) (l : BoundedLoop) (at : IsAt loops i l) (not_done : ¬ Contains done l.header)
-      (outer : (j : ℕ) (m : BoundedLoop) → IsAt loops j m → Contains done m.header → ¬ Contains l.members m.header) where
+  module _ (done : List ℕ) (i : ℕ) (l : BoundedLoop) (at : IsEntryAt loops i l) (not_done : ¬ Contains done l.header)
+      (outer : (j : ℕ) (m : BoundedLoop) → IsEntryAt loops j m → Contains done m.header → ¬ Contains l.members m.header) where
     abbrev pub done_more : List ℕ
     done_more = done ++ l.header ∷ []
 
@@ -103,17 +103,17 @@ module _ (g : Digraph) (loops : List BoundedLoop) (natural : AreNatural g loops)
     now_done = Contains-append_right done (l.header ∷ []) l.header (at_head l.header [])
 
     -- the members of the loop are all in a loop that is done, or none
-    alike_done : (j : ℕ) (m : BoundedLoop) → IsAt loops j m → Contains done m.header → (x : ℕ) → Contains l.members x → holds m.members x ≡ holds m.members l.header
+    alike_done : (j : ℕ) (m : BoundedLoop) → IsEntryAt loops j m → Contains done m.header → (x : ℕ) → Contains l.members x → holds m.members x ≡ holds m.members l.header
     alike_done j m at' c x inside =
         same_holds m.members x l.header
         (λ there. elim (natural.nested i j l m x at at' inside there) [ inl around ↦ around | inr within ↦ absurd (outer j m at' c within) ])
         (λ around. natural.within i j l m at at' around x inside)
 
-    not_own : (j : ℕ) (m : BoundedLoop) → IsAt loops j m → Contains done m.header → (x : ℕ) → Contains l.members x → x ≢ m.header
+    not_own : (j : ℕ) (m : BoundedLoop) → IsEntryAt loops j m → Contains done m.header → (x : ℕ) → Contains l.members x → x ≢ m.header
     not_own j m at' c x inside same = outer j m at' c (subst (λ (z : ℕ). Contains l.members z) same inside)
 
     -- the loop itself, or one that was done or wasn't
-    done_cases : (j : ℕ) (m : BoundedLoop) → IsAt loops j m → Contains done_more m.header → Contains done m.header ⊎ ((j ≡ i) × (m ≡ l))
+    done_cases : (j : ℕ) (m : BoundedLoop) → IsEntryAt loops j m → Contains done_more m.header → Contains done m.header ⊎ ((j ≡ i) × (m ≡ l))
     done_cases j m at' c = elim (Contains-append_cases done (l.header ∷ []) m.header c) [
       | inl before ↦ inl before
       | inr here ↦
@@ -176,7 +176,7 @@ module _ (g : Digraph) (loops : List BoundedLoop) (natural : AreNatural g loops)
         }
 
         -- iterations enter no loop that is done
-        pub entries_stay : (j : ℕ) (m : BoundedLoop) → IsAt loops j m → Contains done_more m.header → entries m.members round ≡ entries m.members ns
+        pub entries_stay : (j : ℕ) (m : BoundedLoop) → IsEntryAt loops j m → Contains done_more m.header → entries m.members round ≡ entries m.members ns
         entries_stay j m at' c =
             elim (done_cases j m at' c) [
               | inl before ↦ entries_expand m.members l.header (l.header ∷ rest) (λ x c'. alike_done j m at' before x (member x c')) l.bound false ns
@@ -207,8 +207,8 @@ module _ (loops : List BoundedLoop) (cost fees : ℕ → ℕ) where
   abbrev pub total : (done ns : List ℕ) → ℕ
   total done ns = sum_by (λ u. cost u + left_fee fees done u) ns + sum_by (paid done ns) loops
 
-  module _ (done : List ℕ) (i : ℕ) (l : BoundedLoop) (at : IsAt loops i l) (not_done : ¬ Contains done l.header)
-      (apart : (j : ℕ) (m : BoundedLoop) → IsAt loops j m → j ≢ i → m.header ≢ l.header) where
+  module _ (done : List ℕ) (i : ℕ) (l : BoundedLoop) (at : IsEntryAt loops i l) (not_done : ¬ Contains done l.header)
+      (apart : (j : ℕ) (m : BoundedLoop) → IsEntryAt loops j m → j ≢ i → m.header ≢ l.header) where
     abbrev more : List ℕ
     more = done ++ l.header ∷ []
 
@@ -229,7 +229,7 @@ module _ (loops : List BoundedLoop) (cost fees : ℕ → ℕ) where
 
     -- so many iterations of this path, after which the entries of what is done are as before
     pub total_more : (ns all p : List ℕ) (n iteration_cost : ℕ) → all ≡ expand l.header p n ns
-        → ((j : ℕ) (m : BoundedLoop) → IsAt loops j m → Contains more m.header → entries m.members all ≡ entries m.members ns) → entries l.members ns ≡ times l.header ns
+        → ((j : ℕ) (m : BoundedLoop) → IsEntryAt loops j m → Contains more m.header → entries m.members all ≡ entries m.members ns) → entries l.members ns ≡ times l.header ns
         → sum_by (λ u. cost u + left_fee fees more u) p ≡ iteration_cost → times l.header ns * fees l.header ≡ times l.header ns * (n * iteration_cost + l.load) → total more all ≡ total done ns
     total_more ns all p n iteration_cost is same once it fee =
         let f : ℕ → ℕ = λ u. cost u + left_fee fees done u in
@@ -251,7 +251,7 @@ module _ (loops : List BoundedLoop) (cost fees : ℕ → ℕ) where
         sum_one (paid done ns) (paid more all) loops i l (l.load * k) at own (λ j m at' other. paid_other j m at' (apart j m at' other)) in
         omega (arith, a, b', c, fee)
       where
-        paid_other : (j : ℕ) (m : BoundedLoop) → IsAt loops j m → m.header ≢ l.header → paid more all m ≡ paid done ns m
+        paid_other : (j : ℕ) (m : BoundedLoop) → IsEntryAt loops j m → m.header ≢ l.header → paid more all m ≡ paid done ns m
         paid_other j m at' other = elim (has_or_not done m.header) [
           | inl there ↦
               let c : Contains more m.header = Contains-append_left done (l.header ∷ []) m.header there in

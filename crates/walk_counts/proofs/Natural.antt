@@ -3,17 +3,17 @@ use Rattle.std.proofs.Common.{◌≡◌, ℕ, zero, suc, Bool, List, [], ◌∷�
 use Rattle.loop_nest.specs.Digraph.{Digraph}
 use Rattle.loop_nest.specs.Nest.{NaturalLoop}
 use Rattle.section_check.specs.Bounded.{BoundedLoop}
-use Rattle.section_check.specs.Placing.{IsAt}
+use Rattle.section_check.specs.Placing.{IsEntryAt}
 use Rattle.path_solver.specs.declared.topology.TopologicalOrder.{TopologicalOrder}
 use Rattle.path_solver.specs.Longest.{bounded_loops}
-use Rattle.path_solver.specs.Problem.{IsSetting}
+use Rattle.path_solver.specs.Problem.{IsProblem}
 use Rattle.path_solver.proofs.Loops.{same_place}
 use Rattle.path_solver.proofs.Nesting.{contained}
 use Rattle.path_solver.proofs.Structure as structure
 use Rattle.walk_counts.proofs.GoingRound.{AreNatural}
 
 -- the loop of the nest at the place of a bounded one
-from_at : (loops : List NaturalLoop) (bounds loads : List ℕ) (i : ℕ) (k : BoundedLoop) → IsAt (bounded_loops loops bounds loads) i k → (l : NaturalLoop) × IsAt loops i l × (k.header ≡ l.header) × (k.members ≡ l.members)
+from_at : (loops : List NaturalLoop) (bounds loads : List ℕ) (i : ℕ) (k : BoundedLoop) → IsEntryAt (bounded_loops loops bounds loads) i k → (l : NaturalLoop) × IsEntryAt loops i l × (k.header ≡ l.header) × (k.members ≡ l.members)
 from_at [] bounds loads i k at = absurd (let below = at.0 in omega arith)
 from_at (l ∷ ls) [] loads i k at = absurd (let below = at.0 in omega arith)
 from_at (l ∷ ls) (x ∷ xs) [] i k at = absurd (let below = at.0 in omega arith)
@@ -24,19 +24,19 @@ from_at (l ∷ ls) (x ∷ xs) (y ∷ ys) (suc i) k at =
     let lt = r.1.0 in
     (r.0, (omega arith, r.1.1), r.2, r.3)
 
-module _ (g : Digraph) (loops : List NaturalLoop) (flags : List Bool) (p : TopologicalOrder) (h : IsSetting g loops flags p) (bounds loads : List ℕ) (b : length bounds ≡ length loops) (m : length loads ≡ length loops) where
+module _ (g : Digraph) (loops : List NaturalLoop) (flags : List Bool) (p : TopologicalOrder) (h : IsProblem g loops flags p) (bounds loads : List ℕ) (b : length bounds ≡ length loops) (m : length loads ≡ length loops) where
   abbrev all : List BoundedLoop
   all = bounded_loops loops bounds loads
 
   -- the loop of the nest at the same place
   pub record IsOf (i : ℕ) (k : BoundedLoop) : Type 0 where
     pub loop : NaturalLoop
-    pub at : IsAt loops i loop
+    pub at : IsEntryAt loops i loop
     pub among : Contains loops loop
     pub header : k.header ≡ loop.header
     pub members : k.members ≡ loop.members
 
-  pub loop_of : (i : ℕ) (k : BoundedLoop) → IsAt all i k → IsOf i k
+  pub loop_of : (i : ℕ) (k : BoundedLoop) → IsEntryAt all i k → IsOf i k
   loop_of i k at =
       let r = from_at loops bounds loads i k at in
       record { loop = r.0; at = r.1; among = contained loops i r.0 r.1; header = r.2; members = r.3 }

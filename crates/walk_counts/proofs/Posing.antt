@@ -4,8 +4,8 @@ use Rattle.loop_nest.specs.Digraph.{Digraph}
 use Rattle.loop_nest.specs.Nest.{NaturalLoop}
 use Rattle.section_check.specs.Bounded.{BoundedLoop, IsGreatest}
 use Rattle.path_solver.specs.declared.pass.Pass.{Pass}
-use Rattle.path_solver.specs.Longest.{bounded_loops, WalkExceeds, IsTooLarge}
-use Rattle.path_solver.specs.Longest.IsTooLarge.{walk}
+use Rattle.path_solver.specs.Longest.{bounded_loops, WalkExceeds, WalksAreTooLarge}
+use Rattle.path_solver.specs.Longest.WalksAreTooLarge.{walk}
 use Rattle.path_solver.specs.Pass.{IsPass}
 use Rattle.path_solver.specs.Problem.{IsMeasured}
 use Rattle.path_solver.proofs.Solutions.{pass_of, walk_exceeds, greatest}
@@ -33,7 +33,7 @@ none_exceeds g costs loops value best small over =
     let more = over.exceeds in
     absurd (omega arith)
 
-pub no_walk_exceeds : (g : Digraph) (costs : List ℕ) (loops : List BoundedLoop) → ¬ IsTooLarge g costs loops → ¬ WalkExceeds g costs loops
+pub no_walk_exceeds : (g : Digraph) (costs : List ℕ) (loops : List BoundedLoop) → ¬ WalksAreTooLarge g costs loops → ¬ WalkExceeds g costs loops
 no_walk_exceeds g costs loops fits over = fits (walk over)
 
 -- what a pass was found to show of walks

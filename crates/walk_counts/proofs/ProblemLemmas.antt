@@ -6,11 +6,11 @@ use Rattle.std.proofs.lemmas.List.Elements.{All-contains, All-get_or}
 use Rattle.lists.specs.Members.{has_or_not}
 use Rattle.loop_nest.specs.Digraph.{Digraph}
 use Rattle.loop_nest.specs.Nest.{NaturalLoop, IsLoopOf}
-use Rattle.section_check.specs.Placing.{IsAt}
+use Rattle.section_check.specs.Placing.{IsEntryAt}
 use Rattle.path_solver.specs.declared.topology.TopologicalOrder.{TopologicalOrder}
 use Rattle.path_solver.specs.Distances.{sources_at}
-use Rattle.path_solver.specs.Iteration.{IsOrderly, AreMembers, IsIterationCost}
-use Rattle.path_solver.specs.Problem.{IsMeasured, IsSetting}
+use Rattle.path_solver.specs.Iteration.{IsOrderly, AreOrderedMembers, IsIterationCost}
+use Rattle.path_solver.specs.Problem.{IsMeasured, IsProblem}
 use Rattle.path_solver.specs.Reaching.{IsFlagged}
 use Rattle.path_solver.proofs.Apart.{few_apart}
 use Rattle.path_solver.proofs.Onward.{back_edge_closes}
@@ -22,7 +22,7 @@ use Rattle.walk_counts.proofs.GhostMembers.{members_headed}
 use Rattle.walk_counts.proofs.Tight.{tight_end, one_cost}
 
 -- where all loops of this header have the same members, these are found
-members_found : (h : ℕ) (ms : List ℕ) (ls : List NaturalLoop) → ((j : ℕ) (k : NaturalLoop) → IsAt ls j k → k.header ≡ h → k.members ≡ ms) → (i : ℕ) (l : NaturalLoop) → IsAt ls i l → l.header ≡ h → members_headed ls h ≡ ms
+members_found : (h : ℕ) (ms : List ℕ) (ls : List NaturalLoop) → ((j : ℕ) (k : NaturalLoop) → IsEntryAt ls j k → k.header ≡ h → k.members ≡ ms) → (i : ℕ) (l : NaturalLoop) → IsEntryAt ls i l → l.header ≡ h → members_headed ls h ≡ ms
 members_found h ms [] only i l at same = absurd (let lt = at.0 in omega arith)
 members_found h ms (k ∷ ks) only zero l at same =
     let here : k.header ≡ h = ap (λ (x : NaturalLoop). x.header) at.1 ∙ same in
@@ -63,7 +63,7 @@ module _ (q : Problem) (posed : IsPosed q) where
   abbrev m : IsMeasured g nest flags p costs q.bounds.now q.loads.now q.found.now.iteration_costs.items fees dist
   m = posed.measured
 
-  abbrev s : IsSetting g nest flags p
+  abbrev s : IsProblem g nest flags p
   s = m.setting
 
   pub is_orderly : IsOrderly (length costs) p
@@ -118,14 +118,14 @@ module _ (q : Problem) (posed : IsPosed q) where
 
   -- ---- around a loop
 
-  module _ (i : ℕ) (l : NaturalLoop) (at : IsAt nest i l) (flag : IsFlagged flags l.header) where
+  module _ (i : ℕ) (l : NaturalLoop) (at : IsEntryAt nest i l) (flag : IsFlagged flags l.header) where
     among : Contains nest l
     among = (i, at.0, at.1)
 
     listed : Contains p.order.items l.header
     listed = structure.in_order g nest flags p s l.header flag
 
-    pub are_members : AreMembers p.order.items l.members l.header
+    pub are_members : AreOrderedMembers p.order.items l.members l.header
     are_members = (structure.led g nest flags p s l among listed).members
 
     pub members_are : members_headed nest l.header ≡ l.members
@@ -180,10 +180,10 @@ module _ (q : Problem) (posed : IsPosed q) where
 
     -- the same, where the members, the header and the fees are known by other names
     module _ (ms : List ℕ) (h : ℕ) (ms_are : ms ≡ l.members) (h_is : h ≡ l.header) where
-      pub own_members : AreMembers p.order.items ms h
+      pub own_members : AreOrderedMembers p.order.items ms h
       own_members =
-          let P : List ℕ → Type 0 = λ xs. AreMembers p.order.items xs h in
-          let Q : ℕ → Type 0 = λ z. AreMembers p.order.items l.members z in
+          let P : List ℕ → Type 0 = λ xs. AreOrderedMembers p.order.items xs h in
+          let Q : ℕ → Type 0 = λ z. AreOrderedMembers p.order.items l.members z in
           subst P (sym ms_are) (subst Q (sym h_is) are_members)
 
       headed_are : members_headed nest h ≡ l.members

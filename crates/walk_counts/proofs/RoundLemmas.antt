@@ -7,7 +7,7 @@ use Rattle.std.proofs.lemmas.List.Elements.{Contains-get_or}
 use Rattle.std.proofs.lemmas.Grind.{take_at_read}
 use Rattle.loop_nest.specs.Nest.{NaturalLoop}
 use Rattle.section_check.specs.Bounded.{BoundedLoop, holds}
-use Rattle.section_check.specs.Placing.{IsAt}
+use Rattle.section_check.specs.Placing.{IsEntryAt}
 use Rattle.section_check.proofs.Elements.{contains_from_holds}
 use Rattle.path_solver.specs.Distances.{limited, sources_at}
 use Rattle.path_solver.specs.Longest.{bounded_loops}
@@ -80,7 +80,7 @@ module _ (q : Problem) (posed : IsPosed q) where
       abbrev k : BoundedLoop
       k = bounded_at q.nest.now q.bounds.now q.loads.now posed.measured.bounds_long posed.measured.loads_long l i
 
-      at : IsAt (all q posed) i k
+      at : IsEntryAt (all q posed) i k
       at = to_bounded q.nest.now q.bounds.now q.loads.now posed.measured.bounds_long posed.measured.loads_long i l head.at
 
       abbrev bound : ℕ

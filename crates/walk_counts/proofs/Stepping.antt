@@ -2,7 +2,7 @@
 use Rattle.std.proofs.Common.{◌≡◌, ℕ, ◌+◌, ◌*◌, ◌^◌, ◌<◌, ◌≤◌, ◌⊎◌, List, length, get_or, set, Contains, refl, sym, ap, ◌∙◌, subst, arith}
 use Rattle.std.proofs.lemmas.List.Elements.{Contains-get_or}
 use Rattle.loop_nest.specs.Nest.{NaturalLoop}
-use Rattle.section_check.specs.Placing.{IsAt}
+use Rattle.section_check.specs.Placing.{IsEntryAt}
 use Rattle.path_solver.specs.Ordering.{NoLoopHas, IsHeadedAt}
 use Rattle.path_solver.specs.Reaching.{IsFlagged}
 use Rattle.path_solver.proofs.Loops.{same_at}
@@ -57,7 +57,7 @@ module _ (q : Problem) (posed : IsPosed q) (j : ℕ) (visits entered : List ℕ)
     pub loop_below : i < length q.nest.now
     loop_below = own.at.0
 
-    pub header_listed : (k : NaturalLoop) → IsAt q.nest.now i k → IsFlagged q.found.now.listed.items k.header
+    pub header_listed : (k : NaturalLoop) → IsEntryAt q.nest.now i k → IsFlagged q.found.now.listed.items k.header
     header_listed k at =
         let is : k.header ≡ u = ap (λ (x : NaturalLoop). x.header) (same_at q.nest.now i i k own.headed at own.at refl) ∙ header_is in
         let P : ℕ → Type 0 = λ z. IsFlagged q.found.now.listed.items z in

@@ -3,7 +3,7 @@ use Rattle.std.proofs.Common.{◌≡◌, ◌≢◌, ℕ, zero, suc, ◌+◌, ◌
 use Rattle.std.specs.Prelude.{◌==◌, sum_by}
 use Rattle.std.proofs.lemmas.Bool.{cases_eq, eq-eqb, ne_eqb}
 use Rattle.std.proofs.lemmas.List.Sums.{sum_by-cons}
-use Rattle.section_check.specs.Placing.{IsAt}
+use Rattle.section_check.specs.Placing.{IsEntryAt}
 use Rattle.walk_counts.proofs.Expanding.{times, times-cons}
 
 module _ (f f' : ℕ → ℕ) (h more : ℕ) (others : (u : ℕ) → u ≢ h → f u ≡ f' u) (here : f h ≡ f' h + more) where
@@ -27,14 +27,14 @@ module _ (f f' : ℕ → ℕ) (h more : ℕ) (others : (u : ℕ) → u ≢ h →
       sum_by-cons f u us ∙ (both ∙ sym (ap₂ (λ (a b : ℕ). a + b * more) (sum_by-cons f' u us) (times-cons h u us)))
 
 module _ {X : Type 0} (f f' : X → ℕ) where
-  pub sum_same : (ls : List X) → ((j : ℕ) (m : X) → IsAt ls j m → f' m ≡ f m) → sum_by f' ls ≡ sum_by f ls
+  pub sum_same : (ls : List X) → ((j : ℕ) (m : X) → IsEntryAt ls j m → f' m ≡ f m) → sum_by f' ls ≡ sum_by f ls
   sum_same [] same = refl
   sum_same (m ∷ ms) same =
       sum_by-cons f' m ms
       ∙ (ap₂ (λ (a b : ℕ). a + b) (same 0 m (omega arith, refl)) (sum_same ms (λ j k at. let lt = at.0 in same (suc j) k (omega arith, at.1))) ∙ sym (sum_by-cons f m ms))
 
   -- where a function has more at one place, the sum has it once
-  pub sum_one : (ls : List X) (i : ℕ) (l : X) (d : ℕ) → IsAt ls i l → f' l ≡ f l + d → ((j : ℕ) (m : X) → IsAt ls j m → j ≢ i → f' m ≡ f m) → sum_by f' ls ≡ sum_by f ls + d
+  pub sum_one : (ls : List X) (i : ℕ) (l : X) (d : ℕ) → IsEntryAt ls i l → f' l ≡ f l + d → ((j : ℕ) (m : X) → IsEntryAt ls j m → j ≢ i → f' m ≡ f m) → sum_by f' ls ≡ sum_by f ls + d
   sum_one [] i l d at more same = absurd (let lt = at.0 in omega arith)
   sum_one (m ∷ ms) zero l d at more same =
       let is : m ≡ l = at.1 in

@@ -2,7 +2,7 @@
 use Rattle.std.specs.Prelude.{◌≡◌, ℕ, ◌==◌, List, length, count_by, slice_index}
 use Rattle.loop_nest.specs.Digraph.{Digraph}
 use Rattle.section_check.specs.Bounded.{BoundedLoop, IsBoundedWalk, cost_of, entries}
-use Rattle.section_check.specs.Placing.{IsAt}
+use Rattle.section_check.specs.Placing.{IsEntryAt}
 use Rattle.path_solver.specs.declared.solved.SolveFault.{SolveFault}
 use Rattle.path_solver.specs.declared.solved.SolveFault.TheVariants.{TooLarge, NoMemory}
 use Rattle.path_solver.specs.Longest.{WalkExceeds}
@@ -15,7 +15,7 @@ pub record AreCounts (g : Digraph) (costs : List ℕ) (loops : List BoundedLoop)
   pub visits_long : length visits ≡ g.nodes
   pub visits_are : (u : ℕ) → slice_index visits u ≡ count_by (λ x. x == u) walk
   pub entered_long : length entered ≡ length loops
-  pub entered_are : (i : ℕ) (l : BoundedLoop) → IsAt loops i l → slice_index entered i ≡ entries l.members walk
+  pub entered_are : (i : ℕ) (l : BoundedLoop) → IsEntryAt loops i l → slice_index entered i ≡ entries l.members walk
 
 -- a walk that keeps the bounds exceeds 64 bits; of want of memory nothing is said
 abbrev pub HasCause : Digraph → List ℕ → List BoundedLoop → SolveFault → Type 0

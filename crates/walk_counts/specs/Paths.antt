@@ -1,7 +1,7 @@
 -- What the counts are found from, and paths along edges that close no loop.
 use Rattle.std.specs.Prelude.{◌≡◌, ℕ, ◌+◌, ◌*◌, ◌^◌, ◌<◌, ◌≤◌, ◌==◌, List, [], ◌∷◌, length, Contains, sum_by, count_by, slice_index}
 use Rattle.loop_nest.specs.Nest.{NaturalLoop}
-use Rattle.section_check.specs.Placing.{IsAt}
+use Rattle.section_check.specs.Placing.{IsEntryAt}
 use Rattle.path_solver.specs.Distances.{IsMost, cost_through, sources_at, IsReachedBy}
 use Rattle.path_solver.specs.Problem.{IsMeasured}
 use Rattle.path_solver.specs.Reaching.{IsFlagged}
@@ -60,7 +60,7 @@ pub record IsWalkAdded (q : Problem) (visits : List ℕ) : Type 0 where
 -- the nodes of a dearest iteration of loop i were counted so often
 pub record IsRound (q : Problem) (i count : ℕ) (old new : List ℕ) : Type 0 where
   pub loop : NaturalLoop
-  pub at : IsAt q.nest.now i loop
+  pub at : IsEntryAt q.nest.now i loop
   pub dist : List ℕ
   pub start : slice_index dist loop.header ≡ 0
   pub last : ℕ

@@ -1,7 +1,7 @@
 //! Loops that a walk goes round, outer ones first.
 ghost use Rattle.std.specs.Prelude.{◌≡◌, ℕ, ◌+◌, ◌*◌, ◌^◌, ◌<◌, ◌≤◌, length, All, OnOk, IfOk, slice_index};
 ghost use Rattle.loop_nest.specs.Nest.{NaturalLoop};
-ghost use Rattle.section_check.specs.Placing.{IsAt};
+ghost use Rattle.section_check.specs.Placing.{IsEntryAt};
 ghost use Rattle.path_solver.specs.Distances.{AreLimited};
 ghost use Rattle.path_solver.specs.Longest.{bounded_loops};
 ghost use Rattle.path_solver.specs.Reaching.{IsFlagged};
@@ -37,7 +37,7 @@ fn go_round(
 ) -> Result<(), AllocError>
     requires posed { IsPosed q.now }
     requires within { i < length q.now.nest.now }
-    requires listed { (l : NaturalLoop) → IsAt q.now.nest.now i l → IsFlagged q.now.found.now.listed.items l.header }
+    requires listed { (l : NaturalLoop) → IsEntryAt q.now.nest.now i l → IsFlagged q.now.found.now.listed.items l.header }
     requires small { slice_index q.now.found.now.iteration_costs.items i < 2 ^ 64 }
     requires same { length dist.old ≡ q.now.g.now.nodes }
     requires limited { AreLimited dist.old }

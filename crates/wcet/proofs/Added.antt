@@ -5,13 +5,13 @@ use Rattle.std.specs.List.Sorted.{IsStrictlyIncreasing}
 use Rattle.std.proofs.lemmas.Bool.{cases_lt, cases_order}
 use Rattle.std.proofs.lemmas.List.{get_or-map, get_or-set_same, get_or-set_other, length-set, length-map}
 use Rattle.std.proofs.lemmas.Option.{slice_get_within, get_or_from_slice_get}
-use Rattle.lists.specs.Lemmas.{some_same}
+use Rattle.lists.proofs.Lemmas.{some_same}
 use Rattle.lists.specs.Members.{rising_apart}
 use Rattle.method_flow.specs.declared.flow.Call.{Call}
 use Rattle.method_flow.specs.Flow.{places_of}
-use Rattle.compact_walks.specs.Limited.{limit, limited}
+use Rattle.compact_walks.specs.Limited.{cycles_limit, limited}
 use Rattle.wcet.specs.declared.telling.Told.{Told}
-use Rattle.wcet.specs.Telling.{AreAdded, added_by, IsSmallTold}
+use Rattle.wcet.specs.Telling.{AreToldAdded, added_by, IsSmallTold}
 
 -- what is added at a call, where so is said of its number
 abbrev pub more_at : (without : List Bool) → Call → Told → ℕ
@@ -80,7 +80,7 @@ added_more own calls told without i costs c s sum rise ci si inside is h = recor
       ∙ h.others u (λ k e early ek. apart k e (omega arith) ek);
 }
 
-pub added_all : (own : List ℕ) (calls : List Call) (told : List Told) (without : List Bool) (i : ℕ) (costs : List ℕ) → length calls ≤ i → AreAddedTo own calls told without i costs → AreAdded own calls told without costs
+pub added_all : (own : List ℕ) (calls : List Call) (told : List Told) (without : List Bool) (i : ℕ) (costs : List ℕ) → length calls ≤ i → AreAddedTo own calls told without i costs → AreToldAdded own calls told without costs
 added_all own calls told without i costs all h = record {
   long = h.long;
   at_calls = λ k c s ck sk. let below = slice_get_within calls k c ck in h.at_calls k c s (omega arith) ck sk;
@@ -88,9 +88,9 @@ added_all own calls told without i costs all h = record {
 }
 
 -- what is told is limited
-pub small_more : (s : Told) (b : Bool) → IsSmallTold s → added_by b s ≤ limit
+pub small_more : (s : Told) (b : Bool) → IsSmallTold s → added_by b s ≤ cycles_limit
 small_more s b small = by b
   where
-    by : (b : Bool) → added_by b s ≤ limit
+    by : (b : Bool) → added_by b s ≤ cycles_limit
     by true = small.0
     by false = small.1

@@ -5,7 +5,7 @@ use Rattle.std.proofs.lemmas.List.{length-map, get_or-map}
 use Rattle.lists.specs.Members.{heads, tails}
 use Rattle.loop_nest.specs.Nest.{NaturalLoop, headers_of}
 use Rattle.section_check.specs.Bounded.{BoundedLoop, holds}
-use Rattle.section_check.specs.Placing.{IsAt}
+use Rattle.section_check.specs.Placing.{IsEntryAt}
 use Rattle.section_check.proofs.Headed.{itself_at}
 use Rattle.path_solver.specs.Longest.{bounded_loops}
 use Rattle.bytecode_model.specs.Program.{Program}
@@ -70,8 +70,8 @@ same_fees P t m ls ks flags fees others long members a b x y = same_lists 0 fees
         let fees_long = x.long in
         let l = get_or ls i no_loop in
         let k = get_or ks i no_loop in
-        let at_l : IsAt ls i l = itself_at ls i no_loop (omega arith) in
-        let at_k : IsAt ks i k = itself_at ks i no_loop (omega arith) in
+        let at_l : IsEntryAt ls i l = itself_at ls i no_loop (omega arith) in
+        let at_k : IsEntryAt ks i k = itself_at ks i no_loop (omega arith) in
         let same : l.members ≡ k.members =
         sym (get_or-map (λ (n : NaturalLoop). n.members) ls i no_loop [] (omega arith)) ∙ (ap (λ (mss : List (List ℕ)). get_or mss i []) members ∙ get_or-map (λ (n : NaturalLoop). n.members) ks i no_loop [] (omega arith))
         in

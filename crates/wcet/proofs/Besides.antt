@@ -5,9 +5,9 @@ use Rattle.std.proofs.lemmas.Bool.{cases_eq, cases_lt}
 use Rattle.std.proofs.lemmas.List.{get_or-set_same, get_or-set_other, length-set}
 use Rattle.std.proofs.lemmas.List.Elements.{Contains-push, Contains-push_cases, Contains-append_left}
 use Rattle.std.proofs.lemmas.Option.{slice_get-get_or}
-use Rattle.lists.specs.Lemmas.{some_same, none≢some, some_is, some_in}
+use Rattle.lists.proofs.Lemmas.{some_same, none≢some, some_is, some_in}
 use Rattle.section_check.specs.Least.{IsLeast, lesser_of}
-use Rattle.section_check.specs.LeastLemmas.{least_either}
+use Rattle.section_check.proofs.LeastLemmas.{least_either}
 use Rattle.opcodes.specs.Start.{IsStart, AreStarts}
 use Rattle.bytecode_model.specs.Program.{Program, Body, body_of}
 use Rattle.method_flow.specs.declared.flow.Call.{Call}
@@ -19,7 +19,7 @@ use Rattle.method_flow.specs.Regions.{IsWithin}
 use Rattle.method_flow.specs.Regions.IsWithin.{itself, calls}
 use Rattle.flow_graph.proofs.Starting.{call_at, among_at, place_among, body, call_listed, listed_calls}
 use Rattle.wcet.specs.declared.known.Known.{Known}
-use Rattle.wcet.specs.Known.{Setting, known_at}
+use Rattle.wcet.specs.Known.{BoundSetting, known_at}
 use Rattle.wcet.specs.Ending.{IsLargeWithin}
 use Rattle.wcet.specs.Sharing.{IsBesideCalled, IsLargeAlone, AreLeastCalled, AreLeastWithin}
 use Rattle.wcet.proofs.Growing.{front_behind, last_behind}
@@ -124,7 +124,7 @@ module _ (starts : (code : List ℕ) → AreStarts code) (kinds : RowsAreOfTheir
 -- ---- of all methods of an order
 
 -- one method more
-pub within_more : (set : Setting) (done : List ℕ) (m : ℕ) (table : List Known) (least : List (Option ℕ)) (o : Option ℕ) → m < length least → AreLeastWithin set done table least
+pub within_more : (set : BoundSetting) (done : List ℕ) (m : ℕ) (table : List Known) (least : List (Option ℕ)) (o : Option ℕ) → m < length least → AreLeastWithin set done table least
     → ((P : Program) → IsFlowOf P set.flow → AreLeastCalled P table m least → IsLeast (IsLargeWithin P table m) o) → AreLeastWithin set (done ++ m ∷ []) table (set_at least m o)
 within_more set done m table least o inside h here = record {
   long = length-set least m o ∙ h.long;

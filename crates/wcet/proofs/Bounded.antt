@@ -5,7 +5,7 @@ use Rattle.std.proofs.lemmas.Option.{slice_get_within}
 use Rattle.bound_rules.specs.Laws.{OneMoreMeets}
 use Rattle.wcet.specs.declared.ending.MethodBound.{MethodBound}
 use Rattle.wcet.specs.declared.methods.Methods.{Methods}
-use Rattle.wcet.specs.Known.{Setting, bounds_in, ForEach, known_at, IsKnownOf}
+use Rattle.wcet.specs.Known.{BoundSetting, bounds_in, ForEach, known_at, IsKnownOf}
 use Rattle.wcet.specs.Ready.{AreBehindCalls}
 use Rattle.wcet.specs.Ending.{AreKnownWithin, IsMethodBound}
 use Rattle.wcet.specs.Sharing.{AreLeastWithin, AreMethodBounds, AreFoundFor}
@@ -13,7 +13,7 @@ use Rattle.wcet.proofs.Gathering.{has_sections}
 use Rattle.wcet.proofs.KnownWithin.{agree_within, exceed_within, numbers_within}
 use Rattle.wcet.proofs.Pushed.{push_cases}
 
-pub bounds_more : (set : Setting) (done : List ℕ) (bounds : List MethodBound) (m : ℕ) (x : MethodBound) → AreMethodBounds set done bounds → ForEach set (λ P. IsMethodBound P set.timing (bounds_in set) m x)
+pub bounds_more : (set : BoundSetting) (done : List ℕ) (bounds : List MethodBound) (m : ℕ) (x : MethodBound) → AreMethodBounds set done bounds → ForEach set (λ P. IsMethodBound P set.timing (bounds_in set) m x)
     → AreMethodBounds set (done ++ m ∷ []) (bounds ++ x ∷ [])
 bounds_more set done bounds m x h here = record {
   long = length_push bounds x ∙ (ap (λ (n : ℕ). n + 1) h.long ∙ sym (length_push done m));
@@ -37,7 +37,7 @@ bounds_more set done bounds m x h here = record {
 }
 
 -- what is known of all that may run while one of them does
-pub each_known : OneMoreMeets → (set : Setting) (order : List ℕ) (a : Methods) (least : List (Option ℕ)) → AreFoundFor set order a → AreLeastWithin set order a.table.items least → (m : ℕ) → Contains order m
+pub each_known : OneMoreMeets → (set : BoundSetting) (order : List ℕ) (a : Methods) (least : List (Option ℕ)) → AreFoundFor set order a → AreLeastWithin set order a.table.items least → (m : ℕ) → Contains order m
     → ForEach set (λ P. AreKnownWithin P set.timing (bounds_in set) a.table.items (get_or least m None) m)
 each_known one_more set order a least h within m has = λ P of.
     let table = a.table.items in

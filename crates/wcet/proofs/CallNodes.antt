@@ -4,7 +4,7 @@ use Rattle.std.specs.Prelude.{slice_get}
 use Rattle.std.proofs.lemmas.Bool.{both_ways}
 use Rattle.std.proofs.lemmas.List.Elements.{Contains-get_or}
 use Rattle.std.proofs.lemmas.Option.{slice_get-get_or}
-use Rattle.lists.specs.Lemmas.{holds_at, some_in}
+use Rattle.lists.proofs.Lemmas.{holds_at, some_in}
 use Rattle.lists.specs.Members.{map_contains, place_of}
 use Rattle.loop_nest.proofs.Elements.{from_map}
 use Rattle.opcodes.specs.Start.{IsStart, AreStarts}
@@ -16,7 +16,7 @@ use Rattle.path_solver.specs.Reaching.{IsFlagged}
 use Rattle.flow_graph.proofs.Starting.{call_at, among_at, body, call_listed, listed_calls}
 use Rattle.bound_rules.specs.Numbers.{HasCall}
 use Rattle.compact_walks.specs.Charging.{AreMarked}
-use Rattle.wcet.specs.Known.{Setting}
+use Rattle.wcet.specs.Known.{BoundSetting}
 use Rattle.wcet.specs.Prepared.{IsCallAt, AreCallNodes, AreCallNodesOf}
 
 -- ---- marks
@@ -73,7 +73,7 @@ call_inside starts k c calls same i d lt =
 no_code : Coded
 no_code = record { name = []; code = []; ranges = []; calls = [] }
 
-module _ (starts : (code : List ℕ) → AreStarts code) (kinds : RowsAreOfTheirKinds) (set : Setting) (m : ℕ) (flags : List Bool) (members : List ℕ) (lt : m < length set.flow.methods) (are : AreCallNodesOf set m flags) (P : Program)
+module _ (starts : (code : List ℕ) → AreStarts code) (kinds : RowsAreOfTheirKinds) (set : BoundSetting) (m : ℕ) (flags : List Bool) (members : List ℕ) (lt : m < length set.flow.methods) (are : AreCallNodesOf set m flags) (P : Program)
     (of : IsFlowOf P set.flow) where
   method : (k : Coded) × (slice_get set.flow.methods m ≡ Some k)
   method = (get_or set.flow.methods m no_code, slice_get-get_or set.flow.methods m no_code lt)

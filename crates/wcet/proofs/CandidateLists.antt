@@ -1,7 +1,7 @@
 -- The loads of loops, one loop after the other.
 use Rattle.std.proofs.Common.{◌≡◌, ℕ, ◌<◌, List, [], ◌∷◌, ◌++◌, length, map, get_or, Option, sym, ◌∙◌, subst, inl, inr}
 use Rattle.loop_nest.specs.Nest.{NaturalLoop}
-use Rattle.section_check.specs.Placing.{IsAt}
+use Rattle.section_check.specs.Placing.{IsEntryAt}
 use Rattle.bytecode_model.specs.Program.{Program}
 use Rattle.method_flow.specs.declared.timing.Timing.{Timing}
 use Rattle.wcet.specs.declared.shape.Shape.{Shape}
@@ -17,7 +17,7 @@ candidates_more P t m s xs os i item o long same lt is candidate before = λ k l
       | inl old ↦ before k l p at old
       | inr new ↦
           let here : i ≡ k = sym long ∙ sym new.0 in
-          let at' : IsAt (nest_of s) i l = subst (λ (n : ℕ). IsAt (nest_of s) n l) (sym here) at in
+          let at' : IsEntryAt (nest_of s) i l = subst (λ (n : ℕ). IsEntryAt (nest_of s) n l) (sym here) at in
           subst (λ (q : Option ℕ). IsCandidate P t m l.members q) new.1
           (subst (λ (us : List ℕ). IsCandidate P t m us o) (moved_members (node_of s) s.nest xs i item l same lt is at') candidate)
     ]

@@ -5,9 +5,9 @@ use Rattle.std.proofs.lemmas.Bool.{false≢true}
 use Rattle.std.proofs.lemmas.List.{get_or-map, length-map}
 use Rattle.cache_regions.specs.Region.{AreDistinct}
 use Rattle.section_check.specs.Least.{IsLeast}
-use Rattle.section_check.specs.LeastLemmas.{least_same}
+use Rattle.section_check.proofs.LeastLemmas.{least_same}
 use Rattle.bytecode_model.specs.Program.{Program}
-use Rattle.bound_cert.specs.CertLines.{IsBound}
+use Rattle.bound_cert.specs.CertLines.{IsBoundValue}
 use Rattle.bound_cert.specs.declared.cert.CertSection.{CertSection}
 use Rattle.bound_cert.specs.declared.cert.SectionSort.{SectionSort}
 use Rattle.bound_cert.specs.Certificate.{IsInGrammar, sort_of}
@@ -19,10 +19,10 @@ use Rattle.bound_rules.specs.declared.faults.BoundRefusal.{BoundRefusal}
 use Rattle.bound_rules.specs.declared.faults.BoundRefusal.TheVariants.{NoMethod, Recursion, Irreducible, MissingBound, TooLarge, NoMemory}
 use Rattle.bound_rules.specs.Conditions.{MeetsConditions}
 use Rattle.bound_rules.specs.Told.{SaysFull}
-use Rattle.compact_walks.specs.Limited.{limit}
+use Rattle.compact_walks.specs.Limited.{cycles_limit}
 use Rattle.wcet.specs.declared.known.Known.{Known}
 use Rattle.wcet.specs.declared.methods.Methods.{Methods}
-use Rattle.wcet.specs.Known.{Setting, bounds_in, ForEach, known_at, IsKnownOf}
+use Rattle.wcet.specs.Known.{BoundSetting, bounds_in, ForEach, known_at, IsKnownOf}
 use Rattle.wcet.specs.Methods.{IsLargeAmong, values_by}
 use Rattle.wcet.specs.Ending.{IsPrintedSmall, IsLargeWithin, AreSmallWithin, AreKnownWithin, AreReadyFound}
 use Rattle.wcet.specs.Ready.{AreBehindCalls, IsWantOfMemory, IsSizeCause}
@@ -48,7 +48,7 @@ sorts_apart ss order e apart i j d less below same =
     method_at : (k : ℕ) → k < length (map sort_of ss) → get_or order k d.method ≡ (get_or (map sort_of ss) k d).method
     method_at k lt = ap (λ (xs : List ℕ). get_or xs k d.method) (sym (maps ss ∙ e)) ∙ get_or-map (λ (x : SectionSort). x.method) (map sort_of ss) k d d.method lt
 
-module _ (set : Setting) (root : ℕ) (a : Methods) (h : AreReadyFound set root a) where
+module _ (set : BoundSetting) (root : ℕ) (a : Methods) (h : AreReadyFound set root a) where
   abbrev table : List Known
   table = a.table.items
 
@@ -100,7 +100,7 @@ module _ (set : Setting) (root : ℕ) (a : Methods) (h : AreReadyFound set root 
       bound = in_range bound printed.within;
     }
       where
-        in_range : (o : Option ℕ) → IfSome o (λ b. b < limit) → IsBound o
+        in_range : (o : Option ℕ) → IfSome o (λ b. b < cycles_limit) → IsBoundValue o
         in_range None within = tt
         in_range (Some n) within = within
 

@@ -6,7 +6,7 @@ use Rattle.std.proofs.lemmas.List.{get_or-map, length-map}
 use Rattle.std.proofs.lemmas.Option.{slice_get-get_or}
 use Rattle.loop_nest.specs.Digraph.{Digraph}
 use Rattle.loop_nest.specs.Nest.{NaturalLoop}
-use Rattle.section_check.specs.Placing.{IsAt}
+use Rattle.section_check.specs.Placing.{IsEntryAt}
 use Rattle.path_solver.specs.Reaching.{IsFlagged}
 use Rattle.path_solver.specs.Regions.{charged, AreRegionsApart}
 use Rattle.bytecode_model.specs.Program.{Program}
@@ -20,7 +20,7 @@ use Rattle.compact_walks.specs.Moving.{moved_natural}
 use Rattle.compact_walks.proofs.Charged.{charged_long}
 use Rattle.wcet.specs.declared.charges.Charges.{Charges}
 use Rattle.wcet.specs.declared.shape.Shape.{Shape}
-use Rattle.wcet.specs.Known.{Setting, ForEach}
+use Rattle.wcet.specs.Known.{BoundSetting, ForEach}
 use Rattle.wcet.specs.Prepared.{IsShapeOf, IsCandidate, AreCandidates, AreChargesOf, node_of, nest_of}
 use Rattle.wcet.specs.Prepared.AreChargesOf.{some as charged_some}
 use Rattle.wcet.specs.Prepared.IsCandidate.{joined, no_call, exceeds}
@@ -65,10 +65,10 @@ module _ (P : Program) (t : Timing) (m : ℕ) (members : List ℕ) (o : Option �
 
 module _ (others : OthersHaveOneAround) (P : Program) (t : Timing) (m : ℕ) (g : Digraph) (s : Shape) (h : IsShapeOf g s) (candidates : List (Option ℕ)) (long : length candidates ≡ length s.nest)
     (are : AreCandidates P t m s candidates) (flags : List Bool) (out : AreOutermost s.nest (map is_some candidates) flags) where
-  below : (i : ℕ) (l : NaturalLoop) → IsAt (nest_of s) i l → i < length s.nest
+  below : (i : ℕ) (l : NaturalLoop) → IsEntryAt (nest_of s) i l → i < length s.nest
   below i l at = let lt = at.0 in omega (arith, length-map s.nest (moved_natural (node_of s)))
 
-  candidate_at : (i : ℕ) (l : NaturalLoop) → IsAt (nest_of s) i l → IsCandidate P t m l.members (get_or candidates i None)
+  candidate_at : (i : ℕ) (l : NaturalLoop) → IsEntryAt (nest_of s) i l → IsCandidate P t m l.members (get_or candidates i None)
   candidate_at i l at = let lt = below i l at in are i l (get_or candidates i None) at (slice_get-get_or candidates i None (omega arith))
 
   some_at : (i : ℕ) → i < length s.nest → get_or (map is_some candidates) i false ≡ is_some (get_or candidates i None)
@@ -80,7 +80,7 @@ module _ (others : OthersHaveOneAround) (P : Program) (t : Timing) (m : ℕ) (g 
     each = λ i l at. (to i l at, back i l at);
   }
     where
-      to : (i : ℕ) (l : NaturalLoop) → IsAt (nest_of s) i l → IsFlagged flags i → IsCharged P t m (nest_of s) flags i l
+      to : (i : ℕ) (l : NaturalLoop) → IsEntryAt (nest_of s) i l → IsFlagged flags i → IsCharged P t m (nest_of s) flags i l
       to i l at flagged =
           let lt = below i l at in
           let is = (out.each i).0 flagged in
@@ -91,7 +91,7 @@ module _ (others : OthersHaveOneAround) (P : Program) (t : Timing) (m : ℕ) (g 
             outermost = λ k around flagged_k. is.outermost k (around_in s.graph h.compact.digraph (node_of s) h.compact.rising s.nest h.nest i k lt around) ((out.each k).0 flagged_k).candidate;
           }
 
-      back : (i : ℕ) (l : NaturalLoop) → IsAt (nest_of s) i l → IsCharged P t m (nest_of s) flags i l → IsFlagged flags i
+      back : (i : ℕ) (l : NaturalLoop) → IsEntryAt (nest_of s) i l → IsCharged P t m (nest_of s) flags i l → IsFlagged flags i
       back i l at is =
           let lt = below i l at in
           let candidate = some_at i lt ∙ must_join P t m l.members (get_or candidates i None) (candidate_at i l at) is.call is.fits in
@@ -121,7 +121,7 @@ module _ (others : OthersHaveOneAround) (P : Program) (t : Timing) (m : ℕ) (g 
 
 -- ---- what is answered
 
-pub outermost_charges : {E : Type 0} (others : OthersHaveOneAround) (set : Setting) (m : ℕ) (g : Digraph) (s : Shape) → IsShapeOf g s → (fits : Bool) (candidates : List (Option ℕ)) (r : Result Charges E) → fits ≡ false → length candidates ≡ length s.nest
+pub outermost_charges : {E : Type 0} (others : OthersHaveOneAround) (set : BoundSetting) (m : ℕ) (g : Digraph) (s : Shape) → IsShapeOf g s → (fits : Bool) (candidates : List (Option ℕ)) (r : Result Charges E) → fits ≡ false → length candidates ≡ length s.nest
     → ForEach set (λ P. AreCandidates P set.timing m s candidates) → IfOk r (λ c. AreOutermost s.nest (map is_some candidates) c.flags.items) → IfOk r (λ c. c.loads.items ≡ map (λ o. unwrap_or o 0) candidates)
     → IfOk r (λ c. ForEach set (λ P. AreChargesOf P set.timing m s fits c))
 outermost_charges others set m g s h fits candidates (Err e) exceeds' long are out loads_are = tt

@@ -3,7 +3,7 @@ use Rattle.std.proofs.Common.{◌≡◌, ℕ, ◌+◌, ◌*◌, ◌<◌, Bool, t
 use Rattle.std.specs.Prelude.{unwrap_or, if◌then◌else◌}
 use Rattle.std.proofs.lemmas.Bool.{cases_Bool}
 use Rattle.std.proofs.lemmas.List.Elements.{All-contains}
-use Rattle.lists.specs.Lemmas.{some_in}
+use Rattle.lists.proofs.Lemmas.{some_in}
 use Rattle.opcodes.specs.Start.{IsStart, AreStarts}
 use Rattle.bytecode_model.specs.Program.{Program, body_of}
 use Rattle.method_flow.specs.Calls.{IsTarget, targets_of}
@@ -26,7 +26,7 @@ use Rattle.bound_rules.specs.Laws.{CalledFit}
 use Rattle.bound_rules.specs.Numbers.{Numbers, AreCharged, is_in_charged, full_and_back, loops_adds}
 use Rattle.bound_rules.proofs.Numbering.{in_charged}
 use Rattle.bound_rules.proofs.Owning.{same_own}
-use Rattle.compact_walks.specs.Limited.{limit, limited, AreSmallAt}
+use Rattle.compact_walks.specs.Limited.{cycles_limit, limited, AreSmallAt}
 use Rattle.wcet.specs.declared.known.Known.{Known}
 use Rattle.wcet.specs.declared.prepared.Prepared.{Prepared}
 use Rattle.wcet.specs.Known.{known_at, AreTold, Agrees}
@@ -115,6 +115,6 @@ module _ (laws : AreWalkLaws) (P : Program) (t : Timing) (bound_of : BoundOf) (t
       each : (u : Node) → IsReached (IsLiveEdge P m) u → (own : ℕ) × IsOwnCost P t m u own × (slice_index p.costs.items (number_of u) ≡ own + added_at adds u)
       each u reached =
           let a = h.costs.each u reached in
-          let below = All-contains (λ x. slice_index p.costs.items x < limit) p.shape.nodes (number_of u) few (in_nodes laws P t bound_of table m p h small u reached) in
+          let below = All-contains (λ x. slice_index p.costs.items x < cycles_limit) p.shape.nodes (number_of u) few (in_nodes laws P t bound_of table m p h small u reached) in
           let is : slice_index p.costs.items (number_of u) ≡ limited (a.0 + added_at adds u) = a.2 ∙ (ap (λ (n : ℕ). limited (a.0 + n)) (told_at u reached) ∙ limited_sum a.0 (added_at adds u)) in
           (a.0, a.1, is ∙ small_is (a.0 + added_at adds u) (omega arith))

@@ -2,25 +2,25 @@
 use Rattle.std.proofs.Common.{◌≡◌, ◌⊎◌, ℕ, ◌<◌, ◌≤◌, ◌^◌, List, Option, Some, None, refl, sym, ap, ◌∙◌, subst, inl, inr, arith}
 use Rattle.std.specs.Prelude.{IfSome, unwrap_or}
 use Rattle.std.proofs.lemmas.Bool.{false_from_ne_true}
-use Rattle.lists.specs.Lemmas.{map_some, if_at}
+use Rattle.lists.proofs.Lemmas.{map_some, if_at}
 use Rattle.section_check.specs.Least.{IsLeast, lesser_of}
-use Rattle.section_check.specs.LeastLemmas.{least_either}
+use Rattle.section_check.proofs.LeastLemmas.{least_either}
 use Rattle.bytecode_model.specs.Program.{Program}
 use Rattle.method_flow.specs.Flow.{IsFlowOf}
 use Rattle.method_flow.specs.Keeping.{BoundOf}
 use Rattle.method_flow.specs.Regions.IsWithin.{itself}
 use Rattle.method_flow.specs.Costs.{IsPrintedOf}
 use Rattle.method_flow.specs.declared.timing.Timing.{Timing}
-use Rattle.bound_rules.specs.Bounding.{ExceedsSize, IsTooLarge, IsFirstTooLarge}
+use Rattle.bound_rules.specs.Bounding.{ExceedsSize, BoundIsTooLarge, IsFirstTooLarge}
 use Rattle.bound_rules.specs.Bounding.ExceedsSize.{full as size_full, printed as size_printed, inside as size_inside, loops as size_loops}
 use Rattle.bound_rules.specs.Conditions.{IsRight}
 use Rattle.bound_rules.specs.Laws.{PrintedIsTold}
 use Rattle.bound_rules.specs.Numbers.{Numbers, AreNumbers, IsPrinted}
 use Rattle.bound_rules.specs.Told.{most_cycles}
-use Rattle.compact_walks.specs.Limited.{limit, limited, limited_of}
+use Rattle.compact_walks.specs.Limited.{cycles_limit, limited, limited_of}
 use Rattle.wcet.specs.declared.known.Known.{Known}
 use Rattle.wcet.specs.declared.ending.MethodBound.TheVariants.{Printed}
-use Rattle.wcet.specs.Known.{Setting, known_at, ExceedsBeside}
+use Rattle.wcet.specs.Known.{BoundSetting, known_at, ExceedsBeside}
 use Rattle.wcet.specs.Known.ExceedsBeside.{full as beside_full, inside as beside_inside, loops as beside_loops}
 use Rattle.wcet.specs.Laws.{numbers_by}
 use Rattle.wcet.specs.Certified.{IsCertified}
@@ -30,21 +30,21 @@ use Rattle.wcet.proofs.Limiting.{small_is, large_is as large_number}
 
 -- ---- limited numbers
 
--- a number that is limited to one below the limit is that
-same_number : (o : Option ℕ) (full : Option ℕ) → full ≡ limited_of o → IfSome full (λ n. n < limit) → o ≡ full
+-- a number that is limited to one below the cycles_limit is that
+same_number : (o : Option ℕ) (full : Option ℕ) → full ≡ limited_of o → IfSome full (λ n. n < cycles_limit) → o ≡ full
 same_number None full e small = sym e
 same_number (Some n) full e small =
-    let lt = if_at full (limited n) (λ k. k < limit) e small in
+    let lt = if_at full (limited n) (λ k. k < cycles_limit) e small in
     ap (λ (k : ℕ). Some k) (sym (small_is n lt)) ∙ sym e
 
-past_number : (o full : Option ℕ) (n : ℕ) → full ≡ limited_of o → full ≡ Some n → limit ≤ n → (k : ℕ) × (o ≡ Some k) × (limit ≤ k)
+past_number : (o full : Option ℕ) (n : ℕ) → full ≡ limited_of o → full ≡ Some n → cycles_limit ≤ n → (k : ℕ) × (o ≡ Some k) × (cycles_limit ≤ k)
 past_number o full n e is past =
     let m = map_some limited o n (sym e ∙ is) in
-    let P : ℕ → Type 0 = λ k. limit ≤ k in
+    let P : ℕ → Type 0 = λ k. cycles_limit ≤ k in
     (m.0, m.1, large_number m.0 (subst P (sym m.2) past))
 
--- a number below the limit can be held
-pub at_most : (o : Option ℕ) → IfSome o (λ n. n < limit) → unwrap_or o 0 ≤ most_cycles
+-- a number below the cycles_limit can be held
+pub at_most : (o : Option ℕ) → IfSome o (λ n. n < cycles_limit) → unwrap_or o 0 ≤ most_cycles
 at_most None within = omega arith
 at_most (Some n) within = omega arith
 
@@ -65,10 +65,10 @@ module _ (P : Program) (t : Timing) (bound_of : BoundOf) (table : List Known) (l
     size_cases x (size_loops apart of exceed) = inl (beside_loops apart of exceed)
 
     -- one that is known to be
-    large_is : (x : ℕ) → IsLargeWithin P table m x → IsTooLarge P t bound_of m N x
+    large_is : (x : ℕ) → IsLargeWithin P table m x → BoundIsTooLarge P t bound_of m N x
     large_is x large = (large.0, beside_size x ((h.agree N are x large.0).1.0 large.1))
 
-    large_cases : (x : ℕ) → IsTooLarge P t bound_of m N x → IsLargeWithin P table m x ⊎ ((x ≡ m) × ((n : ℕ) × IsPrintedOf P t (N.full m) (Some n) × (2 ^ 64 ≤ n)))
+    large_cases : (x : ℕ) → BoundIsTooLarge P t bound_of m N x → IsLargeWithin P table m x ⊎ ((x ≡ m) × ((n : ℕ) × IsPrintedOf P t (N.full m) (Some n) × (2 ^ 64 ≤ n)))
     large_cases x large =
         elim (size_cases x large.1) [
           | inl other ↦ inl (large.0, (h.agree N are x large.0).1.1 other)
@@ -80,14 +80,14 @@ module _ (P : Program) (t : Timing) (bound_of : BoundOf) (table : List Known) (l
       full_agrees : full ≡ limited_of (N.full m)
       full_agrees = is ∙ (h.agree N are m itself).0.full
 
-      not_printed : (bound : Option ℕ) → IfSome full (λ n. n < limit) → IfSome bound (λ n. n < limit) → IsPrintedOf P t full bound → (n : ℕ) → IsPrintedOf P t (N.full m) (Some n) → 2 ^ 64 ≤ n → ⊥
+      not_printed : (bound : Option ℕ) → IfSome full (λ n. n < cycles_limit) → IfSome bound (λ n. n < cycles_limit) → IsPrintedOf P t full bound → (n : ℕ) → IsPrintedOf P t (N.full m) (Some n) → 2 ^ 64 ≤ n → ⊥
       not_printed bound small within printed n other past =
           let O : Option ℕ → Type 0 = λ o. IsPrintedOf P t o (Some n) in
           let e : bound ≡ Some n = told P t full bound (Some n) printed (subst O (same_number (N.full m) full full_agrees small) other) in
-          let lt = if_at bound n (λ k. k < limit) e within in
+          let lt = if_at bound n (λ k. k < cycles_limit) e within in
           omega arith
 
-      past_size : (set : Setting) → set.timing ≡ t → IsFlowOf P set.flow → IsPastLimit set full → ExceedsSize P t bound_of m N m
+      past_size : (set : BoundSetting) → set.timing ≡ t → IsFlowOf P set.flow → IsPastLimit set full → ExceedsSize P t bound_of m N m
       past_size set timing of (beyond_number n e over) = let k = past_number (N.full m) full n full_agrees e over in size_full k.0 k.1 k.2
       past_size set timing of (beyond_printed n small over printed) =
           let T : Timing → Type 0 = λ x. IsPrintedOf P x full (Some n) in
@@ -111,7 +111,7 @@ module _ (P : Program) (t : Timing) (bound_of : BoundOf) (table : List Known) (l
   }
 
   module _ (told : PrintedIsTold) (full : Option ℕ) (is : full ≡ (known_at table m).full) where
-    pub printed_bound : (bound : Option ℕ) → least ≡ None → IfSome full (λ n. n < limit) → IfSome bound (λ n. n < limit) → IsPrintedOf P t full bound → IsMethodBound P t bound_of m (Printed bound)
+    pub printed_bound : (bound : Option ℕ) → least ≡ None → IfSome full (λ n. n < cycles_limit) → IfSome bound (λ n. n < cycles_limit) → IsPrintedOf P t full bound → IsMethodBound P t bound_of m (Printed bound)
     printed_bound bound none small within printed =
         let O : Option ℕ → Type 0 = λ o. IsPrintedOf P t o bound in
         let of_root : IsPrintedOf P t (known_at table m).full bound = subst O is printed in
@@ -125,7 +125,7 @@ module _ (P : Program) (t : Timing) (bound_of : BoundOf) (table : List Known) (l
           certified bound (h.sections (all_small none)) (record { printed = of_root; small = at_most bound within }),
         )
 
-    pub least_bound : (x : ℕ) (bound : Option ℕ) → least ≡ Some x → IfSome full (λ n. n < limit) → IfSome bound (λ n. n < limit) → IsPrintedOf P t full bound → IsFirstTooLarge P t bound_of m x
+    pub least_bound : (x : ℕ) (bound : Option ℕ) → least ≡ Some x → IfSome full (λ n. n < cycles_limit) → IfSome bound (λ n. n < cycles_limit) → IsPrintedOf P t full bound → IsFirstTooLarge P t bound_of m x
     least_bound x bound some small within printed =
         let L : Option ℕ → Type 0 = λ o. IsLeast (IsLargeWithin P table m) o in
         let first : IsLeast (IsLargeWithin P table m) (Some x) = subst L some h.is_least in
@@ -138,11 +138,11 @@ module _ (P : Program) (t : Timing) (bound_of : BoundOf) (table : List Known) (l
               ],
         )
 
-    pub past_bound : (set : Setting) (x : ℕ) → set.timing ≡ t → IsFlowOf P set.flow → IsPastLimit set full → Some x ≡ lesser_of least (Some m) → IsFirstTooLarge P t bound_of m x
+    pub past_bound : (set : BoundSetting) (x : ℕ) → set.timing ≡ t → IsFlowOf P set.flow → IsPastLimit set full → Some x ≡ lesser_of least (Some m) → IsFirstTooLarge P t bound_of m x
     past_bound set x timing of over lesser =
         λ N are.
-        let L : Option ℕ → Type 0 = λ o. IsLeast (IsTooLarge P t bound_of m N) o in
-        let here : IsTooLarge P t bound_of m N m = (itself, past_size N are told full is set timing of over) in
+        let L : Option ℕ → Type 0 = λ o. IsLeast (BoundIsTooLarge P t bound_of m N) o in
+        let here : BoundIsTooLarge P t bound_of m N m = (itself, past_size N are told full is set timing of over) in
         subst L (sym lesser)
-        (least_either (IsLargeWithin P table m) (λ u. u ≡ m) (IsTooLarge P t bound_of m N) least (Some m) (large_is N are) (λ u same. let T : ℕ → Type 0 = λ y. IsTooLarge P t bound_of m N y in subst T (sym same) here) (λ u large.
+        (least_either (IsLargeWithin P table m) (λ u. u ≡ m) (BoundIsTooLarge P t bound_of m N) least (Some m) (large_is N are) (λ u same. let T : ℕ → Type 0 = λ y. BoundIsTooLarge P t bound_of m N y in subst T (sym same) here) (λ u large.
         elim (large_cases N are u large) [ inl known ↦ inl known | inr other ↦ inr other.0 ]) h.is_least (refl, λ u less same. absurd (omega arith)))

@@ -2,18 +2,18 @@
 use Rattle.std.proofs.Common.{◌≡◌, ◌≢◌, ℕ, ◌+◌, ◌^◌, ◌<◌, Bool, true, false, List, All, Option, Some, None, refl, sym, ap, ◌∙◌, inl, inr, arith}
 use Rattle.std.specs.Prelude.{IfSome, slice_get}
 use Rattle.std.proofs.lemmas.Bool.{cases_lt}
-use Rattle.lists.specs.Lemmas.{none≢some}
-use Rattle.path_solver.specs.Longest.IsTooLarge.{walk}
+use Rattle.lists.proofs.Lemmas.{none≢some}
+use Rattle.path_solver.specs.Longest.WalksAreTooLarge.{walk}
 use Rattle.bytecode_model.specs.Program.{Program}
 use Rattle.bound_cert.specs.declared.cert.CertSection.{CertSection}
 use Rattle.method_flow.specs.Flow.{Coded, IsCoded}
-use Rattle.compact_walks.specs.Limited.{limit, limited}
+use Rattle.compact_walks.specs.Limited.{cycles_limit, limited}
 use Rattle.wcet.specs.declared.fit.Fit.{Fit}
 use Rattle.wcet.specs.declared.found.Walked.{Walked}
 use Rattle.wcet.specs.declared.found.Walked.TheVariants.{Never, Shown, Large}
 use Rattle.wcet.specs.declared.known.Known.{Known}
 use Rattle.wcet.specs.declared.prepared.Prepared.{Prepared}
-use Rattle.wcet.specs.Known.{Setting, IsSetting, bounds_in, ForEach, AreTold, IsLimited}
+use Rattle.wcet.specs.Known.{BoundSetting, IsBoundSetting, bounds_in, ForEach, AreTold, IsLimited}
 use Rattle.wcet.specs.Prepared.{AreBounds, IsInShape, IsPreparedFor}
 use Rattle.wcet.specs.Found.{IsFitOf, IsFoundOf, IsSectionOf, IsShownBy, IsSmallWalked, IsWalked, ShowsNumber, found_by, known_by, section_by, section_unless}
 use Rattle.wcet.specs.FoundLaws.{KnownIs}
@@ -21,9 +21,9 @@ use Rattle.wcet.specs.ShowLaws.{FoundShows, FoundInText}
 use Rattle.wcet.proofs.Limiting.{limited_most}
 
 -- the greatest walk of a solution is within 64 bits
-shown_small : (p : Prepared) (value : ℕ) (s : _) → IsShownBy p value s → value < limit
+shown_small : (p : Prepared) (value : ℕ) (s : _) → IsShownBy p value s → value < cycles_limit
 shown_small p value s w =
-    elim (cases_lt w.solution.value limit) [
+    elim (cases_lt w.solution.value cycles_limit) [
       | inl less ↦ let is = w.value_is in omega arith
       | inr more ↦
           let g = w.shown.greatest in
@@ -53,12 +53,12 @@ module _ (m : ℕ) (p : Prepared) (fit : Fit) where
   found_some (Large value) e = absurd (let bad : true ≡ false = e in cc)
 
 -- what holds of the section for each program holds of it for all of them
-for_each : (set : Setting) (table : List Known) (m : ℕ) (o : Option CertSection) (K : CertSection → Type 0) (L : Program → CertSection → Type 0) → IfSome o K
+for_each : (set : BoundSetting) (table : List Known) (m : ℕ) (o : Option CertSection) (K : CertSection → Type 0) (L : Program → CertSection → Type 0) → IfSome o K
     → ForEach set (λ P. AreTold P set.timing table m → IfSome o (L P)) → IfSome o (λ s. K s × ForEach set (λ P. AreTold P set.timing table m → L P s))
 for_each set table m None K L k l = tt
 for_each set table m (Some s) K L k l = (k, l)
 
-pub found_of : KnownIs → FoundShows → FoundInText → (set : Setting) (table : List Known) (m : ℕ) (k : Coded) (p : Prepared) (fit : Fit) (walked : Walked) → IsSetting set → slice_get set.flow.methods m ≡ Some k → IsCoded k → m < 2 ^ 32
+pub found_of : KnownIs → FoundShows → FoundInText → (set : BoundSetting) (table : List Known) (m : ℕ) (k : Coded) (p : Prepared) (fit : Fit) (walked : Walked) → IsBoundSetting set → slice_get set.flow.methods m ≡ Some k → IsCoded k → m < 2 ^ 32
     → p.shape.size < 2 ^ 32 → All IsLimited table → IsInShape p → p.fits ≡ fit.fits → AreBounds (bounds_in set) m p.shape p.bounds.items
     → ForEach set (λ P. AreTold P set.timing table m → IsPreparedFor P set.timing (bounds_in set) table m p) → ForEach set (λ P. IsFitOf P set.timing m fit) → IsWalked p walked → IsSmallWalked walked
     → IsFoundOf set table m (found_by m fit walked)

@@ -3,7 +3,7 @@ use Rattle.std.proofs.Common.{ℕ, List, refl, sym, subst}
 use Rattle.std.specs.Prelude.{IsTrue}
 use Rattle.section_check.specs.Bounded.{BoundedLoop}
 use Rattle.path_solver.specs.Longest.{IterationsExceed}
-use Rattle.path_solver.specs.Longest.IsTooLarge.{iterations as iterations_large}
+use Rattle.path_solver.specs.Longest.WalksAreTooLarge.{iterations as iterations_large}
 use Rattle.bytecode_model.specs.Program.{Program}
 use Rattle.method_flow.specs.Keeping.{BoundOf}
 use Rattle.method_flow.specs.declared.timing.Timing.{Timing}

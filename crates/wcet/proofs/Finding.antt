@@ -18,7 +18,7 @@ use Rattle.bound_rules.specs.declared.faults.BoundRefusal.TheVariants.{NoMemory}
 use Rattle.wcet.specs.declared.known.Known.{Known}
 use Rattle.wcet.specs.declared.methods.Methods.{Methods}
 use Rattle.wcet.specs.declared.shape.Shape.{Shape}
-use Rattle.wcet.specs.Known.{Setting, bounds_in, ForEach, unknown, IsLimited, AreTold}
+use Rattle.wcet.specs.Known.{BoundSetting, bounds_in, ForEach, unknown, IsLimited, AreTold}
 use Rattle.wcet.specs.Laws.{ReadyHasShape}
 use Rattle.wcet.specs.Methods.{values_by, IsLargeAmong, AreMethodsFound, IsUnready}
 use Rattle.wcet.specs.Prepared.{IsShapeOf, IsLeftBy, IsUnbounded}
@@ -29,7 +29,7 @@ use Rattle.wcet.specs.Ready.{AreBehindCalls, AreReady, IsWantOfMemory}
 all_unknown : (n : ℕ) → All IsLimited (replicate n unknown)
 all_unknown n = All-replicate IsLimited n unknown (record { asked = tt; full = tt })
 
-pub none_found : (st : Setting) (n : ℕ) (a : Methods) → a.table.items ≡ replicate n unknown → a.least ≡ None → a.sections.items ≡ [] → n ≡ length st.flow.methods → AreMethodsFound st [] a
+pub none_found : (st : BoundSetting) (n : ℕ) (a : Methods) → a.table.items ≡ replicate n unknown → a.least ≡ None → a.sections.items ≡ [] → n ≡ length st.flow.methods → AreMethodsFound st [] a
 none_found st n a table least sections long =
     let none : Option ℕ = None in
     let T : List Known → Type 0 = λ tb. All IsLimited tb in
@@ -81,7 +81,7 @@ module _ (order : List ℕ) (i : ℕ) (below : i < length order) where
 
   -- ---- why the method there isn't found
 
-  module _ (law : ReadyHasShape) (st : Setting) (a : Methods) (found : AreMethodsFound st (take i order) a) (m : ℕ) (is : m ≡ get_or order i m) where
+  module _ (law : ReadyHasShape) (st : BoundSetting) (a : Methods) (found : AreMethodsFound st (take i order) a) (m : ℕ) (is : m ≡ get_or order i m) where
     pub only_memory : (fault : BoundRefusal) → IsUnready st a.table.items m fault → ForEach st (λ P. AreReady P (bounds_in st) order → IsWantOfMemory fault)
     only_memory fault unready = λ P of ready.
         let behind : AreBehindCalls P order = ready.behind in

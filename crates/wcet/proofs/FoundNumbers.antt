@@ -13,9 +13,9 @@ use Rattle.method_flow.specs.Regions.{load}
 use Rattle.method_flow.specs.declared.timing.Timing.{Timing}
 use Rattle.bound_rules.specs.Costs.{added}
 use Rattle.bound_rules.specs.Fitting.{RegionFits, loads_of}
-use Rattle.bound_rules.specs.Numbers.{Numbers, LiveNest, charged_loops, no_fees, IsValue, loops_adds, IsInside, IsLoops, IsFull}
+use Rattle.bound_rules.specs.Numbers.{Numbers, LiveNest, charged_loops, no_fees, IsGreatestValue, loops_adds, IsInside, IsLoops, IsFull}
 use Rattle.bound_rules.specs.Numbers.IsFull.{fits as fits_full, exceeds as exceeds_full}
-use Rattle.compact_walks.specs.Limited.{limit, limited, limited_of, AreSmallAt}
+use Rattle.compact_walks.specs.Limited.{cycles_limit, limited, limited_of, AreSmallAt}
 use Rattle.wcet.specs.declared.known.Known.{Known}
 use Rattle.wcet.specs.declared.prepared.Prepared.{Prepared}
 use Rattle.wcet.specs.declared.fit.Fit.{Fit}
@@ -34,7 +34,7 @@ use Rattle.wcet.proofs.Valuing.{exit_in, greatest_out}
 
 -- ---- exact numbers are limited ones
 
-limited_already : (o : Option ℕ) → IfSome o (λ n. n ≤ limit) → o ≡ limited_of o
+limited_already : (o : Option ℕ) → IfSome o (λ n. n ≤ cycles_limit) → o ≡ limited_of o
 limited_already None le = refl
 limited_already (Some n) le = ap (λ (k : ℕ). Some k) (sym (limited_at_most n le))
 
@@ -56,7 +56,7 @@ has_agrees P t N x known few has = record {
 -- where no number is too large, that with all loads isn't limited
 exact_full : (m : ℕ) (fit : Fit) (w : Walked) → (found_by m fit w).known.too_large ≡ false → (found_by m fit w).known.full ≡ option_map (λ n. n + fit.more) (found_by m fit w).known.asked
 exact_full m fit Never e = refl
-exact_full m fit (Shown n s) e = ap (λ (v : ℕ). Some v) (small_is (n + fit.more) (leb-false limit (limited (n + fit.more)) e))
+exact_full m fit (Shown n s) e = ap (λ (v : ℕ). Some v) (small_is (n + fit.more) (leb-false cycles_limit (limited (n + fit.more)) e))
 exact_full m fit (Large n) e = absurd (cc)
 
 module _ (laws : AreFoundLaws) (P : Program) (t : Timing) (bound_of : BoundOf) (k : Coded) (table : List Known) (m : ℕ) (p : Prepared) (c : IsCoded k) (of : IsCodedOf P m k) (ends : AreTold P t table m) (shape : IsInShape p)
@@ -86,18 +86,18 @@ module _ (laws : AreFoundLaws) (P : Program) (t : Timing) (bound_of : BoundOf) (
       by (Large n) large e = absurd (cc)
 
   -- what is found is the value of the live graph
-  value_is : IsValue h.graph p.costs.items loops known.asked
+  value_is : IsGreatestValue h.graph p.costs.items loops known.asked
   value_is = by walked is none
     where
-      by : (w : Walked) → IsWalked p w → (found_by m fit w).known.too_large ≡ false → IsValue h.graph p.costs.items loops (found_by m fit w).known.asked
+      by : (w : Walked) → IsWalked p w → (found_by m fit w).known.too_large ≡ false → IsGreatestValue h.graph p.costs.items loops (found_by m fit w).known.asked
       by Never never e = λ reach. never.1 (exit_in laws.walks P t bound_of table m p h small reach)
       by (Shown n s) shown e = subst (λ (v : ℕ). IsGreatest h.graph p.costs.items loops v) (sym shown.value_is) (greatest_out laws.walks P t bound_of table m p h small shown.solution.value shown.shown.greatest)
       by (Large n) large e = absurd (cc)
 
-  value_of : (others : List ℕ) (value : Option ℕ) → others ≡ fees → value ≡ known.asked → IsValue h.graph p.costs.items (charged_loops flow others) value
+  value_of : (others : List ℕ) (value : Option ℕ) → others ≡ fees → value ≡ known.asked → IsGreatestValue h.graph p.costs.items (charged_loops flow others) value
   value_of others value same e =
-      subst (λ (ls : List BoundedLoop). IsValue h.graph p.costs.items ls value) (sym (ap (λ (fs : List ℕ). charged_loops flow fs) same ∙ loops_are laws.walks P t bound_of table m p h small))
-      (subst (λ (o : Option ℕ). IsValue h.graph p.costs.items loops o) (sym e) value_is)
+      subst (λ (ls : List BoundedLoop). IsGreatestValue h.graph p.costs.items ls value) (sym (ap (λ (fs : List ℕ). charged_loops flow fs) same ∙ loops_are laws.walks P t bound_of table m p h small))
+      (subst (λ (o : Option ℕ). IsGreatestValue h.graph p.costs.items loops o) (sym e) value_is)
 
   inside : RegionFits P t m → IsInside P t bound_of N m
   inside together =

@@ -3,7 +3,7 @@ use Rattle.std.proofs.Common.{◌≡◌, ℕ, ◌+◌, ◌<◌, ◌≤◌, List,
 use Rattle.std.specs.Prelude.{nat_lt, if◌then◌else◌, unwrap_or, IfSome}
 use Rattle.std.proofs.lemmas.Bool.Decides.{nat_tests}
 use Rattle.std.proofs.lemmas.List.{take_more}
-use Rattle.lists.specs.Lemmas.{if_at}
+use Rattle.lists.proofs.Lemmas.{if_at}
 use Rattle.bound_rules.specs.Costs.{greater, greatest_of}
 use Rattle.bound_rules.proofs.Greatest.{IsGreatestOf, greatest_is}
 

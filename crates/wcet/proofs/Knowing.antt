@@ -2,7 +2,7 @@
 use Rattle.std.proofs.Common.{◌≡◌, ◌↔◌, ℕ, ◌+◌, true, false, List, Option, Some, None, refl, sym, ap, ◌∙◌, subst, arith}
 use Rattle.std.specs.Prelude.{IsSome, IsTrue}
 use Rattle.std.proofs.lemmas.Bool.{le-leb}
-use Rattle.lists.specs.Lemmas.{none≢some, some_same}
+use Rattle.lists.proofs.Lemmas.{none≢some, some_same}
 use Rattle.section_check.specs.Bounded.{BoundedLoop, IsBoundedWalk}
 use Rattle.path_solver.specs.Reaching.{ReachesExit}
 use Rattle.bytecode_model.specs.Program.{Program}
@@ -11,7 +11,7 @@ use Rattle.method_flow.specs.Keeping.{BoundOf}
 use Rattle.method_flow.specs.Live.{CanEnd}
 use Rattle.method_flow.specs.declared.timing.Timing.{Timing}
 use Rattle.bound_rules.specs.Fitting.{RegionFits}
-use Rattle.compact_walks.specs.Limited.{limit, limited}
+use Rattle.compact_walks.specs.Limited.{cycles_limit, limited}
 use Rattle.wcet.specs.declared.known.Known.{Known}
 use Rattle.wcet.specs.declared.prepared.Prepared.{Prepared}
 use Rattle.wcet.specs.declared.fit.Fit.{Fit}
@@ -46,9 +46,9 @@ same_some more None = (λ e. e, λ e. e)
 same_some more (Some n) = (λ e. refl, λ e. refl)
 
 -- a number with all loads that is limited is known to be too large
-pub large_found : (m : ℕ) (fit : Fit) (w : Walked) → (found_by m fit w).known.full ≡ Some limit → IsTrue (found_by m fit w).known.too_large
-large_found m fit Never e = absurd (none≢some limit e)
-large_found m fit (Shown n s) e = let same = some_same (limited (n + fit.more)) limit e in le-leb limit (limited (n + fit.more)) (omega arith)
+pub large_found : (m : ℕ) (fit : Fit) (w : Walked) → (found_by m fit w).known.full ≡ Some cycles_limit → IsTrue (found_by m fit w).known.too_large
+large_found m fit Never e = absurd (none≢some cycles_limit e)
+large_found m fit (Shown n s) e = let same = some_same (limited (n + fit.more)) cycles_limit e in le-leb cycles_limit (limited (n + fit.more)) (omega arith)
 large_found m fit (Large n) e = refl
 
 module _ (laws : AreFoundLaws) (P : Program) (t : Timing) (bound_of : BoundOf) (k : Coded) (table : List Known) (m : ℕ) (p : Prepared) (c : IsCoded k) (of : IsCodedOf P m k) (ends : AreTold P t table m) (shape : IsInShape p)

@@ -4,32 +4,32 @@ use Rattle.std.specs.Prelude.{◌⊎◌, option_map, unwrap_or}
 use Rattle.std.proofs.lemmas.Bool.{cases_lt, cond_below, cond_above}
 use Rattle.lists.specs.Members.{at_head, in_tail}
 use Rattle.bound_rules.specs.Costs.{greater, greatest_of}
-use Rattle.compact_walks.specs.Limited.{limit, limited, limited_of}
+use Rattle.compact_walks.specs.Limited.{cycles_limit, limited, limited_of}
 use Rattle.wcet.specs.Telling.{with_back}
 
 -- ---- numbers
 
-pub limited_below : (n : ℕ) → n < limit → limited n ≡ n
-limited_below n lt = sym (cond_below n limit n limit lt)
+pub limited_below : (n : ℕ) → n < cycles_limit → limited n ≡ n
+limited_below n lt = sym (cond_below n cycles_limit n cycles_limit lt)
 
-pub limited_above : (n : ℕ) → limit ≤ n → limited n ≡ limit
-limited_above n le = sym (cond_above n limit n limit limit le refl)
+pub limited_above : (n : ℕ) → cycles_limit ≤ n → limited n ≡ cycles_limit
+limited_above n le = sym (cond_above n cycles_limit n cycles_limit cycles_limit le refl)
 
--- it is the number or the limit, whichever is less
-pub limited_is : (n : ℕ) → ((n < limit) × (limited n ≡ n)) ⊎ ((limit ≤ n) × (limited n ≡ limit))
-limited_is n = elim (cases_lt n limit) [ inl less ↦ inl (less, limited_below n less) | inr more ↦ inr (more, limited_above n more) ]
+-- it is the number or the cycles_limit, whichever is less
+pub limited_is : (n : ℕ) → ((n < cycles_limit) × (limited n ≡ n)) ⊎ ((cycles_limit ≤ n) × (limited n ≡ cycles_limit))
+limited_is n = elim (cases_lt n cycles_limit) [ inl less ↦ inl (less, limited_below n less) | inr more ↦ inr (more, limited_above n more) ]
 
-pub limited_most : (n : ℕ) → limited n ≤ limit
+pub limited_most : (n : ℕ) → limited n ≤ cycles_limit
 limited_most n = elim (limited_is n) [ inl x ↦ let less = x.0 in let same = x.1 in omega arith | inr x ↦ let same = x.1 in omega arith ]
 
 -- one that isn't limited is the number itself
-pub small_is : (n : ℕ) → limited n < limit → limited n ≡ n
+pub small_is : (n : ℕ) → limited n < cycles_limit → limited n ≡ n
 small_is n lt = elim (limited_is n) [ inl x ↦ x.1 | inr x ↦ absurd (let same = x.1 in omega arith) ]
 
-pub large_is : (n : ℕ) → limit ≤ limited n → limit ≤ n
+pub large_is : (n : ℕ) → cycles_limit ≤ limited n → cycles_limit ≤ n
 large_is n le = elim (limited_is n) [ inl x ↦ absurd (let less = x.0 in let same = x.1 in omega arith) | inr x ↦ x.0 ]
 
-pub limited_at_most : (n : ℕ) → n ≤ limit → limited n ≡ n
+pub limited_at_most : (n : ℕ) → n ≤ cycles_limit → limited n ≡ n
 limited_at_most n le = elim (limited_is n) [ inl x ↦ x.1 | inr x ↦ let more = x.0 in let same = x.1 in omega arith ]
 
 -- what is limited may be so once more

@@ -29,7 +29,7 @@ use Rattle.bound_rules.specs.Costs.{greatest_of}
 use Rattle.bound_rules.specs.Laws.{ValuesAreTold, IterationsAreTold, HeadersAreInstructions}
 use Rattle.bound_rules.specs.Numbers.{LiveNest, charged_loops}
 use Rattle.compact_walks.specs.Laws.{GraphsAreMoved, MovedReachesExit, MovedIsNest, MovedIsGreatest, MovedWalkExceeds, MovedIterationsExceed}
-use Rattle.compact_walks.specs.Limited.{limit, SomeExceeds}
+use Rattle.compact_walks.specs.Limited.{cycles_limit, SomeExceeds}
 use Rattle.compact_walks.specs.Moving.{IsMoved}
 use Rattle.wcet.specs.declared.known.Known.{Known}
 use Rattle.wcet.specs.declared.prepared.Prepared.{Prepared}
@@ -58,7 +58,7 @@ pub record AreWalkLaws : Type 0 where
 
 -- own costs are within 64 bits
 abbrev pub OwnAreSmall : Program → Timing → (method : ℕ) → Type 0
-OwnAreSmall P t m = (u : Node) (own : ℕ) → IsOwnCost P t m u own → own < limit
+OwnAreSmall P t m = (u : Node) (own : ℕ) → IsOwnCost P t m u own → own < cycles_limit
 
 -- ---- sums
 
@@ -134,7 +134,7 @@ module _ (laws : AreWalkLaws) (P : Program) (t : Timing) (bound_of : BoundOf) (t
   pub record IsDearWalk : Type 0 where
     pub node : Node
     pub reached : IsReached (IsLiveEdge P m) node
-    pub large : limit ≤ slice_index p.costs.items (number_of node)
+    pub large : cycles_limit ≤ slice_index p.costs.items (number_of node)
     pub walk : List ℕ
     pub bounded : IsBoundedWalk h.graph loops_in walk
     pub has : Contains walk (number_of node)
@@ -143,24 +143,24 @@ module _ (laws : AreWalkLaws) (P : Program) (t : Timing) (bound_of : BoundOf) (t
   pub dear_walk : SomeExceeds p.shape.nodes p.costs.items → IsDearWalk
   dear_walk e =
       let r = from_nodes e.node e.among in
-      let large : limit ≤ slice_index p.costs.items (number_of r.0) = subst (λ (x : ℕ). limit ≤ slice_index p.costs.items x) r.2 e.exceeds in
+      let large : cycles_limit ≤ slice_index p.costs.items (number_of r.0) = subst (λ (x : ℕ). cycles_limit ≤ slice_index p.costs.items x) r.2 e.exceeds in
       by r.0 r.1 large
     where
       target : (b : Bool) (q : ℕ) → 0 < adds_by P t table m b q → (x : ℕ) × IsTarget P m q x
       target true q more = some_value (λ x. (known_at table x).asked) (targets_of P m q) more
       target false q more = some_value (λ x. with_back (load P t.read m) (known_at table x).full) (targets_of P m q) more
 
-      by : (u : Node) → IsReached (IsLiveEdge P m) u → limit ≤ slice_index p.costs.items (number_of u) → IsDearWalk
+      by : (u : Node) → IsReached (IsLiveEdge P m) u → cycles_limit ≤ slice_index p.costs.items (number_of u) → IsDearWalk
       by (At q) reached large =
           let cost = h.costs.each (At q) reached in
           let more = adds_by P t table m (is_without p.fits p.shape p.charges.flags.items q) q in
-          let sum : limit ≤ cost.0 + more = large_is (cost.0 + more) (subst (λ (n : ℕ). limit ≤ n) cost.2 large) in
+          let sum : cycles_limit ≤ cost.0 + more = large_is (cost.0 + more) (subst (λ (n : ℕ). cycles_limit ≤ n) cost.2 large) in
           let own = small (At q) cost.0 cost.1 in
           let x = target (is_without p.fits p.shape p.charges.flags.items q) q (omega arith) in
           let w = call_on_walk laws.invokes laws.headers laws.lies P m h.graph h.is_live (nest_of p.shape) nest_in p.bounds.items fees_in q reached (target_calls P m q x.0 x.1) in
           record { node = At q; reached = reached; large = large; walk = w.0; bounded = w.1; has = w.2 }
       by (RaiseAt q) reached large =
           let cost = h.costs.each (RaiseAt q) reached in
-          let sum : limit ≤ cost.0 + 0 = large_is (cost.0 + 0) (subst (λ (n : ℕ). limit ≤ n) cost.2 large) in
+          let sum : cycles_limit ≤ cost.0 + 0 = large_is (cost.0 + 0) (subst (λ (n : ℕ). cycles_limit ≤ n) cost.2 large) in
           let own = small (RaiseAt q) cost.0 cost.1 in
           absurd (omega arith)

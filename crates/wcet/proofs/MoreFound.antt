@@ -5,10 +5,10 @@ use Rattle.std.proofs.lemmas.Bool.{cases_eq, eq-eqb, ne_eqb, cond-true, cond-fal
 use Rattle.std.proofs.lemmas.List.{length-set, map-append}
 use Rattle.std.proofs.lemmas.List.Elements.{All-set, All-push, Contains-push, Contains-push_cases, Contains-append_left}
 use Rattle.std.specs.Cmp.Derive.{both_true}
-use Rattle.lists.specs.Lemmas.{if_at}
+use Rattle.lists.proofs.Lemmas.{if_at}
 use Rattle.lists.specs.Members.{cons_cases, nil_contains}
 use Rattle.section_check.specs.Least.{IsLeast, lesser_of}
-use Rattle.section_check.specs.LeastLemmas.{least_same, least_either}
+use Rattle.section_check.proofs.LeastLemmas.{least_same, least_either}
 use Rattle.bytecode_model.specs.Program.{Program}
 use Rattle.bound_cert.specs.declared.cert.CertSection.{CertSection}
 use Rattle.bound_cert.specs.Certificate.{IsSectionInText, is_inside}
@@ -20,7 +20,7 @@ use Rattle.call_regions.proofs.Sorting.{if_none}
 use Rattle.wcet.specs.declared.known.Known.{Known}
 use Rattle.wcet.specs.declared.found.Found.{Found}
 use Rattle.wcet.specs.declared.methods.Methods.{Methods}
-use Rattle.wcet.specs.Known.{Setting, bounds_in, ForEach, known_at, IsLimited, AreTold, IsKnownOf}
+use Rattle.wcet.specs.Known.{BoundSetting, bounds_in, ForEach, known_at, IsLimited, AreTold, IsKnownOf}
 use Rattle.wcet.specs.Found.{kind_of, Cover, ShowsNumber, IsSectionOf, HasSection, IsFoundOf}
 use Rattle.wcet.specs.Methods.{values_by, IsLargeAmong, AreMethodsFound, AddsMethod}
 use Rattle.wcet.specs.Ready.{AreBehindCalls}
@@ -122,7 +122,7 @@ some_is_none : (o : Option ℕ) (m : ℕ) (X : Type 0) → IfNone (lesser_of o (
 some_is_none None m X = tt
 some_is_none (Some n) m X = tt
 
-module _ (one_more : OneMoreMeets) (st : Setting) (done : List ℕ) (m : ℕ) (old new : Methods) (apart : Contains done m → ⊥) (inside : m < length old.table.items) (h : AreMethodsFound st done old) (found : Found) (is : IsFoundOf st old.table.items m found) (adds : AddsMethod m found old new) where
+module _ (one_more : OneMoreMeets) (st : BoundSetting) (done : List ℕ) (m : ℕ) (old new : Methods) (apart : Contains done m → ⊥) (inside : m < length old.table.items) (h : AreMethodsFound st done old) (found : Found) (is : IsFoundOf st old.table.items m found) (adds : AddsMethod m found old new) where
   abbrev table : List Known
   table = old.table.items
 

@@ -2,7 +2,7 @@
 use Rattle.std.proofs.Common.{◌≡◌, ◌↔◌, ℕ, ◌+◌, ◌≤◌, true, false, List, Option, Some, None, refl, sym, ap, ◌∙◌, subst, arith}
 use Rattle.std.specs.Prelude.{option_map, IsTrue}
 use Rattle.std.proofs.lemmas.Bool.{leb-true}
-use Rattle.lists.specs.Lemmas.{none≢some, some_same}
+use Rattle.lists.proofs.Lemmas.{none≢some, some_same}
 use Rattle.loop_nest.specs.Digraph.{Digraph}
 use Rattle.section_check.specs.Bounded.{BoundedLoop}
 use Rattle.path_solver.specs.Longest.{IterationsExceed}
@@ -16,7 +16,7 @@ use Rattle.bound_rules.specs.Fitting.{RegionFits, loads_of}
 use Rattle.bound_rules.specs.Numbers.{Numbers, charged_loops, no_fees, IsInside, IsLoops, IsFull}
 use Rattle.bound_rules.specs.Numbers.IsFull.{fits as fits_full, exceeds as exceeds_full}
 use Rattle.bound_rules.proofs.Sums.{same_loads}
-use Rattle.compact_walks.specs.Limited.{limit, limited, limited_of, AreSmallAt}
+use Rattle.compact_walks.specs.Limited.{cycles_limit, limited, limited_of, AreSmallAt}
 use Rattle.compact_walks.specs.Solving.{loops_of}
 use Rattle.wcet.specs.declared.known.Known.{Known}
 use Rattle.wcet.specs.declared.prepared.Prepared.{Prepared}
@@ -117,7 +117,7 @@ module _ (laws : AreFoundLaws) (P : Program) (t : Timing) (bound_of : BoundOf) (
     over_here graph bounded costs value one over =
         subst (λ (ls : List BoundedLoop). IterationsExceed h.graph costs ls) one.same_loops (subst (λ (g : Digraph). IterationsExceed g costs bounded) one.same_graph over)
 
-    whole_exceeds : (v : ℕ) → limit ≤ v → Some v ≡ limited_of (N.full m) → (o : Option ℕ) → N.full m ≡ o → ExceedsBeside P t bound_of N m
+    whole_exceeds : (v : ℕ) → cycles_limit ≤ v → Some v ≡ limited_of (N.full m) → (o : Option ℕ) → N.full m ≡ o → ExceedsBeside P t bound_of N m
     whole_exceeds v large same None e = absurd (none≢some v (sym (same ∙ ap limited_of e)))
     whole_exceeds v large same (Some n) e = let one = some_same v (limited n) (same ∙ ap limited_of e) in exceeds_whole n e (large_is n (omega arith))
 
@@ -133,7 +133,7 @@ module _ (laws : AreFoundLaws) (P : Program) (t : Timing) (bound_of : BoundOf) (
 
     large_exceeds : (w : Walked) → IsWalked p w → (found_by m fit w).known.full ≡ limited_of (N.full m) → IsTrue (found_by m fit w).known.too_large → ExceedsBeside P t bound_of N m
     large_exceeds Never never full e = absurd (cc)
-    large_exceeds (Shown n s) shown full e = whole_exceeds (limited (n + fit.more)) (leb-true limit (limited (n + fit.more)) e) full (N.full m) refl
+    large_exceeds (Shown n s) shown full e = whole_exceeds (limited (n + fit.more)) (leb-true cycles_limit (limited (n + fit.more)) e) full (N.full m) refl
     large_exceeds (Large n) (node x same) full e = let top = limited_above (n + fit.more) (omega arith) in whole_exceeds (limited (n + fit.more)) (omega arith) full (N.full m) refl
     large_exceeds (Large n) (walk few x same) full e = let top = limited_above (n + fit.more) (omega arith) in whole_exceeds (limited (n + fit.more)) (omega arith) full (N.full m) refl
     large_exceeds (Large n) (iterations few greatest below over) full e = iterations_exceed few over fit_of

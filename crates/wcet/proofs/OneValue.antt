@@ -20,7 +20,7 @@ use Rattle.method_flow.specs.declared.timing.Timing.{Timing}
 use Rattle.bound_rules.specs.Costs.{added}
 use Rattle.bound_rules.specs.Fitting.{RegionFits}
 use Rattle.bound_rules.specs.Laws.{CalledFit, ChargesAreOne, ChargedLoopsAreOne, LiveGraphsAreOne}
-use Rattle.bound_rules.specs.Numbers.{Numbers, LiveNest, charged_loops, no_fees, IsValue, AreCharged, AreLoads, is_in_charged, full_and_back, loops_adds, IsInside, IsLoops}
+use Rattle.bound_rules.specs.Numbers.{Numbers, LiveNest, charged_loops, no_fees, IsGreatestValue, AreCharged, AreLoads, is_in_charged, full_and_back, loops_adds, IsInside, IsLoops}
 use Rattle.compact_walks.specs.Limited.{limited}
 use Rattle.compact_walks.specs.Moving.{moved_natural}
 use Rattle.wcet.specs.declared.known.Known.{Known}
@@ -83,7 +83,7 @@ module _ (laws : AreFoundLaws) (P : Program) (t : Timing) (bound_of : BoundOf) (
     pub same_graph : graph ≡ h.graph
     pub same_loops : bounded ≡ loops
     pub are_limited : AreLimitedOf laws.walks P t bound_of table m p h small costs
-    pub is_value : IsValue h.graph costs loops value
+    pub is_value : IsGreatestValue h.graph costs loops value
 
   one_graph : (x : LiveNest P bound_of m) → x.graph ≡ h.graph
   one_graph x = laws.live_graphs P m x.graph h.graph x.is_live h.is_live
@@ -92,8 +92,8 @@ module _ (laws : AreFoundLaws) (P : Program) (t : Timing) (bound_of : BoundOf) (
   one_loops : (x : LiveNest P bound_of m) (others : List ℕ) → others ≡ fees → charged_loops x others ≡ loops
   one_loops x others same = ap (λ (fs : List ℕ). charged_loops x fs) same ∙ ((laws.charged_loops P bound_of m x flow fees).1 ∙ loops_are laws.walks P t bound_of table m p h small)
 
-  value_there : (graph : Digraph) (bounded : List BoundedLoop) (costs : List ℕ) (value : Option ℕ) → graph ≡ h.graph → bounded ≡ loops → IsValue graph costs bounded value → IsValue h.graph costs loops value
-  value_there graph bounded costs value e e' is = subst (λ (ls : List BoundedLoop). IsValue h.graph costs ls value) e' (subst (λ (g : Digraph). IsValue g costs bounded value) e is)
+  value_there : (graph : Digraph) (bounded : List BoundedLoop) (costs : List ℕ) (value : Option ℕ) → graph ≡ h.graph → bounded ≡ loops → IsGreatestValue graph costs bounded value → IsGreatestValue h.graph costs loops value
+  value_there graph bounded costs value e e' is = subst (λ (ls : List BoundedLoop). IsGreatestValue h.graph costs ls value) e' (subst (λ (g : Digraph). IsGreatestValue g costs bounded value) e is)
 
   -- ---- without loads
 

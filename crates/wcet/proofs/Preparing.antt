@@ -3,7 +3,7 @@ use Rattle.std.proofs.Common.{◌≡◌, ℕ, ◌+◌, ◌*◌, ◌<◌, Bool, t
 use Rattle.std.specs.Prelude.{◌↔◌, slice_get, slice_index_or, unwrap_or, IsTrue, Result, Ok, Err, IfOk}
 use Rattle.std.proofs.lemmas.List.{length-map}
 use Rattle.std.proofs.lemmas.Option.{slice_get-get_or}
-use Rattle.lists.specs.Lemmas.{some_same}
+use Rattle.lists.proofs.Lemmas.{some_same}
 use Rattle.loop_nest.specs.Nest.{NaturalLoop, headers_of}
 use Rattle.path_solver.specs.Reaching.{IsFlagged}
 use Rattle.path_solver.specs.Regions.{AreRegionsApart}
@@ -24,13 +24,13 @@ use Rattle.node_costs.proofs.Loading.{load_of}
 use Rattle.bound_rules.specs.declared.faults.BoundRefusal.{BoundRefusal}
 use Rattle.bound_rules.specs.Costs.{added_at}
 use Rattle.bound_rules.specs.Fitting.{RegionFits, header_bound}
-use Rattle.compact_walks.specs.Limited.{limit, limited}
+use Rattle.compact_walks.specs.Limited.{cycles_limit, limited}
 use Rattle.compact_walks.specs.Moving.{moved_natural}
 use Rattle.wcet.specs.declared.known.Known.{Known}
 use Rattle.wcet.specs.declared.telling.Told.{Told}
 use Rattle.wcet.specs.declared.shape.Shape.{Shape}
 use Rattle.wcet.specs.declared.prepared.Prepared.{Prepared}
-use Rattle.wcet.specs.Known.{Setting, bounds_in, AreTold}
+use Rattle.wcet.specs.Known.{BoundSetting, bounds_in, AreTold}
 use Rattle.wcet.specs.Telling.{AreToldBy, AreToldIn}
 use Rattle.wcet.specs.Prepared.{node_of, nest_of, call_count, IsLeftBy, AreCostsBy, IsInShape, AreToldWith, IsShapeOf, AreBounds, IsUnbounded, AreChargesOf, adds_by, is_without, AreWithout, AreLimitedCosts, IsPreparedFor, IsShapeWith, HasNoShapeWith, IsNotPrepared, AreMethodCosts}
 use Rattle.wcet.specs.Laws.{GraphsWhereTargetsEnd, CostsAreLimited}
@@ -41,16 +41,16 @@ use Rattle.wcet.proofs.Told.{load_is}
 abbrev goes : List Told → List Bool
 goes told = map (λ (s : Told). s.goes_on) told
 
-pub count_is : (set : Setting) (m : ℕ) (k : Coded) → slice_get set.flow.methods m ≡ Some k → call_count set m ≡ length k.calls
+pub count_is : (set : BoundSetting) (m : ℕ) (k : Coded) → slice_get set.flow.methods m ≡ Some k → call_count set m ≡ length k.calls
 count_is set m k is = ap (λ (o : Option Coded). elim o [ None ↦ 0 | Some x ↦ length x.calls ]) is
 
-pub shape_with : (set : Setting) (m : ℕ) (told : List Told) (k : Coded) (g : Digraph) (s : Shape) → slice_get set.flow.methods m ≡ Some k → IsGraphWhere k (goes told) g → g.nodes ≡ 2 * length k.code → IsShapeOf g s
+pub shape_with : (set : BoundSetting) (m : ℕ) (told : List Told) (k : Coded) (g : Digraph) (s : Shape) → slice_get set.flow.methods m ≡ Some k → IsGraphWhere k (goes told) g → g.nodes ≡ 2 * length k.code → IsShapeOf g s
     → IsShapeWith set m told s
 shape_with set m told k g s is where_all size shape j at =
     let K : Coded → Type 0 = λ x. (h : Digraph) × IsGraphWhere x (goes told) h × (h.nodes ≡ 2 * length x.code) × IsShapeOf h s in
     subst K (some_same k j (sym is ∙ at)) (g, where_all, size, shape)
 
-pub no_shape_with : (set : Setting) (m : ℕ) (told : List Told) (k : Coded) (g : Digraph) (e : BoundRefusal) → slice_get set.flow.methods m ≡ Some k → IsGraphWhere k (goes told) g → IsLeftBy g m e → HasNoShapeWith set m told e
+pub no_shape_with : (set : BoundSetting) (m : ℕ) (told : List Told) (k : Coded) (g : Digraph) (e : BoundRefusal) → slice_get set.flow.methods m ≡ Some k → IsGraphWhere k (goes told) g → IsLeftBy g m e → HasNoShapeWith set m told e
 no_shape_with set m told k g e is where_all left =
     let K : Coded → Type 0 = λ x. (h : Digraph) × IsGraphWhere x (goes told) h × IsLeftBy h m e in
     inr (λ j at. subst K (some_same k j (sym is ∙ at)) (g, where_all, left))
@@ -58,13 +58,13 @@ no_shape_with set m told k g e is where_all left =
 no_coded : Coded
 no_coded = record { name = []; code = []; ranges = []; calls = [] }
 
-pub has_shape : (set : Setting) (m : ℕ) (told : List Told) (s : Shape) → m < length set.flow.methods → IsShapeWith set m told s → (g : Digraph) × IsShapeOf g s
+pub has_shape : (set : BoundSetting) (m : ℕ) (told : List Told) (s : Shape) → m < length set.flow.methods → IsShapeWith set m told s → (g : Digraph) × IsShapeOf g s
 has_shape set m told s below shape = let g = shape (get_or set.flow.methods m no_coded) (slice_get-get_or set.flow.methods m no_coded below) in (g.0, g.3)
 
-pub small_own : (own : List ℕ) → All (λ c. c < 2 ^ 61) own → All (λ c. c < limit) own
+pub small_own : (own : List ℕ) → All (λ c. c < 2 ^ 61) own → All (λ c. c < cycles_limit) own
 small_own own small i d lt = let h = small i d lt in omega arith
 
-pub method_costs_are : (set : Setting) (m : ℕ) (s : Shape) (fits : Bool) (flags : List Bool) (told : List Told) (k : Coded) (t : Timing) (own read : List ℕ) (calls : List Call) (costs : List ℕ) → slice_get set.flow.methods m ≡ Some k
+pub method_costs_are : (set : BoundSetting) (m : ℕ) (s : Shape) (fits : Bool) (flags : List Bool) (told : List Told) (k : Coded) (t : Timing) (own read : List ℕ) (calls : List Call) (costs : List ℕ) → slice_get set.flow.methods m ≡ Some k
     → t ≡ set.timing → calls ≡ k.calls → read ≡ own → ((P : Program) (n : ℕ) → IsCodedOf P n k → AreOwnCosts P t n k.code own) → All (λ c. c < 2 ^ 61) own → AreCostsBy read calls told fits s flags costs
     → AreMethodCosts set m s fits flags told costs
 method_costs_are set m s fits flags told k t own read calls costs is timed calls_are read_is owned small sums = record {
@@ -86,7 +86,7 @@ bounds_long : (bound_of : BoundOf) (m : ℕ) (s : Shape) (bounds : List ℕ) →
 bounds_long bound_of m s bounds are =
     ap length are.are ∙ length-map (headers_of (nest_of s)) (λ (h : ℕ). unwrap_or (header_bound bound_of m h) 0) ∙ length-map (nest_of s) (λ (l : NaturalLoop). l.header) ∙ length-map s.nest (moved_natural (node_of s))
 
-pub in_shape : (set : Setting) (m : ℕ) (told : List Told) (p : Prepared) → m < length set.flow.methods → IsShapeWith set m told p.shape → AreBounds (bounds_in set) m p.shape p.bounds.items → length p.charges.flags.items ≡ length p.shape.nest
+pub in_shape : (set : BoundSetting) (m : ℕ) (told : List Told) (p : Prepared) → m < length set.flow.methods → IsShapeWith set m told p.shape → AreBounds (bounds_in set) m p.shape p.bounds.items → length p.charges.flags.items ≡ length p.shape.nest
     → length p.charges.loads.items ≡ length p.shape.nest → AreRegionsApart p.shape.nest p.charges.flags.items → (p.fits ≡ true → (i : ℕ) → ¬ IsFlagged p.charges.flags.items i) → length p.costs.items ≡ p.shape.size → IsInShape p
 in_shape set m told p below shape bounds flags loads apart inside costs = record {
   shape = has_shape set m told p.shape below shape;
@@ -122,7 +122,7 @@ module _ (P : Program) (t : Timing) (table : List Known) (m : ℕ) (fits : Bool)
 
 -- ---- a method
 
-module _ (ends : GraphsWhereTargetsEnd) (sums : CostsAreLimited) (set : Setting) (m : ℕ) (table : List Known) (k : Coded) (told : List Told) (is : slice_get set.flow.methods m ≡ Some k) (c : IsCoded k) (are : AreToldIn set m table told) where
+module _ (ends : GraphsWhereTargetsEnd) (sums : CostsAreLimited) (set : BoundSetting) (m : ℕ) (table : List Known) (k : Coded) (told : List Told) (is : slice_get set.flow.methods m ≡ Some k) (c : IsCoded k) (are : AreToldIn set m table told) where
   live : (g : Digraph) → IsGraphWhere k (map (λ (s : Told). s.goes_on) told) g → (P : Program) → IsFlowOf P set.flow → AreTold P set.timing table m → IsLiveGraph P m g
   live g where_all P of told_end = ends P set.timing set.flow m k table (method_load set.timing.read set.flow.methods m) told g of is c told_end (are.1 k is) (where_all P m (of.methods m k is))
 
@@ -177,7 +177,7 @@ module _ (ends : GraphsWhereTargetsEnd) (sums : CostsAreLimited) (set : Setting)
       (λ P of. subst (λ (b : Bool). IsTrue b ↔ RegionFits P set.timing m) fitting (fit P of))
   prepared_ok s fits shape fit (Err e) same bounds charges costs = tt
 
-pub bounds_ok : (set : Setting) (m : ℕ) (s : Shape) (fits : Bool) (r : Result Prepared BoundRefusal) → IfOk r (λ p. (p.shape ≡ s) × (p.fits ≡ fits)) → IfOk r (λ p. AreBounds (bounds_in set) m s p.bounds.items)
+pub bounds_ok : (set : BoundSetting) (m : ℕ) (s : Shape) (fits : Bool) (r : Result Prepared BoundRefusal) → IfOk r (λ p. (p.shape ≡ s) × (p.fits ≡ fits)) → IfOk r (λ p. AreBounds (bounds_in set) m s p.bounds.items)
     → IfOk r (λ p. AreBounds (bounds_in set) m p.shape p.bounds.items)
 bounds_ok set m s fits (Ok p) same bounds = subst (λ (x : Shape). AreBounds (bounds_in set) m x p.bounds.items) (sym same.0) bounds
 bounds_ok set m s fits (Err e) same bounds = tt

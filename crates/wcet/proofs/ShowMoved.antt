@@ -7,7 +7,7 @@ use Rattle.loop_nest.specs.Digraph.{Digraph}
 use Rattle.loop_nest.specs.Nest.{NaturalLoop, headers_of}
 use Rattle.loop_nest.proofs.Elements.{from_map}
 use Rattle.section_check.specs.Section.{CertifiedLoop, Certified, listed}
-use Rattle.section_check.specs.Placing.{IsAt, IsHeld, AreWellPlaced}
+use Rattle.section_check.specs.Placing.{IsEntryAt, IsInLoop, AreWellPlaced}
 use Rattle.section_check.specs.Placing.IsMisplaced.{lists_no_node, holds_no_node}
 use Rattle.section_check.specs.Renumbering.{moved, moved_loop}
 use Rattle.path_solver.specs.Regions.{charged}
@@ -59,14 +59,14 @@ module _ (node : ℕ → ℕ) where
   pub listed_node : (d : Digraph) (c : Certified) (bounds : List ℕ) (loads : List (Option ℕ)) → AreWellPlaced d c bounds loads → (u : ℕ) → Contains (listed c.nodes) u → u < d.nodes
   listed_node d c bounds loads placed u has = elim (cases_lt u d.nodes) [ inl less ↦ less | inr more ↦ absurd (placed u (lists_no_node has more)) ]
 
-  pub held_node : (d : Digraph) (c : Certified) (bounds : List ℕ) (loads : List (Option ℕ)) → AreWellPlaced d c bounds loads → (u : ℕ) → IsHeld c.loops u → u < d.nodes
+  pub held_node : (d : Digraph) (c : Certified) (bounds : List ℕ) (loads : List (Option ℕ)) → AreWellPlaced d c bounds loads → (u : ℕ) → IsInLoop c.loops u → u < d.nodes
   held_node d c bounds loads placed u held = elim (cases_lt u d.nodes) [ inl less ↦ less | inr more ↦ absurd (placed u (holds_no_node held more)) ]
 
   -- what the moved section lists or holds has the other number of such a node
   pub from_listed : (c : Certified) (u : ℕ) → Contains (listed (moved node c).nodes) u → (v : ℕ) × Contains (listed c.nodes) v × (node v ≡ u)
   from_listed c u has = from_map node (listed c.nodes) u (subst (λ (us : List ℕ). Contains us u) (listed_moved c.nodes) has)
 
-  pub from_held : (c : Certified) (u : ℕ) → IsHeld (moved node c).loops u → (v : ℕ) × IsHeld c.loops v × (node v ≡ u)
+  pub from_held : (c : Certified) (u : ℕ) → IsInLoop (moved node c).loops u → (v : ℕ) × IsInLoop c.loops v × (node v ≡ u)
   from_held c u held =
       let l = from_map (moved_loop node) c.loops held.holder held.among in
       let v = from_map node l.0.members u (subst (λ (k : CertifiedLoop). Contains k.members u) (sym l.2) held.inside) in
@@ -75,7 +75,7 @@ module _ (node : ℕ → ℕ) where
 -- ---- entries of lists
 
 -- a loop of the nest stands where one of the section does
-pub nest_at : (ls : List CertifiedLoop) (ks : List NaturalLoop) → members_in ls ≡ members_of ks → (i : ℕ) (l : CertifiedLoop) → IsAt ls i l → (k : NaturalLoop) × IsAt ks i k × (k.members ≡ l.members)
+pub nest_at : (ls : List CertifiedLoop) (ks : List NaturalLoop) → members_in ls ≡ members_of ks → (i : ℕ) (l : CertifiedLoop) → IsEntryAt ls i l → (k : NaturalLoop) × IsEntryAt ks i k × (k.members ≡ l.members)
 nest_at ls ks e i l at =
     let long = ap length e in
     let one = length-map ls (λ (x : CertifiedLoop). x.members) in
@@ -88,7 +88,7 @@ nest_at ls ks e i l at =
       sym (get_or-map (λ (x : NaturalLoop). x.members) ks i no_loop [] lt) ∙ ap (λ (us : List (List ℕ)). get_or us i []) (sym e) ∙ get_or-map (λ (x : CertifiedLoop). x.members) ls i l [] below ∙ ap (λ (x : CertifiedLoop). x.members) at.1,
     )
 
-pub mark_at : (ls : List CertifiedLoop) (flags : List Bool) → marks_in ls ≡ flags → (i : ℕ) (l : CertifiedLoop) → IsAt ls i l → get_or flags i false ≡ l.region
+pub mark_at : (ls : List CertifiedLoop) (flags : List Bool) → marks_in ls ≡ flags → (i : ℕ) (l : CertifiedLoop) → IsEntryAt ls i l → get_or flags i false ≡ l.region
 mark_at ls flags e i l at = ap (λ (bs : List Bool). get_or bs i false) (sym e) ∙ get_or-map (λ (x : CertifiedLoop). x.region) ls i l false at.0 ∙ ap (λ (x : CertifiedLoop). x.region) at.1
 
 -- a loop that isn't charged costs no entry

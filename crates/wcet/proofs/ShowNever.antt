@@ -1,6 +1,6 @@
 -- The empty section of a method that can't end meets its conditions: no invoke is reached, since an invoke may raise, and no exit.
 use Rattle.std.proofs.Common.{ℕ, Bool, List, [], None, refl, sym, inl, inr, arith}
-use Rattle.lists.specs.Lemmas.{none≢some}
+use Rattle.lists.proofs.Lemmas.{none≢some}
 use Rattle.lists.specs.Members.{nil_contains}
 use Rattle.loop_nest.specs.Digraph.{Digraph}
 use Rattle.section_check.specs.Section.{Certified}
@@ -18,7 +18,7 @@ use Rattle.method_flow.specs.Nodes.IsReached.{later}
 use Rattle.method_flow.specs.declared.timing.Timing.{Timing}
 use Rattle.bound_rules.specs.Laws.{ReachesStarts}
 use Rattle.bound_rules.specs.Told.{Valued}
-use Rattle.bound_rules.specs.Sections.{AreFees, IsNoNode, MeetsSection}
+use Rattle.bound_rules.specs.Sections.{AreEntryLoads, IsNoNode, MeetsSection}
 use Rattle.compact_walks.specs.Limited.{AreSmallAt}
 use Rattle.wcet.specs.declared.known.Known.{Known}
 use Rattle.wcet.specs.declared.prepared.Prepared.{Prepared}
@@ -57,7 +57,7 @@ module _ (invokes : CallsAreInvokes) (P : Program) (t : Timing) (bound_of : Boun
   said : AreSaid P t bound_of table m p starts ends h earlier small fits empty
   said q x r call target = absurd (no_call q r call)
 
-  no_fees : AreFees P t s []
+  no_fees : AreEntryLoads P t s []
   no_fees = record { long = refl; each = λ i l at. absurd (let below = at.0 in omega arith) }
 
   none_without : (u : ℕ) → IsNoNode P s (told P t bound_of table m p starts ends h) u → ⊥

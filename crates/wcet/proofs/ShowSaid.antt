@@ -19,7 +19,7 @@ use Rattle.bound_rules.specs.Numbers.{is_in_charged}
 use Rattle.bound_rules.specs.Told.{Valued, value_in, with_cycles, SaysFull, SaysCalled, is_in_region}
 use Rattle.bound_rules.specs.Told.SaysFull.{fits as says_fits, exceeds as says_exceeds}
 use Rattle.bound_rules.proofs.Numbering.{in_charged}
-use Rattle.compact_walks.specs.Limited.{limit, limited}
+use Rattle.compact_walks.specs.Limited.{cycles_limit, limited}
 use Rattle.wcet.specs.declared.known.Known.{Known}
 use Rattle.wcet.specs.declared.prepared.Prepared.{Prepared}
 use Rattle.wcet.specs.Known.{known_at, AreTold, IsToldOf, IsFullBy}
@@ -79,12 +79,12 @@ module _ (called : CalledFit) (P : Program) (t : Timing) (bound_of : BoundOf) (t
   says_inside : (x : ℕ) → MayCall P m x → (known_at table x).fits ≡ true → Some (known_at table x).asked ≡ value_in true x earlier
   says_inside x may e = sym (cover x may) ∙ ap (λ (b : Bool). value_in b x earlier) e
 
-  full_within : (asked : Option ℕ) (loads : ℕ) → ((n : ℕ) → option_map (λ a. limited (a + loads)) asked ≡ Some n → n < limit) → option_map (λ a. limited (a + loads)) asked ≡ option_map (λ a. a + loads) asked
+  full_within : (asked : Option ℕ) (loads : ℕ) → ((n : ℕ) → option_map (λ a. limited (a + loads)) asked ≡ Some n → n < cycles_limit) → option_map (λ a. limited (a + loads)) asked ≡ option_map (λ a. a + loads) asked
   full_within None loads small = refl
   full_within (Some a) loads small = ap (λ (n : ℕ). Some n) (exact (a + loads) (small (limited (a + loads)) refl)).1
 
   -- the number of a target with all its loads
-  says_full : (x : ℕ) → MayCall P m x → ((n : ℕ) → (known_at table x).full ≡ Some n → n < limit) → SaysFull P t earlier x (Some (known_at table x).full)
+  says_full : (x : ℕ) → MayCall P m x → ((n : ℕ) → (known_at table x).full ≡ Some n → n < cycles_limit) → SaysFull P t earlier x (Some (known_at table x).full)
   says_full x may small = by (ends x may).sum
     where
       k : Known
@@ -107,16 +107,16 @@ module _ (called : CalledFit) (P : Program) (t : Timing) (bound_of : BoundOf) (t
       by (full_exceeds alone is) = says_exceeds alone (full_is (load P t.read x) is false (not_fits alone k.fits (ends x may).fits))
 
   -- what is told of a target is what earlier sections say of it
-  pub says : (q x : ℕ) → IsReached (IsEdge P m) (At q) → IsTarget P m q x → IsCall P m q → ((n : ℕ) → told_by back (without P t bound_of table m p starts ends h q) (known_at table x) ≡ Some n → n < limit)
+  pub says : (q x : ℕ) → IsReached (IsEdge P m) (At q) → IsTarget P m q x → IsCall P m q → ((n : ℕ) → told_by back (without P t bound_of table m p starts ends h q) (known_at table x) ≡ Some n → n < cycles_limit)
       → SaysCalled P t earlier (without P t bound_of table m p starts ends h q) m x (told P t bound_of table m p starts ends h q x)
   says q x r target call small = by (without P t bound_of table m p starts ends h q) (called_fits q x r target call) small
     where
       may : MayCall P m x
       may = may_call P t bound_of table m p starts ends h q x r target
 
-      below : (o : Option ℕ) → ((n : ℕ) → more_by back o ≡ Some n → n < limit) → (n : ℕ) → o ≡ Some n → n < limit
+      below : (o : Option ℕ) → ((n : ℕ) → more_by back o ≡ Some n → n < cycles_limit) → (n : ℕ) → o ≡ Some n → n < cycles_limit
       below o less n is = let lt = less (n + back) (ap (λ (a : Option ℕ). more_by back a) is) in omega arith
 
-      by : (b : Bool) → (b ≡ true → (known_at table x).fits ≡ true) → ((n : ℕ) → told_by back b (known_at table x) ≡ Some n → n < limit) → SaysCalled P t earlier b m x (Some (told_by back b (known_at table x)))
+      by : (b : Bool) → (b ≡ true → (known_at table x).fits ≡ true) → ((n : ℕ) → told_by back b (known_at table x) ≡ Some n → n < cycles_limit) → SaysCalled P t earlier b m x (Some (told_by back b (known_at table x)))
       by true fits less = says_inside x may (fits refl)
       by false fits less = (Some (known_at table x).full, says_full x may (below (known_at table x).full less), refl)

@@ -3,12 +3,12 @@ use Rattle.std.proofs.Common.{◌≡◌, ℕ, ◌*◌, ◌<◌, ◌||◌, Bool, 
 use Rattle.std.specs.Prelude.{IsSome, is_some, slice_index_or}
 use Rattle.std.proofs.lemmas.List.{get_or-map, length-map}
 use Rattle.std.proofs.lemmas.List.Elements.{All-contains}
-use Rattle.lists.specs.Lemmas.{none≢some, some_is}
+use Rattle.lists.proofs.Lemmas.{none≢some, some_is}
 use Rattle.lists.specs.Members.{map_contains}
 use Rattle.loop_nest.specs.Nest.{NaturalLoop, headers_of}
 use Rattle.loop_nest.proofs.Elements.{from_map}
 use Rattle.section_check.specs.Section.{CertifiedLoop, Certified, priced}
-use Rattle.section_check.specs.Placing.{IsAt}
+use Rattle.section_check.specs.Placing.{IsEntryAt}
 use Rattle.section_check.specs.Conditions.{IsAccepted, value_of}
 use Rattle.section_check.specs.Renumbering.{moved, moved_loop, AreMovedCosts, RenumberedStaysAccepted}
 use Rattle.path_solver.specs.Solution.{Solution}
@@ -23,8 +23,8 @@ use Rattle.method_flow.specs.declared.timing.Timing.{Timing}
 use Rattle.bound_rules.specs.Fitting.{LoopFits, loads_of, header_bound, header_bounds}
 use Rattle.bound_rules.specs.Laws.{CalledFit, ReachesStarts}
 use Rattle.bound_rules.specs.Told.{Valued, SaysCalled, is_in_region, is_without_loads}
-use Rattle.bound_rules.specs.Sections.{IsFee, AreFees, SectionView, IsNoNode, LacksBound, MeetsSection, section_bounds}
-use Rattle.bound_rules.specs.Sections.IsFee.{no_region, fits as region_fits}
+use Rattle.bound_rules.specs.Sections.{IsEntryLoad, AreEntryLoads, SectionView, IsNoNode, LacksBound, MeetsSection, section_bounds}
+use Rattle.bound_rules.specs.Sections.IsEntryLoad.{no_region, fits as region_fits}
 use Rattle.compact_walks.specs.Limited.{AreSmallAt}
 use Rattle.compact_walks.specs.Moving.{IsMoved}
 use Rattle.compact_walks.specs.Laws.{MovedIsRenumbered}
@@ -52,7 +52,7 @@ module _ (P : Program) (t : Timing) (bound_of : BoundOf) (table : List Known) (m
   pub has_code : IsSome (body_of P m)
   has_code = let b = some_is (body_of P m) (λ (b : Body). h.graph.nodes ≡ 2 * length b.code) h.is_live.size in ap is_some b.1
 
-  abbrev pub view : AreSaid → (fees : List (Option ℕ)) → AreFees P t section fees → SectionView P t earlier section
+  abbrev pub view : AreSaid → (fees : List (Option ℕ)) → AreEntryLoads P t section fees → SectionView P t earlier section
   view said fees are = record {
     coded = has_code;
     told = told P t bound_of table m p starts ends h;
@@ -123,7 +123,7 @@ module _ (called : CalledFit) (stays : RenumberedStaysAccepted) (renumbers : Mov
 
   -- ---- what entries cost
 
-  fee_is : (i : ℕ) (l : CertifiedLoop) → IsAt sec.loops i l → IsFee P t m l (slice_index_or fees i None)
+  fee_is : (i : ℕ) (l : CertifiedLoop) → IsEntryAt sec.loops i l → IsEntryLoad P t m l (slice_index_or fees i None)
   fee_is i l at = by l.region refl h.charges
     where
       mark : get_or flags i false ≡ l.region
@@ -132,7 +132,7 @@ module _ (called : CalledFit) (stays : RenumberedStaysAccepted) (renumbers : Mov
       below : i < length fee_numbers
       below = let long = fees_long in let lt = at.0 in omega (arith, length-map fee_numbers (λ (n : ℕ). Some n))
 
-      by : (b : Bool) → l.region ≡ b → AreChargesOf P t m p.shape p.fits p.charges → IsFee P t m l (slice_index_or fees i None)
+      by : (b : Bool) → l.region ≡ b → AreChargesOf P t m p.shape p.fits p.charges → IsEntryLoad P t m l (slice_index_or fees i None)
       by false e c = no_region e (fee_at fee_numbers i 0 below (uncharged p.charges.loads.items flags i (mark ∙ e)))
       by true e (no_charge whole none) = absurd (none i (mark ∙ e))
       by true e (some_charge apart are loads) =
@@ -143,7 +143,7 @@ module _ (called : CalledFit) (stays : RenumberedStaysAccepted) (renumbers : Mov
           let f = subst F k.2 there in
           region_fits e f.0 (fee_at fee_numbers i (loads_of f.0) below f.1)
 
-  are_fees : AreFees P t s fees
+  are_fees : AreEntryLoads P t s fees
   are_fees = record { long = fees_long; each = fee_is }
 
   -- ---- it is accepted

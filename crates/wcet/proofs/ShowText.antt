@@ -8,14 +8,14 @@ use Rattle.loop_nest.specs.Digraph.{Digraph}
 use Rattle.loop_nest.specs.Nest.{NaturalLoop, IsLoopOf, headers_of}
 use Rattle.loop_nest.proofs.Elements.{from_map}
 use Rattle.section_check.specs.Section.{CertifiedLoop, Certified, IsInForm, listed}
-use Rattle.section_check.specs.Placing.{IsAt, IsHeld}
+use Rattle.section_check.specs.Placing.{IsEntryAt, IsInLoop}
 use Rattle.section_check.specs.Renumbering.{moved, IsRenumbered, RenumberedStaysInForm}
 use Rattle.path_solver.specs.Solution.{Solution}
 use Rattle.bound_cert.specs.declared.lines.line.SectionKind.TheVariants.{Loops}
 use Rattle.bound_cert.specs.Certificate.{IsLoopInText, IsSectionInText}
 use Rattle.method_flow.specs.Keeping.{BoundOf}
 use Rattle.bound_rules.specs.Fitting.{header_bound}
-use Rattle.compact_walks.specs.Limited.{limit}
+use Rattle.compact_walks.specs.Limited.{cycles_limit}
 use Rattle.compact_walks.specs.Moving.{moved_natural}
 use Rattle.compact_walks.specs.Solving.{IsShown, fees_of}
 use Rattle.compact_walks.proofs.Kept.{all_of}
@@ -48,7 +48,7 @@ even_header bound_of m u some = by (u % 2 == 0) refl some
     by false e h = absurd (let bad : false ≡ true = h in cc)
 
 module _ (stays : RenumberedStaysInForm) (bound_of : BoundOf) (m : ℕ) (p : Prepared) (fits : Bool) (method : m < 2 ^ 32) (few : p.shape.size ≤ 2 ^ 32) (in_shape : IsInShape p) (bounds : AreBounds bound_of m p.shape p.bounds.items) (same : p.fits ≡ fits)
-    (solution : Solution) (shown : IsShown (problem_of p) solution) (iterations : All (λ (l : CertifiedLoop). l.iteration_cost < limit) (moved (node_of p.shape) solution.section).loops) where
+    (solution : Solution) (shown : IsShown (problem_of p) solution) (iterations : All (λ (l : CertifiedLoop). l.iteration_cost < cycles_limit) (moved (node_of p.shape) solution.section).loops) where
   abbrev node : ℕ → ℕ
   node = node_of p.shape
 
@@ -95,7 +95,7 @@ module _ (stays : RenumberedStaysInForm) (bound_of : BoundOf) (m : ℕ) (p : Pre
       let is = v.2 in
       omega arith
 
-  held_small : (u : ℕ) → IsHeld sec.loops u → u < 2 ^ 32
+  held_small : (u : ℕ) → IsInLoop sec.loops u → u < 2 ^ 32
   held_small u held =
       let v = from_held node solution.section u held in
       let less = small_node v.0 (held_node node d solution.section p.bounds.items fees (placed p in_shape solution shown) v.0 v.1) in
@@ -118,7 +118,7 @@ module _ (stays : RenumberedStaysInForm) (bound_of : BoundOf) (m : ℕ) (p : Pre
   -- a loop of the nest, under the other numbers, has the header and the members
   loop_in_text : (l : CertifiedLoop) → Contains sec.loops l → IsLoopInText l
   loop_in_text l has =
-      let at : IsAt sec.loops has.0 l = (has.1, has.2) in
+      let at : IsEntryAt sec.loops has.0 l = (has.1, has.2) in
       let k = nest_at sec.loops (nest_of p.shape) members has.0 l at in
       let k0 = from_map (moved_natural node) p.shape.nest k.0 (has.0, k.1.0, k.1.1) in
       let loop = All-contains (IsLoopOf d) p.shape.nest k0.0 shape.nest.loops k0.1 in
@@ -139,7 +139,7 @@ module _ (stays : RenumberedStaysInForm) (bound_of : BoundOf) (m : ℕ) (p : Pre
           rising = All-contains (λ (x : CertifiedLoop). IsStrictlyIncreasing x.members) sec.loops l form.members has;
           small = all_of (λ (u : ℕ). u < 2 ^ 32) l.members (λ u inside. held_small u (record { holder = l; among = has; inside = inside }));
         };
-        cost = All-contains (λ (x : CertifiedLoop). x.iteration_cost < limit) sec.loops l iterations has;
+        cost = All-contains (λ (x : CertifiedLoop). x.iteration_cost < cycles_limit) sec.loops l iterations has;
       }
 
   region_kind : (l : CertifiedLoop) → Contains sec.loops l → l.region ≡ true → kind_of fits ≡ Loops
@@ -179,7 +179,7 @@ found_in_text stays bound_of m p fit walked method few in_shape bounds same w = 
     by : (walked : Walked) → IsWalked p walked → IfSome (found_by m fit walked).section (IsSectionOf m (found_by m fit walked).known)
     by Never w = record { method = refl; kind = refl; in_text = empty_in_text m fit.fits method }
     by (Shown value s) w =
-        let all : All (λ (l : CertifiedLoop). l.iteration_cost < limit) (moved (node_of p.shape) w.solution.section).loops = subst (λ (c : Certified). All (λ (l : CertifiedLoop). l.iteration_cost < limit) c.loops) w.section_is w.iterations in
+        let all : All (λ (l : CertifiedLoop). l.iteration_cost < cycles_limit) (moved (node_of p.shape) w.solution.section).loops = subst (λ (c : Certified). All (λ (l : CertifiedLoop). l.iteration_cost < cycles_limit) c.loops) w.section_is w.iterations in
         let one = in_text stays bound_of m p fit.fits method few in_shape bounds same w.solution w.shown all in
         if_shown (IsSectionOf m (known_by fit value false)) (known_by fit value false).too_large (section_by m fit s)
         (record { method = refl; kind = refl; in_text = subst (λ (c : Certified). IsSectionInText 2 (section_by m fit c)) (sym w.section_is) one })

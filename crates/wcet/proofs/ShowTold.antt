@@ -3,14 +3,14 @@ use Rattle.std.proofs.Common.{◌≡◌, ◌≢◌, ℕ, ◌+◌, ◌<◌, ◌�
 use Rattle.std.specs.Prelude.{◌↔◌, IsSome, unwrap_or}
 use Rattle.std.specs.Option.{option_map}
 use Rattle.std.proofs.lemmas.List.Elements.{All-contains, Contains-get_or}
-use Rattle.lists.specs.Lemmas.{none≢some, some_same}
+use Rattle.lists.proofs.Lemmas.{none≢some, some_same}
 use Rattle.loop_nest.specs.Digraph.{Digraph}
 use Rattle.bytecode_model.specs.Program.{Program}
 use Rattle.method_flow.specs.Calls.{IsTarget, targets_of}
 use Rattle.method_flow.specs.Costs.{IsOwnCost}
 use Rattle.method_flow.specs.Graphs.{IsGraphBy, IsLiveGraph}
 use Rattle.method_flow.specs.Keeping.{BoundOf}
-use Rattle.method_flow.specs.Live.{CanEnd, GoesOn, IsLiveEdge}
+use Rattle.method_flow.specs.Live.{CanEnd, CanBeTaken, IsLiveEdge}
 use Rattle.method_flow.specs.Nodes.{Node, At, RaiseAt, number_of, IsEdge, IsReached}
 use Rattle.method_flow.specs.Nodes.IsReached.{first, later}
 use Rattle.method_flow.specs.Recursion.{MayCall}
@@ -24,7 +24,7 @@ use Rattle.bound_rules.specs.Sections.{IsSectionEdge}
 use Rattle.bound_rules.specs.Told.{TargetValues, most_cycles, within_limit}
 use Rattle.bound_rules.proofs.Greatest.{IsGreatestOf, greatest_is}
 use Rattle.bound_rules.proofs.Owning.{same_of_each}
-use Rattle.compact_walks.specs.Limited.{limit, limited, AreSmallAt}
+use Rattle.compact_walks.specs.Limited.{cycles_limit, limited, AreSmallAt}
 use Rattle.wcet.specs.declared.known.Known.{Known}
 use Rattle.wcet.specs.declared.prepared.Prepared.{Prepared}
 use Rattle.wcet.specs.Known.{known_at, AreTold}
@@ -35,7 +35,7 @@ use Rattle.wcet.proofs.Reached.{reachable}
 
 -- ---- numbers within 64 bits
 
-pub exact : (s : ℕ) → limited s < limit → (s < limit) × (limited s ≡ s)
+pub exact : (s : ℕ) → limited s < cycles_limit → (s < cycles_limit) × (limited s ≡ s)
 exact s lt = let same = small_is s lt in (omega arith, same)
 
 pub at_most : (f : ℕ → Option ℕ) (xs : List ℕ) (x n : ℕ) → Contains xs x → f x ≡ Some n → n ≤ unwrap_or (greatest_of f xs) 0
@@ -49,11 +49,11 @@ at_most f xs x n has is = by (greatest_of f xs) (greatest_is f xs)
 abbrev pub more_by : ℕ → Option ℕ → Option ℕ
 more_by back o = option_map (λ n. n + back) o
 
-back_exact : (back : ℕ) (o : Option ℕ) (most : ℕ) → most < limit → ((n : ℕ) → with_back back o ≡ Some n → n ≤ most) → with_back back o ≡ more_by back o
+back_exact : (back : ℕ) (o : Option ℕ) (most : ℕ) → most < cycles_limit → ((n : ℕ) → with_back back o ≡ Some n → n ≤ most) → with_back back o ≡ more_by back o
 back_exact back None most small le = refl
 back_exact back (Some n) most small le = let up = le (limited (n + back)) refl in ap (λ (k : ℕ). Some k) (exact (n + back) (omega arith)).1
 
-pub greatest_exact : (f : ℕ → Option ℕ) (back : ℕ) (xs : List ℕ) → unwrap_or (greatest_of (λ x. with_back back (f x)) xs) 0 < limit
+pub greatest_exact : (f : ℕ → Option ℕ) (back : ℕ) (xs : List ℕ) → unwrap_or (greatest_of (λ x. with_back back (f x)) xs) 0 < cycles_limit
     → greatest_of (λ x. with_back back (f x)) xs ≡ greatest_of (λ x. more_by back (f x)) xs
 greatest_exact f back xs small =
     same_of_each (λ x. with_back back (f x)) (λ x. more_by back (f x)) xs
@@ -104,15 +104,15 @@ module _ (P : Program) (t : Timing) (bound_of : BoundOf) (table : List Known) (m
     edge = e.edge;
     goes_on =
         λ q y is_u is_v call.
-        let A : Node → Type 0 = λ a. GoesOn P m a v in
-        let B : Node → Type 0 = λ b. GoesOn P m (At q) b in
-        let on : GoesOn P m (At q) (At y) = subst B is_v (subst A is_u e.goes_on) in
+        let A : Node → Type 0 = λ a. CanBeTaken P m a v in
+        let B : Node → Type 0 = λ b. CanBeTaken P m (At q) b in
+        let on : CanBeTaken P m (At q) (At y) = subst B is_v (subst A is_u e.goes_on) in
         let x = on call in
         let reached : IsReached (IsEdge P m) (At q) = subst (λ (a : Node). IsReached (IsEdge P m) a) is_u r in
         (x.0, x.1, some_value (told_by (load P t.read m) (without q) (known_at table x.0)) ((told_ends (without q) x.0 (may_call q x.0 reached x.1)).1 x.2));
   }
 
-  goes_back : (u v : Node) → IsReached (IsEdge P m) u → ToldEdge u v → GoesOn P m u v
+  goes_back : (u v : Node) → IsReached (IsEdge P m) u → ToldEdge u v → CanBeTaken P m u v
   goes_back (At q) (At y) r e = λ call.
       let x = e.goes_on q y refl refl call in
       (x.0, x.1, (told_ends (without q) x.0 (may_call q x.0 r x.1)).0 (value_some (told_by (load P t.read m) (without q) (known_at table x.0)) x.2))
@@ -163,18 +163,18 @@ module _ (P : Program) (t : Timing) (bound_of : BoundOf) (table : List Known) (m
     adds q = adds_by P t table m (without q) q
 
     pub cost_is : (u : Node) → IsReached (IsLiveEdge P m) u
-        → (own : ℕ) × IsOwnCost P t m u own × (slice_index p.costs.items (number_of u) ≡ own + added_at adds u) × (own + added_at adds u < limit)
+        → (own : ℕ) × IsOwnCost P t m u own × (slice_index p.costs.items (number_of u) ≡ own + added_at adds u) × (own + added_at adds u < cycles_limit)
     cost_is u r =
         let c = h.costs.each u r in
-        let lt : slice_index p.costs.items (number_of u) < limit = All-contains (λ x. slice_index p.costs.items x < limit) p.shape.nodes (number_of u) small (node_listed r) in
-        let e = exact (c.0 + added_at adds u) (subst (λ (n : ℕ). n < limit) c.2 lt) in
+        let lt : slice_index p.costs.items (number_of u) < cycles_limit = All-contains (λ x. slice_index p.costs.items x < cycles_limit) p.shape.nodes (number_of u) small (node_listed r) in
+        let e = exact (c.0 + added_at adds u) (subst (λ (n : ℕ). n < cycles_limit) c.2 lt) in
         (c.0, c.1, c.2 ∙ e.1, e.0)
 
-    adds_exact : (b : Bool) (q : ℕ) → adds_by P t table m b q < limit → adds_by P t table m b q ≡ unwrap_or (greatest_of (λ x. told_by (load P t.read m) b (known_at table x)) (targets_of P m q)) 0
+    adds_exact : (b : Bool) (q : ℕ) → adds_by P t table m b q < cycles_limit → adds_by P t table m b q ≡ unwrap_or (greatest_of (λ x. told_by (load P t.read m) b (known_at table x)) (targets_of P m q)) 0
     adds_exact true q lt = refl
     adds_exact false q lt = ap (λ (o : Option ℕ). unwrap_or o 0) (greatest_exact (λ x. (known_at table x).full) (load P t.read m) (targets_of P m q) lt)
 
-    same_adds : (u : Node) → added_at adds u < limit → added_at adds u ≡ added_at (λ q. added P m q (λ x. unwrap_or (told q x) None)) u
+    same_adds : (u : Node) → added_at adds u < cycles_limit → added_at adds u ≡ added_at (λ q. added P m q (λ x. unwrap_or (told q x) None)) u
     same_adds (At q) lt = adds_exact (without q) q lt
     same_adds (RaiseAt q) lt = refl
 
@@ -188,16 +188,16 @@ module _ (P : Program) (t : Timing) (bound_of : BoundOf) (table : List Known) (m
     }
 
     -- what a target adds is no more than what is added
-    target_less : (b : Bool) (q x n : ℕ) → IsTarget P m q x → told_by (load P t.read m) b (known_at table x) ≡ Some n → adds_by P t table m b q < limit → n ≤ adds_by P t table m b q
+    target_less : (b : Bool) (q x n : ℕ) → IsTarget P m q x → told_by (load P t.read m) b (known_at table x) ≡ Some n → adds_by P t table m b q < cycles_limit → n ≤ adds_by P t table m b q
     target_less b q x n target is lt = subst (λ (k : ℕ). n ≤ k) (sym (adds_exact b q lt)) (at_most (λ y. told_by (load P t.read m) b (known_at table y)) (targets_of P m q) x n target is)
 
-    within : (own : ℕ) (o : Option ℕ) → ((n : ℕ) → o ≡ Some n → own + n < limit) → Some o ≡ within_limit own (Some o)
+    within : (own : ℕ) (o : Option ℕ) → ((n : ℕ) → o ≡ Some n → own + n < cycles_limit) → Some o ≡ within_limit own (Some o)
     within own None lt = refl
     within own (Some n) lt = let less = lt n refl in ap (λ (b : Bool). cond b (Some (Some n)) None) (sym (le-leb (own + n) most_cycles (omega arith)))
 
-    pub told_within : (q x own : ℕ) → IsTarget P m q x → own + adds q < limit → told q x ≡ within_limit own (told q x)
+    pub told_within : (q x own : ℕ) → IsTarget P m q x → own + adds q < cycles_limit → told q x ≡ within_limit own (told q x)
     told_within q x own target lt =
         within own (told_by (load P t.read m) (without q) (known_at table x)) (λ n is. let le = target_less (without q) q x n target is (omega arith) in omega arith)
 
-    pub told_small : (q x own : ℕ) → IsTarget P m q x → own + adds q < limit → (n : ℕ) → told_by (load P t.read m) (without q) (known_at table x) ≡ Some n → n < limit
+    pub told_small : (q x own : ℕ) → IsTarget P m q x → own + adds q < cycles_limit → (n : ℕ) → told_by (load P t.read m) (without q) (known_at table x) ≡ Some n → n < cycles_limit
     told_small q x own target lt n is = let le = target_less (without q) q x n target is (omega arith) in omega arith

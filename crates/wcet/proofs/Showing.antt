@@ -1,7 +1,7 @@
 -- The section that is found of a method shows its number.
 use Rattle.std.proofs.Common.{◌≡◌, ℕ, Bool, true, false, List, Some, sym, subst, inr}
 use Rattle.std.specs.Prelude.{IfSome, slice_get}
-use Rattle.lists.specs.Lemmas.{some_in}
+use Rattle.lists.proofs.Lemmas.{some_in}
 use Rattle.opcodes.specs.Start.{IsStart, AreStarts}
 use Rattle.bytecode_model.specs.Program.{Program, body_of}
 use Rattle.bound_cert.specs.declared.cert.CertSection.{CertSection}

@@ -1,7 +1,7 @@
 -- What a node of a method takes by itself is far below 64 bits.
 use Rattle.std.proofs.Common.{◌≡◌, ℕ, ◌^◌, ◌<◌, ◌≤◌, List, length, Some, Ok, Err, Result, IsSomeAnd, refl, sym, ap, ◌∙◌, arith}
 use Rattle.std.proofs.lemmas.List.{length-map}
-use Rattle.lists.specs.Lemmas.{none≢some, some_same, onto_some, some_is}
+use Rattle.lists.proofs.Lemmas.{none≢some, some_same, onto_some, some_is}
 use Rattle.micro_flow.specs.Costs.{CostsAreSmall, RaiseIsSmall}
 use Rattle.micro_flow.specs.Walk.{IsCost, IsRaiseCost}
 use Rattle.opcodes.specs.declared.instruction.Instr.{Instr}
@@ -20,7 +20,7 @@ use Rattle.method_flow.specs.Kinds.{RowsAreOfTheirKinds}
 use Rattle.method_flow.specs.Nodes.{Node, At, RaiseAt}
 use Rattle.node_costs.proofs.Filling.{greatest_small, opcode_small}
 use Rattle.flow_graph.proofs.Starting.{body}
-use Rattle.compact_walks.specs.Limited.{limit}
+use Rattle.compact_walks.specs.Limited.{cycles_limit}
 
 -- ---- the cases of a switch
 
@@ -63,7 +63,7 @@ module _ (starts : (code : List ℕ) → AreStarts code) (kinds : RowsAreOfTheir
       let codes = ap (λ (x : Body). length x.code) same in
       omega arith
 
-  pub own_small : (u : Node) (own : ℕ) → IsOwnCost P t m u own → own < limit
+  pub own_small : (u : Node) (own : ℕ) → IsOwnCost P t m u own → own < cycles_limit
   own_small (At p) own is =
       let b = some_is (body_of P m) (λ b. IsSomeAnd (instr_at P m p) (λ i. IsCost (u1 b.code p) (params t i.count 0) own)) is in
       let i = some_is (instr_at P m p) (λ i. IsCost (u1 b.0.code p) (params t i.count 0) own) b.2 in

@@ -3,16 +3,16 @@ use Rattle.std.proofs.Common.{◌≡◌, ℕ, ◌+◌, ◌<◌, ◌≤◌, Bool,
 use Rattle.std.specs.Prelude.{slice_get, ◌↔◌, IsSome, IsTrue, IfSome, is_some, unwrap_or}
 use Rattle.std.proofs.lemmas.List.{get_or_default}
 use Rattle.std.proofs.lemmas.List.Elements.{All-contains, All-get_or}
-use Rattle.lists.specs.Lemmas.{none≢some, some_same}
+use Rattle.lists.proofs.Lemmas.{none≢some, some_same}
 use Rattle.bound_rules.specs.Costs.{greatest_of}
 use Rattle.bound_rules.proofs.Greatest.{IsGreatestOf, greatest_is}
-use Rattle.compact_walks.specs.Limited.{limit, limited}
+use Rattle.compact_walks.specs.Limited.{cycles_limit, limited}
 use Rattle.wcet.specs.declared.known.Known.{Known}
 use Rattle.wcet.specs.declared.telling.Told.{Told}
 use Rattle.method_flow.specs.declared.flow.Call.{Call}
 use Rattle.method_flow.specs.Flow.{Coded, Flow}
 use Rattle.node_costs.specs.Costs.{code_load, method_load}
-use Rattle.wcet.specs.Known.{Setting, unknown, known_at, IsLimited}
+use Rattle.wcet.specs.Known.{BoundSetting, unknown, known_at, IsLimited}
 use Rattle.wcet.specs.Telling.{IsToldBy, AreToldBy, AreToldIn, IsSmallTold, with_back}
 use Rattle.wcet.proofs.Greater.{greatest_small}
 use Rattle.wcet.proofs.Limiting.{limited_most}
@@ -43,7 +43,7 @@ goes_by table back targets (Some n) h = (λ yes. (h.0.0, h.0.1, some_back back (
 
 -- ---- limited numbers
 
-back_small : (back : ℕ) (o : Option ℕ) → IfSome (with_back back o) (λ n. n ≤ limit)
+back_small : (back : ℕ) (o : Option ℕ) → IfSome (with_back back o) (λ n. n ≤ cycles_limit)
 back_small back None = tt
 back_small back (Some n) = limited_most (n + back)
 
@@ -64,12 +64,12 @@ is_told table back targets goes a b inside full inside_is full_is goes_is a_is b
 }
 
 pub is_small : (table : List Known) (back : ℕ) (targets : List ℕ) (a b : ℕ) (inside full : Option ℕ) → inside ≡ greatest_of (λ x. (known_at table x).asked) targets
-    → full ≡ greatest_of (λ x. with_back back (known_at table x).full) targets → a ≡ unwrap_or inside 0 → b ≡ unwrap_or full 0 → All (λ t. t < length table) targets → All IsLimited table → (a ≤ limit) × (b ≤ limit)
+    → full ≡ greatest_of (λ x. with_back back (known_at table x).full) targets → a ≡ unwrap_or inside 0 → b ≡ unwrap_or full 0 → All (λ t. t < length table) targets → All IsLimited table → (a ≤ cycles_limit) × (b ≤ cycles_limit)
 is_small table back targets a b inside full inside_is full_is a_is b_is known limited = (
-  subst (λ (k : ℕ). k ≤ limit) (sym (a_is ∙ ap (λ (o : Option ℕ). unwrap_or o 0) inside_is))
-      (greatest_small (λ x. (known_at table x).asked) targets limit (λ x has. (known_small table targets known limited x has).asked)),
-  subst (λ (k : ℕ). k ≤ limit) (sym (b_is ∙ ap (λ (o : Option ℕ). unwrap_or o 0) full_is))
-      (greatest_small (λ x. with_back back (known_at table x).full) targets limit (λ x has. back_small back (known_at table x).full)),
+  subst (λ (k : ℕ). k ≤ cycles_limit) (sym (a_is ∙ ap (λ (o : Option ℕ). unwrap_or o 0) inside_is))
+      (greatest_small (λ x. (known_at table x).asked) targets cycles_limit (λ x has. (known_small table targets known limited x has).asked)),
+  subst (λ (k : ℕ). k ≤ cycles_limit) (sym (b_is ∙ ap (λ (o : Option ℕ). unwrap_or o 0) full_is))
+      (greatest_small (λ x. with_back back (known_at table x).full) targets cycles_limit (λ x has. back_small back (known_at table x).full)),
 )
 
 -- ---- all calls of a method
@@ -77,7 +77,7 @@ is_small table back targets a b inside full inside_is full_is a_is b_is known li
 pub load_is : (read : ℕ) (methods : List Coded) (m : ℕ) (k : Coded) → slice_get methods m ≡ Some k → code_load read k.code ≡ method_load read methods m
 load_is read methods m k is = ap (λ (o : Option Coded). elim o [ None ↦ 0 | Some x ↦ code_load read x.code ]) (sym is)
 
-pub told_in : (set : Setting) (m : ℕ) (table : List Known) (k : Coded) (calls : List Call) (f : Flow) (read back : ℕ) (told : List Told) → slice_get set.flow.methods m ≡ Some k → f ≡ set.flow → calls ≡ k.calls
+pub told_in : (set : BoundSetting) (m : ℕ) (table : List Known) (k : Coded) (calls : List Call) (f : Flow) (read back : ℕ) (told : List Told) → slice_get set.flow.methods m ≡ Some k → f ≡ set.flow → calls ≡ k.calls
     → read ≡ set.timing.read → back ≡ code_load read k.code → AreToldBy table back f calls told → All IsSmallTold told → AreToldIn set m table told
 told_in set m table k calls f read back told is flow_is calls_are read_is back_is are small = (
   small,

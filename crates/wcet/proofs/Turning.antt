@@ -5,7 +5,7 @@ use Rattle.std.specs.Option.{option_map}
 use Rattle.std.proofs.lemmas.Bool.{cond_below}
 use Rattle.std.proofs.lemmas.Option.{slice_get-map, slice_get-get_or, slice_get_within}
 use Rattle.std.proofs.lemmas.List.Elements.{All-get_or}
-use Rattle.lists.specs.Lemmas.{some_same, holds_at, some_in}
+use Rattle.lists.proofs.Lemmas.{some_same, holds_at, some_in}
 use Rattle.lists.specs.Members.{has_or_not, map_contains}
 use Rattle.loop_nest.specs.Digraph.{Digraph}
 use Rattle.opcodes.specs.Start.{IsStart, AreStarts}
@@ -17,7 +17,7 @@ use Rattle.method_flow.specs.Costs.{IsOwnCost}
 use Rattle.method_flow.specs.Flow.{Flow, Coded, IsCoded, IsCodedOf, IsFlowOf, places_of, targets_of_call}
 use Rattle.method_flow.specs.Graphs.{IsGraphBy, IsLiveGraph}
 use Rattle.method_flow.specs.Kinds.{RowsAreOfTheirKinds}
-use Rattle.method_flow.specs.Live.{GoesOn, IsLiveEdge}
+use Rattle.method_flow.specs.Live.{CanBeTaken, IsLiveEdge}
 use Rattle.method_flow.specs.Nodes.{Node, At, RaiseAt, number_of, IsReached}
 use Rattle.method_flow.specs.Recursion.{MayCall}
 use Rattle.method_flow.specs.Regions.{load}
@@ -25,11 +25,11 @@ use Rattle.flow_graph.specs.Where.{IsEdgeWhere, GoesWhere}
 use Rattle.flow_graph.proofs.Joining.{reached_alike}
 use Rattle.node_costs.specs.Costs.{AreOwnCosts}
 use Rattle.bound_rules.specs.Costs.{added_at, greatest_of}
-use Rattle.compact_walks.specs.Limited.{limit, limited}
+use Rattle.compact_walks.specs.Limited.{cycles_limit, limited}
 use Rattle.wcet.specs.declared.known.Known.{Known}
 use Rattle.wcet.specs.declared.telling.Told.{Told}
 use Rattle.wcet.specs.Known.{known_at, AreTold}
-use Rattle.wcet.specs.Telling.{with_back, IsToldBy, AreToldBy, added_by, AreAdded}
+use Rattle.wcet.specs.Telling.{with_back, IsToldBy, AreToldBy, added_by, AreToldAdded}
 use Rattle.wcet.specs.Prepared.{adds_by, AreLimitedCosts}
 use Rattle.wcet.specs.Laws.{GraphsWhereTargetsEnd, CostsAreLimited}
 use Rattle.bound_rules.proofs.Greatest.{same_members, none_greatest}
@@ -86,7 +86,7 @@ module _ (starts : (code : List ℕ) → AreStarts code) (kinds : RowsAreOfTheir
     may_call : (p x : ℕ) → IsStart k.code p → IsCall P n p → IsTarget P n p x → MayCall P n x
     may_call p x start call target = record { place = p; start = start_of p start; call = call; is_target = target }
 
-    goes_to : (u v : Node) → IsPlaced k u → GoesWhere k.calls goes u v → GoesOn P n u v
+    goes_to : (u v : Node) → IsPlaced k u → GoesWhere k.calls goes u v → CanBeTaken P n u v
     goes_to (At p) (At q) start on = λ call.
         let d = call_at k.calls p (listed p start call) in
         let s = told_at d.0 d.1 d.2 in
@@ -98,7 +98,7 @@ module _ (starts : (code : List ℕ) → AreStarts code) (kinds : RowsAreOfTheir
     goes_to (RaiseAt p) (At q) start on = tt
     goes_to (RaiseAt p) (RaiseAt q) start on = tt
 
-    goes_back : (u v : Node) → GoesOn P n u v → GoesWhere k.calls goes u v
+    goes_back : (u v : Node) → CanBeTaken P n u v → GoesWhere k.calls goes u v
     goes_back (At p) (At q) on =
         λ i d at place.
         let x = on (subst (λ (a : ℕ). IsCall P n a) place (calls i d at)) in
@@ -145,10 +145,10 @@ module _ (starts : (code : List ℕ) → AreStarts code) (kinds : RowsAreOfTheir
   live_placed : {u : Node} → IsReached (IsLiveEdge P n) u → IsPlaced k u
   live_placed r = (reached_alike (IsLiveEdge P n) (IsLiveEdge P n) (IsPlaced k) (first_placed starts kinds P n k c coded) (λ s t placed e. (e, next_placed starts kinds P n k c coded s t placed e.edge)) r).1
 
-  within_limit : (a b : ℕ) → a < limit → b ≡ 0 → limited (a + b) ≡ a
-  within_limit a b lt none = let same : a + b ≡ a = omega arith in ap limited same ∙ sym (cond_below a limit a limit lt)
+  within_limit : (a b : ℕ) → a < cycles_limit → b ≡ 0 → limited (a + b) ≡ a
+  within_limit a b lt none = let same : a + b ≡ a = omega arith in ap limited same ∙ sym (cond_below a cycles_limit a cycles_limit lt)
 
-  module _ (loaded : back ≡ load P t.read n) (own costs : List ℕ) (without : List Bool) (owned : AreOwnCosts P t n k.code own) (small : All (λ c. c < limit) own) (h : AreAdded own k.calls told without costs) where
+  module _ (loaded : back ≡ load P t.read n) (own costs : List ℕ) (without : List Bool) (owned : AreOwnCosts P t n k.code own) (small : All (λ c. c < cycles_limit) own) (h : AreToldAdded own k.calls told without costs) where
     abbrev adds : ℕ → ℕ
     adds p = adds_by P t table n (slice_index_or without (2 * p) false) p
 
@@ -168,8 +168,8 @@ module _ (starts : (code : List ℕ) → AreStarts code) (kinds : RowsAreOfTheir
     none_added true p never = ap (λ (o : Option ℕ). unwrap_or o 0) (none_greatest (λ x. (known_at table x).asked) (targets_of P n p) never)
     none_added false p never = ap (λ (o : Option ℕ). unwrap_or o 0) (none_greatest (λ x. with_back (load P t.read n) (known_at table x).full) (targets_of P n p) never)
 
-    own_small : (u : ℕ) → u < length own → slice_index own u < limit
-    own_small u lt = All-get_or (λ c. c < limit) own u 0 lt small
+    own_small : (u : ℕ) → u < length own → slice_index own u < cycles_limit
+    own_small u lt = All-get_or (λ c. c < cycles_limit) own u 0 lt small
 
     cost_at : (u : Node) → IsPlaced k u → (cost : ℕ) × IsOwnCost P t n u cost × (slice_index costs (number_of u) ≡ limited (cost + added_at adds u))
     cost_at (At p) start =

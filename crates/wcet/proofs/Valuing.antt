@@ -6,7 +6,7 @@ use Rattle.std.proofs.lemmas.List.Elements.{All-contains}
 use Rattle.lists.specs.Members.{place_of}
 use Rattle.section_check.specs.Bounded.{BoundedLoop, cost_of_nodes, IsGreatest}
 use Rattle.path_solver.specs.Longest.{WalkExceeds}
-use Rattle.path_solver.specs.Longest.IsTooLarge.{walk as walk_large}
+use Rattle.path_solver.specs.Longest.WalksAreTooLarge.{walk as walk_large}
 use Rattle.path_solver.specs.Reaching.{ReachesExit}
 use Rattle.bytecode_model.specs.Program.{Program}
 use Rattle.method_flow.specs.Keeping.{BoundOf}
@@ -15,8 +15,8 @@ use Rattle.method_flow.specs.Nodes.{Node, At, number_of, IsReached}
 use Rattle.method_flow.specs.Nodes.IsReached.{first}
 use Rattle.method_flow.specs.declared.timing.Timing.{Timing}
 use Rattle.bound_rules.specs.Laws.{AgreeOnLive}
-use Rattle.bound_rules.specs.Numbers.{IsValue}
-use Rattle.compact_walks.specs.Limited.{limit, limited, limited_of, AreSmallAt}
+use Rattle.bound_rules.specs.Numbers.{IsGreatestValue}
+use Rattle.compact_walks.specs.Limited.{cycles_limit, limited, limited_of, AreSmallAt}
 use Rattle.compact_walks.specs.Solving.{loops_of}
 use Rattle.wcet.specs.declared.known.Known.{Known}
 use Rattle.wcet.specs.declared.prepared.Prepared.{Prepared}
@@ -52,10 +52,10 @@ module _ (laws : AreWalkLaws) (P : Program) (t : Timing) (bound_of : BoundOf) (t
   greatest_out value is =
       laws.greatest h.graph p.shape.graph (node_of p.shape) (is_moved laws P t bound_of table m p h small) p.shape.nest h.shape.nest p.bounds.items fees (costs_of p) p.costs.items (moved_costs laws P t bound_of table m p h small) value is
 
-  -- a greatest walk that no walk exceeds is within the limit
-  pub value_below : (value : ℕ) → IsGreatest p.shape.graph (costs_of p) (loops_of (problem_of p)) value → (WalkExceeds p.shape.graph (costs_of p) (loops_of (problem_of p)) → ⊥) → value < limit
+  -- a greatest walk that no walk exceeds is within the cycles_limit
+  pub value_below : (value : ℕ) → IsGreatest p.shape.graph (costs_of p) (loops_of (problem_of p)) value → (WalkExceeds p.shape.graph (costs_of p) (loops_of (problem_of p)) → ⊥) → value < cycles_limit
   value_below value is none =
-      elim (cases_lt value limit) [
+      elim (cases_lt value cycles_limit) [
         | inl less ↦ less
         | inr more ↦ absurd (none (record { walk = is.walk; bounded = is.bounded; exceeds = (let same = is.attained in omega arith) }))
       ]
@@ -66,7 +66,7 @@ module _ (laws : AreWalkLaws) (P : Program) (t : Timing) (bound_of : BoundOf) (t
     -- within 64 bits they are the same
     pub agree : AreSmallAt p.shape.nodes p.costs.items → AgreeOnLive P m p.costs.items costs
     agree few u reached =
-        let below = All-contains (λ x. slice_index p.costs.items x < limit) p.shape.nodes (number_of u) few (in_nodes laws P t bound_of table m p h small u reached) in
+        let below = All-contains (λ x. slice_index p.costs.items x < cycles_limit) p.shape.nodes (number_of u) few (in_nodes laws P t bound_of table m p h small u reached) in
         let is = are u reached in
         is ∙ small_is (slice_index costs (number_of u)) (omega arith)
 
@@ -75,7 +75,7 @@ module _ (laws : AreWalkLaws) (P : Program) (t : Timing) (bound_of : BoundOf) (t
         let is = are u reached in
         elim (limited_is (slice_index costs (number_of u))) [ inl x ↦ let same = x.1 in omega arith | inr x ↦ let more = x.0 in let same = x.1 in omega arith ]
 
-    -- a walk past the limit is past it with these
+    -- a walk past the cycles_limit is past it with these
     walk_more : WalkExceeds h.graph p.costs.items loops → WalkExceeds h.graph costs loops
     walk_more w =
         let nodes : cost_of_nodes p.costs.items w.walk ≤ cost_of_nodes costs w.walk =
@@ -86,7 +86,7 @@ module _ (laws : AreWalkLaws) (P : Program) (t : Timing) (bound_of : BoundOf) (t
         let large = w.exceeds in
         record { walk = w.walk; bounded = w.bounded; exceeds = omega arith }
 
-    -- a node past the limit is on a walk that is past it
+    -- a node past the cycles_limit is on a walk that is past it
     node_more : IsDearWalk laws P t bound_of table m p h small → WalkExceeds h.graph costs loops
     node_more w =
         let more = costs_more w.node w.reached in
@@ -97,17 +97,17 @@ module _ (laws : AreWalkLaws) (P : Program) (t : Timing) (bound_of : BoundOf) (t
         let nodes : slice_index costs (number_of w.node) ≤ cost_of_nodes costs w.walk = omega arith in
         record { walk = w.walk; bounded = w.bounded; exceeds = omega arith }
 
-    module _ (value : Option ℕ) (is : IsValue h.graph costs loops value) where
-      large_value : WalkExceeds h.graph costs loops → (v : Option ℕ) → value ≡ v → Some limit ≡ limited_of value
-      large_value w None e = absurd (subst (λ (o : Option ℕ). IsValue h.graph costs loops o) e is (record { exit = w.bounded.last; among = w.bounded.exit; nodes = w.walk; walk = w.bounded.walk }))
+    module _ (value : Option ℕ) (is : IsGreatestValue h.graph costs loops value) where
+      large_value : WalkExceeds h.graph costs loops → (v : Option ℕ) → value ≡ v → Some cycles_limit ≡ limited_of value
+      large_value w None e = absurd (subst (λ (o : Option ℕ). IsGreatestValue h.graph costs loops o) e is (record { exit = w.bounded.last; among = w.bounded.exit; nodes = w.walk; walk = w.bounded.walk }))
       large_value w (Some n) e =
-          let greatest : IsGreatest h.graph costs loops n = subst (λ (o : Option ℕ). IsValue h.graph costs loops o) e is in
+          let greatest : IsGreatest h.graph costs loops n = subst (λ (o : Option ℕ). IsGreatestValue h.graph costs loops o) e is in
           let most = greatest.greatest w.walk w.bounded in
           let large = w.exceeds in
           ap (λ (k : ℕ). Some k) (sym (limited_above n (omega arith))) ∙ sym (ap limited_of e)
 
       -- the greatest walk, where each node is within 64 bits, costs the same
-      exact_value : AreSmallAt p.shape.nodes p.costs.items → (n : ℕ) → IsGreatest p.shape.graph (costs_of p) (loops_of (problem_of p)) n → n < limit → Some n ≡ limited_of value
+      exact_value : AreSmallAt p.shape.nodes p.costs.items → (n : ℕ) → IsGreatest p.shape.graph (costs_of p) (loops_of (problem_of p)) n → n < cycles_limit → Some n ≡ limited_of value
       exact_value few n greatest below =
           let same : Some n ≡ value = laws.values_told P m h.graph p.costs.items costs loops (Some n) value h.is_live (agree few) (greatest_out n greatest) is in
           ap (λ (k : ℕ). Some k) (sym (limited_below n below)) ∙ ap limited_of same
@@ -115,7 +115,7 @@ module _ (laws : AreWalkLaws) (P : Program) (t : Timing) (bound_of : BoundOf) (t
       no_value : (ReachesExit p.shape.graph 0 → ⊥) → (v : Option ℕ) → value ≡ v → None ≡ limited_of value
       no_value never None e = sym (ap limited_of e)
       no_value never (Some n) e =
-          let greatest : IsGreatest h.graph costs loops n = subst (λ (o : Option ℕ). IsValue h.graph costs loops o) e is in
+          let greatest : IsGreatest h.graph costs loops n = subst (λ (o : Option ℕ). IsGreatestValue h.graph costs loops o) e is in
           absurd (never (exit_in (record { exit = greatest.bounded.last; among = greatest.bounded.exit; nodes = greatest.walk; walk = greatest.bounded.walk })))
 
       large_is_value : (n : ℕ) → IsLargeBy p n → Some n ≡ limited_of value

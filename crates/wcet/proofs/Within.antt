@@ -6,7 +6,7 @@ use Rattle.lists.specs.Members.{map_contains}
 use Rattle.loop_nest.specs.Digraph.{Digraph, IsDigraph}
 use Rattle.loop_nest.specs.Nest.{NaturalLoop, headers_of, header_at, members_at, IsLoopOf, IsAround, IsNest}
 use Rattle.loop_nest.proofs.Ends.{ends_within}
-use Rattle.section_check.specs.Placing.{IsAt}
+use Rattle.section_check.specs.Placing.{IsEntryAt}
 use Rattle.compact_walks.specs.Moving.{moved_natural, moved_nest}
 use Rattle.compact_walks.proofs.Loops.{no_loop, member_within, members_moved, header_moved, header_of, members_of}
 use Rattle.compact_walks.proofs.Renumbering.{moved_back}
@@ -56,7 +56,7 @@ loop_item d ls xs i item are same lt is =
     subst (λ (l : NaturalLoop). IsLoopOf d l) (sym is') (are i item lt')
 
 -- and an item of the other list has its members under the other numbers
-pub moved_members : (node : ℕ → ℕ) (ls xs : List NaturalLoop) (i : ℕ) (item k : NaturalLoop) → xs ≡ ls → i < length xs → item ≡ get_or xs i item → IsAt (moved_nest node ls) i k → map node item.members ≡ k.members
+pub moved_members : (node : ℕ → ℕ) (ls xs : List NaturalLoop) (i : ℕ) (item k : NaturalLoop) → xs ≡ ls → i < length xs → item ≡ get_or xs i item → IsEntryAt (moved_nest node ls) i k → map node item.members ≡ k.members
 moved_members node ls xs i item k same lt is at =
     let lt' : i < length ls = subst (λ (ys : List NaturalLoop). i < length ys) same lt in
     let is' : item ≡ get_or ls i item = subst (λ (ys : List NaturalLoop). item ≡ get_or ys i item) same is in

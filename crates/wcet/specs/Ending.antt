@@ -12,12 +12,12 @@ use Rattle.bound_rules.specs.Bounding.{IsFirstTooLarge, KeepSize}
 use Rattle.bound_rules.specs.Conditions.{MeetAll}
 use Rattle.bound_rules.specs.Numbers.{Numbers, AreNumbers, IsPrinted}
 use Rattle.bound_rules.specs.Told.{Valued, SaysFull}
-use Rattle.compact_walks.specs.Limited.{limit}
+use Rattle.compact_walks.specs.Limited.{cycles_limit}
 use Rattle.wcet.specs.declared.known.Known.{Known}
 use Rattle.wcet.specs.declared.ending.MethodBound.{MethodBound}
 use Rattle.wcet.specs.declared.ending.MethodBound.TheVariants.{Printed, TooLarge}
 use Rattle.wcet.specs.declared.methods.Methods.{Methods}
-use Rattle.wcet.specs.Known.{Setting, bounds_in, ForEach, known_at, Agrees, ExceedsBeside}
+use Rattle.wcet.specs.Known.{BoundSetting, bounds_in, ForEach, known_at, Agrees, ExceedsBeside}
 use Rattle.wcet.specs.Laws.{numbers_by}
 use Rattle.wcet.specs.Methods.{AreMethodsFound}
 use Rattle.wcet.specs.Ready.{IsReady}
@@ -26,14 +26,14 @@ pub use Rattle.wcet.specs.Certified.{IsCertified}
 -- ---- what is printed
 
 -- A method's number with all loads is past 64 bits, or it isn't, but what is printed then is.
-pub data IsPastLimit (set : Setting) (full : Option ℕ) : Type 0 where
-  number : (n : ℕ) → full ≡ Some n → limit ≤ n → IsPastLimit set full
-  printed : (n : ℕ) → IfSome full (λ f. f < limit) → limit ≤ n → ForEach set (λ P. IsPrintedOf P set.timing full (Some n)) → IsPastLimit set full
+pub data IsPastLimit (set : BoundSetting) (full : Option ℕ) : Type 0 where
+  number : (n : ℕ) → full ≡ Some n → cycles_limit ≤ n → IsPastLimit set full
+  printed : (n : ℕ) → IfSome full (λ f. f < cycles_limit) → cycles_limit ≤ n → ForEach set (λ P. IsPrintedOf P set.timing full (Some n)) → IsPastLimit set full
 
 -- this is printed where the number with all loads is `full`, and both are within 64 bits
-pub record IsPrintedSmall (set : Setting) (full bound : Option ℕ) : Type 0 where
-  pub small : IfSome full (λ f. f < limit)
-  pub within : IfSome bound (λ b. b < limit)
+pub record IsPrintedSmall (set : BoundSetting) (full bound : Option ℕ) : Type 0 where
+  pub small : IfSome full (λ f. f < cycles_limit)
+  pub within : IfSome bound (λ b. b < cycles_limit)
   pub printed : ForEach set (λ P. IsPrintedOf P set.timing full bound)
 
 -- ---- what is known of all that may run
@@ -73,12 +73,12 @@ IsMethodBound P t bound_of m (Printed bound) = IsPrinted P t bound_of m bound ×
 IsMethodBound P t bound_of m (TooLarge x) = IsFirstTooLarge P t bound_of m x
 
 -- where something is printed, no number is known to be too large, and it is told by the number with all loads
-abbrev pub IsPrintedBy : Setting → List Known → (least : Option ℕ) → (method : ℕ) → MethodBound → Type 0
+abbrev pub IsPrintedBy : BoundSetting → List Known → (least : Option ℕ) → (method : ℕ) → MethodBound → Type 0
 IsPrintedBy set table least m (Printed bound) = (least ≡ None) × IsPrintedSmall set (known_at table m).full bound
 IsPrintedBy set table least m (TooLarge x) = Unit {0}
 
 -- all methods are found of an order for which all is ready
-pub record AreReadyFound (set : Setting) (root : ℕ) (a : Methods) : Type 0 where
+pub record AreReadyFound (set : BoundSetting) (root : ℕ) (a : Methods) : Type 0 where
   pub order : List ℕ
   pub distinct : AreDistinct order
   pub found : AreMethodsFound set order a

@@ -19,7 +19,7 @@ use Rattle.bound_rules.specs.Fitting.{RegionFits, loads_of}
 use Rattle.bound_rules.specs.Told.{Valued, value_in}
 use Rattle.bound_rules.specs.Sections.{MeetsSection}
 use Rattle.wcet.specs.declared.known.Known.{Known}
-use Rattle.compact_walks.specs.Limited.{limit, limited, picked, AreSmallAt, SomeExceeds}
+use Rattle.compact_walks.specs.Limited.{cycles_limit, limited, picked, AreSmallAt, SomeExceeds}
 use Rattle.compact_walks.specs.Solving.{Problem, loops_of, IsShown}
 use Rattle.wcet.specs.declared.fit.Fit.{Fit}
 use Rattle.wcet.specs.declared.found.Walked.{Walked}
@@ -27,7 +27,7 @@ use Rattle.wcet.specs.declared.found.Walked.TheVariants.{Never, Shown, Large}
 use Rattle.wcet.specs.declared.found.Found.{Found}
 use Rattle.wcet.specs.declared.prepared.Prepared.{Prepared}
 use Rattle.wcet.specs.Prepared.{node_of}
-use Rattle.wcet.specs.Known.{Setting, bounds_in, ForEach, known_at, IsLimited, AreTold, IsKnownOf}
+use Rattle.wcet.specs.Known.{BoundSetting, bounds_in, ForEach, known_at, IsLimited, AreTold, IsKnownOf}
 
 -- ---- the loads beside walks
 
@@ -59,13 +59,13 @@ pub record IsShownBy (p : Prepared) (value : ℕ) (s : Certified) : Type 0 where
   pub shown : IsShown (problem_of p) solution
   pub value_is : value ≡ solution.value
   pub section_is : s ≡ moved (node_of p.shape) solution.section
-  pub iterations : All (λ l. l.iteration_cost < limit) s.loops
+  pub iterations : All (λ l. l.iteration_cost < cycles_limit) s.loops
 
 -- a node costs too much, or a walk does; or the greatest walk costs so much, and iterations exceed 64 bits together
 pub data IsLargeBy (p : Prepared) (value : ℕ) : Type 0 where
-  node : SomeExceeds p.shape.nodes p.costs.items → value ≡ limit → IsLargeBy p value
-  walk : AreSmallAt p.shape.nodes p.costs.items → WalkExceeds p.shape.graph (costs_of p) (loops_of (problem_of p)) → value ≡ limit → IsLargeBy p value
-  iterations : AreSmallAt p.shape.nodes p.costs.items → IsGreatest p.shape.graph (costs_of p) (loops_of (problem_of p)) value → value < limit
+  node : SomeExceeds p.shape.nodes p.costs.items → value ≡ cycles_limit → IsLargeBy p value
+  walk : AreSmallAt p.shape.nodes p.costs.items → WalkExceeds p.shape.graph (costs_of p) (loops_of (problem_of p)) → value ≡ cycles_limit → IsLargeBy p value
+  iterations : AreSmallAt p.shape.nodes p.costs.items → IsGreatest p.shape.graph (costs_of p) (loops_of (problem_of p)) value → value < cycles_limit
       → IterationsExceed p.shape.graph (costs_of p) (loops_of (problem_of p)) → IsLargeBy p value
 
 abbrev pub IsWalked : Prepared → Walked → Type 0
@@ -75,7 +75,7 @@ IsWalked p (Large value) = IsLargeBy p value
 
 -- its number is limited
 abbrev pub IsSmallWalked : Walked → Type 0
-IsSmallWalked (Large value) = value ≤ limit
+IsSmallWalked (Large value) = value ≤ cycles_limit
 IsSmallWalked w = Unit {0}
 
 -- ---- what is found
@@ -86,8 +86,12 @@ kind_of false = Loops
 
 -- what is known of a method whose greatest walk costs so much
 abbrev pub known_by : Fit → (value : ℕ) → (too_large : Bool) → Known
-known_by fit value too_large =
-    record { fits = fit.fits; asked = Some value; full = Some (limited (value + fit.more)); too_large = too_large || nat_le limit (limited (value + fit.more)) }
+known_by fit value too_large = record {
+  fits = fit.fits;
+  asked = Some value;
+  full = Some (limited (value + fit.more));
+  too_large = too_large || nat_le cycles_limit (limited (value + fit.more));
+}
 
 abbrev pub section_by : (method : ℕ) → Fit → Certified → CertSection
 section_by m fit s = record { kind = kind_of fit.fits; method = m; section = s }
@@ -128,7 +132,7 @@ pub record HasSection (P : Program) (t : Timing) (bound_of : BoundOf) (table : L
 
 -- What is found of the method m: for each program of the table, where the numbers of all that it may call are known, what is known of it; and where
 -- none of its numbers is too large, its section.
-pub record IsFoundOf (set : Setting) (table : List Known) (m : ℕ) (f : Found) : Type 0 where
+pub record IsFoundOf (set : BoundSetting) (table : List Known) (m : ℕ) (f : Found) : Type 0 where
   pub limited : IsLimited f.known
   pub known : ForEach set (λ P. AreTold P set.timing table m → IsKnownOf P set.timing (bounds_in set) table m f.known)
   pub none : f.known.too_large ≡ true → f.section ≡ None

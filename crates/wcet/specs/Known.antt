@@ -12,26 +12,26 @@ use Rattle.method_flow.specs.Regions.{load}
 use Rattle.node_costs.specs.Costs.{bounds_of}
 use Rattle.bound_rules.specs.Fitting.{RegionFits, loads_of}
 use Rattle.bound_rules.specs.Numbers.{Numbers, IsInside, IsLoops, IsFull, charged_loops, no_fees}
-use Rattle.compact_walks.specs.Limited.{limit, limited, limited_of}
+use Rattle.compact_walks.specs.Limited.{cycles_limit, limited, limited_of}
 use Rattle.wcet.specs.declared.known.Known.{Known}
 
 -- a program's table, the bounds of its loops and the timing of the machine
-pub record Setting : Type 0 where
+pub record BoundSetting : Type 0 where
   pub flow : Flow
   pub bounds : List LoopBound
   pub timing : Timing
 
 -- the waits and sizes that are asked for
-pub record IsSetting (s : Setting) : Type 0 where
+pub record IsBoundSetting (s : BoundSetting) : Type 0 where
   pub read : s.timing.read ≤ 63
   pub write : s.timing.write ≤ 63
   pub sizes : 0 < s.timing.block_words
 
-abbrev pub bounds_in : Setting → BoundOf
+abbrev pub bounds_in : BoundSetting → BoundOf
 bounds_in s = bounds_of s.flow s.bounds
 
 -- this holds for each program of the table
-abbrev pub ForEach : Setting → (Program → Type 0) → Type 0
+abbrev pub ForEach : BoundSetting → (Program → Type 0) → Type 0
 ForEach s Holds = (P : Program) → IsFlowOf P s.flow → Holds P
 
 -- ---- what is known
@@ -45,8 +45,8 @@ known_at table m = slice_index_or table m unknown
 
 -- numbers past 64 bits count as 2^64
 pub record IsLimited (k : Known) : Type 0 where
-  pub asked : IfSome k.asked (λ n. n ≤ limit)
-  pub full : IfSome k.full (λ n. n ≤ limit)
+  pub asked : IfSome k.asked (λ n. n ≤ cycles_limit)
+  pub full : IfSome k.full (λ n. n ≤ cycles_limit)
 
 -- ---- families of numbers
 

@@ -12,12 +12,12 @@ use Rattle.node_costs.specs.Costs.{AreOwnCosts}
 use Rattle.bound_rules.specs.declared.faults.BoundRefusal.{BoundRefusal}
 use Rattle.bound_rules.specs.declared.faults.BoundRefusal.TheVariants.{NoMemory}
 use Rattle.bound_rules.specs.Numbers.{Numbers, AreNumbers}
-use Rattle.compact_walks.specs.Limited.{limit}
+use Rattle.compact_walks.specs.Limited.{cycles_limit}
 use Rattle.wcet.specs.declared.known.Known.{Known}
 use Rattle.wcet.specs.declared.telling.Told.{Told}
 use Rattle.wcet.specs.declared.shape.Shape.{Shape}
 use Rattle.wcet.specs.Known.{known_at, AreTold, IsKnownOf, Agrees, ExceedsBeside}
-use Rattle.wcet.specs.Telling.{AreToldBy, AreAdded}
+use Rattle.wcet.specs.Telling.{AreToldBy, AreToldAdded}
 use Rattle.wcet.specs.Prepared.{IsShapeOf, IsLeftBy, IsUnbounded, AreLimitedCosts, adds_by}
 use Rattle.wcet.specs.Ready.{AreReady}
 use Rattle.call_regions.specs.Calling.{IsTargetsFirst}
@@ -34,8 +34,8 @@ abbrev pub CostsAreLimited : Type 0
 CostsAreLimited =
     (P : Program) (t : Timing) (f : Flow) (m : ℕ) (k : Coded) (table : List Known) (told : List Told) (own costs : List ℕ) (without : List Bool) (g : Digraph)
     → IsFlowOf P f → slice_get f.methods m ≡ Some k → IsCoded k
-    → AreOwnCosts P t m k.code own → All (λ c. c < limit) own → AreToldBy table (load P t.read m) f k.calls told → AreAdded own k.calls told without costs
-    → IsLiveGraph P m g
+    → AreOwnCosts P t m k.code own → All (λ c. c < cycles_limit) own
+    → AreToldBy table (load P t.read m) f k.calls told → AreToldAdded own k.calls told without costs → IsLiveGraph P m g
     → AreLimitedCosts P t m (λ q. adds_by P t table m (slice_index_or without (2 * q) false) q) g costs
 
 -- where the method is one of an order for which all is ready, its live graph has a nest, and each loop a bound

@@ -8,7 +8,7 @@ use Rattle.bound_rules.specs.Conditions.{MeetAll}
 use Rattle.wcet.specs.declared.known.Known.{Known}
 use Rattle.wcet.specs.declared.found.Found.{Found}
 use Rattle.wcet.specs.declared.methods.Methods.{Methods}
-use Rattle.wcet.specs.Known.{Setting, bounds_in, ForEach, known_at, IsLimited, AreTold, IsKnownOf}
+use Rattle.wcet.specs.Known.{BoundSetting, bounds_in, ForEach, known_at, IsLimited, AreTold, IsKnownOf}
 use Rattle.wcet.specs.Prepared.{IsNotPrepared}
 use Rattle.wcet.specs.Found.{HasSection, IsFoundOf}
 use Rattle.wcet.specs.Ready.{AreBehindCalls}
@@ -23,7 +23,7 @@ IsLargeAmong table ms m = Contains ms m × ((known_at table m).too_large ≡ tru
 
 -- Of the methods that were looked at: what is known of each, and that each with no number that is too large has a section; the least with one that is,
 -- and where there is none the sections of all, which meet their conditions one behind the other.
-pub record AreMethodsFound (set : Setting) (done : List ℕ) (a : Methods) : Type 0 where
+pub record AreMethodsFound (set : BoundSetting) (done : List ℕ) (a : Methods) : Type 0 where
   pub long : length a.table.items ≡ length set.flow.methods
   pub limited : All IsLimited a.table.items
   pub known : ForEach set (λ P. AreBehindCalls P done → (m : ℕ) → Contains done m
@@ -42,11 +42,11 @@ pub record AddsMethod (m : ℕ) (found : Found) (old new : Methods) : Type 0 whe
   pub none : IfNone found.section ((new.sections.items ≡ old.sections.items) × (new.least ≡ lesser_of old.least (Some m)))
 
 -- what is found of the method m is added
-pub record AddsNext (set : Setting) (m : ℕ) (old new : Methods) : Type 0 where
+pub record AddsNext (set : BoundSetting) (m : ℕ) (old new : Methods) : Type 0 where
   pub found : Found
   pub is : IsFoundOf set old.table.items m found
   pub adds : AddsMethod m found old new
 
 -- or it can't be found, where all that it may call is told
-abbrev pub IsUnready : Setting → (table : List Known) → (method : ℕ) → BoundRefusal → Type 0
+abbrev pub IsUnready : BoundSetting → (table : List Known) → (method : ℕ) → BoundRefusal → Type 0
 IsUnready set table m fault = ForEach set (λ P. AreTold P set.timing table m → IsNotPrepared P (bounds_in set) m fault)

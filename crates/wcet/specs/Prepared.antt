@@ -4,7 +4,7 @@ use Rattle.std.specs.Prelude.{IsTrue, unwrap_or, slice_get, slice_index, slice_i
 use Rattle.loop_nest.specs.Digraph.{Digraph}
 use Rattle.loop_nest.specs.Reduction.{IsReducible, Leaves}
 use Rattle.loop_nest.specs.Nest.{NaturalLoop, IsNest, headers_of}
-use Rattle.section_check.specs.Placing.{IsAt}
+use Rattle.section_check.specs.Placing.{IsEntryAt}
 use Rattle.path_solver.specs.Reaching.{IsFlagged}
 use Rattle.path_solver.specs.Regions.{charged, AreRegionsApart}
 use Rattle.bytecode_model.specs.Program.{Program}
@@ -26,15 +26,15 @@ use Rattle.bound_rules.specs.declared.faults.BoundRefusal.TheVariants.{Irreducib
 use Rattle.bound_rules.specs.Costs.{added_at, greatest_of}
 use Rattle.bound_rules.specs.Fitting.{RegionFits, LoopFits, loads_of, header_bound, header_bounds}
 use Rattle.bound_rules.specs.Numbers.{HasCall, AreCharged, AreLoads, is_in_charged}
-use Rattle.compact_walks.specs.Limited.{limit, limited}
+use Rattle.compact_walks.specs.Limited.{cycles_limit, limited}
 use Rattle.compact_walks.specs.Moving.{moved_nest}
 use Rattle.wcet.specs.declared.known.Known.{Known}
 use Rattle.wcet.specs.declared.charges.Charges.{Charges}
 use Rattle.wcet.specs.declared.shape.Shape.{Shape}
 use Rattle.wcet.specs.declared.prepared.Prepared.{Prepared}
 use Rattle.wcet.specs.declared.telling.Told.{Told}
-use Rattle.wcet.specs.Known.{Setting, known_at}
-use Rattle.wcet.specs.Telling.{with_back, AreAdded, IsSmallTold}
+use Rattle.wcet.specs.Known.{BoundSetting, known_at}
+use Rattle.wcet.specs.Telling.{with_back, AreToldAdded, IsSmallTold}
 
 -- ---- graphs
 
@@ -88,7 +88,7 @@ pub data IsCandidate (P : Program) (t : Timing) (m : ℕ) (members : List ℕ) (
 
 -- so of each loop
 abbrev pub AreCandidates : Program → Timing → (method : ℕ) → Shape → List (Option ℕ) → Type 0
-AreCandidates P t m s candidates = (i : ℕ) (l : NaturalLoop) (o : Option ℕ) → IsAt (nest_of s) i l → slice_get candidates i ≡ Some o
+AreCandidates P t m s candidates = (i : ℕ) (l : NaturalLoop) (o : Option ℕ) → IsEntryAt (nest_of s) i l → slice_get candidates i ≡ Some o
     → IsCandidate P t m l.members o
 
 -- a call stands at one of these nodes
@@ -100,7 +100,7 @@ abbrev pub AreCallNodes : List Call → (flags : List Bool) → Type 0
 AreCallNodes calls flags = (u : ℕ) → IsFlagged flags u ↔ Contains (map (λ c. 2 * c.place) calls) u
 
 -- so are those of a method's calls, and its code is in form
-abbrev pub AreCallNodesOf : Setting → (method : ℕ) → (flags : List Bool) → Type 0
+abbrev pub AreCallNodesOf : BoundSetting → (method : ℕ) → (flags : List Bool) → Type 0
 AreCallNodesOf set m flags = (k : Coded) → slice_get set.flow.methods m ≡ Some k → IsCoded k × AreCallNodes k.calls flags
 
 -- none of them is none
@@ -140,7 +140,7 @@ pub record AreWithout (fits : Bool) (s : Shape) (flags without : List Bool) : Ty
 
 -- the costs of nodes with what their calls are told
 abbrev pub AreCostsBy : (own : List ℕ) → List Call → List Told → (fits : Bool) → Shape → (flags : List Bool) → List ℕ → Type 0
-AreCostsBy own calls told fits s flags costs = (without : List Bool) × AreWithout fits s flags without × AreAdded own calls told without costs
+AreCostsBy own calls told fits s flags costs = (without : List Bool) × AreWithout fits s flags without × AreToldAdded own calls told without costs
 
 -- what the nodes cost, where costs past 64 bits count as 2^64
 pub record AreLimitedCosts (P : Program) (t : Timing) (m : ℕ) (adds : ℕ → ℕ) (g : Digraph) (costs : List ℕ) : Type 0 where
@@ -169,13 +169,13 @@ pub record IsPreparedFor (P : Program) (t : Timing) (bound_of : BoundOf) (table 
   pub costs : AreLimitedCosts P t m (λ q. adds_by P t table m (is_without p.fits p.shape p.charges.flags.items q) q) graph p.costs.items
 
 -- it has the shape of the method's graph where its calls are told this
-abbrev pub IsShapeWith : Setting → (method : ℕ) → List Told → Shape → Type 0
+abbrev pub IsShapeWith : BoundSetting → (method : ℕ) → List Told → Shape → Type 0
 IsShapeWith set m told s =
     (k : Coded) → slice_get set.flow.methods m ≡ Some k → (g : Digraph) × IsGraphWhere k (map (λ c. c.goes_on) told) g × (g.nodes ≡ 2 * length k.code)
     × IsShapeOf g s
 
 -- or that graph has none
-abbrev pub HasNoShapeWith : Setting → (method : ℕ) → List Told → BoundRefusal → Type 0
+abbrev pub HasNoShapeWith : BoundSetting → (method : ℕ) → List Told → BoundRefusal → Type 0
 HasNoShapeWith set m told fault =
     (fault ≡ NoMemory) ⊎ ((k : Coded) → slice_get set.flow.methods m ≡ Some k
     → (g : Digraph) × IsGraphWhere k (map (λ c. c.goes_on) told) g × IsLeftBy g m fault)
@@ -186,17 +186,17 @@ IsNotPrepared P bound_of m fault = (fault ≡ NoMemory) ⊎ ((g : Digraph) × Is
     × (IsLeftBy g m fault ⊎ ((s : Shape) × IsShapeOf g s × IsUnbounded bound_of m s fault)))
 
 -- how many calls the method has
-abbrev pub call_count : Setting → (method : ℕ) → ℕ
+abbrev pub call_count : BoundSetting → (method : ℕ) → ℕ
 call_count set m = elim (slice_get set.flow.methods m) [ None ↦ 0 | Some k ↦ length k.calls ]
 
 -- so many calls are told, and the numbers are limited
-pub record AreToldWith (set : Setting) (m : ℕ) (told : List Told) : Type 0 where
+pub record AreToldWith (set : BoundSetting) (m : ℕ) (told : List Told) : Type 0 where
   pub long : length told ≡ call_count set m
   pub small : All IsSmallTold told
 
 -- the costs of the nodes of a method with what its calls are told, for each program of the table
-pub record AreMethodCosts (set : Setting) (m : ℕ) (s : Shape) (fits : Bool) (flags : List Bool) (told : List Told) (costs : List ℕ) : Type 0 where
+pub record AreMethodCosts (set : BoundSetting) (m : ℕ) (s : Shape) (fits : Bool) (flags : List Bool) (told : List Told) (costs : List ℕ) : Type 0 where
   pub own : List ℕ
   pub owned : (P : Program) (k : Coded) → slice_get set.flow.methods m ≡ Some k → IsCodedOf P m k → AreOwnCosts P set.timing m k.code own
-  pub small : All (λ c. c < limit) own
+  pub small : All (λ c. c < cycles_limit) own
   pub sums : (k : Coded) → slice_get set.flow.methods m ≡ Some k → AreCostsBy own k.calls told fits s flags costs

@@ -8,7 +8,7 @@ use Rattle.bytecode_model.specs.Program.{Program}
 use Rattle.wcet.specs.declared.ending.MethodBound.{MethodBound}
 use Rattle.wcet.specs.declared.known.Known.{Known}
 use Rattle.wcet.specs.declared.methods.Methods.{Methods}
-use Rattle.wcet.specs.Known.{Setting, bounds_in, ForEach}
+use Rattle.wcet.specs.Known.{BoundSetting, bounds_in, ForEach}
 use Rattle.wcet.specs.Ending.{IsLargeWithin, IsMethodBound}
 use Rattle.wcet.specs.Methods.{AreMethodsFound}
 use Rattle.wcet.specs.Ready.{AreBehindCalls}
@@ -32,19 +32,19 @@ abbrev pub AreLeastCalled : Program → List Known → (method : ℕ) → (least
 AreLeastCalled P table m least = (x : ℕ) → MayCall P m x → IsLeast (IsLargeWithin P table x) (slice_index_or least x None)
 
 -- the same of each of these methods
-pub record AreLeastWithin (set : Setting) (done : List ℕ) (table : List Known) (least : List (Option ℕ)) : Type 0 where
+pub record AreLeastWithin (set : BoundSetting) (done : List ℕ) (table : List Known) (least : List (Option ℕ)) : Type 0 where
   pub long : length least ≡ length set.flow.methods
   pub each : ForEach set (λ P. AreBehindCalls P done → (m : ℕ) → Contains done m → IsLeast (IsLargeWithin P table m) (slice_index_or least m None))
 
 -- ---- the answers
 
 -- of each of these methods what is printed of it, or the least method with a number that is too large
-pub record AreMethodBounds (set : Setting) (methods : List ℕ) (bounds : List MethodBound) : Type 0 where
+pub record AreMethodBounds (set : BoundSetting) (methods : List ℕ) (bounds : List MethodBound) : Type 0 where
   pub long : length bounds ≡ length methods
   pub each : ForEach set (λ P. (i m : ℕ) (x : MethodBound) → slice_get methods i ≡ Some m → slice_get bounds i ≡ Some x
       → IsMethodBound P set.timing (bounds_in set) m x)
 
 -- all methods are found of an order in which each stands behind all that it may call
-pub record AreFoundFor (set : Setting) (order : List ℕ) (a : Methods) : Type 0 where
+pub record AreFoundFor (set : BoundSetting) (order : List ℕ) (a : Methods) : Type 0 where
   pub found : AreMethodsFound set order a
   pub behind : ForEach set (λ P. AreBehindCalls P order)

@@ -4,11 +4,11 @@ use Rattle.std.specs.Prelude.{option_map, unwrap_or, slice_get, slice_index, sli
 use Rattle.method_flow.specs.declared.flow.Call.{Call}
 use Rattle.method_flow.specs.Flow.{Coded, Flow, targets_of_call}
 use Rattle.bound_rules.specs.Costs.{greatest_of}
-use Rattle.compact_walks.specs.Limited.{limit, limited}
+use Rattle.compact_walks.specs.Limited.{cycles_limit, limited}
 use Rattle.wcet.specs.declared.known.Known.{Known}
 use Rattle.wcet.specs.declared.telling.Told.{Told}
 use Rattle.node_costs.specs.Costs.{method_load}
-use Rattle.wcet.specs.Known.{Setting, known_at}
+use Rattle.wcet.specs.Known.{BoundSetting, known_at}
 
 -- a number with so many cycles more, when control comes back
 abbrev pub with_back : ℕ → Option ℕ → Option ℕ
@@ -28,10 +28,10 @@ pub record AreToldBy (table : List Known) (back : ℕ) (f : Flow) (calls : List 
 
 -- its numbers are limited
 abbrev pub IsSmallTold : Told → Type 0
-IsSmallTold s = (s.inside ≤ limit) × (s.full ≤ limit)
+IsSmallTold s = (s.inside ≤ cycles_limit) × (s.full ≤ cycles_limit)
 
 -- each of the calls of the method m, where its load is that of the table
-abbrev pub AreToldIn : Setting → (method : ℕ) → List Known → List Told → Type 0
+abbrev pub AreToldIn : BoundSetting → (method : ℕ) → List Known → List Told → Type 0
 AreToldIn set m table told =
     All IsSmallTold told × ((k : Coded) → slice_get set.flow.methods m ≡ Some k
     → AreToldBy table (method_load set.timing.read set.flow.methods m) set.flow k.calls told)
@@ -41,7 +41,7 @@ abbrev pub added_by : (without_loads : Bool) → Told → ℕ
 added_by without s = if without then s.inside else s.full
 
 -- costs to which it is added at each of the calls, where it is said of each node whether a call there costs nothing for loads; those past 64 bits count as 2^64
-pub record AreAdded (own : List ℕ) (calls : List Call) (told : List Told) (without : List Bool) (costs : List ℕ) : Type 0 where
+pub record AreToldAdded (own : List ℕ) (calls : List Call) (told : List Told) (without : List Bool) (costs : List ℕ) : Type 0 where
   pub long : length costs ≡ length own
   pub at_calls : (i : ℕ) (c : Call) (s : Told) → slice_get calls i ≡ Some c → slice_get told i ≡ Some s
       → slice_index costs (2 * c.place) ≡ limited (slice_index own (2 * c.place) + added_by (slice_index_or without (2 * c.place) false) s)

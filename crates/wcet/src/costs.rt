@@ -2,8 +2,8 @@
 ghost use Rattle.std.specs.Prelude.{◌≡◌, ◌*◌, ◌<◌, ◌≤◌, length, All, IfOk};
 ghost use Rattle.std.specs.List.Sorted.{IsStrictlyIncreasing};
 ghost use Rattle.method_flow.specs.Flow.{places_of};
-ghost use Rattle.compact_walks.specs.Limited.{limit};
-ghost use Rattle.wcet.specs.Telling.{AreAdded, IsSmallTold, added_by};
+ghost use Rattle.compact_walks.specs.Limited.{cycles_limit};
+ghost use Rattle.wcet.specs.Telling.{AreToldAdded, IsSmallTold, added_by};
 ghost use Rattle.wcet.specs.Prepared.{AreCostsBy, AreWithout, IsShapeOf};
 ghost use Rattle.loop_nest.specs.Digraph.{Digraph};
 
@@ -42,9 +42,9 @@ fn add(costs: &mut [u128], calls: &[Call], told: &[Told], without_loads: &[bool]
     requires flags { length without_loads.now ≡ length costs.old }
     requires rising { IsStrictlyIncreasing (places_of calls.now) }
     requires inside { All (λ c. 2 * c.place < length costs.old) calls.now }
-    requires costs { All (λ c. c ≤ limit) costs.old }
+    requires costs { All (λ c. c ≤ cycles_limit) costs.old }
     requires small { All IsSmallTold told.now }
-    ensures { AreAdded costs.old calls.now told.now without_loads.now costs.new }
+    ensures { AreToldAdded costs.old calls.now told.now without_loads.now costs.new }
 {
     for i in 0..calls.len() {
         let at = 2 * calls[i].place as usize;
@@ -86,7 +86,7 @@ pub fn costs(
     requires long { length told.now ≡ length calls.now }
     requires rising { IsStrictlyIncreasing (places_of calls.now) }
     requires inside { All (λ c. 2 * c.place < length own.now) calls.now }
-    requires costs { All (λ c. c ≤ limit) own.now }
+    requires costs { All (λ c. c ≤ cycles_limit) own.now }
     requires small { All IsSmallTold told.now }
     ensures { IfOk result (λ v. AreCostsBy own.now calls.now told.now fits s.now flags.now v.items) }
 {

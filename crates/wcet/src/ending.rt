@@ -4,7 +4,7 @@ ghost use Rattle.bound_cert.specs.Certificate.{IsInGrammar};
 ghost use Rattle.bound_rules.specs.Bounding.{KeepSize};
 ghost use Rattle.bound_rules.specs.Conditions.{MeetsConditions};
 ghost use Rattle.bound_rules.specs.Numbers.{IsPrinted};
-ghost use Rattle.compact_walks.specs.Limited.{limit};
+ghost use Rattle.compact_walks.specs.Limited.{cycles_limit};
 ghost use Rattle.wcet.specs.Ending.{AreKnownWithin, AreReadyFound, IsMethodBound, IsPastLimit, IsPrintedBy, IsPrintedSmall};
 ghost use Rattle.wcet.specs.Known.{bounds_in, ForEach};
 ghost use Rattle.wcet.specs.Ready.{IsSizeCause};
@@ -28,7 +28,7 @@ pub enum MethodBound {
 /// A number, where it is within 64 bits.
 fn narrowed(n: u128) -> Option<u64>
     ensures some { IfSome result (λ x. x ≡ n) }
-    ensures none { IfNone result (limit ≤ n) }
+    ensures none { IfNone result (cycles_limit ≤ n) }
 {
     if n <= u64::MAX as u128 {
         Some(n as u64)

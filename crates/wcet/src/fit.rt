@@ -1,6 +1,6 @@
 //! Whether all that may run while a method does fits the cache together.
 ghost use Rattle.std.specs.Prelude.{◌<◌, ◌≤◌, length, IfOk};
-ghost use Rattle.compact_walks.specs.Limited.{limit};
+ghost use Rattle.compact_walks.specs.Limited.{cycles_limit};
 ghost use Rattle.wcet.specs.Known.{ForEach};
 ghost use Rattle.wcet.specs.Found.{IsFitOf};
 
@@ -22,7 +22,7 @@ pub struct Fit {
 pub fn fit_of(alloc: Global, task: &Task<'_>, m: u32) -> Result<Fit, NoMemory>
     requires { m < length task.now.flow.methods }
     ensures fit { IfOk result (λ fit. ForEach task.now (λ P. IsFitOf P task.now.timing m fit)) }
-    ensures small { IfOk result (λ fit. fit.more ≤ limit) }
+    ensures small { IfOk result (λ fit. fit.more ≤ cycles_limit) }
 {
     let t = task.timing();
     match region(alloc, task.flow(), m, t.blocks, t.block_words)? {

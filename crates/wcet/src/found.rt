@@ -1,10 +1,10 @@
 //! What is found of one method.
 ghost use Rattle.std.specs.Prelude.{◌≡◌, ◌<◌, ◌≤◌, ◌^◌, ℕ, Some, length, slice_get, All, IfOk, IfErr};
 ghost use Rattle.method_flow.specs.Flow.{Coded, IsCoded};
-ghost use Rattle.compact_walks.specs.Limited.{limit, ArePicked, AreSmallAt};
+ghost use Rattle.compact_walks.specs.Limited.{cycles_limit, ArePicked, AreSmallAt};
 ghost use Rattle.compact_walks.specs.Solving.{IsShown};
 ghost use Rattle.wcet.specs.declared.found.Walked.TheVariants.{Never, Shown, Large};
-ghost use Rattle.wcet.specs.Known.{bounds_in, ForEach, AreTold, IsLimited, IsSetting};
+ghost use Rattle.wcet.specs.Known.{bounds_in, ForEach, AreTold, IsLimited, IsBoundSetting};
 ghost use Rattle.wcet.specs.Prepared.{IsInShape, IsNotPrepared};
 ghost use Rattle.wcet.specs.Found.{IsFoundOf, IsSmallWalked, IsWalked, found_by, kind_of, known_by, problem_of};
 
@@ -106,8 +106,8 @@ fn never(alloc: Global, m: u32, fit: Fit) -> Found
 
 /// What is known of a method whose greatest walk costs so much, where numbers past 64 bits count as 2^64.
 fn known_by(fit: Fit, value: u128, too_large: bool) -> Known
-    requires value { value ≤ limit }
-    requires more { fit.more ≤ limit }
+    requires value { value ≤ cycles_limit }
+    requires more { fit.more ≤ cycles_limit }
     ensures { result ≡ known_by fit value too_large }
 {
     let full = limited_sum(value, fit.more as u128);
@@ -121,7 +121,7 @@ fn known_by(fit: Fit, value: u128, too_large: bool) -> Known
 
 /// What is found of a method whose greatest walk costs so much, by this section.
 fn numbered(m: u32, fit: Fit, value: u64, section: Section) -> Found
-    requires { fit.more ≤ limit }
+    requires { fit.more ≤ cycles_limit }
     ensures { result ≡ found_by m fit (Shown value section) }
 {
     let known = known_by(fit, value as u128, false);
@@ -143,8 +143,8 @@ fn numbered(m: u32, fit: Fit, value: u64, section: Section) -> Found
 
 /// What is found of a method one of whose numbers is too large.
 fn large(fit: Fit, value: u128) -> Found
-    requires value { value ≤ limit }
-    requires more { fit.more ≤ limit }
+    requires value { value ≤ cycles_limit }
+    requires more { fit.more ≤ cycles_limit }
     ensures { (m : ℕ) → result ≡ found_by m fit (Large value) }
 {
     Found {
@@ -167,7 +167,7 @@ fn kind_of(fits: bool) -> SectionKind
 /// What is found of the method `m`, by what its walks cost.
 fn found_by(alloc: Global, m: u32, fit: Fit, walked: Walked) -> Found
     requires value { IsSmallWalked walked }
-    requires more { fit.more ≤ limit }
+    requires more { fit.more ≤ cycles_limit }
     ensures { result ≡ found_by m fit walked }
 {
     match walked {
@@ -180,7 +180,7 @@ fn found_by(alloc: Global, m: u32, fit: Fit, walked: Walked) -> Found
 /// Says of what form the waits are and the method `m` is.
 fn form_of(task: &Task<'_>, m: u32)
     requires { m < length task.now.flow.methods }
-    ensures setting { IsSetting task.now }
+    ensures setting { IsBoundSetting task.now }
     ensures coded { (k : Coded) × (slice_get task.now.flow.methods m ≡ Some k) × IsCoded k }
 {
     let _timing = task.timing();

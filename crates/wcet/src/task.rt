@@ -12,18 +12,18 @@ pub struct Task<'a> {
 }
 
 impl<'a> Model for Task<'a> {
-    ghost use Rattle.wcet.specs.Known.{Setting, IsSetting};
+    ghost use Rattle.wcet.specs.Known.{BoundSetting, IsBoundSetting};
 
-    ghost Value = { Setting };
+    ghost Value = { BoundSetting };
 
     ghost view = { λ a. record { flow = a.flow.now; bounds = a.bounds.now; timing = a.timing } };
 
-    ghost invariant = { λ a. IsSetting (record { flow = a.flow.now; bounds = a.bounds.now; timing = a.timing }) };
+    ghost invariant = { λ a. IsBoundSetting (record { flow = a.flow.now; bounds = a.bounds.now; timing = a.timing }) };
 }
 
 impl<'a> Task<'a> {
     ghost use Rattle.std.specs.Prelude.{◌≡◌, ◌≤◌, ◌<◌, length, Some, slice_get};
-    ghost use Rattle.wcet.specs.Known.{IsSetting};
+    ghost use Rattle.wcet.specs.Known.{IsBoundSetting};
 
     /// The task of these parts.
     pub fn new(flow: &'a FlowProgram, bounds: &'a Bounds, timing: Timing) -> Self
@@ -56,7 +56,7 @@ impl<'a> Task<'a> {
     /// The timing of the machine.
     pub fn timing(&self) -> Timing
         ensures timing { result ≡ self.now.timing }
-        ensures form { IsSetting self.now }
+        ensures form { IsBoundSetting self.now }
     {
         self.timing
     }

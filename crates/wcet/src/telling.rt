@@ -1,7 +1,7 @@
 //! What the calls of a method are told of all that they may run.
 ghost use Rattle.std.specs.Prelude.{◌≡◌, ◌≤◌, ◌<◌, length, map, All, IfOk, IfSome};
 ghost use Rattle.bound_rules.specs.Costs.{greater};
-ghost use Rattle.compact_walks.specs.Limited.{limit};
+ghost use Rattle.compact_walks.specs.Limited.{cycles_limit};
 ghost use Rattle.wcet.specs.Known.{IsLimited};
 ghost use Rattle.wcet.specs.Telling.{AreToldBy, AreToldIn, IsSmallTold, IsToldBy, with_back};
 
@@ -24,8 +24,8 @@ pub struct Told {
 
 /// A number with so many cycles more.
 fn with_back(back: u64, number: Option<u128>) -> Option<u128>
-    requires number { IfSome number (λ n. n ≤ limit) }
-    requires back { back ≤ limit }
+    requires number { IfSome number (λ n. n ≤ cycles_limit) }
+    requires back { back ≤ cycles_limit }
     ensures { result ≡ with_back back number }
 {
     match number {
@@ -49,7 +49,7 @@ fn greater(a: Option<u128>, b: Option<u128>) -> Option<u128>
 fn told_of(targets: &[u32], table: &[Known], back: u64) -> Told
     requires known { All (λ t. t < length table.now) targets.now }
     requires limited { All IsLimited table.now }
-    requires back { back ≤ limit }
+    requires back { back ≤ cycles_limit }
     ensures told { IsToldBy table.now back targets.now result }
     ensures small { IsSmallTold result }
 {
@@ -78,7 +78,7 @@ fn calls_told(
     requires lists { All (λ c. c.targets < length f.now.targets) calls.now }
     requires long { length table.now ≡ length f.now.methods }
     requires limited { All IsLimited table.now }
-    requires back { back ≤ limit }
+    requires back { back ≤ cycles_limit }
     ensures told { IfOk result (λ told. AreToldBy table.now back f.now calls.now told.items) }
     ensures small { IfOk result (λ told. All IsSmallTold told.items) }
 {

@@ -4,7 +4,7 @@ use Rattle.std.specs.Prelude.{filter}
 use Rattle.std.specs.List.{flat_map, range_with_len}
 use Rattle.std.proofs.lemmas.List.{map-append}
 use Rattle.std.proofs.lemmas.List.Elements.{filter-append}
-use Rattle.lists.specs.FirstLemmas.{flat_map-more, flat_map-append}
+use Rattle.lists.proofs.FirstLemmas.{flat_map-more, flat_map-append}
 
 pub range-suc : (a n : ℕ) → range_with_len a (suc n) ≡ range_with_len a n ++ (a + n) ∷ []
 range-suc a zero = ap (λ (x : ℕ). x ∷ []) (sym (add-zero a))

@@ -1,7 +1,7 @@
 //! The words in a line.
 ghost use Rattle.std.specs.Prelude.{decimal};
 ghost use Rattle.bound_cert.specs.Finding.{Finds};
-ghost use Rattle.bound_cert.specs.CertLines.{kind_text, bound_text, IsBound, IsVersion};
+ghost use Rattle.bound_cert.specs.CertLines.{kind_text, bound_text, IsBoundValue, IsVersion};
 
 use crate::SectionKind;
 use crate::line_reader::number::{method, number};
@@ -34,7 +34,7 @@ pub(crate) fn version(text: &[u8]) -> Option<u32>
 
 /// The bound that the text is, if it is one.
 pub(crate) fn bound(text: &[u8]) -> Option<Option<u64>>
-    ensures { Finds bound_text IsBound text.now result }
+    ensures { Finds bound_text IsBoundValue text.now result }
 {
     match text {
         b"never" => Some(None),

@@ -1,7 +1,7 @@
 //! The members of a loop in a line.
 ghost use Rattle.std.specs.Prelude.{◌<◌, ◌^◌, IfOk};
 ghost use Rattle.bound_cert.specs.Finding.{Finds, FindsAs, IsBehindPart};
-ghost use Rattle.bound_cert.specs.Loop.{AreMembers, IsAbove, last_of};
+ghost use Rattle.bound_cert.specs.Loop.{AreLoopMembers, IsAbove, last_of};
 ghost use Rattle.bound_cert.specs.CertLines.{node_text, members_text};
 
 use crate::line_reader::number::node;
@@ -12,7 +12,7 @@ use std::alloc::Global;
 /// The members that the text is, if it is some, each behind a space.
 pub(crate) fn members(alloc: Global, text: &[u8]) -> Result<Option<Vec<u32>>, NoMemory>
     requires { IsBehindPart text.now }
-    ensures { IfOk result (FindsAs (λ members. members.items) members_text AreMembers text.now) }
+    ensures { IfOk result (FindsAs (λ members. members.items) members_text AreLoopMembers text.now) }
 {
     let mut members = Vec::new(alloc);
     let mut rest = text;

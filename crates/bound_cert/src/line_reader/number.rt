@@ -2,7 +2,8 @@
 ghost use Rattle.std.specs.Prelude.{◌<◌, ◌^◌, ◌∷◌, decimal};
 ghost use Rattle.std.specs.Fmt.{signed_decimal};
 ghost use Rattle.bound_cert.specs.Finding.{Finds};
-ghost use Rattle.bound_cert.specs.CertLines.{node_text, IsPotential};
+ghost use Rattle.bound_cert.specs.CertLines.{node_text};
+ghost use Rattle.section_check.specs.Section.{IsPotential};
 
 use ascii_text::read_u64;
 

@@ -2,7 +2,8 @@
 ghost use Rattle.std.specs.Prelude.{◌≡◌, ◌↔◌, [], None, IfOk, OnOk, IsTrue, MatchOption};
 ghost use Rattle.bound_cert.specs.declared.lines.line.SectionKind.TheVariants.{Loops};
 ghost use Rattle.bound_cert.specs.declared.lines.line.CertLine.TheVariants.{Start, Node, Loop, Bound};
-ghost use Rattle.bound_cert.specs.CertLines.{IsPotential, IsBound, IsInRange};
+ghost use Rattle.bound_cert.specs.CertLines.{IsBoundValue, IsInRange};
+ghost use Rattle.section_check.specs.Section.{IsPotential};
 ghost use Rattle.bound_cert.specs.Loop.{IsLoopSaid};
 ghost use Rattle.bound_cert.specs.Drafts.{Begun as BegunDraft, IsDraft, GoesOn, empty_section};
 ghost use Rattle.bound_cert.specs.Certificate.{sort_of};
@@ -126,7 +127,7 @@ impl Begun {
     /// Ends the certificate.
     fn finish(mut self, bound: Option<u64>) -> Result<Option<Reading>, NoMemory>
         requires draft { IsDraft (begun_draft self) }
-        requires bound { IsBound bound }
+        requires bound { IsBoundValue bound }
         ensures { IfOk result (λ next. MatchOption next (¬ GoesOn (begun_draft self) (Bound bound)) (GivesNext (begun_draft self) (Bound bound))) }
     {
         self.close()?;

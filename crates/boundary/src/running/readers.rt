@@ -8,9 +8,8 @@ ghost use Rattle.boundary.specs.Setting.{Setting};
 ghost use Rattle.boundary.specs.Session.{IsStateOf, EachState, EachTop};
 ghost use Rattle.boundary.specs.Opcodes.{next_opcode};
 
-use crate::answer::Boundary;
 use crate::laws::stages_agree;
-use crate::running::Running;
+use crate::running::{Running, is_raise};
 use bytecode_typing::fitting_states_are_well_formed;
 use image_facts::CodedMethod;
 use jop_core::Machine;
@@ -39,10 +38,10 @@ impl<'a, const N: usize> Running<'a, N> {
         // The laws are for the proof.
         fitting_states_are_well_formed();
         stages_agree();
-        match self.mode {
-            Boundary::Raise => raised_pc(&self.machine, self.methods.as_slice()),
-            _ => running_pc(&self.machine, self.methods.as_slice()),
+        if is_raise(self.mode) {
+            return raised_pc(&self.machine, self.methods.as_slice());
         }
+        running_pc(&self.machine, self.methods.as_slice())
     }
 
     /// The opcode of its instruction. There is none while an object is raised.
@@ -53,10 +52,10 @@ impl<'a, const N: usize> Running<'a, N> {
         // The laws are for the proof.
         fitting_states_are_well_formed();
         stages_agree();
-        match self.mode {
-            Boundary::Raise => None,
-            _ => Some(self.machine.opcode()),
+        if is_raise(self.mode) {
+            return None;
         }
+        Some(self.machine.opcode())
     }
 
     /// How many frames there are.
@@ -79,11 +78,11 @@ impl<'a, const N: usize> Running<'a, N> {
         // The laws are for the proof.
         fitting_states_are_well_formed();
         stages_agree();
-        match self.mode {
-            // They are gone while an object is raised.
-            Boundary::Raise => 0,
-            _ => operand_words(&self.machine, self.methods.as_slice()),
+        // They are gone while an object is raised.
+        if is_raise(self.mode) {
+            return 0;
         }
+        operand_words(&self.machine, self.methods.as_slice())
     }
 }
 

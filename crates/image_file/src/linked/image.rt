@@ -1,6 +1,6 @@
 //! What the file of a linked image holds.
 ghost use Rattle.std.specs.Prelude.{◌≡◌};
-ghost use Rattle.image_file.specs.Linked.{Image, IsImage, contents};
+ghost use Rattle.image_file.specs.Linked.{LinkedContent, IsLinkedContent, contents};
 
 use std::marker::Model;
 
@@ -13,10 +13,10 @@ pub struct LinkedImage {
 }
 
 impl Model for LinkedImage {
-    ghost use Rattle.image_file.specs.Linked.{Image};
+    ghost use Rattle.image_file.specs.Linked.{LinkedContent};
     ghost use Rattle.image_file.specs.LinkedMeaning.{image_of, IsKept};
 
-    ghost Value = { Image };
+    ghost Value = { LinkedContent };
 
     ghost view = { image_of };
 
@@ -27,7 +27,7 @@ impl LinkedImage {
     /// The bytes of the main class's name.
     pub fn main_name(&self) -> &[u8]
         ensures name { result.now ≡ self.now.main }
-        ensures image { IsImage self.now }
+        ensures image { IsLinkedContent self.now }
     {
         &self.main_name
     }
@@ -35,7 +35,7 @@ impl LinkedImage {
     /// The words.
     pub fn words(&self) -> &[u32]
         ensures words { result.now ≡ self.now.words }
-        ensures image { IsImage self.now }
+        ensures image { IsLinkedContent self.now }
     {
         &self.words
     }
@@ -43,7 +43,7 @@ impl LinkedImage {
     /// The bytes of each class file.
     pub fn files(&self) -> &[Vec<u8>]
         ensures files { contents result.now ≡ self.now.files }
-        ensures image { IsImage self.now }
+        ensures image { IsLinkedContent self.now }
     {
         &self.files
     }
@@ -53,7 +53,7 @@ impl LinkedImage {
         ensures name { result.0.items ≡ self.main }
         ensures words { result.1.items ≡ self.words }
         ensures files { contents result.2.items ≡ self.files }
-        ensures image { IsImage self }
+        ensures image { IsLinkedContent self }
     {
         (self.main_name, self.words, self.files)
     }

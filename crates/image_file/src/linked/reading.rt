@@ -1,7 +1,7 @@
 //! Linked images read from their files.
 ghost use Rattle.std.specs.Prelude.{◌≡◌, ◌↔◌, IsTrue, MatchOption, IfOk, List, ℕ};
 ghost use Rattle.std.specs.List.{flat_map, AllByRecursion};
-ghost use Rattle.image_file.specs.Linked.{Image, IsHalf, IsWord, IsName, IsFile, u2, u4, name_bytes, file_bytes, IsLinked, contents};
+ghost use Rattle.image_file.specs.Linked.{LinkedContent, IsHalf, IsWord, IsName, IsFile, u2, u4, name_bytes, file_bytes, IsLinkedFile, contents};
 ghost use Rattle.image_file.specs.Front.{FindsItem, AreFiles, AreRegions};
 
 use crate::linked::{LinkedFault, LinkedImage, MARK};
@@ -61,7 +61,9 @@ fn are_files(count: u32, bytes: &[u8]) -> bool
 
 /// The parts of the file, if the bytes are one.
 fn regions_of(bytes: &[u8]) -> Option<Regions<'_>>
-    ensures { MatchOption result ((image : Image) → ¬ IsLinked bytes.now image) (λ r. AreRegions bytes.now r.main_name.now r.words.now r.files.now) }
+    ensures { MatchOption result
+        ((image : LinkedContent) → ¬ IsLinkedFile bytes.now image)
+        (λ r. AreRegions bytes.now r.main_name.now r.words.now r.files.now) }
 {
     let rest = bytes.strip_prefix(MARK)?;
     let (main_name, rest) = name_at(rest)?;
@@ -104,8 +106,8 @@ fn files_of(alloc: Global, bytes: &[u8]) -> Result<Vec<Vec<u8>>, AllocError>
 
 /// The image whose file the bytes are. Memory is asked for only where there is one.
 pub fn read_linked(alloc: Global, bytes: &[u8]) -> Result<LinkedImage, LinkedFault>
-    ensures image { IfOk result (IsLinked bytes.now) }
-    ensures bad { result ≡ Err LinkedFault.Bad ↔ ((image : Image) → ¬ IsLinked bytes.now image) }
+    ensures image { IfOk result (IsLinkedFile bytes.now) }
+    ensures bad { result ≡ Err LinkedFault.Bad ↔ ((image : LinkedContent) → ¬ IsLinkedFile bytes.now image) }
 {
     let Some(regions) = regions_of(bytes) else {
         return Err(LinkedFault::Bad);

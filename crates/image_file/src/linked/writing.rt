@@ -1,7 +1,7 @@
 //! Linked images written as files.
 ghost use Rattle.std.specs.Prelude.{◌≡◌, ◌<◌, ◌^◌, ◌++◌, length, OnOk, IfOk};
 ghost use Rattle.std.specs.List.{flat_map, AllByRecursion};
-ghost use Rattle.image_file.specs.Linked.{IsName, IsFile, u4, file_bytes, IsLinked, contents};
+ghost use Rattle.image_file.specs.Linked.{IsName, IsFile, u4, file_bytes, IsLinkedFile, contents};
 
 use crate::linked::MARK;
 use base::NoMemory;
@@ -38,7 +38,7 @@ pub fn write_linked(
     requires word_count { length words.now < 2 ^ 32 }
     requires file_count { length files.now < 2 ^ 32 }
     requires lengths { AllByRecursion IsFile (contents files.now) }
-    ensures { IfOk result (λ bytes. IsLinked bytes.items (record { main = main_name.now; words = words.now; files = contents files.now })) }
+    ensures { IfOk result (λ bytes. IsLinkedFile bytes.items (record { main = main_name.now; words = words.now; files = contents files.now })) }
 {
     let mut out = Vec::new(alloc);
     out.extend_from_slice(MARK)?;

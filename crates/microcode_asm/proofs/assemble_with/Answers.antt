@@ -1,8 +1,8 @@
-use Rattle.std.proofs.Common.{◌≡◌, ◌∙◌, ℕ, List, Option, refl, sym, arith}
+use Rattle.std.proofs.Common.{◌≡◌, ◌∙◌, ℕ, List, refl, sym, arith}
 use Rattle.indexmap.specs.IndexMap.{get_by}
 use Rattle.microcode_asm.specs.Statements.{line_of}
-use Rattle.microcode_asm.specs.Programs.{Places, places_of}
-use Rattle.microcode_asm.specs.SoFar.{Kept, kept, places_by, with_text}
+use Rattle.microcode_asm.specs.Programs.{LabelPlaces, places_of}
+use Rattle.microcode_asm.specs.SoFar.{kept, places_by, with_text}
 use Rattle.microcode_asm.proofs.LabelLemmas.{has_text}
 use Rattle.microcode_asm.proofs.ReadLemmas.{read_first, read_more, refused_text, number_fits, words_last, finish_ok, finish_err, places_are, at_none}
 use Rattle.microcode_asm.proofs.assemble_with.Goals as goal
@@ -21,7 +21,7 @@ overflow_add-number c =
 
 pub returns-in-Some-2-clause-refused : goal.returns-in-Some-2-clause-refused
 returns-in-Some-2-clause-refused c =
-    let places : ◌≡◌ {A = Places} (places_by c.args.labels.now) (places_of c.args.text.now) = places_are c.args.text.now (λ (q : List ℕ). get_by (has_text q) c.args.labels.now) c.requires.labels in
+    let places : ◌≡◌ {A = LabelPlaces} (places_by c.args.labels.now) (places_of c.args.text.now) = places_are c.args.text.now (λ (q : List ℕ). get_by (has_text q) c.args.labels.now) c.requires.labels in
     refused_text c.args.text.now c.loop-line.number c.loop-line.line-iterator c.next.new.self c.in-Some.line.now (line_of c.in-Some.line.now) c.in-Some-2.kind (places_by c.args.labels.now) (kept c.loop-line.assembly)
     places c.loop-line.invariant c.in-Some.ensures.steps refl c.in_ok-kind.ensures.range (sym c.in-Some-2.is ∙ c.in_ok-kind.ensures.fault)
 
@@ -40,10 +40,10 @@ finish-requires c =
 
 pub returns-clause-assembled : goal.returns-clause-assembled
 returns-clause-assembled c =
-    let places : ◌≡◌ {A = Places} (places_by c.args.labels.now) (places_of c.args.text.now) = places_are c.args.text.now (λ (q : List ℕ). get_by (has_text q) c.args.labels.now) c.requires.labels in
+    let places : ◌≡◌ {A = LabelPlaces} (places_by c.args.labels.now) (places_of c.args.text.now) = places_are c.args.text.now (λ (q : List ℕ). get_by (has_text q) c.args.labels.now) c.requires.labels in
     finish_ok c.args.text.now c.loop-line.number c.loop-line.line-iterator (places_by c.args.labels.now) (kept c.loop-line.assembly) c.finish.result places c.loop-line.invariant c.in-None.ensures.steps.0 c.finish.ensures.rom
 
 pub returns-clause-refused : goal.returns-clause-refused
 returns-clause-refused c =
-    let places : ◌≡◌ {A = Places} (places_by c.args.labels.now) (places_of c.args.text.now) = places_are c.args.text.now (λ (q : List ℕ). get_by (has_text q) c.args.labels.now) c.requires.labels in
+    let places : ◌≡◌ {A = LabelPlaces} (places_by c.args.labels.now) (places_of c.args.text.now) = places_are c.args.text.now (λ (q : List ℕ). get_by (has_text q) c.args.labels.now) c.requires.labels in
     finish_err c.args.text.now c.loop-line.number c.loop-line.line-iterator (places_by c.args.labels.now) (kept c.loop-line.assembly) c.finish.result places c.loop-line.invariant c.in-None.ensures.steps.0 c.finish.ensures.refused

@@ -6,7 +6,7 @@ use Rattle.std.proofs.lemmas.Int.{of_z-to_z}
 use Rattle.std.proofs.lemmas.List.Sums.{sum_by-cons}
 use Rattle.std.proofs.lemmas.Option.{none-some}
 use Rattle.lists.specs.Tests.{either}
-use Rattle.lists.specs.Lemmas.{holds_at, some_same}
+use Rattle.lists.proofs.Lemmas.{holds_at, some_same}
 use Rattle.lists.specs.Members.{heads, tails}
 use Rattle.opcodes.specs.declared.instruction.Instr.{Instr}
 use Rattle.opcodes.specs.Form.{one, Absent}

@@ -1,7 +1,7 @@
 -- A machine at an opcode of arrays, as a sketch, and how its rows end.
 use Rattle.std.proofs.Common.{◌≡◌, ℕ, ◌+◌, ◌<◌, ◌≤◌, Bool, true, false, ℤ, List, [], ◌∷◌, ◌++◌, Option, None, length, reverse, refl, ◌∙◌, ap, subst, arith, eq-eqb, ◌==◌, ◌&&◌}
 use Rattle.std.proofs.lemmas.Bool.Decides.{nat_tests}
-use Rattle.lists.specs.Lemmas.{holds_at}
+use Rattle.lists.proofs.Lemmas.{holds_at}
 use Rattle.opcodes.specs.declared.instruction.Instr.{Instr}
 use Rattle.opcodes.specs.Form.{one, Absent}
 use Rattle.opcodes.specs.Reading.{plain_instr}

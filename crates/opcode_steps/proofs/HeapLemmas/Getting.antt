@@ -4,7 +4,7 @@ use Rattle.std.specs.Prelude.{slice_get, slice_index}
 use Rattle.std.proofs.lemmas.Option.{none-some}
 use Rattle.machine_stands.proofs.Defined.{class_is, long_is}
 use Rattle.lists.specs.Members.{heads, tails}
-use Rattle.lists.specs.Lemmas.{some_is, some_same}
+use Rattle.lists.proofs.Lemmas.{some_is, some_same}
 use Rattle.opcodes.specs.Form.{one, UnsignedShort}
 use Rattle.opcodes.specs.Row as opcodes
 use Rattle.opcodes.specs.Reading.{plain_instr}

@@ -5,7 +5,7 @@ use Rattle.std.specs.Int.{w32}
 use Rattle.std.specs.Int.RustNames.{FitsSigned}
 use Rattle.machine_stands.proofs.Defined.{long_is}
 use Rattle.lists.specs.Members.{heads, tails}
-use Rattle.lists.specs.Lemmas.{some_same}
+use Rattle.lists.proofs.Lemmas.{some_same}
 use Rattle.opcodes.specs.Form.{one, Absent}
 use Rattle.opcodes.specs.Row as opcodes
 use Rattle.opcodes.specs.Reading.{plain_instr}

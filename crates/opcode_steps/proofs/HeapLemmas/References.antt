@@ -3,7 +3,7 @@ use Rattle.std.proofs.Common.{◌≡◌, ℕ, ◌+◌, ◌-◌, ◌/◌, ◌%◌
 use Rattle.std.specs.Prelude.{slice_get, slice_index}
 use Rattle.std.proofs.lemmas.Nat.{and_mask}
 use Rattle.std.proofs.Math.Nat.{mod-eq_of_lt}
-use Rattle.lists.specs.Lemmas.{onto_some, some_same}
+use Rattle.lists.proofs.Lemmas.{onto_some, some_same}
 use Rattle.opcodes.specs.Row as opcodes
 use Rattle.micro_sketch.specs.Rows.{head_of, tail_of}
 use Rattle.bytecode_model.specs.declared.Value.{Value}

@@ -5,7 +5,7 @@ use Rattle.std.proofs.lemmas.Option.{none-some}
 use Rattle.std.proofs.lemmas.List.{length-set}
 use Rattle.machine_stands.proofs.Defined.{item_at, long_is}
 use Rattle.lists.specs.Members.{heads, tails}
-use Rattle.lists.specs.Lemmas.{holds_at, onto_some, some_is, some_same}
+use Rattle.lists.proofs.Lemmas.{holds_at, onto_some, some_is, some_same}
 use Rattle.opcodes.specs.Form.{one, UnsignedShort}
 use Rattle.opcodes.specs.Row as opcodes
 use Rattle.opcodes.specs.Reading.{plain_instr}

@@ -5,7 +5,7 @@ use Rattle.std.specs.Int.{w8, w16, w32, int_wrap}
 use Rattle.std.specs.Int.RustNames.{FitsSigned}
 use Rattle.std.proofs.lemmas.List.{length-set}
 use Rattle.lists.specs.Members.{heads, tails}
-use Rattle.lists.specs.Lemmas.{onto_some, some_same}
+use Rattle.lists.proofs.Lemmas.{onto_some, some_same}
 use Rattle.opcodes.specs.Form.{one}
 use Rattle.opcodes.specs.Row as opcodes
 use Rattle.micro_sketch.specs.Sketch.{Sketch}

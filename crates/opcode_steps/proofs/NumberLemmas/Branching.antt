@@ -1,7 +1,7 @@
 -- A row that jumps where a test of numbers holds, and one that always does (JVM Specification SE 8, 6.5.if<cond>, if_icmp<cond> and goto).
 use Rattle.std.proofs.Common.{◌≡◌, ℕ, ◌+◌, ◌^◌, ◌<◌, Bool, true, false, cond, List, [], ◌∷◌, ◌++◌, Option, Some, None, reverse, refl, sym, ◌∙◌, ap, subst, arith}
 use Rattle.std.specs.Prelude.{ℤ, pos, ◌+ℤ◌}
-use Rattle.lists.specs.Lemmas.{some_same}
+use Rattle.lists.proofs.Lemmas.{some_same}
 use Rattle.opcodes.specs.declared.instruction.Instr.{Instr}
 use Rattle.opcodes.specs.Bytes.{s2, s4}
 use Rattle.opcodes.specs.Form.{one, Offset, WideOffset}
@@ -20,7 +20,7 @@ use Rattle.bytecode_model.specs.Types.{NumberType, IntType}
 use Rattle.bytecode_model.specs.State.{State}
 use Rattle.bytecode_model.specs.Program.{Program, Operand}
 use Rattle.bytecode_model.specs.Rows as rows
-use Rattle.bytecode_model.specs.Rows.{Row, Takes}
+use Rattle.bytecode_model.specs.Rows.{Row, FunctionOf}
 use Rattle.bytecode_model.specs.Table.{row_of}
 use Rattle.bytecode_model.specs.Effects.{Effect, effect, on_numbers, branch, at_offset}
 use Rattle.image_facts.specs.Places.{Places, object_place}
@@ -43,7 +43,7 @@ pub record Branched (op : PlainOp) (x : Sketch) (words : List ℕ) (test : Bool)
   pub calm : raises op x ≡ false
   pub effect : plain.effect op x ≡ placed words (cond test (jump_place x) (past 2 x).jpc) x
 
-abbrev pub Branches : (op : PlainOp) (ts : List NumberType) → Takes ts Bool → Type 0
+abbrev pub Branches : (op : PlainOp) (ts : List NumberType) → FunctionOf ts Bool → Type 0
 Branches op ts test = (x : Sketch) (ns : Numbers ts) (tail : List ℕ) → Fit ts ns → words_of x ≡ words_on ts ns tail → Branched op x tail (given Bool ts test ns)
 
 module _ (laws : Laws) (P : Program) (pl : Places) (n size : ℕ) (m : machine.State) (answer : Option ℕ) (s s' : State) (st : StandsFor P pl n size m s) (i : Instr) (r : Row) (x : Sketch)
@@ -60,7 +60,7 @@ module _ (laws : Laws) (P : Program) (pl : Places) (n size : ℕ) (m : machine.S
       comes laws P pl n size m answer s s' st i r x at op (st.top.pc + i.length) rest words (past 2 x).jpc others opcode made.ready made.calm made.effect goes stay stack
       (at.shows.jpc 2 (omega (arith, at.instruction.within)) ∙ ap (λ (k : ℕ). st.top.pc + k) (sym long))
 
-  pub branches_on_numbers : (op : PlainOp) (ts : List NumberType) (test : Takes ts Bool) → m.opcode ≡ code_of op → i.length ≡ 3 → r ≡ rows.Branch ts test (s2 st.body.code (st.top.pc + 1)) → Branches op ts test
+  pub branches_on_numbers : (op : PlainOp) (ts : List NumberType) (test : FunctionOf ts Bool) → m.opcode ≡ code_of op → i.length ≡ 3 → r ≡ rows.Branch ts test (s2 st.body.code (st.top.pc + 1)) → Branches op ts test
       → ComesTo P pl n size m s s'
   branches_on_numbers op ts test opcode long is makes =
       let next = st.top.pc + i.length in
@@ -81,7 +81,7 @@ module _ (laws : Laws) (P : Program) (pl : Places) (n size : ℕ) (m : machine.S
 
 -- ---- lines of opcodes
 
-pub branch_line : Laws → (code : ℕ) (op : PlainOp) (ts : List NumberType) (test : Takes ts Bool) → code_of op ≡ code → operands_of (opcodes.row_of code).form ≡ Some (one Offset)
+pub branch_line : Laws → (code : ℕ) (op : PlainOp) (ts : List NumberType) (test : FunctionOf ts Bool) → code_of op ≡ code → operands_of (opcodes.row_of code).form ≡ Some (one Offset)
     → ((bytes : List ℕ) (pc : ℕ) (operand : Operand) → row_of bytes (plain_instr code bytes pc (one Offset)) operand ≡ Some (rows.Branch ts test (s2 bytes (pc + 1)))) → Branches op ts test → Line code
 branch_line laws code op ts test is form row makes P pl n size m answer s s' h mode opcode bare =
     let st = h.stands in

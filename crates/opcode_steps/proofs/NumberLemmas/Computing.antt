@@ -2,7 +2,7 @@
 use Rattle.std.proofs.Common.{◌≡◌, ℕ, ◌+◌, ◌≤◌, false, List, [], ◌∷◌, ◌++◌, Option, Some, None, length, reverse, refl, sym, ◌∙◌, ap, arith}
 use Rattle.std.proofs.lemmas.List.{length-append, length-reverse}
 use Rattle.std.specs.Prelude.{ℤ}
-use Rattle.lists.specs.Lemmas.{some_same}
+use Rattle.lists.proofs.Lemmas.{some_same}
 use Rattle.opcodes.specs.declared.instruction.Instr.{Instr}
 use Rattle.opcodes.specs.Form.{one, Absent}
 use Rattle.opcodes.specs.Row as opcodes
@@ -18,7 +18,7 @@ use Rattle.bytecode_model.specs.Types.{NumberType}
 use Rattle.bytecode_model.specs.State.{State}
 use Rattle.bytecode_model.specs.Program.{Program, Operand}
 use Rattle.bytecode_model.specs.Rows as rows
-use Rattle.bytecode_model.specs.Rows.{Row, Takes}
+use Rattle.bytecode_model.specs.Rows.{Row, FunctionOf}
 use Rattle.bytecode_model.specs.Table.{row_of}
 use Rattle.bytecode_model.specs.Effects.{Effect, Go, effect, on_numbers, or_fault, ArithmeticException, number}
 use Rattle.image_facts.specs.Places.{Places, object_place}
@@ -45,7 +45,7 @@ tail_long others saved h = omega (arith, length-append others (reverse saved), l
 module _ (laws : Laws) (P : Program) (pl : Places) (n size : ℕ) (m : machine.State) (answer : Option ℕ) (s s' : State) (st : StandsFor P pl n size m s) (i : Instr) (r : Row) (x : Sketch)
     (at : Scene P pl n size m answer s s' st i r x) where
   -- the numbers that it takes, and their words on top of the sketch's
-  pub takes : (R : Type 0) (ts : List NumberType) (f : Takes ts R) (go : R → List Value → Effect)
+  pub takes : (R : Type 0) (ts : List NumberType) (f : FunctionOf ts R) (go : R → List Value → Effect)
       → effect P (limits_of P pl n size) s st.top (st.top.pc + i.length) r ≡ on_numbers R ts f st.top.operands go
       → Taken (object_place P pl s.objects) (length s.objects) R ts f st.top.operands st.words.operands
   takes R ts f go is =
@@ -54,7 +54,7 @@ module _ (laws : Laws) (P : Program) (pl : Places) (n size : ℕ) (m : machine.S
   pub shown_words : (ts : List NumberType) (ns : Numbers ts) (others : List ℕ) → st.words.operands ≡ words_on ts ns others → words_of x ≡ words_on ts ns (others ++ reverse st.words.saved)
   shown_words ts ns others e = at.shows.words ∙ ap (λ (ws : List ℕ). ws ++ reverse st.words.saved) e ∙ words_on-append ts ns others (reverse st.words.saved)
 
-  pub compute : (op : PlainOp) (ts : List NumberType) (t : NumberType) (f : Takes ts (Option ℤ)) (g : Numbers ts → ℤ) → m.opcode ≡ code_of op → i.length ≡ 1 → r ≡ rows.Compute ts t f
+  pub compute : (op : PlainOp) (ts : List NumberType) (t : NumberType) (f : FunctionOf ts (Option ℤ)) (g : Numbers ts → ℤ) → m.opcode ≡ code_of op → i.length ≡ 1 → r ≡ rows.Compute ts t f
       → ((ns : Numbers ts) → given (Option ℤ) ts f ns ≡ Some (g ns)) → Makes op ts t g → ComesTo P pl n size m s s'
   compute op ts t f g opcode short is total makes =
       let next = st.top.pc + i.length in
@@ -69,7 +69,7 @@ module _ (laws : Laws) (P : Program) (pl : Places) (n size : ℕ) (m : machine.S
       (at.shows.jpc 0 (omega (arith, at.instruction.within, short)) ∙ ap (λ (k : ℕ). st.top.pc + k) (sym short))
 
 -- an opcode without operands in the code
-pub computes : Laws → (code : ℕ) (op : PlainOp) (ts : List NumberType) (t : NumberType) (f : Takes ts (Option ℤ)) (g : Numbers ts → ℤ) → code_of op ≡ code
+pub computes : Laws → (code : ℕ) (op : PlainOp) (ts : List NumberType) (t : NumberType) (f : FunctionOf ts (Option ℤ)) (g : Numbers ts → ℤ) → code_of op ≡ code
     → operands_of (opcodes.row_of code).form ≡ Some (one Absent) → ((bytes : List ℕ) (pc : ℕ) (operand : Operand) → row_of bytes (plain_instr code bytes pc (one Absent)) operand ≡ Some (rows.Compute ts t f))
     → ((ns : Numbers ts) → given (Option ℤ) ts f ns ≡ Some (g ns)) → Makes op ts t g → Line code
 computes laws code op ts t f g is form row total makes P pl n size m answer s s' h mode opcode bare =

@@ -1,6 +1,6 @@
 -- The branches on references (JVM Specification SE 8, 6.5.if_acmp<cond>, ifnull and ifnonnull).
 use Rattle.std.proofs.Common.{◌≡◌, ℕ, ◌+◌, Bool, true, false, List, [], ◌∷◌, ◌++◌, Option, Some, None, reverse, refl, sym, ◌∙◌, ap, subst}
-use Rattle.lists.specs.Lemmas.{some_same}
+use Rattle.lists.proofs.Lemmas.{some_same}
 use Rattle.opcodes.specs.declared.instruction.Instr.{Instr}
 use Rattle.opcodes.specs.Bytes.{s2}
 use Rattle.opcodes.specs.Form.{one, Offset}

@@ -6,7 +6,7 @@ use Rattle.std.specs.Int.RustNames.{FitsSigned}
 use Rattle.bytecode_model.specs.declared.Value.{Value}
 use Rattle.bytecode_model.specs.declared.Value.TheVariants.{Int, Long}
 use Rattle.bytecode_model.specs.Types.{NumberType, IntType, LongType}
-use Rattle.bytecode_model.specs.Rows.{Takes}
+use Rattle.bytecode_model.specs.Rows.{FunctionOf}
 use Rattle.bytecode_model.specs.WellFormed.{AreValues}
 use Rattle.bytecode_model.specs.Effects.{Effect, Stuck, on_numbers, number}
 use Rattle.image_facts.specs.Words.{int_word, high_word, low_word}
@@ -19,7 +19,7 @@ Numbers [] = Unit {0}
 Numbers (t ∷ ts) = ℤ × Numbers ts
 
 -- what a function gives for them
-abbrev pub given : (R : Type 0) (ts : List NumberType) → Takes ts R → Numbers ts → R
+abbrev pub given : (R : Type 0) (ts : List NumberType) → FunctionOf ts R → Numbers ts → R
 given R [] r ns = r
 given R (t ∷ ts) f ns = given R ts (f ns.0) ns.1
 
@@ -53,7 +53,7 @@ result_is place IntType r rest others h = (refl, h)
 result_is place LongType r rest others h = (refl, refl, h)
 
 -- Where a row finds numbers of the types that it takes, these are their words.
-pub record Taken (place : ℕ → ℕ) (objects : ℕ) (R : Type 0) (ts : List NumberType) (f : Takes ts R) (ops : List Value) (words : List ℕ) : Type 0 where
+pub record Taken (place : ℕ → ℕ) (objects : ℕ) (R : Type 0) (ts : List NumberType) (f : FunctionOf ts R) (ops : List Value) (words : List ℕ) : Type 0 where
   pub numbers : Numbers ts
   pub fit : Fit ts numbers
   pub rest : List Value
@@ -63,7 +63,7 @@ pub record Taken (place : ℕ → ℕ) (objects : ℕ) (R : Type 0) (ts : List N
   pub effect : (go : R → List Value → Effect) → on_numbers R ts f ops go ≡ go (given R ts f numbers) rest
 
 module _ (one : OneWordIsOnTop) (two : TwoWordsAreOnTop) (place : ℕ → ℕ) (objects : ℕ) (R : Type 0) where
-  pub taken : (ts : List NumberType) (f : Takes ts R) (ops : List Value) (words : List ℕ) → AreValues objects ops → AreOperands place ops words
+  pub taken : (ts : List NumberType) (f : FunctionOf ts R) (ops : List Value) (words : List ℕ) → AreValues objects ops → AreOperands place ops words
       → (go : R → List Value → Effect) → (on_numbers R ts f ops go ≡ Stuck → ⊥) → Taken place objects R ts f ops words
   taken [] f ops words values are go defined = record { numbers = tt; fit = tt; rest = ops; others = words; are = refl; stay = are; effect = λ g. refl }
   taken (IntType ∷ ts) f (Int n ∷ ops) words values are go defined =

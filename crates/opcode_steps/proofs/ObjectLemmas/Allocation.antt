@@ -5,7 +5,7 @@ use Rattle.std.specs.List.{sum_by, flat_map}
 use Rattle.std.proofs.lemmas.List.{length-set}
 use Rattle.std.proofs.lemmas.Option.{none-some}
 use Rattle.std.proofs.Math.Nat.{mod-eq_of_lt}
-use Rattle.lists.specs.Lemmas.{holds_at, some_same}
+use Rattle.lists.proofs.Lemmas.{holds_at, some_same}
 use Rattle.memory_timing.specs.Port.{padded}
 use Rattle.opcodes.specs.Form.{one, UnsignedShort}
 use Rattle.opcodes.specs.Row as opcodes

@@ -1,7 +1,7 @@
 use Rattle.std.proofs.Common.{ℕ, List, sym, subst}
 use Rattle.std.specs.Prelude.{IfOk}
 use Rattle.std.proofs.lemmas.Result.{IfOk-weaker}
-use Rattle.wcet.specs.Known.{Setting, ForEach}
+use Rattle.wcet.specs.Known.{BoundSetting, ForEach}
 use Rattle.wcet.specs.Methods.{AreMethodsFound}
 use Rattle.wcet.specs.Ready.{AreBehindCalls}
 use Rattle.wcet.specs.Sharing.{AreFoundFor, AreMethodBounds}
@@ -9,7 +9,7 @@ use Rattle.wcet.proofs.bounds_of_all.Goals as goal
 
 pub shared-requires-clause-found : goal.shared-requires-clause-found
 shared-requires-clause-found c =
-    let S : Setting → Type 0 = λ s. ForEach s (λ P. AreBehindCalls P c.args.order.now.methods) in
+    let S : BoundSetting → Type 0 = λ s. ForEach s (λ P. AreBehindCalls P c.args.order.now.methods) in
     let A : List ℕ → Type 0 = λ ms. AreFoundFor c.new-task.result ms c.in-Ok.found in
     let F : List ℕ → Type 0 = λ ms. AreMethodsFound c.new-task.result ms c.in-Ok.found in
     subst A (sym c.as_slice-in-Ok.ensures) (record {
@@ -19,6 +19,6 @@ shared-requires-clause-found c =
 
 pub returns-in-Ok-clause-bounds : goal.returns-in-Ok-clause-bounds
 returns-in-Ok-clause-bounds c =
-    let S : Setting → Type 0 = λ s. IfOk c.shared.result (λ bs. AreMethodBounds s c.args.order.now.methods bs.items) in
+    let S : BoundSetting → Type 0 = λ s. IfOk c.shared.result (λ bs. AreMethodBounds s c.args.order.now.methods bs.items) in
     let A : List ℕ → Type 0 = λ ms. IfOk c.shared.result (λ bs. AreMethodBounds c.new-task.result ms bs.items) in
     IfOk-weaker c.shared.result _ _ (λ bs h. h.each) (subst S c.new-task.ensures (subst A c.as_slice-in-Ok.ensures c.shared.ensures))

@@ -1,5 +1,5 @@
 use Rattle.std.proofs.Common.{◌≡◌, ℕ, refl, sym, ap, ◌∙◌}
-use Rattle.lists.specs.Lemmas.{some_same}
+use Rattle.lists.proofs.Lemmas.{some_same}
 use Rattle.bytecode_verifier.proofs.CheckedLemmas.{has_this_code, is_method}
 use Rattle.bytecode_verifier.proofs.methods.checking_of.Goals as goal
 

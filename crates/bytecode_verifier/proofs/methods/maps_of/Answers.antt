@@ -6,7 +6,7 @@ use Rattle.frame_types.specs.declared.steps.MapStep.{MapStep}
 use Rattle.frame_types.specs.Frames.{frames_of}
 use Rattle.frame_types.specs.Locals.{first_locals}
 use Rattle.frame_types.specs.Steps.{BeginsWith, AreSteps}
-use Rattle.lists.specs.Lemmas.{some_same}
+use Rattle.lists.proofs.Lemmas.{some_same}
 use Rattle.bytecode_verifier.specs.Begun.{asked_of, first_kinds}
 use Rattle.bytecode_verifier.specs.Listed.{HasLocals, types_by}
 use Rattle.bytecode_verifier.specs.Methods.{method_of}

@@ -1,5 +1,5 @@
 use Rattle.std.proofs.Common.{rules, ◌≡◌, ℕ, ◌<◌, ◌^◌, Option, Some, None, ◌∙◌, sym, subst, IsTrue, nat_eq}
-use Rattle.lists.specs.Lemmas.{none≢some}
+use Rattle.lists.proofs.Lemmas.{none≢some}
 use Rattle.bytecode_model.specs.Program.{Program}
 use Rattle.method_flow.specs.Costs.{IsPrintedOf}
 use Rattle.method_flow.specs.Flow.{Flow, IsFlowOf}

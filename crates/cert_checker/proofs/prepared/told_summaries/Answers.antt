@@ -1,6 +1,6 @@
 use Rattle.std.proofs.Common.{◌≡◌, ◌*◌, length}
 use Rattle.std.specs.Prelude.{slice_get}
-use Rattle.lists.specs.Lemmas.{holds_at}
+use Rattle.lists.proofs.Lemmas.{holds_at}
 use Rattle.method_flow.specs.Flow.{Coded}
 use Rattle.cert_checker.proofs.Coding.{places_within, numbers_within, lists_within}
 use Rattle.cert_checker.proofs.prepared.told_summaries.Goals as goal

@@ -5,7 +5,7 @@ use Rattle.section_check.specs.Least.{IsLeast}
 use Rattle.method_flow.specs.Graphs.{IsGraphBy}
 use Rattle.method_flow.specs.declared.flow.Call.{Call}
 use Rattle.flow_graph.specs.Where.{IsEdgeWhere}
-use Rattle.cert_checker.specs.Prepared.{AreAdded, IsAbsentAt}
+use Rattle.cert_checker.specs.Prepared.{AreCostsOf, IsAbsentAt}
 use Rattle.cert_checker.proofs.Coding.{places_within, numbers_within, places_small}
 use Rattle.cert_checker.proofs.prepared.with_summaries.Goals as goal
 
@@ -31,9 +31,9 @@ returns-clause-prepared c =
     let was_long = ap length was in
     let added_long = c.add.ensures.long in
     let items : (with_items costs new).items ≡ new = with_items_is costs new (omega (arith, ok.0)) in
-    let C : List Call → Type 0 = λ cs. AreAdded costs.items cs summaries new in
-    let W : List ℕ → Type 0 = λ us. AreAdded us c.calls.result.now summaries new in
-    let N : List ℕ → Type 0 = λ us. AreAdded costs.items k.calls summaries us in
+    let C : List Call → Type 0 = λ cs. AreCostsOf costs.items cs summaries new in
+    let W : List ℕ → Type 0 = λ us. AreCostsOf us c.calls.result.now summaries new in
+    let N : List ℕ → Type 0 = λ us. AreCostsOf costs.items k.calls summaries us in
     let A : List Call → Type 0 = λ cs. IsLeast (IsAbsentAt cs summaries c.deref-2.result.now) c.least_absent-absent.result in
     let F : List Bool → Type 0 = λ flags. IsLeast (IsAbsentAt k.calls summaries flags) c.least_absent-absent.result in
     record {

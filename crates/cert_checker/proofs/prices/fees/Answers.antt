@@ -1,7 +1,7 @@
 use Rattle.std.proofs.Common.{◌≡◌, ℕ, ◌+◌, List, length, get_or, Option, None, sym, ap, ◌∙◌, subst, arith}
 use Rattle.std.proofs.lemmas.List.{length_push}
 use Rattle.section_check.specs.Section.{CertifiedLoop}
-use Rattle.bound_rules.specs.Sections.{IsFee}
+use Rattle.bound_rules.specs.Sections.{IsEntryLoad}
 use Rattle.cert_checker.proofs.Pushing.{EachReads, reads_more}
 use Rattle.cert_checker.proofs.prices.fees.Goals as goal
 
@@ -19,7 +19,7 @@ loop-l-preserved c =
       long = ap length c.in_ok-push.ensures.items ∙ length_push old c.in_ok-fee.field-0 ∙ ap (λ (n : ℕ). n + 1) long;
       each =
           λ P flow.
-          let R : CertifiedLoop → Option ℕ → Type 0 = λ k fee. IsFee P c.args.task.now.timing c.args.s.now.method k fee in
+          let R : CertifiedLoop → Option ℕ → Type 0 = λ k fee. IsEntryLoad P c.args.task.now.timing c.args.s.now.method k fee in
           let Q : List (Option ℕ) → Type 0 = λ fs. EachReads R None ls fs (i + 1) in
           subst Q (sym c.in_ok-push.ensures.items) (reads_more R None ls old i item c.in_ok-fee.field-0 long is (c.in_ok-fee.ensures P flow) (c.loop-l.invariant.each P flow));
     }

@@ -4,7 +4,7 @@ use Rattle.node_costs.specs.Costs.{bounds_of}
 use Rattle.bound_rules.specs.Sections.{LacksBound}
 use Rattle.cert_checker.specs.Prepared.{IsUnflagged}
 use Rattle.cert_checker.specs.Section.{IsWrongBeside}
-use Rattle.section_check.specs.LeastLemmas.{least_either}
+use Rattle.section_check.proofs.LeastLemmas.{least_either}
 use Rattle.cert_checker.proofs.section.wrong_beside.Goals as goal
 
 pub returns : goal.returns

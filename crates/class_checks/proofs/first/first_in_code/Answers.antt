@@ -4,7 +4,7 @@ use Rattle.std.specs.List.{flat_map}
 use Rattle.std.proofs.lemmas.List.Elements.{Contains-get_or}
 use Rattle.opcodes.specs.Start.{starts_of}
 use Rattle.lists.specs.Lists.{first}
-use Rattle.lists.specs.FirstLemmas.{found_here, none_first}
+use Rattle.lists.proofs.FirstLemmas.{found_here, none_first}
 use Rattle.program_tables.specs.Instructions.{placed_at}
 use Rattle.program_tables.proofs.MentionLemmas.{all_places}
 use Rattle.class_checks.specs.Causes.{unsupported_at}

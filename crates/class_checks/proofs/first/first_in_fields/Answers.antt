@@ -1,6 +1,6 @@
 use Rattle.std.proofs.Common.{◌≡◌, ◌+◌, ◌<◌, ◌≤◌, List, length, get_or, sym, ap, ◌∙◌, subst}
 use Rattle.class_pool.specs.declared.class.Member.{Member}
-use Rattle.lists.specs.FirstLemmas.{found_number, none_number, none_numbered}
+use Rattle.lists.proofs.FirstLemmas.{found_number, none_number, none_numbered}
 use Rattle.program_tables.proofs.ListLemmas.{no_value}
 use Rattle.class_checks.specs.Causes.{unsupported_at_field}
 use Rattle.class_checks.proofs.first.first_in_fields.Goals as goal

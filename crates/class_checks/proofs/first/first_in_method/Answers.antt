@@ -2,7 +2,7 @@ use Rattle.std.proofs.Common.{◌≡◌, List, ℕ, Some, None, sym, ap, ◌∙�
 use Rattle.std.specs.Option.{option_map, option_copied}
 use Rattle.std.specs.List.{flat_map}
 use Rattle.lists.specs.Lists.{first}
-use Rattle.lists.specs.FirstLemmas.{first-before, first-behind, ok_same}
+use Rattle.lists.proofs.FirstLemmas.{first-before, first-behind, ok_same}
 use Rattle.program_tables.specs.declared.refusal.Item.{Item}
 use Rattle.program_tables.specs.declared.refusal.Site.TheVariants as sites
 use Rattle.program_tables.specs.Instructions.{Placed, instructions_in, instructions_of}

@@ -1,7 +1,7 @@
 use Rattle.std.proofs.Common.{sym, ap, ◌∙◌}
 use Rattle.std.specs.List.{flat_map, enumerate_from}
 use Rattle.lists.specs.Lists.{first}
-use Rattle.lists.specs.FirstLemmas.{first-before, first-behind, ok_same}
+use Rattle.lists.proofs.FirstLemmas.{first-before, first-behind, ok_same}
 use Rattle.program_tables.specs.Unsupported.{unsupported_in}
 use Rattle.program_tables.proofs.ListLemmas.{no_value}
 use Rattle.class_checks.specs.Causes.{unsupported_at_field, unsupported_in_method}

@@ -1,6 +1,6 @@
 use Rattle.std.proofs.Common.{◌-◌, Some, ap, ◌∙◌, arith}
 use Rattle.std.proofs.lemmas.List.{get_or_past}
-use Rattle.class_lookup.specs.Parts.{text_at}
+use Rattle.class_pool.specs.Grammar.{text_at}
 use Rattle.class_lookup.specs.Symbols.{symbol}
 use Rattle.class_lookup.specs.Numbered.{HaveNumbers}
 use Rattle.class_lookup.proofs.SymbolLemmas.{empty_symbol, place_read, zip_long}

@@ -1,6 +1,6 @@
 use Rattle.std.proofs.Common.{arith, ◌≡◌, ◌<◌, ◌+◌, ℕ, List, ◌∷◌, [], ◌++◌, length, length-append, get_or, refl, sym, ap, ◌∙◌, unwrap_or}
 use Rattle.class_pool.specs.declared.entry.Entry.{Entry}
-use Rattle.class_rules.specs.Tests.{text_at}
+use Rattle.class_pool.specs.Grammar.{text_at}
 use Rattle.class_rules.specs.Distinct.{number_in}
 use Rattle.class_rules.proofs.DistinctLemmas.{first_none, first_more, text_here, all_numbered}
 use Rattle.class_rules.proofs.distinct.numbers_of.Goals as goal

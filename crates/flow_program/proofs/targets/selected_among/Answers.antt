@@ -2,7 +2,7 @@ use Rattle.std.proofs.Common.{◌≡◌, ◌↔◌, ℕ, ◌<◌, true, false, L
 use Rattle.std.specs.Prelude.{slice_get}
 use Rattle.std.specs.List.{filter_map}
 use Rattle.lists.specs.Lists.{onto}
-use Rattle.lists.specs.Lemmas.{some_is, holds_at}
+use Rattle.lists.proofs.Lemmas.{some_is, holds_at}
 use Rattle.class_pool.specs.declared.class.ClassFile.{ClassFile}
 use Rattle.class_lookup.specs.Lookup.{Place}
 use Rattle.class_lookup.specs.Selection.{select}

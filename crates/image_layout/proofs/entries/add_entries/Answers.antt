@@ -2,7 +2,7 @@ use Rattle.std.proofs.Common.{◌≡◌, ◌+◌, ◌<◌, List, map, length, ge
 use Rattle.program_tables.proofs.TableLemmas.{entry_there}
 use Rattle.class_pool.specs.declared.class.ClassFile.{ClassFile}
 use Rattle.class_pool.specs.declared.entry.Entry.{Entry}
-use Rattle.lists.specs.Lemmas.{some_same}
+use Rattle.lists.proofs.Lemmas.{some_same}
 use Rattle.image_words.specs.Pools.{instructions_in}
 use Rattle.image_layout.specs.Uses.{instr_of}
 use Rattle.image_layout.proofs.EntryLemmas.{uses_long, use_read}

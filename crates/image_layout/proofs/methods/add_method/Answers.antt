@@ -6,7 +6,7 @@ use Rattle.std.proofs.lemmas.Result.{on_ok_weaker}
 use Rattle.bytecode_model.specs.Program.{Method}
 use Rattle.class_pool.specs.declared.class.ClassFile.{ClassFile}
 use Rattle.base.specs.Packed.{words_for, words_of_bytes}
-use Rattle.image_facts.specs.Says.{argument_words, handler_words}
+use Rattle.image_facts.specs.Says.{argument_words_of, handler_words}
 use Rattle.program_tables.specs.Resolved.{handler_of, resolved, resolved_methods}
 use Rattle.image_words.specs.Layout.{pool_place}
 use Rattle.image_layout.proofs.SizeLemmas.{stands}
@@ -30,7 +30,7 @@ returns c =
     let same = ap (λ (q : ℕ × ℕ). q.0) c.class.view_is in
     let sizes = λ (k : Method) (at : slice_get (resolved_methods cs) c.args.method ≡ Some k).
     c.in_ok-add_sizes.ensures k at
-    ∙ ap (λ (n : ℕ). old ++ (code.max_locals * 2 ^ 16 + code.max_stack) ∷ (argument_words k * 2 ^ 16 + words_for (length code.code)) ∷ pool_place cs n ∷ length code.handlers ∷ []) same in
+    ∙ ap (λ (n : ℕ). old ++ (code.max_locals * 2 ^ 16 + code.max_stack) ∷ (argument_words_of k * 2 ^ 16 + words_for (length code.code)) ∷ pool_place cs n ∷ length code.handlers ∷ []) same in
     let handlers = λ (k : ClassFile) (at : slice_get cs c.method.result.0 ≡ Some k).
     c.in_ok-add_handlers.ensures k (ap (slice_get cs) same ∙ at) ∙ ap (λ es. first ++ flat_map (handler_words (resolved cs)) (map (handler_of cs k) es)) c.as_slice.ensures in
     on_ok_weaker c.add_bytes.result

@@ -1,5 +1,5 @@
 use Rattle.std.proofs.Common.{◌≡◌, sym, ◌∙◌, subst}
-use Rattle.lists.specs.Lemmas.{some_same}
+use Rattle.lists.proofs.Lemmas.{some_same}
 use Rattle.class_lookup.specs.Lookup.{Place}
 use Rattle.method_selection.specs.Selecting.{IsSelectedAbove}
 use Rattle.image_layout.proofs.RowLemmas.{got}

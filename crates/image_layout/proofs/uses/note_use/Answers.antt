@@ -2,7 +2,7 @@ use Rattle.std.proofs.Common.{◌≡◌, ◌<◌, ◌≤◌, ℕ, Option, true, 
 use Rattle.std.specs.Prelude.{is_some, unsigned_abs}
 use Rattle.std.proofs.lemmas.List.FromFn.{length-map-range_with_len}
 use Rattle.class_pool.specs.declared.class.ClassFile.{ClassFile}
-use Rattle.lists.specs.Lemmas.{some_same}
+use Rattle.lists.proofs.Lemmas.{some_same}
 use Rattle.program_tables.specs.Instructions.{index_of_entry, named_in}
 use Rattle.image_layout.specs.Uses.{use_of, again}
 use Rattle.image_layout.proofs.UseLemmas.{bounded, unnamed, past_named, use_passed, use_noted}

@@ -1,6 +1,6 @@
 use Rattle.std.proofs.Common.{Some, not, sym, ap, ◌∙◌, arith}
 use Rattle.std.proofs.lemmas.Option.{slice_get-get_or, slice_get_within}
-use Rattle.lists.specs.Lemmas.{some_same}
+use Rattle.lists.proofs.Lemmas.{some_same}
 use Rattle.image_words.proofs.IndexLemmas.{none_is}
 use Rattle.image_words.proofs.SignatureLemmas.{first_kept, first_set, cell_filled}
 use Rattle.image_words.proofs.class_slots.put_first.Goals as goal

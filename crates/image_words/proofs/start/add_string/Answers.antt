@@ -1,5 +1,5 @@
 use Rattle.std.proofs.Common.{◌≡◌, ◌++◌, ℕ, List, sym, ◌∙◌, subst}
-use Rattle.lists.specs.Lemmas.{some_same}
+use Rattle.lists.proofs.Lemmas.{some_same}
 use Rattle.image_words.proofs.ObjectLemmas.{core_count}
 use Rattle.image_words.proofs.StartLemmas.{string_part, string_made}
 use Rattle.image_words.proofs.start.add_string.Goals as goal

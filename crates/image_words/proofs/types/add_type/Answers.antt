@@ -4,7 +4,7 @@ use Rattle.std.specs.Option.{option_map}
 use Rattle.std.proofs.lemmas.Option.{slice_get-map}
 use Rattle.bytecode_model.specs.Types.{Kind}
 use Rattle.image_facts.specs.Says.{counted_type}
-use Rattle.lists.specs.Lemmas.{some_same}
+use Rattle.lists.proofs.Lemmas.{some_same}
 use Rattle.program_tables.specs.Numbers.{types_of}
 use Rattle.program_tables.specs.Resolved.{resolved}
 use Rattle.program_tables.specs.Tables.{kind_seen}

@@ -2,8 +2,11 @@ use Rattle.std.proofs.Common.{Option, ℤ, ap, ◌∙◌}
 use Rattle.program_tables.specs.Meanings.{operand_seen}
 use Rattle.program_tables.specs.Resolved.{resolved}
 use Rattle.int_sites.specs.Rows.{pushed_as}
-use Rattle.int_sites.proofs.Reading.{push_at}
+use Rattle.int_sites.proofs.Reading.{none_pushed, push_at}
 use Rattle.int_sites.proofs.rows.pushed_at.Goals as goal
+
+pub returns-then-code-place-gt-LDC_W : goal.returns-then-code-place-gt-LDC_W
+returns-then-code-place-gt-LDC_W c = none_pushed (resolved c.args.program.now) c.args.method c.args.place c.args.code.now c.requires.code c.if-code-place-gt-LDC_W.true
 
 pub returns : goal.returns
 returns c =

@@ -2,8 +2,11 @@ use Rattle.std.proofs.Common.{Option, ℕ, ap, ◌∙◌}
 use Rattle.program_tables.specs.Meanings.{operand_seen}
 use Rattle.program_tables.specs.Resolved.{resolved}
 use Rattle.int_sites.specs.Rows.{put_as}
-use Rattle.int_sites.proofs.Reading.{puts_at}
+use Rattle.int_sites.proofs.Reading.{none_put, puts_at}
 use Rattle.int_sites.proofs.rows.put_at.Goals as goal
+
+pub returns-then-code-place : goal.returns-then-code-place
+returns-then-code-place c = none_put (resolved c.args.program.now) c.args.method c.args.place c.args.code.now c.requires.code c.if-code-place.true
 
 pub returns : goal.returns
 returns c =

@@ -2,8 +2,11 @@ use Rattle.std.proofs.Common.{Option, ℕ, ap, ◌∙◌}
 use Rattle.program_tables.specs.Meanings.{operand_seen}
 use Rattle.program_tables.specs.Resolved.{resolved}
 use Rattle.int_sites.specs.Rows.{read_as}
-use Rattle.int_sites.proofs.Reading.{reads_at}
+use Rattle.int_sites.proofs.Reading.{none_read, reads_at}
 use Rattle.int_sites.proofs.rows.read_at.Goals as goal
+
+pub returns-then-code-place : goal.returns-then-code-place
+returns-then-code-place c = none_read (resolved c.args.program.now) c.args.method c.args.place c.args.code.now c.requires.code c.if-code-place.true
 
 pub returns : goal.returns
 returns c =

@@ -1,17 +1,27 @@
-use Rattle.std.proofs.Common.{ℕ, ◌+◌, ◌≤◌, ℤ, List, length, Option, Vec, Global, sym, ap, ◌∙◌, subst, arith}
+use Rattle.std.proofs.Common.{◌≡◌, ℕ, ◌+◌, ◌≤◌, ℤ, List, length, Option, Vec, Global, sym, ap, ◌∙◌, subst, arith}
 use Rattle.std.specs.Option.{option_copied}
+use Rattle.lists.proofs.Lemmas.{some_in}
+use Rattle.bytecode_model.specs.Program.{Body, body_of}
 use Rattle.opcodes.specs.Start.{starts_of}
 use Rattle.program_tables.specs.Numbers.{methods_by_number}
 use Rattle.program_tables.specs.Resolved.{resolved}
 use Rattle.int_sites.specs.Constants.{AreConstantsBelow}
 use Rattle.int_sites.specs.Places.{AreLeft}
 use Rattle.int_sites.specs.Rows.{put_at}
+use Rattle.int_sites.proofs.Coding.{body_of_code}
 use Rattle.int_sites.proofs.Leaving.{first_constants, more_constants, same_constants, all_constants}
 use Rattle.int_sites.proofs.sites.constants_left.Goals as goal
 use Rattle.int_sites.proofs.sites.constants_left.Goals.{in-Some+in_ok-take_written_in, in_default}
 
 pub loop-number-init : goal.loop-number-init
 loop-number-init c = first_constants c.args.program.now c.in_ok-left.left.items c.in_ok-left.ensures
+
+pub take_written_in-requires-clause-code : goal.take_written_in-requires-clause-code
+take_written_in-requires-clause-code c =
+    let cs = c.args.program.now in
+    let n = c.loop-number.number in
+    let b = body_of_code c.methods_stand_by_number.ensures cs n c.in-Some.code.now (sym c.code.ensures.code ∙ ap option_copied c.in-Some.is) in
+    some_in (body_of (resolved cs) n) b.body (λ (x : Body). x.code ≡ c.as_slice.result.now) b.is_body (b.code ∙ sym c.as_slice.ensures)
 
 pub loop-number-preserved : goal.loop-number-preserved
 loop-number-preserved c =

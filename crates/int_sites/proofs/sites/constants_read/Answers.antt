@@ -13,8 +13,14 @@ pub loop-place-init : goal.loop-place-init
 loop-place-init c =
     let f = constant_read (resolved c.args.program.now) (int_at c.args.constants.now) c.args.method in
     let none : Option ℤ = None in
-    let all : c.in_ok-ints.ints.items ≡ replicate c.args.size none = c.in_ok-ints.ensures.items_if_clones_equal (λ y h. search rules) in
-    (ap (λ (xs : List (Option ℤ)). length xs) all ∙ length-replicate c.args.size none, subst (λ (xs : List (Option ℤ)). AreIntsOf f [] xs) (sym all) (filled_first f c.args.size))
+    let all : c.in_ok-ints.ints.items ≡ replicate (length c.args.code.now) none = c.in_ok-ints.ensures.items_if_clones_equal (λ y h. search rules) in
+    (ap (λ (xs : List (Option ℤ)). length xs) all ∙ length-replicate (length c.args.code.now) none, subst (λ (xs : List (Option ℤ)). AreIntsOf f [] xs) (sym all) (filled_first f (length c.args.code.now)))
+
+pub read_at-requires-clause-inside : goal.read_at-requires-clause-inside
+read_at-requires-clause-inside c =
+    let i = c.loop-place.place-index in
+    let p = get_or c.args.starts.now i 0 in
+    c.requires.within p (contains_at c.args.starts.now i p c.loop-place-test.true refl)
 
 pub index_mut-requires : goal.index_mut-requires
 index_mut-requires c =

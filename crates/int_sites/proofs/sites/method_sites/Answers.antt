@@ -1,6 +1,6 @@
 use Rattle.std.proofs.Common.{◌≡◌, ◌+◌, ◌≤◌, List, length, sym, ap, ◌∙◌, subst, arith}
 use Rattle.std.specs.Option.{option_copied}
-use Rattle.lists.specs.Lemmas.{some_in}
+use Rattle.lists.proofs.Lemmas.{some_in}
 use Rattle.bytecode_model.specs.Program.{Body, body_of}
 use Rattle.program_tables.specs.Numbers.{methods_by_number}
 use Rattle.program_tables.specs.Resolved.{resolved}

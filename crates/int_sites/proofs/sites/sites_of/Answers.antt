@@ -1,5 +1,5 @@
 use Rattle.std.proofs.Common.{◌≡◌, ℕ, List, Contains, sym, ap, ◌∙◌, subst}
-use Rattle.lists.specs.Lemmas.{some_is}
+use Rattle.lists.proofs.Lemmas.{some_is}
 use Rattle.opcodes.specs.Start.{starts_of}
 use Rattle.bytecode_model.specs.Program.{Body, body_of}
 use Rattle.program_tables.specs.Resolved.{resolved}

@@ -1,10 +1,17 @@
-use Rattle.std.proofs.Common.{ℕ, ℤ, List, [], ◌∷◌, ◌++◌, take, take_all, get_or, Option, sym, ap, ◌∙◌, subst}
+use Rattle.std.proofs.Common.{ℕ, ℤ, List, [], ◌∷◌, ◌++◌, take, take_all, get_or, Option, refl, sym, ap, ◌∙◌, subst}
 use Rattle.std.proofs.lemmas.List.{take_more}
+use Rattle.lists.specs.Members.{contains_at}
 use Rattle.program_tables.specs.Resolved.{resolved}
 use Rattle.int_sites.specs.Places.{AreLeft, without}
 use Rattle.int_sites.specs.Rows.{put_at}
 use Rattle.int_sites.proofs.Filling.{left_more}
 use Rattle.int_sites.proofs.sites.take_written.Goals as goal
+
+pub put_at-requires-clause-inside : goal.put_at-requires-clause-inside
+put_at-requires-clause-inside c =
+    let i = c.loop-place.place-index in
+    let p = get_or c.args.starts.now i 0 in
+    c.requires.within p (contains_at c.args.starts.now i p c.loop-place-test.true refl)
 
 pub loop-place-preserved : goal.loop-place-preserved
 loop-place-preserved c =

@@ -1,8 +1,12 @@
-use Rattle.std.proofs.Common.{ℕ, List, ◌∙◌, subst}
+use Rattle.std.proofs.Common.{ℕ, List, Contains, ◌∙◌, subst}
 use Rattle.program_tables.specs.Resolved.{resolved}
 use Rattle.int_sites.specs.Places.{AreLeft}
 use Rattle.int_sites.specs.Rows.{put_at}
 use Rattle.int_sites.proofs.sites.take_written_in.Goals as goal
+
+pub take_written-requires-clause-within : goal.take_written-requires-clause-within
+take_written-requires-clause-within c p has =
+    (c.starts_follow_one_another.ensures c.args.code.now).within_code p (subst (λ (ps : List ℕ). Contains ps p) (c.deref.ensures.value ∙ c.in_ok-starts.ensures) has)
 
 pub returns : goal.returns
 returns c =

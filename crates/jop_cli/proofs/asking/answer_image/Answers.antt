@@ -1,14 +1,14 @@
 use Rattle.std.proofs.Common.{refl, subst, inl, inr}
 use Rattle.program_tables.specs.Resolving.{IsResolved}
-use Rattle.jop_cli.specs.declared.image.Image.{Image}
-use Rattle.jop_cli.specs.Opening.{Opens}
-use Rattle.jop_cli.specs.Line.{text_at}
+use Rattle.commands.specs.declared.image.Image.{Image}
+use Rattle.commands.specs.Opening.{Opens}
+use Rattle.commands.specs.Line.{text_of_word}
 use Rattle.outside.specs.Files.{contents}
 use Rattle.jop_cli.proofs.asking.answer_image.Goals as goal
 
 pub returns-in-Linked : goal.returns-in-Linked
 returns-in-Linked c =
-    let O : Image → Type 0 = λ image. Opens (text_at (contents c.args.operands.now) 0) image in
+    let O : Image → Type 0 = λ image. Opens (text_of_word (contents c.args.operands.now) 0) image in
     let opens = subst O c.in-Linked.is c.requires.opens in
     inl (
       opens.0,

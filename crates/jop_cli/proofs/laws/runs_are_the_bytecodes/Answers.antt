@@ -1,3 +1,4 @@
+use Rattle.jop_cli.proofs.OneRun.{runs_are_one}
 use Rattle.jop_cli.proofs.RunningLaw as law
 use Rattle.jop_cli.proofs.laws.runs_are_the_bytecodes.Goals as goal
 
@@ -6,3 +7,6 @@ returns-clause-runs c = law.runs_are_the_bytecodes c.one_linked.ensures c.linked
 
 pub returns-clause-traces : goal.returns-clause-traces
 returns-clause-traces c = law.traces_are_the_runs c.one_linked.ensures c.linked_images_are_read.ensures
+
+pub returns-clause-one : goal.returns-clause-one
+returns-clause-one c = runs_are_one

@@ -1,26 +1,23 @@
 use Rattle.std.proofs.Common.{List, length, None, sym, ◌∙◌, subst, inr}
 use Rattle.class_pool.specs.declared.class.ClassFile.{ClassFile}
 use Rattle.jop_core.specs.Reset.{linked_reset}
-use Rattle.run_devices.specs.Lent.{lent}
-use Rattle.jop_cli.specs.Run.{program_end}
-use Rattle.jop_cli.specs.LinkedRun.{HasClass, linked_setting}
-use Rattle.jop_cli.proofs.Followed.{class_of, sees_none, reads_rose}
+use Rattle.std.specs.declared.result.Result.{Result}
+use Rattle.device_traits.specs.declared.fault.DeviceFault.{DeviceFault}
+use Rattle.boundary.specs.declared.runs.RunEnd.{RunEnd}
+use Rattle.run_devices.specs.Lent.{Lent, lent}
+use Rattle.commands.specs.Run.{HasRisen}
+use Rattle.commands.specs.LinkedRun.{HasClass, linked_setting}
+use Rattle.commands.proofs.Followed.{class_of, rose}
 use Rattle.jop_cli.proofs.Profiled.{ran_profile}
 use Rattle.jop_cli.proofs.profiling.profile_held.Goals as goal
 
 pub conclude-requires-clause-class : goal.conclude-requires-clause-class
 conclude-requires-clause-class g c =
     let p = c.in-Ok-run_totals.ensures.profiles (length c.args.prepared.flow.methods) c.requires.fresh in
-    let H : List ClassFile → Type 0 = λ cs. HasClass cs (program_end c.in-Ok-run_totals.followed.end c.in-Ok-run_totals.followed.counts) in
+    let H : List ClassFile → Type 0 = λ cs. HasClass cs c.in-Ok-run_totals.followed.end in
     subst H (sym (c.program-program.ensures.program ∙ c.program.ensures.program))
     (class_of c.uncaught_classes_are_there.ensures c.args.linked.now.classes c.args.settings.now.stack p.config.memory (linked_reset c.args.settings.now.stack c.args.linked.now.laid.words p.config) c.args.settings.now.cycles _ _
     c.in-Ok-run_totals.followed p.profiles.ran)
-
-pub conclude-requires-clause-end : goal.conclude-requires-clause-end
-conclude-requires-clause-end g c = λ is.
-    let p = c.in-Ok-run_totals.ensures.profiles (length c.args.prepared.flow.methods) c.requires.fresh in
-    sees_none (linked_setting c.args.linked.now.classes c.args.settings.now.stack p.config.memory) (linked_reset c.args.settings.now.stack c.args.linked.now.laid.words p.config) c.args.settings.now.cycles
-    (lent (g.S.Source.left c.args.input.now) (g.S.Source.faults c.args.input.now) None 0 None) (lent (g.S.Source.left c.run_totals.new.input) (g.S.Source.faults c.run_totals.new.input) None 0 None) c.in-Ok-run_totals.followed p.profiles.ran is
 
 pub conclude-requires-clause-rows : goal.conclude-requires-clause-rows
 conclude-requires-clause-rows g c = (c.in-Ok-run_totals.ensures.profiles (length c.args.prepared.flow.methods) c.requires.fresh).profiles.rows_are.long
@@ -37,6 +34,9 @@ returns-in-Ok-run_totals-clause-profiles g c = λ bounds_text is.
 pub returns-in-Ok-run_totals-clause-rose : goal.returns-in-Ok-run_totals-clause-rose
 returns-in-Ok-run_totals-clause-rose g c =
     let p = c.in-Ok-run_totals.ensures.profiles (length c.args.prepared.flow.methods) c.requires.fresh in
-    c.conclude.ensures.rose (g.S.Source.faults c.args.input.now) (g.S.Source.faults c.run_totals.new.input)
-    (reads_rose (linked_setting c.args.linked.now.classes c.args.settings.now.stack p.config.memory) (linked_reset c.args.settings.now.stack c.args.linked.now.laid.words p.config) c.args.settings.now.cycles
-    (lent (g.S.Source.left c.args.input.now) (g.S.Source.faults c.args.input.now) None 0 None) (lent (g.S.Source.left c.run_totals.new.input) (g.S.Source.faults c.run_totals.new.input) None 0 None) c.in-Ok-run_totals.followed p.profiles.ran)
+    let old : Lent = lent (g.S.Source.left c.args.input.now) (g.S.Source.faults c.args.input.now) None 0 None in
+    let new : Lent = lent (g.S.Source.left c.run_totals.new.input) (g.S.Source.faults c.run_totals.new.input) None 0 None in
+    let risen =
+    rose (linked_setting c.args.linked.now.classes c.args.settings.now.stack p.config.memory) (linked_reset c.args.settings.now.stack c.args.linked.now.laid.words p.config) c.args.settings.now.cycles old new c.in-Ok-run_totals.followed p.profiles.ran in
+    let R : Result RunEnd DeviceFault → Type 0 = λ end. HasRisen end old new in
+    c.conclude.ensures.rose (g.S.Source.faults c.args.input.now) (g.S.Source.faults c.run_totals.new.input) (λ is. subst R is risen)

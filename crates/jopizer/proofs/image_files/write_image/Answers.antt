@@ -3,7 +3,7 @@ use Rattle.std.specs.Prelude.{IfOk}
 use Rattle.std.specs.Global.{Vec}
 use Rattle.std.specs.List.{AllByRecursion}
 use Rattle.std.proofs.lemmas.List.{length-map}
-use Rattle.image_file.specs.Linked.{Image, IsName, IsWord, IsFile, contents}
+use Rattle.image_file.specs.Linked.{LinkedContent, IsName, IsWord, IsFile}
 use Rattle.image_file.specs.Linked as file
 use Rattle.jopizer.proofs.ImageLemmas.{fits, made_same}
 use Rattle.jopizer.proofs.image_files.write_image.Goals as goal
@@ -21,5 +21,5 @@ write_linked-requires c =
 
 pub returns : goal.returns
 returns c =
-    subst (λ (image : Image). IfOk c.write_linked.result (λ bytes. file.IsLinked bytes.items image))
+    subst (λ (image : LinkedContent). IfOk c.write_linked.result (λ bytes. file.IsLinkedFile bytes.items image))
     (made_same c.main_name.ensures.name (c.words.ensures ∙ ap (λ l. l.words) c.layout.ensures.laid) c.files.ensures.files) c.write_linked.ensures

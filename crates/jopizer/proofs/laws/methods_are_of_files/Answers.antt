@@ -1,5 +1,5 @@
 use Rattle.program_resolution.proofs.ResolvedLemmas.{Laws}
-use Rattle.lists.specs.Lemmas.{none≢some}
+use Rattle.lists.proofs.Lemmas.{none≢some}
 use Rattle.std.proofs.Common.{sym, ◌∙◌}
 use Rattle.jopizer.proofs.BootLemmas.{of_file}
 use Rattle.jopizer.proofs.laws.methods_are_of_files.Goals as goal

@@ -1,5 +1,4 @@
-use Rattle.std.proofs.Common.{ℕ, ◌+◌, ◌<◌, List, ◌++◌, length, map, sym, ap, ◌∙◌, subst, inl, inr, arith}
-use Rattle.std.proofs.lemmas.Bool.{both_ways, cases_lt}
+use Rattle.std.proofs.Common.{ℕ, ◌+◌, ◌<◌, List, ◌++◌, length, map, sym, ap, ◌∙◌, subst, arith}
 use Rattle.loop_rules.specs.declared.found.FoundLoop.{FoundLoop}
 use Rattle.loop_rules.specs.Sites.{constants_in}
 use Rattle.loop_finder.specs.Methods.{found_in}
@@ -13,24 +12,22 @@ loop-number-init c = record {
   counted = λ P flow sites. subst (λ (xs : List FoundLoop). AreFoundBelow P (constants_in c.args.s.now) 0 xs) (sym c.new-counted.ensures.items) (no_methods P (constants_in c.args.s.now));
 }
 
-pub returns-then-not-has_sites-clause-counted : goal.returns-then-not-has_sites-clause-counted
-returns-then-not-has_sites-clause-counted c P flow sites =
+pub returns-then-number-method_count-clause-counted : goal.returns-then-number-method_count-clause-counted
+returns-then-number-method_count-clause-counted c P flow sites =
     let number = c.loop-number.number in
-    let none = c.if-not-has_sites.true in
-    all_methods P (constants_in c.args.s.now) number c.loop-number.counted.items (c.loop-number.invariant.counted P flow sites) (λ k some.
-    let lt = (sites.coded k).0 some in
-    elim (cases_lt number (length c.args.s.now.methods)) [
-      | inl less ↦ absurd (both_ways c.has_sites.result none (c.has_sites.ensures.1 less))
-      | inr ge ↦ omega arith
-    ])
+    let past = c.if-number-method_count.true in
+    let count = c.method_count.ensures in
+    all_methods P (constants_in c.args.s.now) number c.loop-number.counted.items (c.loop-number.invariant.counted P flow sites) (λ k some. let lt = (sites.coded k).0 some in omega arith)
 
-pub returns-then-not-has_sites-clause-headers : goal.returns-then-not-has_sites-clause-headers
-returns-then-not-has_sites-clause-headers c P flow sites =
+pub returns-then-number-method_count-clause-headers : goal.returns-then-number-method_count-clause-headers
+returns-then-number-method_count-clause-headers c P flow sites =
     let number = c.loop-number.number in
-    let none = c.if-not-has_sites.true in
+    let past = c.if-number-method_count.true in
+    let few = c.method_count.ensures in
     let count = c.method_count-number-end.ensures.count in
     let lt : number < length c.args.f.now.methods = omega arith in
-    absurd (both_ways c.has_sites.result none (c.has_sites.ensures.1 ((sites.coded number).0 ((flow.coded number).1 lt))))
+    let here = (sites.coded number).0 ((flow.coded number).1 lt) in
+    absurd (let bad : ⊥ = omega arith in bad)
 
 pub loop-number-preserved : goal.loop-number-preserved
 loop-number-preserved c = record {

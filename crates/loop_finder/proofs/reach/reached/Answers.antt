@@ -1,25 +1,11 @@
-use Rattle.std.proofs.Common.{◌≡◌, ℕ, ◌+◌, ◌*◌, suc, ◌<◌, ◌≤◌, Bool, true, false, List, [], ◌∷◌, ◌++◌, length, set, replicate, sym, ap, ◌∙◌, subst, arith}
-use Rattle.std.proofs.lemmas.List.{nil_from_length, length-append, length-map, get_or_default}
-use Rattle.loop_nest.proofs.Searching.{few_sources, fewer_left}
-use Rattle.loop_nest.specs.Digraph.{turned}
+use Rattle.std.proofs.Common.{◌≡◌, ℕ, ◌<◌, true, false, List, [], length, replicate, sym, ap, ◌∙◌, subst, arith}
+use Rattle.std.proofs.lemmas.List.{nil_from_length, get_or_default}
+use Rattle.flow_graph.specs.Reach.{ArePushed}
 use Rattle.loop_finder.specs.Reach.{IsSearch, flag_at}
-use Rattle.loop_finder.proofs.Searching.{targets, unflagged, unflagged-set, search_start, search_skips, search_takes, search_ends, stacked_within}
+use Rattle.loop_finder.proofs.Searching.{search_ends, search_skips, search_start, search_takes, smaller, stacked_within}
 use Rattle.std.proofs.lemmas.Bool.{both_ways}
 use Rattle.loop_finder.proofs.reach.reached.Goals.{else-allowed-index-via-then-allowed-index+else-not-index, else-allowed-index-via-else-allowed-index}
 use Rattle.loop_finder.proofs.reach.reached.Goals as goal
-
-few : (es : List (ℕ × ℕ)) (x : ℕ) → length (targets es x) ≤ length es
-few es x = let a = few_sources (turned es) x in let b : length (turned es) ≡ length es = length-map es (λ (e : ℕ × ℕ). (e.1, e.0)) in omega arith
-
-smaller : (x m : ℕ) (flags : List Bool) (stack left new next : List ℕ) → x < length flags → flag_at flags x ≡ false → length next ≤ m → stack ≡ left ++ x ∷ [] → new ≡ left ++ next → unflagged (set flags x true) * suc m + length new < unflagged flags * suc m + length stack
-smaller x m flags stack left new next lt fresh short is more =
-    let a = ap length is in
-    let b = ap length more in
-    let l = length-append left (x ∷ []) in
-    let k = length-append left next in
-    let e : length stack ≡ suc (length left) = omega arith in
-    let f : length new ≡ length left + length next = omega arith in
-    rw (e, f) (fewer_left (unflagged (set flags x true)) (unflagged flags) m (length left) (length next) (unflagged-set x flags lt fresh) short)
 
 pub loop-x-init : goal.loop-x-init
 loop-x-init c = search_start c.args.g.now c.args.allowed.now c.args.start c.in_ok-stack.stack.items c.in_ok-flags.flags.items c.requires.start c.in_ok-stack.ensures.items (c.in_ok-flags.ensures.items_if_clones_equal (λ y h. h) ∙ ap (λ (n : ℕ). replicate n false) c.nodes-nodes.ensures.nodes)
@@ -40,9 +26,7 @@ loop-x-smaller-then-not-index c =
     let long = s.long in
     let inside : x < length flags = omega arith in
     let fresh : flag_at flags x ≡ false = sym (c.index.ensures ∙ get_or_default flags x c.index.result.now false inside) ∙ c.if-not-index.true in
-    let next : c.of.result.now ≡ targets es x = c.of.ensures ∙ c.requires.targets.each x lt in
-    let more : c.extend_from_slice.new.self.items ≡ left ++ targets es x = c.in_ok-extend_from_slice.ensures.items ∙ ap (λ ls. left ++ ls) next in
-    smaller x (length es) flags c.loop-x.stack.items left c.extend_from_slice.new.self.items (targets es x) inside fresh (few es x) c.in-Some.ensures.items more
+    smaller es x flags c.loop-x.stack.items left c.push_targets.new.stack.items inside fresh c.in-Some.ensures.items (subst (λ (xs : List (ℕ × ℕ)). ArePushed xs x left c.push_targets.new.stack.items) c.edges.ensures.edges c.in_ok-push_targets.ensures)
 
 pub loop-x-preserved-then-not-index : goal.loop-x-preserved-then-not-index
 loop-x-preserved-then-not-index c =
@@ -53,11 +37,9 @@ loop-x-preserved-then-not-index c =
     let s = c.loop-x.invariant in
     let left = c.pop.new.self.items in
     let lt = stacked_within g.nodes x c.loop-x.stack.items left c.in-Some.ensures.items s.stack_within in
-    let next : c.of.result.now ≡ targets g.edges x = c.of.ensures ∙ c.requires.targets.each x lt in
-    let more : c.extend_from_slice.new.self.items ≡ left ++ targets g.edges x = c.in_ok-extend_from_slice.ensures.items ∙ ap (λ ls. left ++ ls) next in
     let P : List ℕ → Type 0 = λ ls. IsSearch g ok c.args.start ls flags in
-    let R : List ℕ → Type 0 = λ ls. IsSearch g ok c.args.start ls (set flags x true) in
-    subst R (sym more) (search_takes g ok c.args.start flags left x c.nodes-nodes.ensures.valid (subst P c.in-Some.ensures.items s) c.if-allowed-index.true)
+    let pushed = subst (λ (xs : List (ℕ × ℕ)). ArePushed xs x left c.push_targets.new.stack.items) c.edges.ensures.edges c.in_ok-push_targets.ensures in
+    search_takes g ok c.args.start flags left x c.push_targets.new.stack.items c.nodes-nodes.ensures.valid (subst P c.in-Some.ensures.items s) c.if-allowed-index.true pushed
 
 pub loop-x-preserved : goal.loop-x-preserved
 loop-x-preserved c =

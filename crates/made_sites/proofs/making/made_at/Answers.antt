@@ -4,7 +4,7 @@ use Rattle.bytecode_model.specs.Program.{Operand}
 use Rattle.bytecode_model.specs.Table.{row_of}
 use Rattle.program_tables.specs.Meanings.{operand_seen}
 use Rattle.program_tables.specs.Resolved.{resolved}
-use Rattle.lists.specs.Lemmas.{some_same}
+use Rattle.lists.proofs.Lemmas.{some_same}
 use Rattle.made_sites.proofs.Words.{read_in}
 use Rattle.made_sites.proofs.making.made_at.Goals as goal
 

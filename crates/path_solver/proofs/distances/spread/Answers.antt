@@ -1,7 +1,7 @@
 use Rattle.std.proofs.Common.{◌≡◌, ℕ, ◌+◌, ◌<◌, ◌≤◌, List, length, get_or, set, All, sym, subst, arith}
 use Rattle.std.proofs.lemmas.List.{take_more, take_all}
 use Rattle.std.proofs.lemmas.List.Elements.{All-get_or}
-use Rattle.path_solver.specs.Distances.{limit, limited, IsMost, cost_through, sources_at, AreSpread}
+use Rattle.path_solver.specs.Distances.{distance_limit, limited, IsMost, cost_through, sources_at, AreSpread}
 use Rattle.path_solver.proofs.Spreading.{spread_none, spread_more}
 use Rattle.path_solver.proofs.distances.spread.Goals as goal
 
@@ -43,7 +43,7 @@ loop-u-preserved c =
     let same = c.requires.same in
     let inside : u < length now = omega arith in
     let is : x ≡ limited (c.greatest_end-arriving.result + get_or fees u 0) = c.limited_sum.ensures in
-    let small : x ≤ limit = omega arith in
+    let small : x ≤ distance_limit = omega arith in
     let P : List ℕ → Type 0 = λ ls. IsMost (cost_through costs now) ls c.greatest_end-arriving.result in
     let most = subst P c.of.ensures c.greatest_end-arriving.ensures.most in
     let Q : List ℕ → Type 0 = λ ls. AreSpread src costs fees ls old (set now u x) in

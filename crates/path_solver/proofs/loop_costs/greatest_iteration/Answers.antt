@@ -3,12 +3,12 @@ use Rattle.std.proofs.lemmas.List.{get_or-set_same, length-set}
 use Rattle.std.proofs.lemmas.List.Elements.{All-contains}
 use Rattle.path_solver.specs.Ordering.{AreApart}
 use Rattle.path_solver.specs.Distances.{LeadForward, others_of, sources_at, IsMost, cost_through}
-use Rattle.path_solver.specs.Iteration.{IsOrderly, AreMembers}
+use Rattle.path_solver.specs.Iteration.{IsOrderly, AreOrderedMembers}
 use Rattle.path_solver.specs.declared.topology.TopologicalOrder.{TopologicalOrder}
 use Rattle.path_solver.proofs.Leading.{leads_forward, picked_apart, from_others, to_others, repick, all_from}
 use Rattle.path_solver.proofs.loop_costs.greatest_iteration.Goals as goal
 
-below : (n : ℕ) (p : TopologicalOrder) (members : List ℕ) (header u : ℕ) → IsOrderly n p → AreMembers p.order.items members header → Contains members u → u < n
+below : (n : ℕ) (p : TopologicalOrder) (members : List ℕ) (header u : ℕ) → IsOrderly n p → AreOrderedMembers p.order.items members header → Contains members u → u < n
 below n p members header u orderly h has = All-contains (λ z. z < n) p.order.items u orderly.within (h.listed u has)
 
 pub in_order-requires-clause-within : goal.in_order-requires-clause-within

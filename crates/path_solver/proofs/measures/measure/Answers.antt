@@ -9,7 +9,7 @@ use Rattle.path_solver.specs.Topology.{IsTopologicalOrder}
 use Rattle.path_solver.specs.Iteration.{IsOrderly}
 use Rattle.path_solver.specs.LoopCosts.{AreLed, AreLoopCosts}
 use Rattle.path_solver.specs.Distances.{sources_at, LeadForward, IsReachedBy}
-use Rattle.path_solver.specs.Problem.{IsSetting}
+use Rattle.path_solver.specs.Problem.{IsProblem}
 use Rattle.path_solver.specs.declared.topology.TopologicalOrder.{TopologicalOrder}
 use Rattle.path_solver.proofs.Onward.{nest_loops}
 use Rattle.path_solver.proofs.Orderly.{orderly}
@@ -31,7 +31,7 @@ pub costs_of_loops-requires-clause-led : goal.costs_of_loops-requires-clause-led
 costs_of_loops-requires-clause-led c =
     let order = c.in_ok-topology.topology.order.items in
     let P : List NaturalLoop → Type 0 = λ ls. AreLed order ls in
-    let setting : IsSetting c.args.g.now c.args.nest.now c.args.listed.now c.in_ok-topology.topology = record {
+    let setting : IsProblem c.args.g.now c.args.nest.now c.args.listed.now c.in_ok-topology.topology = record {
       laws = c.nest_laws.ensures;
       digraph = c.nodes-nodes.ensures.valid;
       reducible = c.requires.reducible;
@@ -73,7 +73,7 @@ returns c =
     let iteration_costs = c.in_ok-iteration_costs.field-0.iteration_costs.items in
     let fees = c.in_ok-iteration_costs.field-0.fees.items in
     let dist = c.spread.new.dist in
-    let setting : IsSetting g loops flags p = record {
+    let setting : IsProblem g loops flags p = record {
       laws = c.nest_laws.ensures;
       digraph = c.nodes-nodes.ensures.valid;
       reducible = c.requires.reducible;

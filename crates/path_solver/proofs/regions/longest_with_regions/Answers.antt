@@ -3,7 +3,7 @@ use Rattle.loop_nest.specs.Digraph.{Digraph}
 use Rattle.loop_nest.specs.Nest.{NaturalLoop}
 use Rattle.section_check.specs.Section.{IsInForm}
 use Rattle.section_check.specs.Conditions.{Answers}
-use Rattle.path_solver.specs.Longest.{bounded_loops, AreLoopsOf, IsTooLarge}
+use Rattle.path_solver.specs.Longest.{bounded_loops, AreLoopsOf, WalksAreTooLarge}
 use Rattle.path_solver.specs.Regions.{charged, AreRegionsApart, AreMarkedLoopsOf}
 use Rattle.path_solver.specs.Solution.{Solution}
 use Rattle.path_solver.proofs.Marking.{charged_long, in_form, marked_loops, marked_shown}
@@ -66,9 +66,9 @@ returns-in-Some-clause-shown c =
     (own_answer g costs bounds c.deref.result.now ns c.in_ok-solved.field-0 solved c.in-Some.is (c.deref.ensures.value ∙ c.in_ok-charged.ensures) c.in_ok-solved.ensures.shown)
     )
 
-not_too_large : (g : Digraph) (nest : List NaturalLoop) (costs bounds loads ns : List ℕ) → loads ≡ ns → (IsTooLarge g costs (bounded_loops nest bounds loads) → ⊥) → IsTooLarge g costs (bounded_loops nest bounds ns) → ⊥
+not_too_large : (g : Digraph) (nest : List NaturalLoop) (costs bounds loads ns : List ℕ) → loads ≡ ns → (WalksAreTooLarge g costs (bounded_loops nest bounds loads) → ⊥) → WalksAreTooLarge g costs (bounded_loops nest bounds ns) → ⊥
 not_too_large g nest costs bounds loads ns same fits =
-    let P : List ℕ → Type 0 = λ zs. IsTooLarge g costs (bounded_loops nest bounds zs) → ⊥ in subst P same fits
+    let P : List ℕ → Type 0 = λ zs. WalksAreTooLarge g costs (bounded_loops nest bounds zs) → ⊥ in subst P same fits
 
 pub returns-in-Some-clause-fits : goal.returns-in-Some-clause-fits
 returns-in-Some-clause-fits c =

@@ -2,7 +2,7 @@ use Rattle.std.proofs.Common.{◌≡◌, ℕ, ◌+◌, ◌^◌, ◌<◌, ◌≤�
 use Rattle.std.proofs.lemmas.List.{length-take-le, take_more, take_all, with_items_is}
 use Rattle.std.proofs.lemmas.Iterator.{cases_from_any, YieldsList-from_slice}
 use Rattle.loop_nest.specs.Nest.{NaturalLoop}
-use Rattle.path_solver.specs.Totals.{AreAdded}
+use Rattle.path_solver.specs.Totals.{AreIterationsAdded}
 use Rattle.path_solver.proofs.AddingUp.{AreTotals, totals_push, some_exceed}
 use Rattle.path_solver.proofs.totals.iterations_exceed.Goals as goal
 
@@ -19,9 +19,9 @@ loop-i-preserved c =
     let old = c.loop-i.totals.items in
     let now = c.add_iteration_cost.new.totals in
     let first : length (take i ws) ≡ length (take i ls) = length-take-le i ws (omega arith) ∙ sym (length-take-le i ls (omega arith)) in
-    let P : List ℕ → Type 0 = λ ms. AreAdded ms w c.deref_mut.result.now now in
-    let Q : List ℕ → Type 0 = λ ds. AreAdded l.members w ds now in
-    let added : AreAdded l.members w old now = subst Q c.deref_mut.ensures.value (subst P c.members.ensures c.add_iteration_cost.ensures) in
+    let P : List ℕ → Type 0 = λ ms. AreIterationsAdded ms w c.deref_mut.result.now now in
+    let Q : List ℕ → Type 0 = λ ds. AreIterationsAdded l.members w ds now in
+    let added : AreIterationsAdded l.members w old now = subst Q c.deref_mut.ensures.value (subst P c.members.ensures c.add_iteration_cost.ensures) in
     let here : take (i + 1) ls ≡ take i ls ++ l ∷ [] = take_more ls i l lt ∙ ap (λ (z : NaturalLoop). take i ls ++ z ∷ []) (sym c.index-loops-i.is) in
     let there : take (i + 1) ws ≡ take i ws ++ w ∷ [] = take_more ws i 0 (omega arith) in
     let ok = c.loop-i.totals.ok in

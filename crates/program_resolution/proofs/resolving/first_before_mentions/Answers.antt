@@ -1,6 +1,6 @@
 use Rattle.std.proofs.Common.{List, Some, refl, ◌∙◌, arith}
 use Rattle.lists.specs.Lists.{first}
-use Rattle.lists.specs.FirstLemmas.{ok_same}
+use Rattle.lists.proofs.FirstLemmas.{ok_same}
 use Rattle.class_lookup.specs.Hierarchy.{IsAcyclic}
 use Rattle.program_resolution.specs.declared.refusal.ProgramRefusal.{ProgramRefusal}
 use Rattle.program_resolution.specs.Linked.{files_in}

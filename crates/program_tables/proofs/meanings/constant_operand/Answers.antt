@@ -1,7 +1,7 @@
 use Rattle.std.proofs.Common.{ℕ, Option, sym, ap, ◌∙◌}
 use Rattle.std.specs.Option.{option_map_or}
 use Rattle.bytecode_model.specs.Program.{AString, NoOperand}
-use Rattle.class_lookup.specs.Parts.{text_at}
+use Rattle.class_pool.specs.Grammar.{text_at}
 use Rattle.program_tables.specs.Numbers.{strings_of}
 use Rattle.program_tables.specs.Operands.{string_object, constant_operand}
 use Rattle.program_tables.proofs.TextLemmas.{number_at}

@@ -3,9 +3,9 @@ use Rattle.std.specs.Option.{option_copied, option_map_or}
 use Rattle.class_pool.specs.declared.class.ClassFile.{ClassFile}
 use Rattle.class_pool.specs.declared.entry.Entry.{Entry}
 use Rattle.class_pool.specs.declared.entry.Entry.TheVariants as entries
-use Rattle.class_pool.specs.Grammar.{entry_at}
-use Rattle.class_lookup.specs.Parts.{same_text, text_at}
-use Rattle.lists.specs.Lemmas.{some_same}
+use Rattle.class_pool.specs.Grammar.{entry_at, text_at}
+use Rattle.class_lookup.specs.Parts.{same_text}
+use Rattle.lists.proofs.Lemmas.{some_same}
 use Rattle.program_tables.specs.Lists.{with_item, with_items}
 use Rattle.program_tables.specs.Marks.{text_of}
 use Rattle.program_tables.specs.Numbers.{string_in}

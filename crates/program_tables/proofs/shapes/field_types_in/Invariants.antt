@@ -1,5 +1,5 @@
 use Rattle.std.proofs.Common.{◌≡◌, map, take}
-use Rattle.class_lookup.specs.Parts.{text_at}
+use Rattle.class_pool.specs.Grammar.{text_at}
 use Rattle.program_tables.specs.Kinds.{field_declared}
 use Rattle.program_tables.specs.Meanings.{types_seen}
 use Rattle.program_tables.proofs.shapes.field_types_in.Given as goal

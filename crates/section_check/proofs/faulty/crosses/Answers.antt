@@ -1,6 +1,6 @@
 use Rattle.std.proofs.Common.{ℕ, List, Contains, sym, ◌∙◌, subst}
 use Rattle.std.proofs.lemmas.Bool.{false≢true, not-true, not_from_false, false_from_ne_true}
-use Rattle.section_check.specs.LeastLemmas.{within_as}
+use Rattle.section_check.proofs.LeastLemmas.{within_as}
 use Rattle.section_check.proofs.faulty.crosses.Goals as goal
 
 pub returns-then-lies_in : goal.returns-then-lies_in

@@ -1,6 +1,6 @@
 use Rattle.std.proofs.Common.{◌≡◌, ℕ, List, sym, ap, ◌∙◌}
 use Rattle.section_check.specs.Section.{CertifiedLoop}
-use Rattle.section_check.specs.LeastLemmas.{within_as, same_at}
+use Rattle.section_check.proofs.LeastLemmas.{within_as, same_at}
 use Rattle.section_check.proofs.faulty.is_region_around.Goals as goal
 
 pub returns : goal.returns

@@ -2,7 +2,7 @@ use Rattle.std.proofs.Common.{◌≡◌, ℕ, ◌+◌, ◌-◌, ◌<◌, List, l
 use Rattle.std.proofs.lemmas.Bool.{eqb-true, eq-eqb, ltb-true}
 use Rattle.std.proofs.lemmas.List.{get_or_default}
 use Rattle.section_check.specs.Section.{CertifiedLoop}
-use Rattle.section_check.specs.LeastLemmas.{same_at}
+use Rattle.section_check.proofs.LeastLemmas.{same_at}
 use Rattle.section_check.proofs.Sharing.{shares_with, neighbour_shares}
 use Rattle.section_check.proofs.faulty.shares_header.Goals as goal
 use Rattle.section_check.proofs.faulty.shares_header.Goals.{else-i-gt0-via-then-i-gt0+else-header, else-i-gt0-via-else-i-gt0}

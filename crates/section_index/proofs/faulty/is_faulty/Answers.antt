@@ -3,7 +3,7 @@ use Rattle.std.specs.Prelude.{is_some}
 use Rattle.std.proofs.lemmas.Bool.{false≢true}
 use Rattle.section_check.specs.Section.{CertifiedLoop}
 use Rattle.section_check.specs.Placing.IsFaulty.{crosses_another, lies_in_region}
-use Rattle.section_check.specs.LeastLemmas.{same_at}
+use Rattle.section_check.proofs.LeastLemmas.{same_at}
 use Rattle.section_index.proofs.Faults.{crosses_here, only_regions, own_header}
 use Rattle.section_index.proofs.faulty.is_faulty.Goals as goal
 

@@ -1,13 +1,13 @@
 use Rattle.std.proofs.Common.{◌≡◌, ℕ, List, get_or, refl, sym, ap, ◌∙◌}
 use Rattle.std.proofs.lemmas.Bool.{false≢true}
 use Rattle.section_check.specs.Section.{CertifiedLoop}
-use Rattle.section_check.specs.Placing.{IsAt}
+use Rattle.section_check.specs.Placing.{IsEntryAt}
 use Rattle.section_check.proofs.Headed.{itself_at}
-use Rattle.section_check.specs.LeastLemmas.{same_at}
+use Rattle.section_check.proofs.LeastLemmas.{same_at}
 use Rattle.section_index.proofs.Faults.{holder_among, no_region_more, no_region, no_number}
 use Rattle.section_index.proofs.faulty.lies_in_region.Goals as goal
 
-header_is : (ls : List CertifiedLoop) (i h : ℕ) (l r : CertifiedLoop) → h ≡ r.header → IsAt ls i l → r ≡ get_or ls i r → h ≡ l.header
+header_is : (ls : List CertifiedLoop) (i h : ℕ) (l r : CertifiedLoop) → h ≡ r.header → IsEntryAt ls i l → r ≡ get_or ls i r → h ≡ l.header
 header_is ls i h l r head at is = head ∙ ap (λ (m : CertifiedLoop). m.header) (same_at ls i l r at is)
 
 pub returns-in_default : goal.returns-in_default

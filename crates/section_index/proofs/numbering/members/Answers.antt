@@ -1,14 +1,14 @@
 use Rattle.std.proofs.Common.{ℕ, ◌+◌, ◌<◌, eqb, List, Contains, sym, subst}
 use Rattle.std.proofs.lemmas.List.Filters.{dedup_is}
 use Rattle.section_check.specs.Section.{CertifiedLoop}
-use Rattle.section_check.specs.Placing.{IsAt}
+use Rattle.section_check.specs.Placing.{IsEntryAt}
 use Rattle.section_index.proofs.Ranks.{among_more, members_are_numbers}
 use Rattle.section_index.proofs.numbering.members.Goals as goal
 
 pub loop-i-preserved : goal.loop-i-preserved
 loop-i-preserved c =
     let ls = c.args.loops.now in
-    let P : List ℕ → Type 0 = λ ms. (j : ℕ) (l : CertifiedLoop) (x : ℕ) → j < c.loop-i.i + 1 → IsAt ls j l → Contains l.members x → Contains ms x in
+    let P : List ℕ → Type 0 = λ ms. (j : ℕ) (l : CertifiedLoop) (x : ℕ) → j < c.loop-i.i + 1 → IsEntryAt ls j l → Contains l.members x → Contains ms x in
     subst P (sym c.in_ok-extend_from_slice.ensures.items) (among_more ls c.loop-i.i c.index-loops-i.result c.loop-i.members.items c.members.result.now c.index-loops-i.is c.members.ensures c.loop-i.invariant)
 
 pub returns : goal.returns

@@ -2,7 +2,7 @@ use Rattle.std.proofs.Common.{◌≡◌, ℕ, ◌+◌, ◌<◌, List, [], ◌∷
 use Rattle.std.proofs.lemmas.List.{map-append, length-map, length_push}
 use Rattle.section_index.specs.Family.{set_at}
 use Rattle.section_check.specs.Section.{CertifiedLoop}
-use Rattle.section_check.specs.Placing.{IsAt}
+use Rattle.section_check.specs.Placing.{IsEntryAt}
 use Rattle.section_index.specs.Numbering.{ArePlaces}
 use Rattle.section_index.proofs.Ranks.{placed_more}
 use Rattle.section_index.proofs.numbering.placed.Goals as goal
@@ -24,7 +24,7 @@ loop-i-preserved c =
     let long = c.loop-i.invariant.long in
     let size = length_push vs v in
     let now : length c.push.new.self.items ≡ length (vs ++ v ∷ []) = ap length added in
-    let P : List (List ℕ) → Type 0 = λ xs. (j : ℕ) (m : CertifiedLoop) → j < i + 1 → IsAt ls j m → ArePlaces ns m.members (set_at xs j) in
+    let P : List (List ℕ) → Type 0 = λ xs. (j : ℕ) (m : CertifiedLoop) → j < i + 1 → IsEntryAt ls j m → ArePlaces ns m.members (set_at xs j) in
     record {
       long = omega arith;
       each = subst P (sym (ap (map f) added ∙ map-append f vs (v ∷ []))) (placed_more ns ls (map f vs) v.items c.members.result.now i c.index-loops-i.result (length-map vs f ∙ long) c.index-loops-i.is c.members.ensures c.in_ok-places.ensures c.loop-i.invariant.each);

@@ -4,7 +4,7 @@ use Rattle.std.specs.List.{flat_map}
 use Rattle.std.proofs.lemmas.List.Elements.{Contains-get_or}
 use Rattle.opcodes.specs.Start.{starts_of}
 use Rattle.lists.specs.Lists.{first}
-use Rattle.lists.specs.FirstLemmas.{found_here, none_first}
+use Rattle.lists.proofs.FirstLemmas.{found_here, none_first}
 use Rattle.program_tables.specs.Instructions.{placed_at}
 use Rattle.program_tables.proofs.MentionLemmas.{all_places}
 use Rattle.unresolved_names.specs.Causes.{refused_instruction}
@@ -20,8 +20,9 @@ refused_at_place-requires-clause-inside c =
 
 pub returns-in-Some : goal.returns-in-Some
 returns-in-Some c =
+    let caller = c.args.caller.now in
     let code = c.args.code.now in
-    let f = refused_instruction c.args.classes.now c.args.caller c.args.class.now c.args.method.now in
+    let f = refused_instruction caller.classes.now caller.namer.number caller.namer.class.now c.args.method.now in
     let g = λ (q : ℕ). option_map_or f (placed_at code q) [] in
     let ps = c.deref-pc-items.result.now in
     let i = c.loop-pc.pc-index in
@@ -31,8 +32,9 @@ returns-in-Some c =
 
 pub returns : goal.returns
 returns c =
+    let caller = c.args.caller.now in
     let code = c.args.code.now in
-    let f = refused_instruction c.args.classes.now c.args.caller c.args.class.now c.args.method.now in
+    let f = refused_instruction caller.classes.now caller.namer.number caller.namer.class.now c.args.method.now in
     let g = λ (q : ℕ). option_map_or f (placed_at code q) [] in
     let ps = c.deref-pc-items.result.now in
     let e = c.deref-pc-items.ensures.value ∙ c.in_ok-starts.ensures in

@@ -5,4 +5,4 @@ use Rattle.unresolved_names.specs.Causes.{refused_mention}
 use Rattle.unresolved_names.proofs.mentions.first_in_fields.Given as goal
 
 abbrev pub invariant-loop-field : goal.invariant-loop-field
-invariant-loop-field l = flat_map (λ f. refused_mention l.texts l.caller l.class (FieldDescriptor f)) (take l.field-index l.class.fields) ≡ []
+invariant-loop-field l = flat_map (λ f. refused_mention l.namer.texts.now l.namer.number l.namer.class.now (FieldDescriptor f)) (take l.field-index l.namer.class.now.fields) ≡ []

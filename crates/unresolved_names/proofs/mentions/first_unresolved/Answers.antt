@@ -3,7 +3,7 @@ use Rattle.std.specs.List.{flat_map}
 use Rattle.class_pool.specs.declared.class.ClassFile.{ClassFile}
 use Rattle.class_pool.specs.declared.class.Member.{Member}
 use Rattle.lists.specs.Lists.{first}
-use Rattle.lists.specs.FirstLemmas.{ok_same}
+use Rattle.lists.proofs.FirstLemmas.{ok_same}
 use Rattle.program_tables.specs.Unresolved.{FieldDescriptor}
 use Rattle.program_tables.specs.declared.refusal.Why.TheVariants as reasons
 use Rattle.unresolved_names.specs.Causes.{refused_mention}

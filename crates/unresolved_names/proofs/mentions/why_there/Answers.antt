@@ -5,43 +5,53 @@ use Rattle.unresolved_names.proofs.ReasonLemmas.{constant_told, class_told, fiel
 use Rattle.unresolved_names.proofs.mentions.why_there.Goals as goal
 
 pub returns-in-Constant : goal.returns-in-Constant
-returns-in-Constant c = constant_told c.args.classes.now c.args.caller c.args.class.now (signature_of c.args.class.now c.args.method.now) c.args.op c.args.named c.in-Constant.field-0 c.in-Constant.is
+returns-in-Constant c =
+    let caller = c.args.caller.now in
+    constant_told caller.classes.now caller.namer.number caller.namer.class.now (signature_of caller.namer.class.now c.args.method.now) c.args.op c.args.named c.in-Constant.field-0 c.in-Constant.is
 
 pub returns-in-Class : goal.returns-in-Class
-returns-in-Class c = c.why_class_use.ensures ∙ class_told c.args.texts.now c.args.classes.now c.args.caller c.args.class.now (signature_of c.args.class.now c.args.method.now) c.args.op c.args.named c.in-Class.index c.requires.texts c.in-Class.is
+returns-in-Class c =
+    let caller = c.args.caller.now in
+    c.why_class_use.ensures ∙ class_told caller.namer.texts.now caller.classes.now caller.namer.number caller.namer.class.now (signature_of caller.namer.class.now c.args.method.now) c.args.op c.args.named c.in-Class.index caller.same c.in-Class.is
 
 pub returns-in-Some : goal.returns-in-Some
 returns-in-Some c =
-    let pool = c.args.class.now.pool in
+    let caller = c.args.caller.now in
+    let pool = caller.namer.class.now.pool in
     c.why_field.ensures
-    ∙ field_told c.args.classes.now c.args.caller c.args.class.now (signature_of c.args.class.now c.args.method.now) c.args.op c.args.named c.in-Field.index c.in-Field.member (signature_at pool c.in-Some.name c.in-Some.descriptor) c.in-Field.is
+    ∙ field_told caller.classes.now caller.namer.number caller.namer.class.now (signature_of caller.namer.class.now c.args.method.now) c.args.op c.args.named c.in-Field.index c.in-Field.member (signature_at pool c.in-Some.name c.in-Some.descriptor) c.in-Field.is
     (signature_is pool c.in-Field.member c.in-Some.name c.in-Some.descriptor c.in-Some.ensures)
 
 pub returns-in-None : goal.returns-in-None
 returns-in-None c =
-    no_field_told c.args.classes.now c.args.caller c.args.class.now (signature_of c.args.class.now c.args.method.now) c.args.op c.args.named c.in-Field.index c.in-Field.member c.in-Field.is
-    (no_signature c.args.class.now.pool c.in-Field.member c.in-None.ensures)
+    let caller = c.args.caller.now in
+    no_field_told caller.classes.now caller.namer.number caller.namer.class.now (signature_of caller.namer.class.now c.args.method.now) c.args.op c.args.named c.in-Field.index c.in-Field.member c.in-Field.is
+    (no_signature caller.namer.class.now.pool c.in-Field.member c.in-None.ensures)
 
 pub returns-in-Some-name_and_type : goal.returns-in-Some-name_and_type
 returns-in-Some-name_and_type c =
-    let pool = c.args.class.now.pool in
+    let caller = c.args.caller.now in
+    let pool = caller.namer.class.now.pool in
     c.why_method.ensures
-    ∙ method_told c.args.classes.now c.args.caller c.args.class.now (signature_of c.args.class.now c.args.method.now) c.args.op c.args.named c.in-Method.index c.in-Method.member (signature_at pool c.in-Some-name_and_type.name c.in-Some-name_and_type.descriptor) c.in-Method.is
+    ∙ method_told caller.classes.now caller.namer.number caller.namer.class.now (signature_of caller.namer.class.now c.args.method.now) c.args.op c.args.named c.in-Method.index c.in-Method.member (signature_at pool c.in-Some-name_and_type.name c.in-Some-name_and_type.descriptor) c.in-Method.is
     (signature_is pool c.in-Method.member c.in-Some-name_and_type.name c.in-Some-name_and_type.descriptor c.in-Some-name_and_type.ensures)
 
 pub returns-in-None-name_and_type : goal.returns-in-None-name_and_type
 returns-in-None-name_and_type c =
-    no_method_told c.args.classes.now c.args.caller c.args.class.now (signature_of c.args.class.now c.args.method.now) c.args.op c.args.named c.in-Method.index c.in-Method.member c.in-Method.is
-    (no_signature c.args.class.now.pool c.in-Method.member c.in-None-name_and_type.ensures)
+    let caller = c.args.caller.now in
+    no_method_told caller.classes.now caller.namer.number caller.namer.class.now (signature_of caller.namer.class.now c.args.method.now) c.args.op c.args.named c.in-Method.index c.in-Method.member c.in-Method.is
+    (no_signature caller.namer.class.now.pool c.in-Method.member c.in-None-name_and_type.ensures)
 
 pub returns-in-Some-name_and_type-2 : goal.returns-in-Some-name_and_type-2
 returns-in-Some-name_and_type-2 c =
-    let pool = c.args.class.now.pool in
+    let caller = c.args.caller.now in
+    let pool = caller.namer.class.now.pool in
     c.why_method-in-Some-name_and_type-2.ensures
-    ∙ interface_told c.args.classes.now c.args.caller c.args.class.now (signature_of c.args.class.now c.args.method.now) c.args.op c.args.named c.in-InterfaceMethod.index c.in-InterfaceMethod.member (signature_at pool c.in-Some-name_and_type-2.name c.in-Some-name_and_type-2.descriptor) c.in-InterfaceMethod.is
+    ∙ interface_told caller.classes.now caller.namer.number caller.namer.class.now (signature_of caller.namer.class.now c.args.method.now) c.args.op c.args.named c.in-InterfaceMethod.index c.in-InterfaceMethod.member (signature_at pool c.in-Some-name_and_type-2.name c.in-Some-name_and_type-2.descriptor) c.in-InterfaceMethod.is
     (signature_is pool c.in-InterfaceMethod.member c.in-Some-name_and_type-2.name c.in-Some-name_and_type-2.descriptor c.in-Some-name_and_type-2.ensures)
 
 pub returns-in-None-name_and_type-2 : goal.returns-in-None-name_and_type-2
 returns-in-None-name_and_type-2 c =
-    no_interface_told c.args.classes.now c.args.caller c.args.class.now (signature_of c.args.class.now c.args.method.now) c.args.op c.args.named c.in-InterfaceMethod.index c.in-InterfaceMethod.member c.in-InterfaceMethod.is
-    (no_signature c.args.class.now.pool c.in-InterfaceMethod.member c.in-None-name_and_type-2.ensures)
+    let caller = c.args.caller.now in
+    no_interface_told caller.classes.now caller.namer.number caller.namer.class.now (signature_of caller.namer.class.now c.args.method.now) c.args.op c.args.named c.in-InterfaceMethod.index c.in-InterfaceMethod.member c.in-InterfaceMethod.is
+    (no_signature caller.namer.class.now.pool c.in-InterfaceMethod.member c.in-None-name_and_type-2.ensures)

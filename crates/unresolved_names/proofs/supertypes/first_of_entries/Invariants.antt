@@ -4,4 +4,4 @@ use Rattle.unresolved_names.specs.Causes.{refused_class}
 use Rattle.unresolved_names.proofs.supertypes.first_of_entries.Given as goal
 
 abbrev pub invariant-loop-index : goal.invariant-loop-index
-invariant-loop-index l = flat_map (refused_class l.texts l.caller l.class) (take l.index-index l.entries) ≡ []
+invariant-loop-index l = flat_map (refused_class l.namer.texts.now l.namer.number l.namer.class.now) (take l.index-index l.entries) ≡ []

@@ -1,14 +1,14 @@
 use Rattle.std.proofs.Common.{◌≡◌, ℕ, ◌^◌, ◌<◌, List, length, get_or, All, Contains, refl, sym, ap, ◌∙◌, subst, arith}
 use Rattle.loop_nest.specs.Nest.{NaturalLoop}
-use Rattle.section_check.specs.Placing.{IsAt}
+use Rattle.section_check.specs.Placing.{IsEntryAt}
 use Rattle.path_solver.proofs.Loops.{same_at}
 use Rattle.walk_counts.proofs.ProblemLemmas.{is_orderly, are_members, member_below, own_members, headed_below, headed_last, headed_leads, own_cost, some_last_far, own_round}
 use Rattle.walk_counts.proofs.rounds.go_round.Goals as goal
 
-read_at : (nest ls : List NaturalLoop) (i : ℕ) (l : NaturalLoop) → ls ≡ nest → i < length nest → l ≡ get_or ls i l → IsAt nest i l
+read_at : (nest ls : List NaturalLoop) (i : ℕ) (l : NaturalLoop) → ls ≡ nest → i < length nest → l ≡ get_or ls i l → IsEntryAt nest i l
 read_at nest ls i l are within is = (within, sym (is ∙ ap (λ (ks : List NaturalLoop). get_or ks i l) are))
 
-same_header : (nest : List NaturalLoop) (i : ℕ) (k l : NaturalLoop) → IsAt nest i k → IsAt nest i l → k.header ≡ l.header
+same_header : (nest : List NaturalLoop) (i : ℕ) (k l : NaturalLoop) → IsEntryAt nest i k → IsEntryAt nest i l → k.header ≡ l.header
 same_header nest i k l at at' = ap (λ (x : NaturalLoop). x.header) (same_at nest i i k l at at' refl)
 
 pub greatest_iteration-requires-clause-topology : goal.greatest_iteration-requires-clause-topology

@@ -2,7 +2,7 @@ use Rattle.std.proofs.Common.{◌≡◌, ◌+◌, ◌*◌, ◌<◌, ◌≤◌, �
 use Rattle.std.specs.Prelude.{slice_get}
 use Rattle.std.proofs.lemmas.Option.{slice_get-get_or}
 use Rattle.method_flow.specs.declared.flow.Call.{Call}
-use Rattle.compact_walks.specs.Limited.{limit, limited}
+use Rattle.compact_walks.specs.Limited.{cycles_limit, limited}
 use Rattle.wcet.specs.declared.telling.Told.{Told}
 use Rattle.wcet.proofs.Added.{added_none, added_more, added_all, not_yet, small_more}
 use Rattle.wcet.proofs.costs.add.Goals as goal
@@ -26,8 +26,8 @@ limited_sum-requires c =
     let within : 2 * call.place < length own = c.requires.inside i (record { place = 0; targets = 0 }) lt in
     let was = not_yet own calls told without i c.loop-i.costs call c.requires.rising call_is c.loop-i.invariant in
     record {
-      a = subst (λ (n : ℕ). n ≤ limit) (sym was) (c.requires.costs (2 * call.place) 0 within);
-      b = subst (λ (n : ℕ). n ≤ limit) (sym c.added.ensures) (small_more said (get_or without (2 * call.place) false) (c.requires.small i (record { goes_on = false; inside = 0; full = 0 }) (omega arith)));
+      a = subst (λ (n : ℕ). n ≤ cycles_limit) (sym was) (c.requires.costs (2 * call.place) 0 within);
+      b = subst (λ (n : ℕ). n ≤ cycles_limit) (sym c.added.ensures) (small_more said (get_or without (2 * call.place) false) (c.requires.small i (record { goes_on = false; inside = 0; full = 0 }) (omega arith)));
     }
 
 pub loop-i-preserved : goal.loop-i-preserved

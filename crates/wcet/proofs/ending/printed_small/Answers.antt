@@ -4,7 +4,7 @@ use Rattle.bytecode_model.specs.Program.{Program}
 use Rattle.method_flow.specs.Costs.{IsPrintedOf}
 use Rattle.method_flow.specs.Flow.{Flow, IsFlowOf}
 use Rattle.method_flow.specs.declared.timing.Timing.{Timing}
-use Rattle.compact_walks.specs.Limited.{limit}
+use Rattle.compact_walks.specs.Limited.{cycles_limit}
 use Rattle.wcet.specs.Ending.IsPastLimit.{printed as beyond_printed}
 use Rattle.wcet.proofs.ending.printed_small.Goals as goal
 
@@ -20,6 +20,6 @@ pub returns-in-None-narrowed-clause-none : goal.returns-in-None-narrowed-clause-
 returns-in-None-narrowed-clause-none c =
     let set = c.args.task.now in
     let n = c.in-Some.n in
-    let small : IfSome c.args.full (λ f. f < limit) = search rules in
+    let small : IfSome c.args.full (λ f. f < cycles_limit) = search rules in
     beyond_printed n small c.in-None-narrowed.ensures.none
     (printed_at c.flow.result.now set.flow c.timing.result set.timing c.args.full c.printed.result (Some n) c.flow.ensures c.timing.ensures.timing c.in-Some.is c.printed.ensures)

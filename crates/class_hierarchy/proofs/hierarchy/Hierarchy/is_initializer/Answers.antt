@@ -2,7 +2,7 @@ use Rattle.std.proofs.Common.{List, sym, ap, ◌∙◌, arith}
 use Rattle.std.proofs.lemmas.Option.{slice_get_within}
 use Rattle.class_pool.specs.declared.class.ClassFile.{ClassFile}
 use Rattle.descriptors.specs.Names.{is_instance_initializer}
-use Rattle.lists.specs.Lemmas.{some_same}
+use Rattle.lists.proofs.Lemmas.{some_same}
 use Rattle.class_lookup.specs.Symbols.{symbol, texts}
 use Rattle.class_hierarchy.proofs.Naming.{symbol_below}
 use Rattle.class_hierarchy.proofs.hierarchy.Hierarchy.is_initializer.Goals as goal

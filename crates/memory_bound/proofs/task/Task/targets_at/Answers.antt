@@ -4,7 +4,7 @@ use Rattle.std.proofs.lemmas.Option.{slice_get_within, get_or_from_slice_get}
 use Rattle.std.proofs.lemmas.List.Elements.{All-contains}
 use Rattle.method_flow.specs.Flow.{Flow, Coded, targets_of_call}
 use Rattle.method_flow.specs.declared.flow.Call.{Call}
-use Rattle.memory_bound.specs.Setting.{Setting}
+use Rattle.memory_bound.specs.Setting.{NeedSetting}
 use Rattle.memory_bound.proofs.Calling.{targets_there, targets_nowhere}
 use Rattle.memory_bound.proofs.task.Task.targets_at.Goals as goal
 
@@ -24,7 +24,7 @@ returns-in-Some-clause-targets c = λ P flow sites start.
     let m = c.args.m in
     let k = c.method.result.now in
     let call = c.in-Some.call in
-    let same : c.self.inside.flow.now ≡ f = cc (ap (λ (s : Setting). s.flow) c.self.view_is) in
+    let same : c.self.inside.flow.now ≡ f = cc (ap (λ (s : NeedSetting). s.flow) c.self.view_is) in
     let is = subst (λ (g : Flow). slice_get g.methods m ≡ Some k) same c.method.ensures in
     let among = subst (λ (calls : List Call). Contains calls call) c.calls.ensures.calls c.in-Some.ensures.found.0 in
     let are = subst (λ (g : Flow). c.targets.result.now ≡ targets_of_call g call) same c.targets.ensures.targets in
@@ -35,7 +35,7 @@ returns-in-None-clause-targets c = λ P flow sites start.
     let f = c.args.self.now.flow in
     let m = c.args.m in
     let k = c.method.result.now in
-    let same : c.self.inside.flow.now ≡ f = cc (ap (λ (s : Setting). s.flow) c.self.view_is) in
+    let same : c.self.inside.flow.now ≡ f = cc (ap (λ (s : NeedSetting). s.flow) c.self.view_is) in
     let is = subst (λ (g : Flow). slice_get g.methods m ≡ Some k) same c.method.ensures in
     let none = subst (λ (calls : List Call). (d : Call) → Contains calls d → d.place ≡ c.args.place → ⊥) c.calls.ensures.calls c.in-None.ensures.none in
     targets_nowhere P f m c.args.place k flow is c.runs_are_calls.ensures c.calls.ensures.whole none start

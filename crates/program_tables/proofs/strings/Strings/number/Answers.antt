@@ -2,7 +2,7 @@ use Rattle.std.proofs.Common.{◌≡◌, ◌<◌, ℕ, Bool, List, Option, None,
 use Rattle.std.specs.Prelude.{IfSome}
 use Rattle.std.proofs.lemmas.Option.{slice_get_within}
 use Rattle.bytecode_model.specs.Lists.{index_of}
-use Rattle.lists.specs.Lemmas.{index_found}
+use Rattle.lists.proofs.Lemmas.{index_found}
 use Rattle.class_lookup.specs.Parts.{same_text}
 use Rattle.class_lookup.proofs.Numbering.{long_keys}
 use Rattle.program_tables.proofs.strings.Strings.number.Goals as goal

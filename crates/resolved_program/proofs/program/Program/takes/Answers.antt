@@ -3,7 +3,7 @@ use Rattle.std.proofs.Common.{rules, ◌≡◌, false, sym, ap, ◌∙◌}
 use Rattle.std.specs.Option.{option_map_or}
 use Rattle.class_pool.specs.declared.class.ClassFile.{ClassFile}
 use Rattle.class_pool.specs.Grammar.{entry_at}
-use Rattle.lists.specs.Lemmas.{some_same}
+use Rattle.lists.proofs.Lemmas.{some_same}
 use Rattle.program_tables.specs.Instructions.{index_of_entry}
 use Rattle.program_tables.specs.Taken.{takes_entry}
 use Rattle.resolved_program.proofs.program.Program.takes.Goals as goal

@@ -1,0 +1,53 @@
+-- What a run shows.
+use Rattle.std.specs.Prelude.{ℕ, ◌≤◌, Bool, List, [], ◌∷◌, length, map, codes}
+use Rattle.class_pool.specs.declared.class.ClassFile.{ClassFile}
+use Rattle.program_tables.specs.Numbers.{methods_by_number, method_text}
+use Rattle.image_facts.specs.declared.method.CodedMethod.{CodedMethod}
+use Rattle.boundary.specs.Traces.{texts}
+use Rattle.commands.specs.declared.show.Show.{Show}
+use Rattle.commands.specs.declared.show.Show.TheVariants as shows
+use Rattle.commands.specs.declared.show.NamedShow.{NamedShow}
+use Rattle.commands.specs.declared.show.NamedShow.TheVariants as named
+
+-- what the program puts out, or a trace, with a line for each cycle or without, in which the methods have these names by number
+pub data Shown : Type 0 where
+  Output : Shown
+  Trace : (cycles : Bool) → (names : List (List ℕ)) → Shown
+
+abbrev pub shown_by : NamedShow → Shown
+shown_by named.Output = Output
+shown_by (named.Trace cycles names) = Trace cycles (texts names.items)
+
+-- a trace is shown
+abbrev pub IsTrace : Show → Type 0
+IsTrace shows.Output = ⊥
+IsTrace (shows.Trace cycles) = Unit {0}
+
+abbrev pub IsTraced : Shown → Type 0
+IsTraced Output = ⊥
+IsTraced (Trace cycles names) = Unit {0}
+
+-- each method has a name, where they are shown
+abbrev pub AreNamed : Shown → List CodedMethod → Type 0
+AreNamed Output methods = Unit {0}
+AreNamed (Trace cycles names) methods = length methods ≤ length names
+
+-- one method has a name
+abbrev pub IsNamed : Shown → Type 0
+IsNamed Output = Unit {0}
+IsNamed (Trace cycles names) = 1 ≤ length names
+
+-- ---- the names
+
+-- the one method of a bare image
+abbrev pub bare_shown : Show → Shown
+bare_shown shows.Output = Output
+bare_shown (shows.Trace cycles) = Trace cycles (codes "boot" ∷ [])
+
+-- the texts of the methods of classes, by number
+abbrev pub method_names : List ClassFile → List (List ℕ)
+method_names cs = map (method_text cs) (methods_by_number cs)
+
+abbrev pub linked_shown : List ClassFile → Show → Shown
+linked_shown cs shows.Output = Output
+linked_shown cs (shows.Trace cycles) = Trace cycles (method_names cs)
